@@ -1,0 +1,8 @@
+use Rattle.std.proofs.Common.{subst}
+use Rattle.rdf_terms.specs.Lists.{AreDistinct}
+use Rattle.rdf_terms.proofs.Distinct.{distinct_items}
+use Rattle.rdf_terms.proofs.SameTerms.{same_term, term_decides}
+use Rattle.rdf_terms.proofs.table.TermTable.len.Goals as goal
+
+pub returns-clause-distinct : goal.returns-clause-distinct
+returns-clause-distinct c = subst AreDistinct c.self.view_is (distinct_items same_term term_decides _ c.len.ensures.unique)

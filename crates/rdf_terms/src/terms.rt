@@ -1,0 +1,112 @@
+//! Terms and triples of their numbers.
+
+ghost use Rattle.std.specs.Prelude.{List, ℕ, ◌≡◌, IfOk, string_bytes, length, encode_utf8_all, ◌&&◌, None, Some, codes, ◌↔◌, IsSome, ◌++◌, is_some};
+ghost use Rattle.std.specs.Cmp.{on_equiv, on_per, partial_equiv_from_equiv};
+ghost use Rattle.std.specs.Cmp.Lexicographic.{nat_list_eq_equiv};
+ghost use Rattle.std.specs.Hash as fed;
+ghost use Rattle.std.specs.Cmp.Rules.{comparing, hashing};
+ghost use Rattle.std.proofs.Common.{rules};
+ghost use Rattle.rdf_terms.specs.Literals.{LiteralParts, IsLiteral, same_literal, xsd_string, literal_fed};
+ghost use Rattle.rdf_terms.specs.Sameness.{decided_equiv, literal_decides, literal_alike};
+ghost use Rattle.rdf_terms.specs.Texts.{same_text};
+
+use crate::text::Text;
+use std::alloc::{AllocError, Global};
+use std::hash::{Hash, Hasher};
+use std::marker::Model;
+
+/// The number of a term: its place in its table.
+#[derive(Clone, Copy, Debug, PartialEq, Eq, Hash)]
+pub struct TermId(pub u32);
+
+/// A directed, labelled arc: subject, predicate and object (RDF 1.1 Concepts, section 3.1).
+#[derive(Clone, Copy, Debug, PartialEq, Eq, Hash)]
+pub struct Triple {
+    /// The subject.
+    pub s: TermId,
+    /// The predicate.
+    pub p: TermId,
+    /// The object.
+    pub o: TermId,
+}
+
+/// The name of a blank node: a written label, or the n-th anonymous node of a document, n from 1.
+#[derive(Debug, Drop, PartialEq, Eq, Hash)]
+pub enum Name {
+    /// A label as written, without `_:`.
+    Label(Text),
+    /// The number of an anonymous node, at least 1.
+    Fresh(u32),
+}
+
+/// A literal: lexical form, datatype and language tag (RDF 1.1 Concepts, section 3.3). A tag is there exactly where
+/// the datatype is rdf:langString, and it has no letter from A to Z.
+#[derive(Debug, Drop)]
+pub struct Literal {
+    lex: Text,
+    datatype: Text,
+    lang: Option<Text>,
+}
+
+impl Model for Literal {
+    ghost use Rattle.rdf_terms.specs.Literals.{LiteralParts, IsLiteral};
+
+    ghost Value = { LiteralParts };
+
+    ghost view = { λ l. record { lex = l.lex; datatype = l.datatype; lang = l.lang } };
+
+    ghost invariant = { λ l. IsLiteral (record { lex = l.lex; datatype = l.datatype; lang = l.lang }) };
+}
+
+const XSD_STRING: &str = "http://www.w3.org/2001/XMLSchema#string";
+
+impl Literal {
+    /// A plain string, whose datatype is xsd:string.
+    pub fn plain(alloc: Global, lex: Text) -> Result<Literal, AllocError>
+        ensures { IfOk result (λ l. l ≡ record { lex = lex; datatype = xsd_string; lang = None }) }
+    {
+        let datatype = Text::from_str(alloc, XSD_STRING)?;
+        Ok(Literal {
+            lex,
+            datatype,
+            lang: None,
+        })
+    }
+}
+
+impl PartialEq for Literal {
+    ghost eq = { same_literal };
+
+    ghost laws = { partial_equiv_from_equiv (decided_equiv same_literal literal_decides) };
+
+    fn eq(&self, other: &Literal) -> bool {
+        self.lex == other.lex && self.datatype == other.datatype && self.lang == other.lang
+    }
+}
+
+impl Eq for Literal {
+    ghost laws = { decided_equiv same_literal literal_decides };
+}
+
+impl Hash for Literal {
+    ghost hash_input = { literal_fed };
+
+    ghost respects_eq = { literal_alike.fed };
+
+    fn hash<H: Hasher>(&self, state: &mut H) {
+        self.lex.hash(state);
+        self.datatype.hash(state);
+        self.lang.hash(state);
+    }
+}
+
+/// An RDF term (RDF 1.1 Concepts, section 3.1). Two terms are equal where their parts are equal.
+#[derive(Debug, Drop, PartialEq, Eq, Hash)]
+pub enum Term {
+    /// An IRI.
+    Iri(Text),
+    /// A blank node.
+    Blank(Name),
+    /// A literal.
+    Lit(Literal),
+}
