@@ -1,0 +1,5 @@
+pub mod Plan
+pub mod Copies
+pub mod Span
+pub mod Symbols
+pub mod Laws

@@ -1,0 +1,35 @@
+-- An expression over counts as a plain tree, with lists of children.
+use Rattle.std.specs.Prelude.{ℕ, List, [], ◌∷◌}
+use Rattle.tally.specs.declared.Bound.{Bound}
+use Rattle.tally.specs.declared.Count.{Count}
+use Rattle.tally.specs.declared.Count.TheOpen.{Count-F, Sym, Each, One, Many}
+use Rattle.tally.specs.declared.Count.TheFolds.{fold-Count}
+
+mutual
+  -- a triple expression as counting sees it (ShEx 2.1 section 5.5): a triple constraint, an EachOf, a OneOf, a cardinality
+  pub data Plan : Type 0 where
+    sym : ℕ → Plan
+    each : Plans → Plan
+    one : Plans → Plan
+    many : ℕ → Bound → Plan → Plan
+
+  -- the members of an EachOf or a OneOf
+  pub data Plans : Type 0 where
+    no_plans : Plans
+    more_plans : Plan → Plans → Plans
+
+-- a list of plans as the members of one
+abbrev pub row : List Plan → Plans
+row [] = no_plans
+row (p ∷ ps) = more_plans p (row ps)
+
+-- one layer, with the plan of each child in its place
+abbrev pub plan_step : Count-F Plan → Plan
+plan_step (Sym i) = sym i
+plan_step (Each all) = each (row all.items)
+plan_step (One all) = one (row all.items)
+plan_step (Many min bound c) = many min bound c.value
+
+-- the expression as a plain tree
+abbrev pub plan_of : Count → Plan
+plan_of = fold-Count Plan plan_step
