@@ -1,0 +1,32 @@
+-- What named files hold.
+use Rattle.std.specs.Prelude.{ℕ, List, ◌≡◌, ◌≢◌, ◌+◌, length, min, Option, Some, None, ⊤}
+
+-- what each name holds, where this is told; an absent name holds `None`
+abbrev pub Told : Type 0
+Told = Option (List ℕ → Option (List ℕ))
+
+-- the name holds this, if contents are told
+abbrev pub Holds : Told → List ℕ → Option (List ℕ) → Type 0
+Holds None name held = ⊤
+Holds (Some contents) name held = contents name ≡ held
+
+-- contents are told, and the name is absent
+abbrev pub Lacks : Told → List ℕ → Type 0
+Lacks None name = ⊥
+Lacks (Some contents) name = contents name ≡ None
+
+-- the lesser of the length of what a name holds and the limit plus one
+abbrev pub IsTakenOfHeld : Option (List ℕ) → ℕ → ℕ → Type 0
+IsTakenOfHeld None limit taken = ⊥
+IsTakenOfHeld (Some bytes) limit taken = taken ≡ min (length bytes) (limit + 1)
+
+-- if contents are told, a fetch under this limit takes so many bytes of the name
+abbrev pub IsTakenOf : Told → List ℕ → ℕ → ℕ → Type 0
+IsTakenOf None name limit taken = ⊤
+IsTakenOf (Some contents) name limit taken = IsTakenOfHeld (contents name) limit taken
+
+-- every name but this one holds what it held, and contents stay told or untold
+abbrev pub KeepsOthers : Told → Told → List ℕ → Type 0
+KeepsOthers None None name = ⊤
+KeepsOthers (Some old) (Some new) name = (other : List ℕ) → other ≢ name → new other ≡ old other
+KeepsOthers old new name = ⊥
