@@ -6,3 +6,5 @@ pub mod Shapes
 pub mod Edges
 pub mod Typings
 pub mod Loaded
+pub mod Samples
+pub mod WorkedShapes
