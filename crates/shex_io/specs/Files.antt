@@ -25,8 +25,6 @@ abbrev pub IsTakenOf : Told → List ℕ → ℕ → ℕ → Type 0
 IsTakenOf None name limit taken = ⊤
 IsTakenOf (Some contents) name limit taken = IsTakenOfHeld (contents name) limit taken
 
--- every name but this one holds what it held, and contents stay told or untold
-abbrev pub KeepsOthers : Told → Told → List ℕ → Type 0
-KeepsOthers None None name = ⊤
-KeepsOthers (Some old) (Some new) name = (other : List ℕ) → other ≢ name → new other ≡ old other
-KeepsOthers old new name = ⊥
+-- every name but this one holds what it held
+abbrev pub KeepsOtherNames : (List ℕ → Option (List ℕ)) → (List ℕ → Option (List ℕ)) → List ℕ → Type 0
+KeepsOtherNames old new name = (other : List ℕ) → other ≢ name → new other ≡ old other

@@ -1,4 +1,6 @@
+pub mod Calls
 pub mod Faults
 pub mod Files
-pub mod Sinks
+pub mod Host
 pub mod Memory
+pub mod Sinks

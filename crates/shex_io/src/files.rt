@@ -54,16 +54,20 @@ pub trait Files {
     /// An absent file is a fault. The memory for the name is taken before a fault is answered.
     fn fetch(&mut self, alloc: Global, name: &str, limit: u64) -> Result<Vec<u8>, FetchError>
         ensures gives { IfOk result (λ bytes. Holds (told self.old) name.now (Some bytes.items)) }
-        ensures absent { Lacks (told self.old) name.now → (result ≡ Err FetchError.Failed) ⊎ (result ≡ Err FetchError.Memory) }
+        ensures absent { Lacks (told self.old) name.now
+            → (result ≡ Err FetchError.Failed) ⊎ (result ≡ Err FetchError.Memory) }
         ensures told_stays { told self.new ≡ told self.old }
 
         // `Long` comes exactly where no fault rose and more than the limit was taken.
         ensures long { result ≡ Err FetchError.Long → limit < taken self.new }
-        ensures above_limit { ¬ (Rose (faults self.old) (faults self.new)) → limit < taken self.new → result ≡ Err FetchError.Long }
+        ensures above_limit { ¬ Rose (faults self.old) (faults self.new) → limit < taken self.new
+            → result ≡ Err FetchError.Long }
         ensures length { IfOk result (λ bytes. taken self.new ≡ length bytes.items) }
         ensures within { IfOk result (λ bytes. length bytes.items ≤ limit) }
-        ensures taken_whole { OnOk result (IsTakenOf (told self.old) name.now limit (taken self.new)) }
-        ensures taken_part { result ≡ Err FetchError.Long → IsTakenOf (told self.old) name.now limit (taken self.new) }
+        ensures taken_whole { OnOk result
+            (IsTakenOf (told self.old) name.now limit (taken self.new)) }
+        ensures taken_part { result ≡ Err FetchError.Long
+            → IsTakenOf (told self.old) name.now limit (taken self.new) }
         ensures taken_fits { taken self.new < 2 ^ 64 }
 
         // `Failed` comes only where a fault rose, and alone changes the faults.

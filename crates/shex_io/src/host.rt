@@ -1,6 +1,6 @@
 //! Files and streams of the machine: the trusted edge, which tells no contents.
 
-ghost use Rattle.std.specs.Prelude.{None, string_bytes};
+ghost use Rattle.std.specs.Prelude.{[], ◌≡◌, None, string_bytes};
 
 use crate::faults::Faults;
 use crate::files::{Act, FetchError, Files};
@@ -22,8 +22,13 @@ pub struct DiskFiles<'a, R> {
 }
 
 impl<'a, R> DiskFiles<'a, R> {
+    ghost use Rattle.shex_io.specs.Host.{disk_faults, disk_blame};
+
     /// The files that the runtime reaches; no call has failed.
-    pub fn new(alloc: Global, rt: &'a R) -> Self {
+    pub fn new(alloc: Global, rt: &'a R) -> Self
+        ensures faults { disk_faults result ≡ 0 }
+        ensures blame { disk_blame result ≡ [] }
+    {
         DiskFiles {
             rt,
             taken: 0,
@@ -33,13 +38,15 @@ impl<'a, R> DiskFiles<'a, R> {
 }
 
 impl<'a, R: HostFiles> Files for DiskFiles<'a, R> {
+    ghost use Rattle.shex_io.specs.Host.{disk_faults, disk_blame};
+
     ghost told = { λ files. None };
 
     ghost taken = { λ files. files.taken };
 
-    ghost faults = { λ files. files.faults.count };
+    ghost faults = { disk_faults };
 
-    ghost blame = { λ files. string_bytes files.faults.blame };
+    ghost blame = { disk_blame };
 
     ghost act = { λ files. files.faults.act };
 
@@ -83,6 +90,7 @@ fn read_within<R: HostFiles>(
     };
     let mut bytes = Vec::new(alloc);
     let mut piece = [0u8; PIECE];
+    // Each turn adds a byte or more, so memory ends before the turns do.
     for _ in 0..u64::MAX {
         match file.read(&mut piece) {
             Ok(0) => break,
@@ -108,16 +116,22 @@ pub struct StdSink<W> {
 }
 
 impl<W> StdSink<W> {
+    ghost use Rattle.shex_io.specs.Host.{stream_faults};
+
     /// Writes to this stream; no call has failed.
-    pub fn new(stream: W) -> Self {
+    pub fn new(stream: W) -> Self
+        ensures { stream_faults result ≡ 0 }
+    {
         StdSink { stream, faults: 0 }
     }
 }
 
 impl<W: Write> Sink for StdSink<W> {
+    ghost use Rattle.shex_io.specs.Host.{stream_faults};
+
     ghost got = { λ sink. None };
 
-    ghost faults = { λ sink. sink.faults };
+    ghost faults = { stream_faults };
 
     fn put(&mut self, piece: &[u8]) -> Result<u64, SinkError> {
         match self.stream.write(piece) {

@@ -1,6 +1,7 @@
 //! The outside of the program: named files and sinks of bytes, with counts of their faults.
 #![tactic(auto)]
 
+mod calls;
 mod faults;
 pub mod files;
 pub mod host;
@@ -11,3 +12,6 @@ pub use files::{Act, FetchError, Files};
 pub use host::{DiskFiles, StdSink};
 pub use memory::{MemFiles, MemSink};
 pub use sinks::{Sink, SinkError, put_all};
+
+#[cfg(test)]
+mod tests;
