@@ -11,6 +11,10 @@ disk_faults files = files.faults.count
 abbrev pub disk_blame : {R : Type 0} → DiskFiles R → List ℕ
 disk_blame files = string_bytes files.faults.blame
 
+-- the stream that a sink writes to
+abbrev pub stream_of : {W : Type 0} → StdSink W → W
+stream_of sink = sink.stream
+
 -- how many puts failed
 abbrev pub stream_faults : {W : Type 0} → StdSink W → ℕ
 stream_faults sink = sink.faults

@@ -1,6 +1,8 @@
 //! Files and streams of the machine: the trusted edge, which tells no contents.
 
-ghost use Rattle.std.specs.Prelude.{[], ◌≡◌, None, string_bytes};
+ghost use Rattle.std.specs.Prelude.{[], None, ◌≡◌, ◌≢◌, ◌≤◌, ◌<◌, length, take, IfOk, OnErr, string_bytes};
+ghost use Rattle.std.specs.Io.KnownBytes.{Appends, Consumes, IsAtEnd, Keeps};
+ghost use Rattle.shex_io.specs.Faults.{Rose};
 
 use crate::faults::Faults;
 use crate::files::{Act, FetchError, Files};
@@ -55,7 +57,7 @@ impl<'a, R: HostFiles> Files for DiskFiles<'a, R> {
         let Ok(blamed) = String::from_str(alloc, name) else {
             return Err(FetchError::Memory);
         };
-        match read_within(self.rt, alloc, name, limit) {
+        match read_file(self.rt, alloc, name, limit) {
             Ok(bytes) => {
                 self.taken = bytes.len() as u64;
                 if self.taken > limit {
@@ -78,31 +80,36 @@ enum ReadError {
     Memory,
 }
 
-/// Reads a file until it ends or more than `limit` bytes have come.
-fn read_within<R: HostFiles>(
+/// Reads the file of this name to its end, or until more than `limit` bytes have come.
+fn read_file<R: HostFiles>(
     rt: &R,
     alloc: Global,
     name: &str,
     limit: u64,
 ) -> Result<Vec<u8>, ReadError> {
-    let Ok(mut file) = fs::open(rt, name) else {
-        return Err(ReadError::Failed);
-    };
+    let mut file = fs::open(rt, name).map_err(|_| ReadError::Failed)?;
+    read_within(alloc, &mut file, limit)
+}
+
+/// Reads to the end, or until more than `limit` bytes have come.
+fn read_within<S: Read>(alloc: Global, source: &mut S, limit: u64) -> Result<Vec<u8>, ReadError>
+    ensures in_order { IfOk result
+        (λ bytes. Consumes (S.remaining source.old) (S.remaining source.new) bytes.items) }
+    ensures to_the_end { IfOk result
+        (λ bytes. length bytes.items ≤ limit → IsAtEnd (S.remaining source.new)) }
+{
     let mut bytes = Vec::new(alloc);
     let mut piece = [0u8; PIECE];
-    // Each turn adds a byte or more, so memory ends before the turns do.
-    for _ in 0..u64::MAX {
-        match file.read(&mut piece) {
-            Ok(0) => break,
-            Ok(count) => {
-                if bytes.extend_from_slice(&piece[..count]).is_err() {
-                    return Err(ReadError::Memory);
-                }
-                if bytes.len() as u64 > limit {
-                    break;
-                }
-            }
-            Err(_) => return Err(ReadError::Failed),
+    // Each turn but the last adds a byte, and there is no memory for so many.
+    for turn in 0..u64::MAX {
+        let count = source.read(&mut piece).map_err(|_| ReadError::Failed)?;
+        if count == 0 {
+            break;
+        }
+        let more = bytes.extend_from_slice(&piece[..count]);
+        more.map_err(|_| ReadError::Memory)?;
+        if bytes.len() as u64 > limit {
+            break;
         }
     }
     Ok(bytes)
@@ -127,13 +134,30 @@ impl<W> StdSink<W> {
 }
 
 impl<W: Write> Sink for StdSink<W> {
-    ghost use Rattle.shex_io.specs.Host.{stream_faults};
+    ghost use Rattle.shex_io.specs.Host.{stream_of, stream_faults};
 
     ghost got = { λ sink. None };
 
     ghost faults = { stream_faults };
 
-    fn put(&mut self, piece: &[u8]) -> Result<u64, SinkError> {
+    fn put(&mut self, piece: &[u8]) -> Result<u64, SinkError>
+        requires { 0 < length piece.now }
+
+        // Where it is known what the stream holds, it has got the bytes that count as taken.
+        ensures writes { IfOk result (λ count. Appends (W.contents (stream_of self.old))
+            (W.contents (stream_of self.new)) (take count piece.now)) }
+        ensures keeps { OnErr result
+            (Keeps (W.contents (stream_of self.old)) (W.contents (stream_of self.new))) }
+
+        // What each sink ensures of its counts; it does not tell what it got.
+        ensures some { IfOk result (λ count. 0 < count) }
+        ensures within { IfOk result (λ count. count ≤ length piece.now) }
+        ensures failed { result ≡ Err SinkError.Failed
+            → Rose (stream_faults self.old) (stream_faults self.new) }
+        ensures never_falls { stream_faults self.old ≤ stream_faults self.new }
+        ensures faults_stay { result ≢ Err SinkError.Failed
+            → stream_faults self.new ≡ stream_faults self.old }
+    {
         match self.stream.write(piece) {
             Ok(count) if count > 0 => Ok(count as u64),
             _ => {
