@@ -101,7 +101,7 @@ fn read_within<S: Read>(alloc: Global, source: &mut S, limit: u64) -> Result<Vec
     let mut bytes = Vec::new(alloc);
     let mut piece = [0u8; PIECE];
     // Each turn but the last adds a byte, and there is no memory for so many.
-    for turn in 0..u64::MAX {
+    for _turn in 0..u64::MAX {
         let count = source.read(&mut piece).map_err(|_| ReadError::Failed)?;
         if count == 0 {
             break;
@@ -123,11 +123,12 @@ pub struct StdSink<W> {
 }
 
 impl<W> StdSink<W> {
-    ghost use Rattle.shex_io.specs.Host.{stream_faults};
+    ghost use Rattle.shex_io.specs.Host.{stream_of, stream_faults};
 
     /// Writes to this stream; no call has failed.
     pub fn new(stream: W) -> Self
-        ensures { stream_faults result ≡ 0 }
+        ensures stream { stream_of result ≡ stream }
+        ensures faults { stream_faults result ≡ 0 }
     {
         StdSink { stream, faults: 0 }
     }
