@@ -1,6 +1,9 @@
+pub mod Bytes
 pub mod Calls
+pub mod Contents
 pub mod Faults
 pub mod Files
 pub mod Host
 pub mod Memory
 pub mod Sinks
+pub mod Sure

@@ -1,13 +1,13 @@
 -- What files and sinks in memory hold, and which of their calls are to fail.
-use Rattle.std.specs.Prelude.{ℕ, List, ◌≡◌, Contains, Option, option_map, string_bytes}
-use Rattle.std.specs.BTreeMap.{get_by_text}
+use Rattle.std.specs.Prelude.{ℕ, List, ◌≡◌, Contains, Option, string_bytes}
+use Rattle.shex_io.specs.Contents.{bytes_under}
 use Rattle.shex_io.specs.declared.files.Act.{Act}
 use Rattle.shex_io.specs.declared.memory.MemFiles.{MemFiles}
 use Rattle.shex_io.specs.declared.memory.MemSink.{MemSink}
 
 -- the bytes that a name holds
 abbrev pub contents_of : MemFiles → List ℕ → Option (List ℕ)
-contents_of files name = option_map (λ bytes. bytes.items) (get_by_text files.contents name)
+contents_of files = bytes_under files.contents
 
 -- the numbers of the calls that are to fail
 abbrev pub failing_calls : MemFiles → List ℕ

@@ -5,7 +5,7 @@ ghost use Rattle.std.specs.Io.KnownBytes.{Appends, Consumes, IsAtEnd, Keeps};
 ghost use Rattle.shex_io.specs.Faults.{Rose};
 
 use crate::faults::Faults;
-use crate::files::{Act, FetchError, Files};
+use crate::files::{Act, FetchError, Files, StoreError};
 use crate::sinks::{Sink, SinkError};
 use std::alloc::Global;
 use std::fs;
@@ -18,6 +18,7 @@ const PIECE: usize = 65536;
 /// Files of the machine.
 #[derive(Drop)]
 pub struct DiskFiles<'a, R> {
+    alloc: Global,
     rt: &'a R,
     taken: u64,
     faults: Faults,
@@ -32,6 +33,7 @@ impl<'a, R> DiskFiles<'a, R> {
         ensures blame { disk_blame result ≡ [] }
     {
         DiskFiles {
+            alloc,
             rt,
             taken: 0,
             faults: Faults::new(alloc),
@@ -71,6 +73,17 @@ impl<'a, R: HostFiles> Files for DiskFiles<'a, R> {
                 Err(FetchError::Failed)
             }
         }
+    }
+
+    fn store(&mut self, name: &str, bytes: &[u8]) -> Result<(), StoreError> {
+        let Ok(blamed) = String::from_str(self.alloc, name) else {
+            return Err(StoreError::Memory);
+        };
+        if fs::write(self.rt, name, bytes).is_err() {
+            self.faults.note(blamed, Act::Store);
+            return Err(StoreError::Failed);
+        }
+        Ok(())
     }
 }
 

@@ -3,20 +3,21 @@
 ghost use Rattle.std.specs.Prelude.{ℕ, List, [], ◌++◌, Option, Some, None, ◌≡◌, ◌≢◌, ◌≤◌, ◌<◌, ◌^◌, ◌⊎◌, length, take, option_map, IfOk, OnOk, OnErr, string_bytes};
 ghost use Rattle.shex_io.specs.Calls.{one_more};
 ghost use Rattle.shex_io.specs.Faults.{Rose};
-ghost use Rattle.shex_io.specs.Files.{IsTakenOf, KeepsOtherNames};
+ghost use Rattle.shex_io.specs.Files.{IsTakenOf, HoldsPart, KeepsOtherNames};
 
 use crate::calls::Calls;
+use crate::contents::{Contents, copy_within, taken_within};
 use crate::faults::Faults;
-use crate::files::{Act, FetchError, Files};
+use crate::files::{Act, FetchError, Files, StoreError};
 use crate::sinks::{Sink, SinkError};
 use std::alloc::{AllocError, Global};
-use std::collections::BTreeMap;
 
-/// Files in memory. Calls of `fetch` are numbered from 0, and those whose numbers are listed fail.
+/// Files in memory.
+///
+/// Calls of `fetch` and `store` are numbered together from 0, and those whose numbers are listed fail.
 #[derive(Drop)]
 pub struct MemFiles {
-    alloc: Global,
-    contents: BTreeMap<String, Vec<u8>>,
+    contents: Contents,
     calls: Calls,
     taken: u64,
     faults: Faults,
@@ -34,8 +35,7 @@ impl MemFiles {
         ensures blame { blame_of result ≡ [] }
     {
         MemFiles {
-            alloc,
-            contents: BTreeMap::new(alloc),
+            contents: Contents::new(alloc),
             calls: Calls::new(fail),
             taken: 0,
             faults: Faults::new(alloc),
@@ -49,20 +49,14 @@ impl MemFiles {
         ensures refused { OnErr result (contents_of self.new ≡ contents_of self.old) }
         ensures rest { ChangesContentsOnly self.old self.new }
     {
-        let key = String::from_str(self.alloc, name)?;
-        let value = Vec::from_slice(self.alloc, bytes)?;
-        self.contents.insert(key, value)?;
-        Ok(())
+        self.contents.set(name, bytes)
     }
 
     /// The bytes under a name, if it is there.
     pub fn file(&self, name: &str) -> Option<&[u8]>
         ensures { option_map (λ bytes. bytes.now) result ≡ contents_of self.now name.now }
     {
-        match self.contents.get(name) {
-            Some(bytes) => Some(bytes.as_slice()),
-            None => None,
-        }
+        self.contents.get(name)
     }
 }
 
@@ -115,28 +109,60 @@ impl Files for MemFiles {
             → blame_of self.new ≡ blame_of self.old }
         ensures act_stays { result ≢ Err FetchError.Failed → act_of self.new ≡ act_of self.old }
     {
-        let listed = self.calls.fails_next();
+        let fails = self.calls.fails_next();
         self.taken = 0;
         let Ok(blamed) = String::from_str(alloc, name) else {
             return Err(FetchError::Memory);
         };
-        match self.file(name) {
-            Some(bytes) if !listed => {
-                let length = bytes.len() as u64;
-                if length > limit {
-                    self.taken = limit + 1;
-                    return Err(FetchError::Long);
-                }
-                let Ok(copy) = Vec::from_slice(alloc, bytes) else {
-                    return Err(FetchError::Memory);
-                };
-                self.taken = length;
-                Ok(copy)
+        match self.contents.get(name) {
+            Some(bytes) if !fails => {
+                self.taken = taken_within(bytes, limit);
+                copy_within(alloc, bytes, limit)
             }
             _ => {
                 self.faults.note(blamed, Act::Fetch);
                 Err(FetchError::Failed)
             }
+        }
+    }
+
+    fn store(&mut self, name: &str, bytes: &[u8]) -> Result<(), StoreError>
+        // The calls that are listed fail and no others, and a refusal changes no file.
+        ensures listed { FailsNext self.old
+            → (result ≡ Err StoreError.Failed) ⊎ (result ≡ Err StoreError.Memory) }
+        ensures unlisted { result ≡ Err StoreError.Failed → FailsNext self.old }
+        ensures refused { OnErr result (contents_of self.new ≡ contents_of self.old) }
+        ensures fail { failing_calls self.new ≡ failing_calls self.old }
+        ensures made { calls_made self.new ≡ one_more (calls_made self.old) }
+
+        // What each kind of files ensures.
+        ensures holds { OnOk result (contents_of self.new name.now ≡ Some bytes.now) }
+        ensures part { OnErr result (HoldsPart (Some (contents_of self.old))
+            (Some (contents_of self.new)) name.now bytes.now) }
+        ensures others { KeepsOtherNames (contents_of self.old) (contents_of self.new) name.now }
+        ensures taken_stays { taken_of self.new ≡ taken_of self.old }
+        ensures failed { result ≡ Err StoreError.Failed
+            → Rose (faults_of self.old) (faults_of self.new) }
+        ensures blamed { result ≡ Err StoreError.Failed → blame_of self.new ≡ name.now }
+        ensures acted { result ≡ Err StoreError.Failed → act_of self.new ≡ Act.Store }
+        ensures never_falls { faults_of self.old ≤ faults_of self.new }
+        ensures faults_stay { result ≢ Err StoreError.Failed
+            → faults_of self.new ≡ faults_of self.old }
+        ensures blame_stays { result ≢ Err StoreError.Failed
+            → blame_of self.new ≡ blame_of self.old }
+        ensures act_stays { result ≢ Err StoreError.Failed → act_of self.new ≡ act_of self.old }
+    {
+        let fails = self.calls.fails_next();
+        let Ok(blamed) = String::from_str(self.contents.allocator(), name) else {
+            return Err(StoreError::Memory);
+        };
+        if fails {
+            self.faults.note(blamed, Act::Store);
+            return Err(StoreError::Failed);
+        }
+        match self.contents.set(name, bytes) {
+            Ok(()) => Ok(()),
+            Err(_) => Err(StoreError::Memory),
         }
     }
 }

@@ -41,6 +41,50 @@ fn memory_files_fail_at_the_listed_calls_alone(rt: HostRuntime) -> Result<(), Fa
 }
 
 #[test]
+fn fetches_and_stores_in_memory_are_numbered_together(rt: HostRuntime) -> Result<(), Fail> {
+    let alloc = rt.alloc();
+    let mut files = MemFiles::new(alloc, vec![in alloc; 0, 2]?);
+    files.add("kept", b"as it was")?;
+    assert_eq!(rt;
+        files.store("a", b"first"),
+        Err(StoreError::Failed),
+        "call 0"
+    );
+    assert_eq!(rt; files.file("a"), None);
+    assert_eq!(rt; files.store("a", b"first"), Ok(()));
+    assert_eq!(rt;
+        files.fetch(alloc, "a", 9).err(),
+        Some(FetchError::Failed),
+        "call 2"
+    );
+    assert_eq!(rt; files.store("a", b"again"), Ok(()));
+    assert_eq!(rt; files.fetch(alloc, "a", 9)?.as_slice(), b"again".as_slice());
+    assert_eq!(rt; files.file("kept"), Some(b"as it was".as_slice()));
+    Ok(())
+}
+
+#[test]
+fn sure_files_fail_at_absent_names_alone(rt: HostRuntime) -> Result<(), Fail> {
+    let alloc = rt.alloc();
+    let mut files = SureFiles::new(alloc);
+    files.add("a", b"added")?;
+    assert_eq!(rt; files.fetch(alloc, "b", 9).err(), Some(FetchError::Failed));
+    assert_eq!(rt; files.store("b", b"stored"), Ok(()));
+    assert_eq!(rt;
+        files.fetch(alloc, "b", 6)?.as_slice(),
+        b"stored".as_slice()
+    );
+    assert_eq!(rt; files.fetch(alloc, "b", 5).err(), Some(FetchError::Long));
+    assert_eq!(rt; files.file("a"), Some(b"added".as_slice()));
+    assert_eq!(rt; files.file("c"), None);
+    let mut sink = SureSink::new(alloc);
+    assert_eq!(rt; put_all(&mut sink, b"one"), Ok(()));
+    assert_eq!(rt; sink.put(b"two"), Ok(3));
+    assert_eq!(rt; sink.bytes(), b"onetwo".as_slice());
+    Ok(())
+}
+
+#[test]
 fn a_fetch_takes_as_many_bytes_as_the_limit_and_no_more(rt: HostRuntime) -> Result<(), Fail> {
     let alloc = rt.alloc();
     let mut files = MemFiles::new(alloc, Vec::new(alloc));
@@ -113,9 +157,9 @@ fn put_all_hands_on_a_refusal_in_mid_stream(rt: HostRuntime) -> Result<(), Fail>
 }
 
 #[test]
-fn disk_files_read_what_a_stream_wrote(rt: HostRuntime) -> Result<(), Fail> {
+fn disk_files_read_what_was_written(rt: HostRuntime) -> Result<(), Fail> {
     let alloc = rt.alloc();
-    let path = "disk_files_read_what_a_stream_wrote";
+    let path = "disk_files_read_what_was_written";
     let mut text = Vec::new(alloc);
     for number in 0..70_000u32 {
         text.extend_from_slice(&number.to_be_bytes())?;
@@ -127,6 +171,8 @@ fn disk_files_read_what_a_stream_wrote(rt: HostRuntime) -> Result<(), Fail> {
     let whole = files.fetch(alloc, path, 280_000);
     let long = files.fetch(alloc, path, 279_999);
     let empty = files.fetch(alloc, path, 0);
+    let stored = files.store(path, b"shorter");
+    let again = files.fetch(alloc, path, 280_000);
     fs::remove_file(&rt, path)?;
     let absent = files.fetch(alloc, path, 280_000);
     assert!(rt;
@@ -135,6 +181,8 @@ fn disk_files_read_what_a_stream_wrote(rt: HostRuntime) -> Result<(), Fail> {
     );
     assert_eq!(rt; long.err(), Some(FetchError::Long));
     assert_eq!(rt; empty.err(), Some(FetchError::Long));
+    assert_eq!(rt; stored, Ok(()));
+    assert_eq!(rt; again?.as_slice(), b"shorter".as_slice());
     assert_eq!(rt; absent.err(), Some(FetchError::Failed));
     Ok(())
 }
@@ -156,13 +204,14 @@ impl Write for Full {
 }
 
 #[test]
-fn a_stream_that_refuses_or_takes_nothing_is_a_fault(rt: HostRuntime) -> Result<(), Fail> {
+fn what_the_machine_refuses_is_a_fault(rt: HostRuntime) -> Result<(), Fail> {
     let alloc = rt.alloc();
     assert_eq!(rt; StdSink::new(rt.stdout()).put(b"\n"), Ok(1));
     assert_eq!(rt; StdSink::new(Full).put(b"x"), Err(SinkError::Failed));
     let directory = fs::open(&rt, ".")?;
     assert_eq!(rt; StdSink::new(directory).put(b"x"), Err(SinkError::Failed));
-    let unreadable = DiskFiles::new(alloc, &rt).fetch(alloc, ".", 9);
-    assert_eq!(rt; unreadable.err(), Some(FetchError::Failed));
+    let mut files = DiskFiles::new(alloc, &rt);
+    assert_eq!(rt; files.fetch(alloc, ".", 9).err(), Some(FetchError::Failed));
+    assert_eq!(rt; files.store(".", b"x"), Err(StoreError::Failed));
     Ok(())
 }
