@@ -20,7 +20,7 @@ impl Calls {
     }
 
     /// Counts a call, and says whether it is to fail.
-    pub(crate) fn fails_next(&mut self) -> bool
+    pub(crate) fn next_fails(&mut self) -> bool
         ensures listed { IsTrue result ↔ Contains self.old.fail.items self.old.made }
         ensures fail { self.new.fail.items ≡ self.old.fail.items }
         ensures made { self.new.made ≡ one_more self.old.made }

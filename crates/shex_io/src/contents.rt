@@ -68,8 +68,8 @@ pub(crate) fn copy_within(alloc: Global, bytes: &[u8], limit: u64) -> Result<Vec
     ensures copy { IfOk result (λ copy. copy.items ≡ bytes.now) }
     ensures within { OnOk result (length bytes.now ≤ limit) }
     ensures long { result ≡ Err FetchError.Long → limit < length bytes.now }
-    ensures only { limit < length bytes.now → result ≡ Err FetchError.Long }
-    ensures never { result ≢ Err FetchError.Failed }
+    ensures above_limit { limit < length bytes.now → result ≡ Err FetchError.Long }
+    ensures never_fails { result ≢ Err FetchError.Failed }
 {
     if bytes.len() as u64 > limit {
         return Err(FetchError::Long);

@@ -14,7 +14,7 @@ use std::alloc::{AllocError, Global};
 
 /// Files in memory.
 ///
-/// Calls of `fetch` and `store` are numbered together from 0, and those whose numbers are listed fail.
+/// Calls of `fetch` and `store` are numbered together from 0. Those whose numbers are listed fail.
 #[derive(Drop)]
 pub struct MemFiles {
     contents: Contents,
@@ -109,7 +109,7 @@ impl Files for MemFiles {
             → blame_of self.new ≡ blame_of self.old }
         ensures act_stays { result ≢ Err FetchError.Failed → act_of self.new ≡ act_of self.old }
     {
-        let fails = self.calls.fails_next();
+        let fails = self.calls.next_fails();
         self.taken = 0;
         let Ok(blamed) = String::from_str(alloc, name) else {
             return Err(FetchError::Memory);
@@ -152,7 +152,7 @@ impl Files for MemFiles {
             → blame_of self.new ≡ blame_of self.old }
         ensures act_stays { result ≢ Err StoreError.Failed → act_of self.new ≡ act_of self.old }
     {
-        let fails = self.calls.fails_next();
+        let fails = self.calls.next_fails();
         let Ok(blamed) = String::from_str(self.contents.allocator(), name) else {
             return Err(StoreError::Memory);
         };
@@ -229,7 +229,7 @@ impl Sink for MemSink {
         ensures faults_stay { result ≢ Err SinkError.Failed
             → failed_puts self.new ≡ failed_puts self.old }
     {
-        if self.calls.fails_next() {
+        if self.calls.next_fails() {
             self.faults = self.faults.saturating_add(1);
             return Err(SinkError::Failed);
         }

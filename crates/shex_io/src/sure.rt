@@ -68,7 +68,8 @@ impl Files for SureFiles {
 
     fn fetch(&mut self, alloc: Global, name: &str, limit: u64) -> Result<Vec<u8>, FetchError>
         // Only a fetch of an absent name fails.
-        ensures only_absent { result ≡ Err FetchError.Failed → contents_of self.old name.now ≡ None }
+        ensures only_absent { result ≡ Err FetchError.Failed
+            → contents_of self.old name.now ≡ None }
 
         // What each kind of files ensures.
         ensures gives { IfOk result (λ bytes. contents_of self.old name.now ≡ Some bytes.items) }
