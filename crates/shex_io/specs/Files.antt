@@ -16,12 +16,12 @@ abbrev pub Lacks : Told → List ℕ → Type 0
 Lacks None name = ⊥
 Lacks (Some contents) name = contents name ≡ None
 
--- the lesser of the length of what a name holds and the limit plus one
+-- bytes are held, and taken is the lesser of their number and the limit plus one
 abbrev pub IsTakenOfHeld : Option (List ℕ) → ℕ → ℕ → Type 0
 IsTakenOfHeld None limit taken = ⊥
 IsTakenOfHeld (Some bytes) limit taken = taken ≡ min (length bytes) (limit + 1)
 
--- if contents are told, a fetch under this limit takes so many bytes of the name
+-- if contents are told, this is how many bytes a fetch of the name under this limit takes
 abbrev pub IsTakenOf : Told → List ℕ → ℕ → ℕ → Type 0
 IsTakenOf None name limit taken = ⊤
 IsTakenOf (Some contents) name limit taken = IsTakenOfHeld (contents name) limit taken

@@ -3,7 +3,7 @@ use Rattle.std.specs.Prelude.{ℕ, List, string_bytes}
 use Rattle.shex_io.specs.declared.host.DiskFiles.{DiskFiles}
 use Rattle.shex_io.specs.declared.host.StdSink.{StdSink}
 
--- how many fetches failed
+-- how many calls failed
 abbrev pub disk_faults : {R : Type 0} → DiskFiles R → ℕ
 disk_faults files = files.faults.count
 

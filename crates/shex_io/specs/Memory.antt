@@ -25,13 +25,15 @@ FailsNext files = Contains (failing_calls files) (calls_made files)
 abbrev pub taken_of : MemFiles → ℕ
 taken_of files = files.taken
 
--- how many calls failed, and the name in the one that failed last and its kind
+-- how many calls failed
 abbrev pub faults_of : MemFiles → ℕ
 faults_of files = files.faults.count
 
+-- the name in the call that failed last
 abbrev pub blame_of : MemFiles → List ℕ
 blame_of files = string_bytes files.faults.blame
 
+-- the kind of the call that failed last
 abbrev pub act_of : MemFiles → Act
 act_of files = files.faults.act
 

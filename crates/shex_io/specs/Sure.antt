@@ -13,13 +13,15 @@ contents_of files = bytes_under files.contents
 abbrev pub taken_of : SureFiles → ℕ
 taken_of files = files.taken
 
--- how many fetches failed, and the name in the one that failed last and its kind
+-- how many fetches failed
 abbrev pub faults_of : SureFiles → ℕ
 faults_of files = files.faults.count
 
+-- the name in the call that failed last
 abbrev pub blame_of : SureFiles → List ℕ
 blame_of files = string_bytes files.faults.blame
 
+-- the kind of the call that failed last
 abbrev pub act_of : SureFiles → Act
 act_of files = files.faults.act
 

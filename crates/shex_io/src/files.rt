@@ -54,7 +54,7 @@ pub trait Files {
     /// How many calls failed.
     ghost faults: { Self → ℕ };
 
-    /// The name in the call that failed last, empty where none did.
+    /// The bytes of the name in the call that failed last, empty where none did.
     ghost blame: { Self → List ℕ };
 
     /// The kind of the call that failed last.
@@ -89,9 +89,10 @@ pub trait Files {
         ensures faults_stay { result ≢ Err FetchError.Failed → faults self.new ≡ faults self.old }
         ensures blame_stays { result ≢ Err FetchError.Failed → blame self.new ≡ blame self.old }
         ensures act_stays { result ≢ Err FetchError.Failed → act self.new ≡ act self.old };
+
     /// Makes these bytes the whole file of this name.
     ///
-    /// After a refusal the name may hold some first of the bytes.
+    /// After a refusal the name holds what it held before, or a prefix of the bytes.
     fn store(&mut self, name: &str, bytes: &[u8]) -> Result<(), StoreError>
         ensures holds { OnOk result (Holds (told self.new) name.now (Some bytes.now)) }
         ensures part { OnErr result (HoldsPart (told self.old) (told self.new) name.now bytes.now) }
