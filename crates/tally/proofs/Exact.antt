@@ -2,7 +2,9 @@
 use Rattle.std.proofs.Common.{◌≡◌, ℕ, ◌+◌, ◌-◌, ◌*◌, ◌/◌, ◌<◌, ◌≤◌, ◌≢◌, inl, inr, refl, subst, arith, Bool, true, false, cond, min, max}
 use Rattle.std.proofs.lemmas.Bool.{cases_lt, cases_eq, eqb-true, eq-eqb}
 use Rattle.std.proofs.lemmas.Bool.Decides.{nat_tests}
+use Rattle.std.proofs.lemmas.Grind.{div_ceil_times}
 use Rattle.std.proofs.Math.Nat.{le-div_iff_mul-le, mul-le-mul_right}
+use Rattle.std.specs.Int.{div_ceil}
 use Rattle.std.specs.Prelude.{Option, Some, None, nat_le, nat_eq}
 use Rattle.tally.specs.declared.Bound.{Bound}
 use Rattle.tally.specs.declared.Bound.TheVariants.{Upto, Free}
@@ -13,17 +15,20 @@ use Rattle.tally.proofs.CopyLaws.{or_left, or_right}
 use Rattle.tally.specs.Symbols.{IsUnder, has_symbol, some_has}
 use Rattle.tally.specs.Span.{HasSpan, IsBelow, IsProper, IsOrdered, IsSound, AreSound, proper, meet, meet_ends, plus, add_ends, least, most, repeated, is_nothing, span, span_each, span_one}
 
-pub ceil_le : (lo m k : ℕ) → 0 < m → lo ≤ m * k → (lo + (m - 1)) / m ≤ k
-ceil_le lo m k pos h = elim (cases_lt k ((lo + (m - 1)) / m)) [
-  | inl lt ↦ (let up : (k + 1) * m ≤ lo + (m - 1) = (le-div_iff_mul-le pos).0 (omega arith) in absurd (omega arith))
+pub ceil_le : (lo m k : ℕ) → 0 < m → lo ≤ m * k → div_ceil lo m ≤ k
+ceil_le lo m k pos h = elim (cases_lt k (div_ceil lo m)) [
+  | inl lt ↦
+      let up : (k + 1) * m ≤ div_ceil lo m * m = mul-le-mul_right m (omega arith) in
+      let above = (div_ceil_times lo m pos).1 in
+      absurd (omega arith)
   | inr le ↦ le
 ]
 
-pub le_ceil : (lo m k : ℕ) → 0 < m → (lo + (m - 1)) / m ≤ k → lo ≤ m * k
-le_ceil lo m k pos h = elim (cases_lt (m * k) lo) [
-  | inl lt ↦ (let up : k + 1 ≤ (lo + (m - 1)) / m = (le-div_iff_mul-le pos).1 (omega arith) in absurd (omega arith))
-  | inr le ↦ le
-]
+pub le_ceil : (lo m k : ℕ) → 0 < m → div_ceil lo m ≤ k → lo ≤ m * k
+le_ceil lo m k pos h =
+    let up : div_ceil lo m * m ≤ k * m = mul-le-mul_right m h in
+    let below = (div_ceil_times lo m pos).0 in
+    omega arith
 
 pub proper_in : (lo : ℕ) (hi : Option ℕ) (k : ℕ) → lo ≤ k → IsBelow k hi → HasSpan (proper lo hi) k
 proper_in lo None k h t = (h, tt)

@@ -2,4 +2,5 @@ pub mod Plan
 pub mod Copies
 pub mod Span
 pub mod Symbols
+pub mod Totals
 pub mod Laws

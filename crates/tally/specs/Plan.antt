@@ -1,5 +1,5 @@
 -- An expression over counts as a plain tree, with lists of children.
-use Rattle.std.specs.Prelude.{ℕ, List, [], ◌∷◌}
+use Rattle.std.specs.Prelude.{ℕ, List, [], ◌∷◌, map}
 use Rattle.tally.specs.declared.Bound.{Bound}
 use Rattle.tally.specs.declared.Count.{Count}
 use Rattle.tally.specs.declared.Count.TheOpen.{Count-F, Sym, Each, One, Many}
@@ -33,3 +33,7 @@ plan_step (Many min bound c) = many min bound c.value
 -- the expression as a plain tree
 abbrev pub plan_of : Count → Plan
 plan_of = fold-Count Plan plan_step
+
+-- a list of expressions as members
+abbrev pub plans_of : List Count → Plans
+plans_of cs = row (map plan_of cs)
