@@ -74,8 +74,7 @@ pub within_small :
     IfSome r (IsWithin a low high) → IfSome r (λ s. (s.lo < 2 ^ 48) × EndsBy s.hi (2 ^ 48 - 1))
 within_small a low high low_small high_small None within = tt
 within_small a low high low_small high_small (Some s) within =
-    let lower = total_under a low low_small in
-    (
+    let lower = total_under a low low_small in (
       (let here = within.lower in omega arith),
       ends s.hi (total a high) (total_under a high high_small) within.upper,
     )

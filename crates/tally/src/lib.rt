@@ -10,6 +10,10 @@ ghost use Rattle.tally.specs.Span.{HasSpan, add_ends, meet, plus, proper, repeat
 
 pub use counter::Steps;
 
+#[cfg(test)]
+#[tactic(auto, unfolding(crate::specs::Symbols::IsDistinct, crate::specs::Span::IsSound))]
+mod tests;
+
 /// The upper end of a cardinality: a greatest number of repetitions, or none (ShEx 2.1 section 5.5, where `max` is -1).
 #[derive(Clone, Copy, Debug, PartialEq, Eq)]
 pub enum Bound {
