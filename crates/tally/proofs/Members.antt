@@ -1,17 +1,17 @@
 -- What a walk over the members of an EachOf or a OneOf knows at each of them.
-use Rattle.std.proofs.Common.{◌≡◌, ℕ, suc, ◌+◌, ◌<◌, ◌≤◌, refl, sym, ap, subst, ◌∙◌, arith, Bool, true, false, cond, min, max, List, [], ◌∷◌, length, drop, get_or, add-one}
+use Rattle.std.proofs.Common.{◌≡◌, ℕ, suc, ◌+◌, ◌<◌, ◌≤◌, sym, ap, subst, ◌∙◌, arith, Bool, true, max, List, length, drop, get_or, add-one}
 use Rattle.std.proofs.Math.ListN.{drop_of_length-le}
 use Rattle.std.proofs.Math.Seq.{drop-cons}
 use Rattle.std.specs.Prelude.{Option, Some, None, IfSome, ⊤, ◌||◌, ◌^◌}
 use Rattle.tally.proofs.CopyLaws.{or_left, or_right}
 use Rattle.tally.proofs.Exact.{each_is, meet_is}
-use Rattle.tally.proofs.Folding.{meet_all, meet_assoc, meet_none, meet_with_all, plus_assoc, plus_none, plus_zero, proper_ends, zero_plus}
+use Rattle.tally.proofs.Algebra.{meet_all, meet_assoc, meet_with_all, plus_assoc, plus_zero, proper_ends, zero_plus}
 use Rattle.tally.proofs.Totals.{total_join, total_part, total_under}
 use Rattle.tally.specs.declared.Interval.{Interval}
 use Rattle.tally.specs.declared.Count.{Count}
 use Rattle.tally.specs.Plan.{Plan, Plans, no_plans, more_plans, plan_of, plans_of, each, one}
 use Rattle.tally.specs.Symbols.{has_symbol, some_has, IsDistinct, AreDistinct}
-use Rattle.tally.specs.Span.{IsBelow, IsProper, add_ends, all, meet, meet_ends, plus, proper, span, span_each, span_one}
+use Rattle.tally.specs.Span.{IsProper, add_ends, all, meet, meet_ends, plus, span, span_each, span_one}
 use Rattle.tally.specs.Totals.{total, EndsBy, IsWithin}
 
 -- the rest of a list of members, at one of them and at the end

@@ -1,8 +1,7 @@
 -- Totals of disjoint sets of symbols add up, and the ends of an interval are below the totals of its box.
 use Rattle.std.proofs.Common.{◌≡◌, ℕ, zero, suc, ◌+◌, ◌-◌, ◌*◌, ◌^◌, ◌<◌, ◌≤◌, refl, arith, Bool, true, false, cond, inl, inr}
-use Rattle.std.proofs.lemmas.Bool.{cases_lt, cases_eq, eq-eqb}
-use Rattle.std.proofs.Math.Nat.{mul-le-mul_right, div-le_self}
-use Rattle.std.specs.Prelude.{Option, Some, None, IfSome, nat_eq, ◌||◌}
+use Rattle.std.proofs.lemmas.Bool.{cases_eq}
+use Rattle.std.specs.Prelude.{Option, Some, None, IfSome, ◌||◌}
 use Rattle.tally.specs.declared.Interval.{Interval}
 use Rattle.tally.specs.Totals.{sum_below, total, EndsBy, IsWithin}
 

@@ -1,5 +1,5 @@
 -- Totals of counts, by which the ends of intervals are bounded.
-use Rattle.std.specs.Prelude.{ℕ, zero, suc, Bool, ◌+◌, ◌^◌, ◌≤◌, ◌<◌, ⊤, if◌then◌else◌, Option, Some, None}
+use Rattle.std.specs.Prelude.{ℕ, zero, suc, Bool, ◌+◌, ◌^◌, ◌≤◌, ⊤, if◌then◌else◌, Option, Some, None}
 use Rattle.tally.specs.declared.Interval.{Interval}
 
 -- the sum of a function over the numbers below n

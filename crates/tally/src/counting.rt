@@ -3,7 +3,7 @@ ghost use Rattle.std.specs.Prelude.{◌≡◌, ◌↔◌, ◌<◌, ◌-◌, ◌^
 ghost use Rattle.tally.specs.Copies.{Copies};
 ghost use Rattle.tally.specs.Plan.{each, one, plan_of, plans_of};
 ghost use Rattle.tally.specs.Span.{HasSpan, IsProper, IsSound, span};
-ghost use Rattle.tally.specs.Symbols.{IsBelowAll, IsDistinct, IsUnder, has_symbol};
+ghost use Rattle.tally.specs.Symbols.{Covers, IsDistinct, IsUnder, has_symbol};
 ghost use Rattle.tally.specs.Totals.{EndsBy, IsWithin};
 
 use crate::{Count, Interval};
@@ -16,8 +16,8 @@ use crate::{Count, Interval};
 pub fn interval(e: &Count, low: &[u32], high: &[u32]) -> Option<Interval>
     requires distinct { IsDistinct (plan_of e.now) }
     requires sound { IsSound (plan_of e.now) }
-    requires in_low { IsBelowAll (length low.now) (plan_of e.now) }
-    requires in_high { IsBelowAll (length high.now) (plan_of e.now) }
+    requires in_low { Covers (length low.now) (plan_of e.now) }
+    requires in_high { Covers (length high.now) (plan_of e.now) }
 
     ensures table { result ≡ span (plan_of e.now) (slice_index low.now) (slice_index high.now) }
     ensures exact { low.now ≡ high.now → (k : ℕ) → HasSpan result k ↔ Copies (plan_of e.now) (slice_index low.now) k }
@@ -36,8 +36,8 @@ pub fn interval(e: &Count, low: &[u32], high: &[u32]) -> Option<Interval>
 #[cycle(walk)]
 fn interval_of(e: &Count, low: &[u32], high: &[u32]) -> Option<Interval>
     requires distinct { IsDistinct (plan_of e.now) }
-    requires in_low { IsBelowAll (length low.now) (plan_of e.now) }
-    requires in_high { IsBelowAll (length high.now) (plan_of e.now) }
+    requires in_low { Covers (length low.now) (plan_of e.now) }
+    requires in_high { Covers (length high.now) (plan_of e.now) }
 
     ensures value { result ≡ span (plan_of e.now) (slice_index low.now) (slice_index high.now) }
     ensures within { IfSome result (IsWithin (λ i. has_symbol i (plan_of e.now)) (slice_index low.now) (slice_index high.now)) }
@@ -57,8 +57,8 @@ fn interval_of(e: &Count, low: &[u32], high: &[u32]) -> Option<Interval>
 #[cycle(walk)]
 fn common_interval(members: &[Count], low: &[u32], high: &[u32]) -> Option<Interval>
     requires distinct { IsDistinct (each (plans_of members.now)) }
-    requires in_low { IsBelowAll (length low.now) (each (plans_of members.now)) }
-    requires in_high { IsBelowAll (length high.now) (each (plans_of members.now)) }
+    requires in_low { Covers (length low.now) (each (plans_of members.now)) }
+    requires in_high { Covers (length high.now) (each (plans_of members.now)) }
 
     ensures value { result ≡ span (each (plans_of members.now)) (slice_index low.now) (slice_index high.now) }
     ensures within { IfSome result
@@ -75,8 +75,8 @@ fn common_interval(members: &[Count], low: &[u32], high: &[u32]) -> Option<Inter
 #[cycle(walk)]
 fn sum_of_intervals(members: &[Count], low: &[u32], high: &[u32]) -> Option<Interval>
     requires distinct { IsDistinct (one (plans_of members.now)) }
-    requires in_low { IsBelowAll (length low.now) (one (plans_of members.now)) }
-    requires in_high { IsBelowAll (length high.now) (one (plans_of members.now)) }
+    requires in_low { Covers (length low.now) (one (plans_of members.now)) }
+    requires in_high { Covers (length high.now) (one (plans_of members.now)) }
 
     ensures value { result ≡ span (one (plans_of members.now)) (slice_index low.now) (slice_index high.now) }
     ensures within { IfSome result

@@ -14,10 +14,12 @@ pub use counter::Steps;
 #[tactic(auto, unfolding(crate::specs::Symbols::IsDistinct, crate::specs::Span::IsSound))]
 mod tests;
 
-/// The upper end of a cardinality: a greatest number of repetitions, or none (ShEx 2.1 section 5.5, where `max` is -1).
+/// The maximum of a cardinality (ShEx 2.1 section 5.5, where -1 stands for any number).
 #[derive(Clone, Copy, Debug, PartialEq, Eq)]
 pub enum Bound {
+    /// At most so many repetitions.
     Upto(u32),
+    /// Any number of repetitions.
     Free,
 }
 
@@ -34,10 +36,12 @@ pub enum Count {
     Many(u32, Bound, Box<Count>),
 }
 
-/// The numbers from `lo` up to `hi`, or without end.
+/// The numbers from `lo` up to `hi`, or from `lo` without end.
 #[derive(Clone, Copy, Debug, PartialEq, Eq)]
 pub struct Interval {
+    /// The least number.
     pub lo: u64,
+    /// The greatest number, if there is one.
     pub hi: Option<u64>,
 }
 
@@ -93,7 +97,7 @@ impl Interval {
         }
     }
 
-    /// The numbers of repetitions, each of at least `min` and at most `max`, that take a number of the interval.
+    /// The numbers of repetitions, each of at least `min` and at most `max`, that some number of the interval makes.
     pub(crate) fn repeated(self, min: u32, max: Bound) -> Option<Interval>
         ensures { result ≡ repeated min max (Some self) }
     {

@@ -1,7 +1,6 @@
-use Rattle.std.proofs.Common.{◌≡◌, ℕ, slice_index, subst, sym, ap, ◌∙◌, arith}
+use Rattle.std.proofs.Common.{◌≡◌, slice_index, subst, sym, ap, ◌∙◌, arith}
 use Rattle.tally.proofs.Exact.{copies_under, copies_span, span_copies, span_is}
 use Rattle.tally.proofs.Totals.{within_small}
-use Rattle.tally.specs.Copies.{Copies}
 use Rattle.tally.specs.Plan.{plan_of}
 use Rattle.tally.specs.Span.{HasSpan, IsProper, span}
 use Rattle.tally.proofs.counting.interval.Goals as goal

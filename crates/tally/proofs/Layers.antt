@@ -1,17 +1,16 @@
 -- The ends of the interval of a symbol, and of repetitions, are within the totals.
-use Rattle.std.proofs.Common.{◌≡◌, ℕ, ◌+◌, ◌*◌, ◌/◌, ◌<◌, ◌≤◌, ◌^◌, ◌≢◌, refl, sym, ap, subst, ◌∙◌, arith, Bool, true, false, cond}
-use Rattle.std.proofs.lemmas.Bool.{eq-eqb, eqb-true}
+use Rattle.std.proofs.Common.{◌≡◌, ℕ, ◌*◌, ◌/◌, ◌<◌, ◌≤◌, ◌^◌, ◌≢◌, refl, sym, ap, subst, ◌∙◌, arith, Bool, true, false, cond}
+use Rattle.std.proofs.lemmas.Bool.{eq-eqb}
 use Rattle.std.proofs.lemmas.Bool.Decides.{nat_tests}
 use Rattle.std.proofs.Math.Nat.{div-le_self, mul-le-mul_right}
-use Rattle.std.specs.Int.{div_ceil}
-use Rattle.std.specs.Prelude.{Option, Some, None, IfSome, nat_eq, nat_le, ⊤}
+use Rattle.std.specs.Prelude.{Option, Some, None, IfSome, nat_eq, nat_le}
 use Rattle.tally.proofs.Exact.{ceil_le}
 use Rattle.tally.proofs.Totals.{total_one}
 use Rattle.tally.specs.declared.Bound.{Bound}
 use Rattle.tally.specs.declared.Bound.TheVariants.{Upto, Free}
 use Rattle.tally.specs.declared.Interval.{Interval}
 use Rattle.tally.specs.Plan.{Plan, sym as symbol, many}
-use Rattle.tally.specs.Symbols.{IsBelowAll, has_symbol}
+use Rattle.tally.specs.Symbols.{Covers, has_symbol}
 use Rattle.tally.specs.Span.{all, span, is_nothing, least, most, proper, repeated}
 use Rattle.tally.specs.Totals.{total, EndsBy, IsWithin}
 
@@ -66,8 +65,8 @@ repeated_within a low high n bound s w = go (is_nothing bound) refl
         within_proper a low high (least bound s.lo) (most n s.hi)
         (let low_end = w.lower in let less = least_le bound s.lo is in omega arith) (most_by n s.hi (total a high) w.upper)
 
-pub symbol_below : (n i : ℕ) (p : Plan) → p ≡ symbol i → IsBelowAll n p → i < n
-symbol_below n i p is below = subst (IsBelowAll n) is below i (eq-eqb i i refl)
+pub symbol_below : (n i : ℕ) (p : Plan) → p ≡ symbol i → Covers n p → i < n
+symbol_below n i p is below = subst (Covers n) is below i (eq-eqb i i refl)
 
 module _ (low high : ℕ → ℕ) (p : Plan) (r : Option Interval) where
   -- the interval of an expression that is a symbol

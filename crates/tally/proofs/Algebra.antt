@@ -1,15 +1,9 @@
 -- What a walk over the members of an EachOf or a OneOf knows at each of them.
-use Rattle.std.proofs.Common.{◌≡◌, ℕ, ◌+◌, ◌<◌, ◌≤◌, refl, sym, ap, subst, ◌∙◌, arith, Bool, true, false, cond, min, max}
+use Rattle.std.proofs.Common.{◌≡◌, ℕ, ◌+◌, ◌<◌, refl, sym, ap, ◌∙◌, arith, Bool, true, false, cond, min, max}
 use Rattle.std.proofs.lemmas.Bool.Decides.{nat_tests}
-use Rattle.std.specs.Prelude.{Option, Some, None, ⊤, nat_le, ◌||◌}
-use Rattle.tally.proofs.CopyLaws.{or_left, or_right}
-use Rattle.tally.proofs.Exact.{each_is, meet_is}
-use Rattle.tally.proofs.Totals.{total_join, total_part}
+use Rattle.std.specs.Prelude.{Option, Some, None, nat_le}
 use Rattle.tally.specs.declared.Interval.{Interval}
-use Rattle.tally.specs.Plan.{Plan, Plans, no_plans, more_plans}
-use Rattle.tally.specs.Symbols.{has_symbol, some_has, AreDistinct}
-use Rattle.tally.specs.Span.{IsBelow, IsProper, add_ends, all, meet, meet_ends, plus, proper, span, span_each, span_one}
-use Rattle.tally.specs.Totals.{total, EndsBy, IsWithin}
+use Rattle.tally.specs.Span.{IsBelow, IsProper, add_ends, all, meet, meet_ends, plus, proper}
 
 pub improper : (lo h : ℕ) → h < lo → proper lo (Some h) ≡ None
 improper lo h above = go (nat_le lo h) refl
