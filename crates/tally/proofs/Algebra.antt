@@ -8,7 +8,9 @@ use Rattle.tally.specs.Span.{IsBelow, IsProper, add_ends, all, meet, meet_ends, 
 pub improper : (lo h : ℕ) → h < lo → proper lo (Some h) ≡ None
 improper lo h above = go (nat_le lo h) refl
   where
-    go : (b : Bool) → nat_le lo h ≡ b → cond {A = Option Interval} b (Some (record { lo = lo; hi = Some h })) None ≡ None
+    go :
+        (b : Bool) → nat_le lo h ≡ b →
+        cond {A = Option Interval} b (Some (record { lo = lo; hi = Some h })) None ≡ None
     go true is = absurd (grind (arith, nat_tests))
     go false is = refl
 
@@ -16,7 +18,9 @@ pub proper_self : (lo : ℕ) (hi : Option ℕ) → IsBelow lo hi → proper lo h
 proper_self lo None below = refl
 proper_self lo (Some h) below = go (nat_le lo h) refl
   where
-    go : (b : Bool) → nat_le lo h ≡ b → cond {A = Option Interval} b (Some (record { lo = lo; hi = Some h })) None ≡ Some (record { lo = lo; hi = Some h })
+    go :
+        (b : Bool) → nat_le lo h ≡ b →
+        cond {A = Option Interval} b (Some (record { lo = lo; hi = Some h })) None ≡ Some (record { lo = lo; hi = Some h })
     go true is = refl
     go false is = absurd (grind (arith, nat_tests))
 
@@ -25,7 +29,9 @@ pub proper_ends : (lo : ℕ) (hi : Option ℕ) (r : Interval) → proper lo hi �
 proper_ends lo None r is = (cc, cc)
 proper_ends lo (Some h) r is = go (nat_le lo h) is
   where
-    go : (b : Bool) → cond b (Some (record { lo = lo; hi = Some h })) None ≡ Some r → (r.lo ≡ lo) × (r.hi ≡ Some h)
+    go :
+        (b : Bool) → cond b (Some (record { lo = lo; hi = Some h })) None ≡ Some r →
+        (r.lo ≡ lo) × (r.hi ≡ Some h)
     go true e = (cc, cc)
     go false e = cc
 
@@ -33,7 +39,9 @@ pub meet_none : (x : Option Interval) → meet x None ≡ None
 meet_none None = refl
 meet_none (Some a) = refl
 
-pub meet_proper_left : (lo : ℕ) (hi : Option ℕ) (c : Interval) → meet (proper lo hi) (Some c) ≡ proper (max lo c.lo) (meet_ends hi c.hi)
+pub meet_proper_left :
+    (lo : ℕ) (hi : Option ℕ) (c : Interval) →
+    meet (proper lo hi) (Some c) ≡ proper (max lo c.lo) (meet_ends hi c.hi)
 meet_proper_left lo None c = refl
 meet_proper_left lo (Some h) c = go (nat_le lo h) refl
   where
@@ -46,7 +54,9 @@ meet_proper_left lo (Some h) c = go (nat_le lo h) refl
     go true is = refl
     go false is = none c.hi (grind (arith, nat_tests))
 
-pub meet_proper_right : (a : Interval) (lo : ℕ) (hi : Option ℕ) → meet (Some a) (proper lo hi) ≡ proper (max a.lo lo) (meet_ends a.hi hi)
+pub meet_proper_right :
+    (a : Interval) (lo : ℕ) (hi : Option ℕ) →
+    meet (Some a) (proper lo hi) ≡ proper (max a.lo lo) (meet_ends a.hi hi)
 meet_proper_right a lo None = refl
 meet_proper_right a lo (Some h) = go (nat_le lo h) refl
   where
@@ -83,7 +93,9 @@ meet_all (Some b) is = (let e : max 0 b.lo ≡ b.lo = omega arith in ap (λ lo. 
 pub meet_with_all : (x : Interval) → IsProper (Some x) → meet (Some x) (Some all) ≡ Some x
 meet_with_all x is = go x.hi is
   where
-    go : (hi : Option ℕ) → IsBelow x.lo hi → proper (max x.lo 0) (meet_ends hi None) ≡ Some (record { lo = x.lo; hi = hi })
+    go :
+        (hi : Option ℕ) → IsBelow x.lo hi →
+        proper (max x.lo 0) (meet_ends hi None) ≡ Some (record { lo = x.lo; hi = hi })
     go None below = (let e : max x.lo 0 ≡ x.lo = omega arith in rw e refl)
     go (Some h) below = (let e : max x.lo 0 ≡ x.lo = omega arith in rw e (proper_self x.lo (Some h) below))
 
@@ -93,7 +105,9 @@ add_ends_assoc (Some x) None z = refl
 add_ends_assoc (Some x) (Some y) None = refl
 add_ends_assoc (Some x) (Some y) (Some z) = ap Some (omega arith)
 
-pub same_interval : {x y : ℕ} {u v : Option ℕ} → x ≡ y → u ≡ v → ◌≡◌ {A = Option Interval} (Some (record { lo = x; hi = u })) (Some (record { lo = y; hi = v }))
+pub same_interval :
+    {x y : ℕ} {u v : Option ℕ} → x ≡ y → u ≡ v →
+    ◌≡◌ {A = Option Interval} (Some (record { lo = x; hi = u })) (Some (record { lo = y; hi = v }))
 same_interval e f = cc
 
 pub plus_none : (x : Option Interval) → plus x None ≡ None

@@ -88,7 +88,9 @@ plus_in (Some a) (Some b) i j h t = (omega arith, ends a.hi b.hi h.1 t.1)
     ends (Some x) (Some y) p q = omega arith
 
 -- a number of the sum is one from each
-pub in_plus : (a b : Option Interval) → IsProper a → IsProper b → (k : ℕ) → HasSpan (plus a b) k → (i j : ℕ) × (k ≡ i + j) × HasSpan a i × HasSpan b j
+pub in_plus :
+    (a b : Option Interval) → IsProper a → IsProper b → (k : ℕ) → HasSpan (plus a b) k →
+    (i j : ℕ) × (k ≡ i + j) × HasSpan a i × HasSpan b j
 in_plus None b pa pb k h = absurd h
 in_plus (Some a) None pa pb k h = absurd h
 in_plus (Some a) (Some b) pa pb k h = ends a.lo b.lo a.hi b.hi pa pb h.0 h.1
@@ -137,7 +139,8 @@ most_above n e k h = go (nat_eq n 0) refl h
 
 -- numbers of repetitions that take j fall between the least and the most
 pub repeated_in :
-    (n : ℕ) (bound : Bound) (a : Option Interval) (k j : ℕ) → HasSpan a j → Fills n bound k j → HasSpan (repeated n bound a) k
+    (n : ℕ) (bound : Bound) (a : Option Interval) (k j : ℕ) → HasSpan a j → Fills n bound k j →
+    HasSpan (repeated n bound a) k
 repeated_in n bound None k j h t = absurd h
 repeated_in n Free (Some a) k j h t = proper_in (least Free a.lo) (most n a.hi) k (low (nat_eq a.lo 0) refl) (below_most n a.hi k j h.1 t.0)
   where
@@ -149,7 +152,9 @@ repeated_in n Free (Some a) k j h t = proper_in (least Free a.lo) (most n a.hi) 
     ]
 repeated_in n (Upto m) (Some a) k j h t = go (nat_eq m 0) refl
   where
-    zero_low : (b : Bool) → nat_eq a.lo 0 ≡ b → a.lo ≡ 0 → HasSpan (cond b (Some (record { lo = 0; hi = None })) None) k
+    zero_low :
+        (b : Bool) → nat_eq a.lo 0 ≡ b → a.lo ≡ 0 →
+        HasSpan (cond b (Some (record { lo = 0; hi = None })) None) k
     zero_low true is e = (omega arith, tt)
     zero_low false is e = absurd (grind (arith, nat_tests))
 
@@ -167,14 +172,17 @@ pub repeated_is : (n : ℕ) (bound : Bound) (a : Option Interval) → IsProper (
 repeated_is n bound None = tt
 repeated_is n bound (Some a) = go (is_nothing bound) (nat_eq a.lo 0)
   where
-    go : (b e : Bool) → IsProper (cond b (cond e (Some (record { lo = 0; hi = None })) None) (proper (least bound a.lo) (most n a.hi)))
+    go :
+        (b e : Bool) →
+        IsProper (cond b (cond e (Some (record { lo = 0; hi = None })) None) (proper (least bound a.lo) (most n a.hi)))
     go true true = tt
     go true false = tt
     go false e = proper_is (least bound a.lo) (most n a.hi)
 
 -- a number between the least and the most is one of repetitions that take some j
 pub in_repeated :
-    (n : ℕ) (bound : Bound) (a : Option Interval) → IsProper a → IsOrdered n bound → (k : ℕ) → HasSpan (repeated n bound a) k →
+    (n : ℕ) (bound : Bound) (a : Option Interval) → IsProper a → IsOrdered n bound → (k : ℕ) →
+    HasSpan (repeated n bound a) k →
     (j : ℕ) × HasSpan a j × Fills n bound k j
 in_repeated n bound None p ord k h = absurd h
 in_repeated n Free (Some a) p ord k h =
@@ -198,7 +206,8 @@ in_repeated n (Upto m) (Some a) p ord k h = go (nat_eq m 0) refl h
     from_zero None q = tt
     from_zero (Some e) q = omega arith
 
-    nothing : m ≡ 0 → (b : Bool) → nat_eq a.lo 0 ≡ b → HasSpan (cond b (Some (record { lo = 0; hi = None })) None) k →
+    nothing :
+        m ≡ 0 → (b : Bool) → nat_eq a.lo 0 ≡ b → HasSpan (cond b (Some (record { lo = 0; hi = None })) None) k →
         (j : ℕ) × ((a.lo ≤ j) × IsBelow j a.hi) × Fills n (Upto m) k j
     nothing z true is q =
         let l : a.lo ≡ 0 = grind (arith, nat_tests) in
@@ -221,7 +230,9 @@ in_repeated n (Upto m) (Some a) p ord k h = go (nat_eq m 0) refl h
 mutual
   unfolding Copies span
 
-  pub copies_under : (p : Plan) (low c high : ℕ → ℕ) (k : ℕ) → IsUnder p low c → IsUnder p c high → Copies p c k → HasSpan (span p low high) k
+  pub copies_under :
+      (p : Plan) (low c high : ℕ → ℕ) (k : ℕ) → IsUnder p low c → IsUnder p c high → Copies p c k →
+      HasSpan (span p low high) k
   copies_under (symbol i) low c high k from to h =
       (let a = from i (eq-eqb i i refl) in let b = to i (eq-eqb i i refl) in proper_in (low i) (Some (high i)) k (omega arith) (omega arith))
   copies_under (each ps) low c high k from to h = each_under ps low c high k from to h
@@ -230,7 +241,8 @@ mutual
       repeated_in n bound (span p low high) k j (copies_under p low c high j from to h) fills
 
   pub each_under :
-      (ps : Plans) (low c high : ℕ → ℕ) (k : ℕ) → ((i : ℕ) → some_has i ps ≡ true → low i ≤ c i) → ((i : ℕ) → some_has i ps ≡ true → c i ≤ high i) →
+      (ps : Plans) (low c high : ℕ → ℕ) (k : ℕ) → ((i : ℕ) → some_has i ps ≡ true → low i ≤ c i) →
+      ((i : ℕ) → some_has i ps ≡ true → c i ≤ high i) →
       CopiesEach ps c k → HasSpan (span_each ps low high) k
   each_under no_plans low c high k from to h = (omega arith, tt)
   each_under (more_plans p ps) low c high k from to (h, t) =
@@ -241,7 +253,8 @@ mutual
       (λ i e. from i (or_right (has_symbol i p) (some_has i ps) e)) (λ i e. to i (or_right (has_symbol i p) (some_has i ps) e)) t)
 
   pub one_under :
-      (ps : Plans) (low c high : ℕ → ℕ) (k : ℕ) → ((i : ℕ) → some_has i ps ≡ true → low i ≤ c i) → ((i : ℕ) → some_has i ps ≡ true → c i ≤ high i) →
+      (ps : Plans) (low c high : ℕ → ℕ) (k : ℕ) → ((i : ℕ) → some_has i ps ≡ true → low i ≤ c i) →
+      ((i : ℕ) → some_has i ps ≡ true → c i ≤ high i) →
       CopiesOne ps c k → HasSpan (span_one ps low high) k
   one_under no_plans low c high k from to h = (omega arith, omega arith)
   one_under (more_plans p ps) low c high k from to (a, b, e, h, t) =
@@ -254,7 +267,8 @@ mutual
 
 -- the same for a box over all symbols
 pub copies_box :
-    (p : Plan) (low c high : ℕ → ℕ) → ((i : ℕ) → (low i ≤ c i) × (c i ≤ high i)) → (k : ℕ) → Copies p c k → HasSpan (span p low high) k
+    (p : Plan) (low c high : ℕ → ℕ) → ((i : ℕ) → (low i ≤ c i) × (c i ≤ high i)) → (k : ℕ) → Copies p c k →
+    HasSpan (span p low high) k
 copies_box p low c high box k h = copies_under p low c high k (λ i e. (box i).0) (λ i e. (box i).1) h
 
 pub copies_span : (p : Plan) (c : ℕ → ℕ) (k : ℕ) → Copies p c k → HasSpan (span p c c) k
@@ -287,12 +301,14 @@ mutual
   span_copies (many n bound p) c k (ord, s) h =
       (let (j, inside, fills) = in_repeated n bound (span p c c) (span_is p c c) ord k h in (j, fills, span_copies p c j s inside))
 
-  pub span_each_copies : (ps : Plans) (c : ℕ → ℕ) (k : ℕ) → AreSound ps → HasSpan (span_each ps c c) k → CopiesEach ps c k
+  pub span_each_copies :
+      (ps : Plans) (c : ℕ → ℕ) (k : ℕ) → AreSound ps → HasSpan (span_each ps c c) k → CopiesEach ps c k
   span_each_copies no_plans c k s h = tt
   span_each_copies (more_plans p ps) c k (s, more) h =
       (let t = in_meet (span p c c) (span_each ps c c) k h in (span_copies p c k s t.0, span_each_copies ps c k more t.1))
 
-  pub span_one_copies : (ps : Plans) (c : ℕ → ℕ) (k : ℕ) → AreSound ps → HasSpan (span_one ps c c) k → CopiesOne ps c k
+  pub span_one_copies :
+      (ps : Plans) (c : ℕ → ℕ) (k : ℕ) → AreSound ps → HasSpan (span_one ps c c) k → CopiesOne ps c k
   span_one_copies no_plans c k s h = omega arith
   span_one_copies (more_plans p ps) c k (s, more) h =
       (let (a, b, e, left, right) = in_plus (span p c c) (span_one ps c c) (span_is p c c) (one_is ps c c) k h in

@@ -25,7 +25,8 @@ within_proper a low high lo (Some h) p q = go (nat_le lo h)
     go false = tt
 
 pub symbol_within :
-    (low high : ℕ → ℕ) (i : ℕ) → i < 2 ^ 16 → IfSome (proper (low i) (Some (high i))) (IsWithin (λ k. nat_eq i k) low high)
+    (low high : ℕ → ℕ) (i : ℕ) → i < 2 ^ 16 →
+    IfSome (proper (low i) (Some (high i))) (IsWithin (λ k. nat_eq i k) low high)
 symbol_within low high i small =
     within_proper (λ k. nat_eq i k) low high (low i) (Some (high i))
     (total_one (λ k. nat_eq i k) low i small (eq-eqb i i refl)) (total_one (λ k. nat_eq i k) high i small (eq-eqb i i refl))
@@ -70,29 +71,37 @@ symbol_below n i p is below = subst (Covers n) is below i (eq-eqb i i refl)
 
 module _ (low high : ℕ → ℕ) (p : Plan) (r : Option Interval) where
   -- the interval of an expression that is a symbol
-  pub symbol_span : (i j a b : ℕ) → p ≡ symbol i → j ≡ i → a ≡ low j → b ≡ high j → r ≡ proper a (Some b) → r ≡ span p low high
+  pub symbol_span :
+      (i j a b : ℕ) → p ≡ symbol i → j ≡ i → a ≡ low j → b ≡ high j → r ≡ proper a (Some b) →
+      r ≡ span p low high
   unfolding span
   symbol_span i j a b is at lower upper value =
       value ∙ (ap (λ x. proper x (Some b)) (lower ∙ ap low at) ∙ (ap (λ x. proper (low i) (Some x)) (upper ∙ ap high at) ∙ ap (λ q. span q low high) (sym is)))
 
-  pub symbol_ends : (i : ℕ) → p ≡ symbol i → i < 2 ^ 16 → r ≡ span p low high → IfSome r (IsWithin (λ k. has_symbol k p) low high)
+  pub symbol_ends :
+      (i : ℕ) → p ≡ symbol i → i < 2 ^ 16 → r ≡ span p low high →
+      IfSome r (IsWithin (λ k. has_symbol k p) low high)
   unfolding span
   symbol_ends i is small value =
       let here : r ≡ proper (low i) (Some (high i)) = value ∙ ap (λ q. span q low high) is in
       rw (here, is) (symbol_within low high i small)
 
   -- the interval of an expression with a cardinality
-  pub many_none : (n : ℕ) (bound : Bound) (q : Plan) → p ≡ many n bound q → None ≡ span q low high → r ≡ None → r ≡ span p low high
+  pub many_none :
+      (n : ℕ) (bound : Bound) (q : Plan) → p ≡ many n bound q → None ≡ span q low high → r ≡ None →
+      r ≡ span p low high
   unfolding span
   many_none n bound q is none value = value ∙ sym (ap (λ x. span x low high) is ∙ ap (repeated n bound) (sym none))
 
   pub many_span :
-      (n : ℕ) (bound : Bound) (q : Plan) (s : Interval) → p ≡ many n bound q → Some s ≡ span q low high → r ≡ repeated n bound (Some s) →
+      (n : ℕ) (bound : Bound) (q : Plan) (s : Interval) → p ≡ many n bound q → Some s ≡ span q low high →
+      r ≡ repeated n bound (Some s) →
       r ≡ span p low high
   unfolding span
   many_span n bound q s is some value = value ∙ (ap (repeated n bound) some ∙ ap (λ x. span x low high) (sym is))
 
   pub many_ends :
-      (n : ℕ) (bound : Bound) (q : Plan) (s : Interval) → p ≡ many n bound q → IsWithin (λ k. has_symbol k q) low high s →
+      (n : ℕ) (bound : Bound) (q : Plan) (s : Interval) → p ≡ many n bound q →
+      IsWithin (λ k. has_symbol k q) low high s →
       r ≡ repeated n bound (Some s) → IfSome r (IsWithin (λ k. has_symbol k p) low high)
   many_ends n bound q s is within value = rw (value, is) (repeated_within (λ k. has_symbol k q) low high n bound s within)

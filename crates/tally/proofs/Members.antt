@@ -65,13 +65,17 @@ module _ (whole : Plans) (low high : ℕ → ℕ) where
   ends_meet n (Some x) None p q = p
   ends_meet n (Some x) (Some y) p q = omega arith
 
-  pub within_part : (a b : ℕ → Bool) (s : Interval) → ((i : ℕ) → a i ≡ true → b i ≡ true) → IsWithin a low high s → IsWithin b low high s
+  pub within_part :
+      (a b : ℕ → Bool) (s : Interval) → ((i : ℕ) → a i ≡ true → b i ≡ true) → IsWithin a low high s →
+      IsWithin b low high s
   within_part a b s part w = record {
     lower = (let more = total_part a b low part in let here = w.lower in omega arith);
     upper = ends_part (total a high) (total b high) s.hi (total_part a b high part) w.upper;
   }
 
-  within_meet : (a : ℕ → Bool) (s m r : Interval) → IsWithin a low high s → IsWithin a low high m → meet (Some s) (Some m) ≡ Some r → IsWithin a low high r
+  within_meet :
+      (a : ℕ → Bool) (s m r : Interval) → IsWithin a low high s → IsWithin a low high m →
+      meet (Some s) (Some m) ≡ Some r → IsWithin a low high r
   within_meet a s m r p q is =
       let ends = proper_ends (max s.lo m.lo) (meet_ends s.hi m.hi) r is in
       record {
@@ -80,7 +84,8 @@ module _ (whole : Plans) (low high : ℕ → ℕ) where
       }
 
   next_each :
-      (p : Plan) (ps : Plans) (s m r : Interval) → EachRest whole (more_plans p ps) low high s → span p low high ≡ Some m →
+      (p : Plan) (ps : Plans) (s m r : Interval) → EachRest whole (more_plans p ps) low high s →
+      span p low high ≡ Some m →
       IsWithin (λ i. has_symbol i p) low high m → meet (Some s) (Some m) ≡ Some r → EachRest whole ps low high r
   unfolding span AreDistinct
   next_each p ps s m r rest is within met = record {
@@ -98,7 +103,8 @@ module _ (whole : Plans) (low high : ℕ → ℕ) where
 
   -- a member with the empty interval, or with nothing in common with those before it, makes the whole empty
   empty_each :
-      (p : Plan) (ps : Plans) (s : Interval) → EachRest whole (more_plans p ps) low high s → meet (Some s) (span p low high) ≡ None →
+      (p : Plan) (ps : Plans) (s : Interval) → EachRest whole (more_plans p ps) low high s →
+      meet (Some s) (span p low high) ≡ None →
       span_each whole low high ≡ None
   unfolding span
   empty_each p ps s rest none =
@@ -124,7 +130,8 @@ module _ (whole : Plans) (low high : ℕ → ℕ) where
   ends_plus (Some x) (Some y) t u v n le p q = omega arith
 
   next_one :
-      (p : Plan) (ps : Plans) (s m r : Interval) → OneRest whole (more_plans p ps) low high s → span p low high ≡ Some m →
+      (p : Plan) (ps : Plans) (s m r : Interval) → OneRest whole (more_plans p ps) low high s →
+      span p low high ≡ Some m →
       IsWithin (λ i. has_symbol i p) low high m → Some r ≡ plus (Some s) (Some m) → OneRest whole ps low high r
   unfolding span AreDistinct
   next_one p ps s m r rest is within sum =
@@ -147,7 +154,9 @@ module _ (whole : Plans) (low high : ℕ → ℕ) where
       }
 
   -- a member with the empty interval makes the whole empty
-  empty_one : (p : Plan) (ps : Plans) (s : Interval) → OneRest whole (more_plans p ps) low high s → span p low high ≡ None → span_one whole low high ≡ None
+  empty_one :
+      (p : Plan) (ps : Plans) (s : Interval) → OneRest whole (more_plans p ps) low high s →
+      span p low high ≡ None → span_one whole low high ≡ None
   unfolding span
   empty_one p ps s rest none = sym rest.value ∙ ap (λ x. plus (Some s) (plus x (span_one ps low high))) none
 
@@ -159,19 +168,26 @@ module _ (whole : Plans) (low high : ℕ → ℕ) where
   within_one : (s : Interval) → OneRest whole no_plans low high s → IsWithin (λ i. some_has i whole) low high s
   within_one s rest = record { lower = (let a = rest.lower in omega arith); upper = ends s.hi rest.upper }
     where
-      ends : (x : Option ℕ) → Leaves x (total (λ i. some_has i no_plans) high) (total (λ i. some_has i whole) high) → EndsBy x (total (λ i. some_has i whole) high)
+      ends :
+          (x : Option ℕ) →
+          Leaves x (total (λ i. some_has i no_plans) high) (total (λ i. some_has i whole) high) →
+          EndsBy x (total (λ i. some_has i whole) high)
       ends None p = tt
       ends (Some h) p = omega arith
 
-  ends_fit : (x y : Option ℕ) (t u v n : ℕ) → t + u ≤ v → Leaves x v n → EndsBy y t → n < 2 ^ 48 → IfSome (add_ends x y) (λ end. end < 2 ^ 64)
+  ends_fit :
+      (x y : Option ℕ) (t u v n : ℕ) → t + u ≤ v → Leaves x v n → EndsBy y t → n < 2 ^ 48 →
+      IfSome (add_ends x y) (λ end. end < 2 ^ 64)
   ends_fit None y t u v n le p q small = tt
   ends_fit (Some x) None t u v n le p q small = tt
   ends_fit (Some x) (Some y) t u v n le p q small = omega arith
 
   -- no sum overflows: the totals of 32-bit counts of 16-bit symbols have 48 bits
   fits_one :
-      (p : Plan) (ps : Plans) (s m : Interval) → OneRest whole (more_plans p ps) low high s → IsWithin (λ i. has_symbol i p) low high m →
-      ((i : ℕ) → low i < 2 ^ 32) → ((i : ℕ) → high i < 2 ^ 32) → (s.lo + m.lo < 2 ^ 64) × IfSome (add_ends s.hi m.hi) (λ end. end < 2 ^ 64)
+      (p : Plan) (ps : Plans) (s m : Interval) → OneRest whole (more_plans p ps) low high s →
+      IsWithin (λ i. has_symbol i p) low high m →
+      ((i : ℕ) → low i < 2 ^ 32) → ((i : ℕ) → high i < 2 ^ 32) →
+      (s.lo + m.lo < 2 ^ 64) × IfSome (add_ends s.hi m.hi) (λ end. end < 2 ^ 64)
   unfolding AreDistinct
   fits_one p ps s m rest within low_small high_small =
       let lows = total_join (λ i. has_symbol i p) (λ i. some_has i ps) low rest.distinct.2 in
@@ -191,7 +207,8 @@ module _
     here_each : EachRest (plans_of xs) (more_plans (plan_of x) (plans_of (drop (i + 1) xs))) low high s
     here_each = subst (λ ps. EachRest (plans_of xs) ps low high s) (rest_at xs i x lt is) rest
 
-    pub each_asks : IsDistinct (plan_of x) × ((k : ℕ) → has_symbol k (plan_of x) ≡ true → some_has k (plans_of xs) ≡ true)
+    pub each_asks :
+        IsDistinct (plan_of x) × ((k : ℕ) → has_symbol k (plan_of x) ≡ true → some_has k (plans_of xs) ≡ true)
     unfolding AreDistinct
     each_asks =
         (here_each.distinct.0, λ k h. here_each.part k (or_left (has_symbol k (plan_of x)) (some_has k (plans_of (drop (i + 1) xs))) h))
@@ -201,12 +218,14 @@ module _
         empty_each (plans_of xs) low high (plan_of x) (plans_of (drop (i + 1) xs)) s here_each (ap (meet (Some s)) (sym none))
 
     pub each_apart :
-        (m : Interval) → Some m ≡ span (plan_of x) low high → None ≡ meet (Some s) (Some m) → span_each (plans_of xs) low high ≡ None
+        (m : Interval) → Some m ≡ span (plan_of x) low high → None ≡ meet (Some s) (Some m) →
+        span_each (plans_of xs) low high ≡ None
     each_apart m found none =
         empty_each (plans_of xs) low high (plan_of x) (plans_of (drop (i + 1) xs)) s here_each (ap (meet (Some s)) (sym found) ∙ sym none)
 
     pub each_next :
-        (m r : Interval) → Some m ≡ span (plan_of x) low high → IsWithin (λ k. has_symbol k (plan_of x)) low high m →
+        (m r : Interval) → Some m ≡ span (plan_of x) low high →
+        IsWithin (λ k. has_symbol k (plan_of x)) low high m →
         Some r ≡ meet (Some s) (Some m) → EachRest (plans_of xs) (plans_of (drop (i + 1) xs)) low high r
     each_next m r found within met =
         next_each (plans_of xs) low high (plan_of x) (plans_of (drop (i + 1) xs)) s m r here_each (sym found) within (sym met)
@@ -225,7 +244,8 @@ module _
     here_one : OneRest (plans_of xs) (more_plans (plan_of x) (plans_of (drop (i + 1) xs))) low high s
     here_one = subst (λ ps. OneRest (plans_of xs) ps low high s) (rest_at xs i x lt is) rest
 
-    pub one_asks : IsDistinct (plan_of x) × ((k : ℕ) → has_symbol k (plan_of x) ≡ true → some_has k (plans_of xs) ≡ true)
+    pub one_asks :
+        IsDistinct (plan_of x) × ((k : ℕ) → has_symbol k (plan_of x) ≡ true → some_has k (plans_of xs) ≡ true)
     unfolding AreDistinct
     one_asks =
         (here_one.distinct.0, λ k h. here_one.part k (or_left (has_symbol k (plan_of x)) (some_has k (plans_of (drop (i + 1) xs))) h))
@@ -234,13 +254,15 @@ module _
     one_none none = empty_one (plans_of xs) low high (plan_of x) (plans_of (drop (i + 1) xs)) s here_one (sym none)
 
     pub one_fits :
-        (m : Interval) → IsWithin (λ k. has_symbol k (plan_of x)) low high m → ((k : ℕ) → low k < 2 ^ 32) → ((k : ℕ) → high k < 2 ^ 32) →
+        (m : Interval) → IsWithin (λ k. has_symbol k (plan_of x)) low high m → ((k : ℕ) → low k < 2 ^ 32) →
+        ((k : ℕ) → high k < 2 ^ 32) →
         (s.lo + m.lo < 2 ^ 64) × IfSome (add_ends s.hi m.hi) (λ end. end < 2 ^ 64)
     one_fits m within low_small high_small =
         fits_one (plans_of xs) low high (plan_of x) (plans_of (drop (i + 1) xs)) s m here_one within low_small high_small
 
     pub one_next :
-        (m r : Interval) → Some m ≡ span (plan_of x) low high → IsWithin (λ k. has_symbol k (plan_of x)) low high m →
+        (m r : Interval) → Some m ≡ span (plan_of x) low high →
+        IsWithin (λ k. has_symbol k (plan_of x)) low high m →
         Some r ≡ plus (Some s) (Some m) → OneRest (plans_of xs) (plans_of (drop (i + 1) xs)) low high r
     one_next m r found within sum =
         next_one (plans_of xs) low high (plan_of x) (plans_of (drop (i + 1) xs)) s m r here_one (sym found) within sum

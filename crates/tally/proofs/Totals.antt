@@ -13,7 +13,8 @@ sum_one (suc n) i f h = elim (cases_eq i n) [
   | inr ne ↦ (let less : f i ≤ sum_below n f = sum_one n i f (omega arith) in omega arith)
 ]
 
-pub sum_join : (n : ℕ) (f g h : ℕ → ℕ) → ((i : ℕ) → f i + g i ≤ h i) → sum_below n f + sum_below n g ≤ sum_below n h
+pub sum_join :
+    (n : ℕ) (f g h : ℕ → ℕ) → ((i : ℕ) → f i + g i ≤ h i) → sum_below n f + sum_below n g ≤ sum_below n h
 unfolding sum_below
 sum_join zero f g h each = omega arith
 sum_join (suc n) f g h each = (let here = each n in let rest = sum_join n f g h each in omega arith)
@@ -41,7 +42,9 @@ chosen_join true false n apart = omega arith
 chosen_join false b n apart = omega arith
 
 -- disjoint sets of symbols have together at least both totals
-pub total_join : (a b : ℕ → Bool) (c : ℕ → ℕ) → ((i : ℕ) → a i ≡ true → b i ≡ false) → total a c + total b c ≤ total (λ i. a i || b i) c
+pub total_join :
+    (a b : ℕ → Bool) (c : ℕ → ℕ) → ((i : ℕ) → a i ≡ true → b i ≡ false) →
+    total a c + total b c ≤ total (λ i. a i || b i) c
 unfolding total
 total_join a b c apart =
     sum_join (2 ^ 16) (λ i. cond (a i) (c i) 0) (λ i. cond (b i) (c i) 0) (λ i. cond (a i || b i) (c i) 0)
@@ -69,7 +72,8 @@ total_under a c each =
 
 -- an interval within the totals of 32-bit counts has ends of 48 bits
 pub within_small :
-    (a : ℕ → Bool) (low high : ℕ → ℕ) → ((i : ℕ) → low i < 2 ^ 32) → ((i : ℕ) → high i < 2 ^ 32) → (r : Option Interval) →
+    (a : ℕ → Bool) (low high : ℕ → ℕ) → ((i : ℕ) → low i < 2 ^ 32) → ((i : ℕ) → high i < 2 ^ 32) →
+    (r : Option Interval) →
     IfSome r (IsWithin a low high) → IfSome r (λ s. (s.lo < 2 ^ 48) × EndsBy s.hi (2 ^ 48 - 1))
 within_small a low high low_small high_small None within = tt
 within_small a low high low_small high_small (Some s) within =

@@ -6,7 +6,7 @@ use Rattle.tally.specs.declared.Count.TheOpen.{Count-F, Sym, Each, One, Many}
 use Rattle.tally.specs.declared.Count.TheFolds.{fold-Count}
 
 mutual
-  -- a triple expression as counting sees it (ShEx 2.1 section 5.5): a triple constraint, an EachOf, a OneOf, a cardinality
+  -- a triple expression (ShEx 2.1 section 5.5): a triple constraint, an EachOf, a OneOf, or one with a cardinality
   pub data Plan : Type 0 where
     sym : ℕ → Plan
     each : Plans → Plan

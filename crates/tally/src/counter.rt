@@ -5,8 +5,10 @@ use std::marker::{Brand, Model};
 use std::mem::size_of;
 use std::sync::ledger::{Blank, Book, Ledger, Share};
 
-/// A counter of steps, seen as the number of steps so far. It has no bytes and its calls do nothing at run time:
-/// only contracts know the number. How often a call ticks is the number after it less the number before it.
+/// A counter of steps, seen as the number of steps so far.
+///
+/// It has no bytes and its calls do nothing at run time: only contracts know the number. How often a call ticks is the
+/// number after it less the number before it.
 #[derive(Drop)]
 pub struct Steps<L: Ledger> {
     book: Book<L>,

@@ -1,4 +1,4 @@
-//! Expressions over counts of symbols, the intervals of the numbers of copies that counts spell, and a counter of steps.
+//! Expressions over counts, the intervals of the numbers of copies that counts spell, and a counter of steps.
 #![tactic(auto)]
 
 mod counter;
@@ -97,7 +97,7 @@ impl Interval {
         }
     }
 
-    /// The numbers of repetitions, each of at least `min` and at most `max`, that some number of the interval makes.
+    /// The numbers of repetitions, from `min` to `max` copies each, that some number of the interval makes.
     pub(crate) fn repeated(self, min: u32, max: Bound) -> Option<Interval>
         ensures { result ≡ repeated min max (Some self) }
     {

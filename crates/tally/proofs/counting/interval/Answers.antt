@@ -1,5 +1,6 @@
 use Rattle.std.proofs.Common.{◌≡◌, slice_index, subst, sym, ap, ◌∙◌, arith}
 use Rattle.tally.proofs.Exact.{copies_under, copies_span, span_copies, span_is}
+use Rattle.tally.proofs.Parted.{copies_deal, deal_copies}
 use Rattle.tally.proofs.Totals.{within_small}
 use Rattle.tally.specs.Plan.{plan_of}
 use Rattle.tally.specs.Span.{HasSpan, IsProper, span}
@@ -14,6 +15,15 @@ returns-clause-exact c same k =
     in (
       λ inside. span_copies p low k c.requires.sound (subst (λ r. HasSpan r k) value inside),
       λ copies. subst (λ r. HasSpan r k) (sym value) (copies_span p low k copies),
+    )
+
+pub returns-clause-divided : goal.returns-clause-divided
+returns-clause-divided c same symbols k have =
+    let p = plan_of c.args.e.now in
+    let low = slice_index c.args.low.now in
+    let exact = returns-clause-exact c same k in (
+      λ inside. copies_deal p symbols low k c.requires.distinct c.requires.sound have (exact.0 inside),
+      λ deals. exact.1 (deal_copies p symbols low k c.requires.distinct have deals),
     )
 
 pub returns-clause-boxed : goal.returns-clause-boxed
