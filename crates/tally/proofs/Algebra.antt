@@ -20,7 +20,8 @@ proper_self lo (Some h) below = go (nat_le lo h) refl
   where
     go :
         (b : Bool) → nat_le lo h ≡ b →
-        cond {A = Option Interval} b (Some (record { lo = lo; hi = Some h })) None ≡ Some (record { lo = lo; hi = Some h })
+        cond {A = Option Interval} b (Some (record { lo = lo; hi = Some h })) None ≡
+        Some (record { lo = lo; hi = Some h })
     go true is = refl
     go false is = absurd (grind (arith, nat_tests))
 
@@ -50,7 +51,8 @@ meet_proper_left lo (Some h) c = go (nat_le lo h) refl
     none (Some e) above = sym (improper (max lo c.lo) (min h e) (omega arith))
 
     go : (b : Bool) → nat_le lo h ≡ b →
-        meet (cond b (Some (record { lo = lo; hi = Some h })) None) (Some c) ≡ proper (max lo c.lo) (meet_ends (Some h) c.hi)
+        meet (cond b (Some (record { lo = lo; hi = Some h })) None) (Some c) ≡ proper (max lo c.lo)
+        (meet_ends (Some h) c.hi)
     go true is = refl
     go false is = none c.hi (grind (arith, nat_tests))
 
@@ -65,7 +67,8 @@ meet_proper_right a lo (Some h) = go (nat_le lo h) refl
     none (Some e) above = sym (improper (max a.lo lo) (min e h) (omega arith))
 
     go : (b : Bool) → nat_le lo h ≡ b →
-        meet (Some a) (cond b (Some (record { lo = lo; hi = Some h })) None) ≡ proper (max a.lo lo) (meet_ends a.hi (Some h))
+        meet (Some a) (cond b (Some (record { lo = lo; hi = Some h })) None) ≡ proper (max a.lo lo)
+        (meet_ends a.hi (Some h))
     go true is = refl
     go false is = none a.hi (grind (arith, nat_tests))
 
@@ -88,7 +91,8 @@ meet_assoc (Some a) (Some b) (Some c) =
 
 pub meet_all : (x : Option Interval) → IsProper x → meet (Some all) x ≡ x
 meet_all None is = refl
-meet_all (Some b) is = (let e : max 0 b.lo ≡ b.lo = omega arith in ap (λ lo. proper lo b.hi) e ∙ proper_self b.lo b.hi is)
+meet_all (Some b) is = (let e : max 0 b.lo ≡ b.lo = omega arith in ap (λ lo. proper lo b.hi) e
+    ∙ proper_self b.lo b.hi is)
 
 pub meet_with_all : (x : Interval) → IsProper (Some x) → meet (Some x) (Some all) ≡ Some x
 meet_with_all x is = go x.hi is

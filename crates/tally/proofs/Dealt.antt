@@ -72,7 +72,8 @@ parts_copies :
 parts_copies p one_copy [] h = copies_zero p (times []) (λ i e. refl)
 parts_copies p one_copy (part ∷ parts) h =
     let more : 1 + length parts ≡ suc (length parts) = omega arith in
-    let both = copies_add p (times part) (times (flat parts)) 1 (length parts) (one_copy part h.0) (parts_copies p one_copy parts h.1) in
+    let both = copies_add p (times part) (times (flat parts)) 1 (length parts) (one_copy part h.0)
+    (parts_copies p one_copy parts h.1) in
     subst (λ k. Copies p (times (part ++ flat parts)) k) more
     (copies_agree p (λ i. times part i + times (flat parts) i) (times (part ++ flat parts)) (1 + length parts)
     (λ i e. sym (times_append part (flat parts) i)) both)
@@ -120,8 +121,10 @@ mutual
 
   one_stands : (ps : Plans) (ts : List ℕ) → MatchesOne ps ts → StandsIn (λ i. some_has i ps) ts
   one_stands no_plans ts h i none = absurd h
-  one_stands (more_plans p ps) ts (inl h) i none = match_stands p ts h i (or_false_left (has_symbol i p) (some_has i ps) none)
-  one_stands (more_plans p ps) ts (inr h) i none = one_stands ps ts h i (or_false_right (has_symbol i p) (some_has i ps) none)
+  one_stands (more_plans p ps) ts (inl h) i none =
+      match_stands p ts h i (or_false_left (has_symbol i p) (some_has i ps) none)
+  one_stands (more_plans p ps) ts (inr h) i none =
+      one_stands ps ts h i (or_false_right (has_symbol i p) (some_has i ps) none)
 
 mutual
   unfolding Matches Copies IsDistinct
@@ -130,7 +133,8 @@ mutual
   pub match_copies : (p : Plan) → IsDistinct p → (ts : List ℕ) → Matches p ts → Copies p (times ts) 1
   match_copies (symbol i) apart ts is = rw is (ap (λ b. cond b 1 0) (eq-eqb i i refl))
   match_copies (each ps) apart ts (parts, deals, h) =
-      each_agree ps (times (flat parts)) (times ts) 1 (λ i e. times_permuted ts (flat parts) i deals) (each_copies ps apart parts h)
+      each_agree ps (times (flat parts)) (times ts) 1 (λ i e. times_permuted ts (flat parts) i deals)
+      (each_copies ps apart parts h)
   match_copies (one ps) apart ts h = one_copies ps apart ts h
   match_copies (many low bound p) apart ts (parts, least, most, deals, h) = (
     length parts,
@@ -146,22 +150,35 @@ mutual
   each_copies (more_plans p ps) apart [] h = absurd h
   each_copies (more_plans p ps) apart (part ∷ parts) (h, more) = (
     copies_agree p (times part) (times (part ++ flat parts)) 1
-        (λ i e. let none = each_stands ps parts more i (apart.2 i e) in omega (arith, times_append part (flat parts) i, none)) (match_copies p apart.0 part h),
+        (λ i e. let none = each_stands ps parts more i (apart.2 i e) in
+        omega (arith, times_append part (flat parts) i, none)) (match_copies p apart.0 part h),
     each_agree ps (times (flat parts)) (times (part ++ flat parts)) 1
-        (λ i e. let none = match_stands p part h i (other_absent p ps apart.2 i e) in omega (arith, times_append part (flat parts) i, none)) (each_copies ps apart.1 parts more),
+        (λ i e. let none = match_stands p part h i (other_absent p ps apart.2 i e) in
+        omega (arith, times_append part (flat parts) i, none)) (each_copies ps apart.1 parts more),
   )
 
   one_copies : (ps : Plans) → AreDistinct ps → (ts : List ℕ) → MatchesOne ps ts → CopiesOne ps (times ts) 1
   one_copies no_plans apart ts h = absurd h
-  one_copies (more_plans p ps) apart ts (inl h) =
-      (1, 0, omega arith, match_copies p apart.0 ts h, one_zero ps (times ts) (λ i e. match_stands p ts h i (other_absent p ps apart.2 i e)))
-  one_copies (more_plans p ps) apart ts (inr h) =
-      (0, 1, omega arith, copies_zero p (times ts) (λ i e. one_stands ps ts h i (apart.2 i e)), one_copies ps apart.1 ts h)
+  one_copies (more_plans p ps) apart ts (inl h) = (
+    1,
+    0,
+    omega arith,
+    match_copies p apart.0 ts h,
+    one_zero ps (times ts) (λ i e. match_stands p ts h i (other_absent p ps apart.2 i e)),
+  )
+  one_copies (more_plans p ps) apart ts (inr h) = (
+    0,
+    1,
+    omega arith,
+    copies_zero p (times ts) (λ i e. one_stands ps ts h i (apart.2 i e)),
+    one_copies ps apart.1 ts h,
+  )
 
 -- symbols that divide into k matching parts spell k copies
 pub dealt_copies :
     (p : Plan) → IsDistinct p → (ts : List ℕ) (k : ℕ) → DealsInto (Matches p) k ts → Copies p (times ts) k
 dealt_copies p apart ts k d =
     subst (λ n. Copies p (times ts) n) d.many
-    (copies_agree p (times (flat d.parts)) (times ts) (length d.parts) (λ i e. times_permuted ts (flat d.parts) i d.deals)
+    (copies_agree p (times (flat d.parts)) (times ts) (length d.parts)
+    (λ i e. times_permuted ts (flat d.parts) i d.deals)
     (parts_copies p (λ part m. match_copies p apart part m) d.parts d.all))

@@ -29,7 +29,8 @@ pub symbol_within :
     IfSome (proper (low i) (Some (high i))) (IsWithin (λ k. nat_eq i k) low high)
 symbol_within low high i small =
     within_proper (λ k. nat_eq i k) low high (low i) (Some (high i))
-    (total_one (λ k. nat_eq i k) low i small (eq-eqb i i refl)) (total_one (λ k. nat_eq i k) high i small (eq-eqb i i refl))
+    (total_one (λ k. nat_eq i k) low i small (eq-eqb i i refl))
+    (total_one (λ k. nat_eq i k) high i small (eq-eqb i i refl))
 
 least_le : (bound : Bound) (lo : ℕ) → is_nothing bound ≡ false → least bound lo ≤ lo
 least_le Free lo some = go (nat_eq lo 0) refl
@@ -60,11 +61,13 @@ repeated_within a low high n bound s w = go (is_nothing bound) refl
     nothing false = tt
 
     go : (b : Bool) → is_nothing bound ≡ b →
-        IfSome (cond b (cond (nat_eq s.lo 0) (Some all) None) (proper (least bound s.lo) (most n s.hi))) (IsWithin a low high)
+        IfSome (cond b (cond (nat_eq s.lo 0) (Some all) None) (proper (least bound s.lo) (most n s.hi)))
+        (IsWithin a low high)
     go true is = nothing (nat_eq s.lo 0)
     go false is =
         within_proper a low high (least bound s.lo) (most n s.hi)
-        (let low_end = w.lower in let less = least_le bound s.lo is in omega arith) (most_by n s.hi (total a high) w.upper)
+        (let low_end = w.lower in let less = least_le bound s.lo is in omega arith)
+        (most_by n s.hi (total a high) w.upper)
 
 pub symbol_below : (n i : ℕ) (p : Plan) → p ≡ symbol i → Covers n p → i < n
 symbol_below n i p is below = subst (Covers n) is below i (eq-eqb i i refl)
@@ -76,7 +79,8 @@ module _ (low high : ℕ → ℕ) (p : Plan) (r : Option Interval) where
       r ≡ span p low high
   unfolding span
   symbol_span i j a b is at lower upper value =
-      value ∙ (ap (λ x. proper x (Some b)) (lower ∙ ap low at) ∙ (ap (λ x. proper (low i) (Some x)) (upper ∙ ap high at) ∙ ap (λ q. span q low high) (sym is)))
+      value ∙ (ap (λ x. proper x (Some b)) (lower ∙ ap low at)
+      ∙ (ap (λ x. proper (low i) (Some x)) (upper ∙ ap high at) ∙ ap (λ q. span q low high) (sym is)))
 
   pub symbol_ends :
       (i : ℕ) → p ≡ symbol i → i < 2 ^ 16 → r ≡ span p low high →
@@ -104,4 +108,5 @@ module _ (low high : ℕ → ℕ) (p : Plan) (r : Option Interval) where
       (n : ℕ) (bound : Bound) (q : Plan) (s : Interval) → p ≡ many n bound q →
       IsWithin (λ k. has_symbol k q) low high s →
       r ≡ repeated n bound (Some s) → IfSome r (IsWithin (λ k. has_symbol k p) low high)
-  many_ends n bound q s is within value = rw (value, is) (repeated_within (λ k. has_symbol k q) low high n bound s within)
+  many_ends n bound q s is within value =
+      rw (value, is) (repeated_within (λ k. has_symbol k q) low high n bound s within)

@@ -19,7 +19,8 @@ rest_at :
     (xs : List Count) (i : ℕ) (x : Count) → i < length xs → x ≡ get_or xs i x →
     plans_of (drop i xs) ≡ more_plans (plan_of x) (plans_of (drop (i + 1) xs))
 rest_at xs i x lt is =
-    rw add-one (ap plans_of (drop-cons xs i x lt) ∙ ap (λ y. more_plans (plan_of y) (plans_of (drop (suc i) xs))) (sym is))
+    rw add-one (ap plans_of (drop-cons xs i x lt)
+    ∙ ap (λ y. more_plans (plan_of y) (plans_of (drop (suc i) xs))) (sym is))
 
 rest_end : (xs : List Count) (i : ℕ) → length xs ≤ i → plans_of (drop i xs) ≡ no_plans
 rest_end xs i le = ap plans_of (drop_of_length-le xs le)
@@ -98,7 +99,8 @@ module _ (whole : Plans) (low high : ℕ → ℕ) where
     part = λ i e. rest.part i (or_right (has_symbol i p) (some_has i ps) e);
     within =
         within_meet (λ i. some_has i whole) s m r rest.within
-        (within_part (λ i. has_symbol i p) (λ i. some_has i whole) m (λ i e. rest.part i (or_left (has_symbol i p) (some_has i ps) e)) within) met;
+        (within_part (λ i. has_symbol i p) (λ i. some_has i whole) m
+        (λ i e. rest.part i (or_left (has_symbol i p) (some_has i ps) e)) within) met;
   }
 
   -- a member with the empty interval, or with nothing in common with those before it, makes the whole empty
@@ -108,7 +110,8 @@ module _ (whole : Plans) (low high : ℕ → ℕ) where
       span_each whole low high ≡ None
   unfolding span
   empty_each p ps s rest none =
-      sym rest.value ∙ (sym (meet_assoc (Some s) (span p low high) (span_each ps low high)) ∙ ap (λ x. meet x (span_each ps low high)) none)
+      sym rest.value ∙ (sym (meet_assoc (Some s) (span p low high) (span_each ps low high))
+      ∙ ap (λ x. meet x (span_each ps low high)) none)
 
   end_each : (s : Interval) → EachRest whole no_plans low high s → span_each whole low high ≡ Some s
   unfolding span
@@ -150,7 +153,8 @@ module _ (whole : Plans) (low high : ℕ → ℕ) where
         upper =
             rw hi
             (ends_plus s.hi m.hi (total (λ i. has_symbol i p) high) (total (λ i. some_has i ps) high)
-            (total (λ i. has_symbol i p || some_has i ps) high) (total (λ i. some_has i whole) high) highs rest.upper within.upper);
+            (total (λ i. has_symbol i p || some_has i ps) high)
+            (total (λ i. some_has i whole) high) highs rest.upper within.upper);
       }
 
   -- a member with the empty interval makes the whole empty
@@ -196,12 +200,14 @@ module _ (whole : Plans) (low high : ℕ → ℕ) where
       let high_total = total_under (λ i. some_has i whole) high high_small in (
         (let a = rest.lower in let b = within.lower in omega arith),
         ends_fit s.hi m.hi (total (λ i. has_symbol i p) high) (total (λ i. some_has i ps) high)
-            (total (λ i. has_symbol i p || some_has i ps) high) (total (λ i. some_has i whole) high) highs rest.upper within.upper high_total,
+            (total (λ i. has_symbol i p || some_has i ps) high)
+            (total (λ i. some_has i whole) high) highs rest.upper within.upper high_total,
       )
 
 -- what is known at a member of an EachOf, and after it
 module _
-    (xs : List Count) (low high : ℕ → ℕ) (i : ℕ) (x : Count) (s : Interval) (lt : i < length xs) (is : x ≡ get_or xs i x)
+    (xs : List Count) (low high : ℕ → ℕ) (i : ℕ) (x : Count) (s : Interval) (lt : i < length xs)
+    (is : x ≡ get_or xs i x)
     (rest : EachRest (plans_of xs) (plans_of (drop i xs)) low high s)
   where
     here_each : EachRest (plans_of xs) (more_plans (plan_of x) (plans_of (drop (i + 1) xs))) low high s
@@ -210,35 +216,43 @@ module _
     pub each_asks :
         IsDistinct (plan_of x) × ((k : ℕ) → has_symbol k (plan_of x) ≡ true → some_has k (plans_of xs) ≡ true)
     unfolding AreDistinct
-    each_asks =
-        (here_each.distinct.0, λ k h. here_each.part k (or_left (has_symbol k (plan_of x)) (some_has k (plans_of (drop (i + 1) xs))) h))
+    each_asks = (
+      here_each.distinct.0,
+      λ k h. here_each.part k
+          (or_left (has_symbol k (plan_of x)) (some_has k (plans_of (drop (i + 1) xs))) h),
+    )
 
     pub each_none : None ≡ span (plan_of x) low high → span_each (plans_of xs) low high ≡ None
     each_none none =
-        empty_each (plans_of xs) low high (plan_of x) (plans_of (drop (i + 1) xs)) s here_each (ap (meet (Some s)) (sym none))
+        empty_each (plans_of xs) low high (plan_of x) (plans_of (drop (i + 1) xs)) s here_each
+        (ap (meet (Some s)) (sym none))
 
     pub each_apart :
         (m : Interval) → Some m ≡ span (plan_of x) low high → None ≡ meet (Some s) (Some m) →
         span_each (plans_of xs) low high ≡ None
     each_apart m found none =
-        empty_each (plans_of xs) low high (plan_of x) (plans_of (drop (i + 1) xs)) s here_each (ap (meet (Some s)) (sym found) ∙ sym none)
+        empty_each (plans_of xs) low high (plan_of x) (plans_of (drop (i + 1) xs)) s here_each
+        (ap (meet (Some s)) (sym found) ∙ sym none)
 
     pub each_next :
         (m r : Interval) → Some m ≡ span (plan_of x) low high →
         IsWithin (λ k. has_symbol k (plan_of x)) low high m →
         Some r ≡ meet (Some s) (Some m) → EachRest (plans_of xs) (plans_of (drop (i + 1) xs)) low high r
     each_next m r found within met =
-        next_each (plans_of xs) low high (plan_of x) (plans_of (drop (i + 1) xs)) s m r here_each (sym found) within (sym met)
+        next_each (plans_of xs) low high (plan_of x) (plans_of (drop (i + 1) xs)) s m r here_each (sym found) within
+        (sym met)
 
 pub each_end :
     (xs : List Count) (low high : ℕ → ℕ) (i : ℕ) (s : Interval) → length xs ≤ i →
     EachRest (plans_of xs) (plans_of (drop i xs)) low high s → Some s ≡ span_each (plans_of xs) low high
 each_end xs low high i s le rest =
-    sym (end_each (plans_of xs) low high s (subst (λ ps. EachRest (plans_of xs) ps low high s) (rest_end xs i le) rest))
+    sym (end_each (plans_of xs) low high s
+    (subst (λ ps. EachRest (plans_of xs) ps low high s) (rest_end xs i le) rest))
 
 -- what is known at a member of a OneOf, and after it
 module _
-    (xs : List Count) (low high : ℕ → ℕ) (i : ℕ) (x : Count) (s : Interval) (lt : i < length xs) (is : x ≡ get_or xs i x)
+    (xs : List Count) (low high : ℕ → ℕ) (i : ℕ) (x : Count) (s : Interval) (lt : i < length xs)
+    (is : x ≡ get_or xs i x)
     (rest : OneRest (plans_of xs) (plans_of (drop i xs)) low high s)
   where
     here_one : OneRest (plans_of xs) (more_plans (plan_of x) (plans_of (drop (i + 1) xs))) low high s
@@ -247,8 +261,11 @@ module _
     pub one_asks :
         IsDistinct (plan_of x) × ((k : ℕ) → has_symbol k (plan_of x) ≡ true → some_has k (plans_of xs) ≡ true)
     unfolding AreDistinct
-    one_asks =
-        (here_one.distinct.0, λ k h. here_one.part k (or_left (has_symbol k (plan_of x)) (some_has k (plans_of (drop (i + 1) xs))) h))
+    one_asks = (
+      here_one.distinct.0,
+      λ k h. here_one.part k
+          (or_left (has_symbol k (plan_of x)) (some_has k (plans_of (drop (i + 1) xs))) h),
+    )
 
     pub one_none : None ≡ span (plan_of x) low high → span_one (plans_of xs) low high ≡ None
     one_none none = empty_one (plans_of xs) low high (plan_of x) (plans_of (drop (i + 1) xs)) s here_one (sym none)
@@ -258,20 +275,23 @@ module _
         ((k : ℕ) → high k < 2 ^ 32) →
         (s.lo + m.lo < 2 ^ 64) × IfSome (add_ends s.hi m.hi) (λ end. end < 2 ^ 64)
     one_fits m within low_small high_small =
-        fits_one (plans_of xs) low high (plan_of x) (plans_of (drop (i + 1) xs)) s m here_one within low_small high_small
+        fits_one (plans_of xs) low high (plan_of x)
+        (plans_of (drop (i + 1) xs)) s m here_one within low_small high_small
 
     pub one_next :
         (m r : Interval) → Some m ≡ span (plan_of x) low high →
         IsWithin (λ k. has_symbol k (plan_of x)) low high m →
         Some r ≡ plus (Some s) (Some m) → OneRest (plans_of xs) (plans_of (drop (i + 1) xs)) low high r
     one_next m r found within sum =
-        next_one (plans_of xs) low high (plan_of x) (plans_of (drop (i + 1) xs)) s m r here_one (sym found) within sum
+        next_one (plans_of xs) low high (plan_of x) (plans_of (drop (i + 1) xs)) s m r here_one
+        (sym found) within sum
 
 pub one_end :
     (xs : List Count) (low high : ℕ → ℕ) (i : ℕ) (s : Interval) → length xs ≤ i →
     OneRest (plans_of xs) (plans_of (drop i xs)) low high s → Some s ≡ span_one (plans_of xs) low high
 one_end xs low high i s le rest =
-    sym (end_one (plans_of xs) low high s (subst (λ ps. OneRest (plans_of xs) ps low high s) (rest_end xs i le) rest))
+    sym (end_one (plans_of xs) low high s
+    (subst (λ ps. OneRest (plans_of xs) ps low high s) (rest_end xs i le) rest))
 
 pub one_within :
     (xs : List Count) (low high : ℕ → ℕ) (i : ℕ) (s : Interval) → length xs ≤ i →

@@ -94,9 +94,11 @@ interleave :
     {X : Type 0} (x P y R Z : List X) → IsPermutation (P ++ R) Z →
     IsPermutation ((x ++ P) ++ (y ++ R)) (x ++ (y ++ Z))
 interleave x P y R Z h =
-    let swap : IsPermutation ((P ++ y) ++ R) ((y ++ P) ++ R) = IsPermutation-append_left R (P ++ y) (y ++ P) (IsPermutation-append_comm P y) in
+    let swap : IsPermutation ((P ++ y) ++ R) ((y ++ P) ++ R) =
+    IsPermutation-append_left R (P ++ y) (y ++ P) (IsPermutation-append_comm P y) in
     let swapped : IsPermutation (P ++ (y ++ R)) (y ++ (P ++ R)) = simp append_assoc at swap in
-    let whole : IsPermutation (P ++ (y ++ R)) (y ++ Z) = IsPermutation-trans _ _ _ swapped (IsPermutation-append_right y (P ++ R) Z h) in
+    let whole : IsPermutation (P ++ (y ++ R)) (y ++ Z) =
+    IsPermutation-trans _ _ _ swapped (IsPermutation-append_right y (P ++ R) Z h) in
     rw (append_assoc x P (y ++ R)) (IsPermutation-append_right x (P ++ (y ++ R)) (y ++ Z) whole)
 
 -- a list in k groups of sizes from low to the bound
@@ -109,11 +111,15 @@ record Groups {X : Type 0} (low : ℕ) (bound : Bound) (k : ℕ) (xs : List X) :
 group_in :
     {X : Type 0} (low : ℕ) (bound : Bound) → IsOrdered low bound → (k : ℕ) (xs : List X) →
     Fills low bound k (length xs) → Groups low bound k xs
-group_in low Free ord zero xs h = record { groups = []; many = refl; is = sym (nothing_left xs (h.1 refl)); sizes = tt }
-group_in low (Upto m) ord zero xs h = record { groups = []; many = refl; is = sym (nothing_left xs (omega arith)); sizes = tt }
+group_in low Free ord zero xs h =
+    record { groups = []; many = refl; is = sym (nothing_left xs (h.1 refl)); sizes = tt }
+group_in low (Upto m) ord zero xs h =
+    record { groups = []; many = refl; is = sym (nothing_left xs (omega arith)); sizes = tt }
 group_in low Free ord (suc k) xs h =
     let size : ℕ = length xs - low * k in
-    let r : Groups low Free k (drop size xs) = group_in low Free ord k (drop size xs) (omega (arith, length-drop size xs), λ e. rw (length-drop, e) (omega arith)) in
+    let r : Groups low Free k (drop size xs) =
+    group_in low Free ord k (drop size xs)
+    (omega (arith, length-drop size xs), λ e. rw (length-drop, e) (omega arith)) in
     record {
       groups = take size xs ∷ r.groups;
       many = (let more = r.many in omega arith);
@@ -124,12 +130,17 @@ group_in low (Upto m) ord (suc k) xs h =
     let size : ℕ = max low (length xs - m * k) in
     let short : size ≤ length xs = omega arith in
     let order : low * k ≤ m * k = mul-le-mul_right k ord in
-    let r : Groups low (Upto m) k (drop size xs) = group_in low (Upto m) ord k (drop size xs) (omega (arith, length-drop size xs), omega (arith, length-drop size xs)) in
+    let r : Groups low (Upto m) k (drop size xs) =
+    group_in low (Upto m) ord k (drop size xs)
+    (omega (arith, length-drop size xs), omega (arith, length-drop size xs)) in
     record {
       groups = take size xs ∷ r.groups;
       many = (let more = r.many in omega arith);
       is = rw r.is (take-append-drop size xs);
-      sizes = ((rw (length-take-le size xs short) (omega arith), rw (length-take-le size xs short) (omega arith)), r.sizes);
+      sizes = (
+        (rw (length-take-le size xs short) (omega arith), rw (length-take-le size xs short) (omega arith)),
+        r.sizes,
+      );
     }
 
 -- one of two tests
@@ -175,7 +186,8 @@ divide has others ss w = record {
   rest = filter (λ s. not (has s)) ss;
   deals = IsPermutation-filter_both has (λ s. not (has s)) (λ x. refl) ss;
   own_within = all_passing (λ s. has s || others s ≡ true) (λ s. has s ≡ true) has (λ s e o. e) ss w;
-  rest_within = all_passing (λ s. has s || others s ≡ true) (λ s. others s ≡ true) (λ s. not (has s)) (λ s e o. other_passes (has s) (others s) o e) ss w;
+  rest_within = all_passing (λ s. has s || others s ≡ true) (λ s. others s ≡ true) (λ s. not (has s))
+      (λ s e o. other_passes (has s) (others s) o e) ss w;
   own_count = λ i e. sym (times_filter has ss i e);
   rest_count = λ i e. sym (times_filter (λ j. not (has j)) ss i (passes_not (has i) e));
 }
@@ -196,7 +208,8 @@ record Zipped (p : Plan) (ms : Plans) (k : ℕ) (parts : List (List ℕ)) (rows 
 zip_rows :
     (p : Plan) (ms : Plans) (k : ℕ) (parts : List (List ℕ)) (rows : List (List (List ℕ))) → length parts ≡ k →
     length rows ≡ k →
-    AllByRecursion (λ part. Matches p part) parts → AllByRecursion (λ row. MatchesEach ms row) rows → Zipped p ms k parts rows
+    AllByRecursion (λ part. Matches p part) parts → AllByRecursion (λ row. MatchesEach ms row) rows →
+    Zipped p ms k parts rows
 unfolding Matches
 zip_rows p ms k [] [] a b h t = record { zipped = []; many = a; deals = IsPermutation-refl []; all = tt }
 zip_rows p ms k [] (row ∷ rows) a b h t = absurd (omega arith)
@@ -215,7 +228,8 @@ zip_rows p ms (suc k) (part ∷ parts) (row ∷ rows) a b h t =
 no_rows : (k : ℕ) → Rows no_plans k []
 unfolding Matches
 no_rows zero = record { rows = []; many = refl; deals = IsPermutation-refl []; all = tt }
-no_rows (suc k) = let r = no_rows k in record { rows = [] ∷ r.rows; many = ap suc r.many; deals = r.deals; all = (tt, r.all) }
+no_rows (suc k) = let r = no_rows k in
+    record { rows = [] ∷ r.rows; many = ap suc r.many; deals = r.deals; all = (tt, r.all) }
 
 row_part : (ms : Plans) (row : List (List ℕ)) → MatchesEach ms row → Matches (each ms) (flat row)
 unfolding Matches
@@ -260,8 +274,10 @@ mutual
         parts = map flat gs.groups;
         many = length-map gs.groups flat ∙ gs.many;
         deals = rw (flat_of_maps gs.groups, gs.is) r.deals;
-        all = all_map (λ gr. ((low ≤ length gr) × IsUpTo (length gr) bound) × AllByRecursion (Matches p) gr) (Matches (many low bound p)) flat
-            (λ gr m. group_part low bound p gr m.0.0 m.0.1 m.1) gs.groups (all_both _ _ gs.groups gs.sizes each_all);
+        all = all_map (λ gr. ((low ≤ length gr) × IsUpTo (length gr) bound) × AllByRecursion (Matches p) gr)
+            (Matches (many low bound p)) flat
+            (λ gr m. group_part low bound p gr m.0.0 m.0.1 m.1) gs.groups
+            (all_both _ _ gs.groups gs.sizes each_all);
       })
 
   rows_of :
@@ -271,14 +287,16 @@ mutual
   rows_of no_plans apart sound k ss w c = rw (none_within ss w) (no_rows k)
   rows_of (more_plans p ms) apart sound k ss w c =
       (let d = divide (λ i. has_symbol i p) (λ i. some_has i ms) ss w in
-      let a = copies_dealt p apart.0 sound.0 k d.own d.own_within (copies_agree p (times ss) (times d.own) k d.own_count c.0) in
+      let a = copies_dealt p apart.0 sound.0 k d.own d.own_within
+      (copies_agree p (times ss) (times d.own) k d.own_count c.0) in
       let b = rows_of ms apart.1 sound.1 k d.rest d.rest_within
       (each_agree ms (times ss) (times d.rest) k (λ i e. d.rest_count i (other_absent p ms apart.2 i e)) c.1) in
       let z = zip_rows p ms k a.parts b.rows a.many b.many a.all b.all in
       record {
         rows = z.zipped;
         many = z.many;
-        deals = IsPermutation-trans _ _ _ d.deals (IsPermutation-trans _ _ _ (IsPermutation-append _ _ _ _ a.deals b.deals) z.deals);
+        deals = IsPermutation-trans _ _ _ d.deals
+            (IsPermutation-trans _ _ _ (IsPermutation-append _ _ _ _ a.deals b.deals) z.deals);
         all = z.all;
       })
 
@@ -290,13 +308,15 @@ mutual
       rw (none_within ss w) (record { parts = []; many = sym c; deals = IsPermutation-refl []; all = tt })
   one_of (more_plans p ms) apart sound k ss w (x, y, e, c, t) =
       (let d = divide (λ i. has_symbol i p) (λ i. some_has i ms) ss w in
-      let a = copies_dealt p apart.0 sound.0 x d.own d.own_within (copies_agree p (times ss) (times d.own) x d.own_count c) in
+      let a = copies_dealt p apart.0 sound.0 x d.own d.own_within
+      (copies_agree p (times ss) (times d.own) x d.own_count c) in
       let b = one_of ms apart.1 sound.1 y d.rest d.rest_within
       (one_agree ms (times ss) (times d.rest) y (λ i has. d.rest_count i (other_absent p ms apart.2 i has)) t) in
       record {
         parts = a.parts ++ b.parts;
         many = length-append a.parts b.parts ∙ ap (λ u. u + length b.parts) a.many ∙ ap (λ u. x + u) b.many ∙ sym e;
-        deals = rw (flat_map-append (λ xs. xs) a.parts b.parts) (IsPermutation-trans _ _ _ d.deals (IsPermutation-append _ _ _ _ a.deals b.deals));
+        deals = rw (flat_map-append (λ xs. xs) a.parts b.parts)
+            (IsPermutation-trans _ _ _ d.deals (IsPermutation-append _ _ _ _ a.deals b.deals));
         all = all_append _ a.parts b.parts
             (all_weaker (Matches p) (MatchesOne (more_plans p ms)) a.parts (λ part m. inl m) a.all)
             (all_weaker (MatchesOne ms) (MatchesOne (more_plans p ms)) b.parts (λ part m. inr m) b.all);

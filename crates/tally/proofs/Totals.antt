@@ -27,13 +27,15 @@ sum_grow (suc n) f g each = (let here = each n in let rest = sum_grow n f g each
 pub sum_under : (n m : ℕ) (f : ℕ → ℕ) → ((i : ℕ) → f i ≤ m) → sum_below n f ≤ n * m
 unfolding sum_below
 sum_under zero m f each = omega arith
-sum_under (suc n) m f each = (let here = each n in let rest = sum_under n m f each in let e : suc n * m ≡ n * m + m = omega arith in rw e (omega arith))
+sum_under (suc n) m f each = (let here = each n in let rest = sum_under n m f each in
+    let e : suc n * m ≡ n * m + m = omega arith in rw e (omega arith))
 
 -- a symbol's count is at most the total
 pub total_one : (a : ℕ → Bool) (c : ℕ → ℕ) (i : ℕ) → i < 2 ^ 16 → a i ≡ true → c i ≤ total a c
 unfolding total
 total_one a c i h is =
-    let one : cond (a i) (c i) 0 ≤ sum_below (2 ^ 16) (λ k. cond (a k) (c k) 0) = sum_one (2 ^ 16) i (λ k. cond (a k) (c k) 0) h in
+    let one : cond (a i) (c i) 0 ≤ sum_below (2 ^ 16) (λ k. cond (a k) (c k) 0) =
+    sum_one (2 ^ 16) i (λ k. cond (a k) (c k) 0) h in
     rw is at one
 
 chosen_join : (a b : Bool) (n : ℕ) → (a ≡ true → b ≡ false) → cond a n 0 + cond b n 0 ≤ cond (a || b) n 0
@@ -57,7 +59,8 @@ chosen_part false b n part = omega arith
 -- a set of symbols has at most the total of a set that holds it
 pub total_part : (a b : ℕ → Bool) (c : ℕ → ℕ) → ((i : ℕ) → a i ≡ true → b i ≡ true) → total a c ≤ total b c
 unfolding total
-total_part a b c part = sum_grow (2 ^ 16) (λ i. cond (a i) (c i) 0) (λ i. cond (b i) (c i) 0) (λ i. chosen_part (a i) (b i) (c i) (part i))
+total_part a b c part = sum_grow (2 ^ 16) (λ i. cond (a i) (c i) 0) (λ i. cond (b i) (c i) 0)
+    (λ i. chosen_part (a i) (b i) (c i) (part i))
 
 chosen_small : (a : Bool) (n : ℕ) → n < 2 ^ 32 → cond a n 0 ≤ 2 ^ 32 - 1
 chosen_small true n h = omega arith
@@ -67,7 +70,8 @@ chosen_small false n h = omega arith
 pub total_under : (a : ℕ → Bool) (c : ℕ → ℕ) → ((i : ℕ) → c i < 2 ^ 32) → total a c < 2 ^ 48
 unfolding total
 total_under a c each =
-    let small = sum_under (2 ^ 16) (2 ^ 32 - 1) (λ i. cond (a i) (c i) 0) (λ i. chosen_small (a i) (c i) (each i)) in
+    let small = sum_under (2 ^ 16) (2 ^ 32 - 1) (λ i. cond (a i) (c i) 0)
+    (λ i. chosen_small (a i) (c i) (each i)) in
     omega arith
 
 -- an interval within the totals of 32-bit counts has ends of 48 bits

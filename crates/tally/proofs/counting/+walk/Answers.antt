@@ -8,7 +8,8 @@ use Rattle.tally.specs.declared.Count.{the_lemmas}
 use Rattle.tally.proofs.counting.+walk.Goals as goal
 
 pub common_interval-loop-member-init : goal.common_interval-loop-member-init
-common_interval-loop-member-init t c = each_start _ (slice_index c.args.low.now) (slice_index c.args.high.now) c.requires.distinct
+common_interval-loop-member-init t c =
+    each_start _ (slice_index c.args.low.now) (slice_index c.args.high.now) c.requires.distinct
 
 pub common_interval-interval_of-requires : goal.common_interval-interval_of-requires
 common_interval-interval_of-requires t c =
@@ -47,7 +48,8 @@ common_interval-returns-clause-value t c =
     each_end _ _ _ _ _ c.loop-member-test.false c.loop-member.invariant
 
 pub sum_of_intervals-loop-member-init : goal.sum_of_intervals-loop-member-init
-sum_of_intervals-loop-member-init t c = one_start _ (slice_index c.args.low.now) (slice_index c.args.high.now) c.requires.distinct
+sum_of_intervals-loop-member-init t c =
+    one_start _ (slice_index c.args.low.now) (slice_index c.args.high.now) c.requires.distinct
 
 pub sum_of_intervals-interval_of-requires : goal.sum_of_intervals-interval_of-requires
 sum_of_intervals-interval_of-requires t c =
@@ -70,7 +72,8 @@ pub sum_of_intervals-plus-sum-requires : goal.sum_of_intervals-plus-sum-requires
 sum_of_intervals-plus-sum-requires t c =
     let fits =
     one_fits _ _ _ _ _ _ c.loop-member-test.true c.member-item.is c.loop-member.invariant _
-    c.in_ok-interval_of.ensures.within (λ k. omega (arith, c.type_inv.low k)) (λ k. omega (arith, c.type_inv.high k))
+    c.in_ok-interval_of.ensures.within (λ k. omega (arith, c.type_inv.low k))
+    (λ k. omega (arith, c.type_inv.high k))
     in
     record { lower = fits.0; upper = fits.1 }
 
@@ -112,14 +115,20 @@ pub interval_of-common_interval-requires : goal.interval_of-common_interval-requ
 interval_of-common_interval-requires t c =
     let is = is_each _ _ _ c.in-Each.is c.deref.ensures.value in (
       search (rules, the_lemmas),
-      (subst IsDistinct is c.requires.distinct, (subst (Covers _) is c.requires.in_low, subst (Covers _) is c.requires.in_high)),
+      (
+        subst IsDistinct is c.requires.distinct,
+        (subst (Covers _) is c.requires.in_low, subst (Covers _) is c.requires.in_high),
+      ),
     )
 
 pub interval_of-sum_of_intervals-requires : goal.interval_of-sum_of_intervals-requires
 interval_of-sum_of_intervals-requires t c =
     let is = is_one _ _ _ c.in-One.is c.deref-in-One.ensures.value in (
       search (rules, the_lemmas),
-      (subst IsDistinct is c.requires.distinct, (subst (Covers _) is c.requires.in_low, subst (Covers _) is c.requires.in_high)),
+      (
+        subst IsDistinct is c.requires.distinct,
+        (subst (Covers _) is c.requires.in_low, subst (Covers _) is c.requires.in_high),
+      ),
     )
 
 pub interval_of-interval_of-requires : goal.interval_of-interval_of-requires
@@ -127,7 +136,10 @@ unfolding IsDistinct
 interval_of-interval_of-requires t c =
     let is = is_many _ _ _ _ _ c.in-Many.is c.deref-in-Many.ensures in (
       search (rules, the_lemmas),
-      (subst IsDistinct is c.requires.distinct, (subst (Covers _) is c.requires.in_low, subst (Covers _) is c.requires.in_high)),
+      (
+        subst IsDistinct is c.requires.distinct,
+        (subst (Covers _) is c.requires.in_low, subst (Covers _) is c.requires.in_high),
+      ),
     )
 
 pub interval_of-returns-in_err-interval_of-in-Many-clause-value :

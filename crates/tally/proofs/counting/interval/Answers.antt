@@ -39,5 +39,6 @@ returns-clause-proper c =
 
 pub returns-clause-small : goal.returns-clause-small
 returns-clause-small c =
-    within_small _ _ _ (λ k. omega (arith, c.type_inv.low k)) (λ k. omega (arith, c.type_inv.high k)) c.interval_of.result
+    within_small _ _ _ (λ k. omega (arith, c.type_inv.low k))
+    (λ k. omega (arith, c.type_inv.high k)) c.interval_of.result
     c.interval_of.ensures.within
