@@ -101,3 +101,64 @@ pub struct Pair {
     /// The Shape.
     pub shape: ShapeId,
 }
+
+#[cfg(test)]
+mod tests {
+    use super::*;
+    use rdf_terms::text::Text;
+    use std::test::Fail;
+
+    #[test]
+    fn a_target_has_its_expression_where_it_is_declared(rt: HostRuntime) -> Result<(), Fail> {
+        let alloc = rt.alloc();
+        let iri = Target::Label(Label::Iri(Text::from_str(alloc, "x")?));
+        let blank = Target::Label(Label::Blank(Text::from_str(alloc, "x")?));
+        let other = Target::Label(Label::Iri(Text::from_str(alloc, "y")?));
+        for (start, declared, wanted) in [
+            (None, false, [None, None, None, None]),
+            (Some(2), false, [Some(2), None, None, None]),
+            (None, true, [None, Some(1), Some(0), None]),
+            (Some(1), true, [Some(1), Some(1), Some(0), None]),
+        ] {
+            let mut labels = Labels::new(alloc);
+            if declared {
+                labels.declare(Label::Blank(Text::from_str(alloc, "x")?), ExprId(0))?;
+                labels.declare(Label::Iri(Text::from_str(alloc, "x")?), ExprId(1))?;
+            }
+            let schema = Schema {
+                exprs: Items::of(Vec::new(alloc)),
+                shapes: Items::of(Vec::new(alloc)),
+                labels,
+                start: start.map(|e| ExprId(e)),
+            };
+            for (target, e) in [
+                (&Target::Start, wanted[0]),
+                (&iri, wanted[1]),
+                (&blank, wanted[2]),
+                (&other, wanted[3]),
+            ] {
+                assert_eq!(rt; schema.target(target), e.map(|e| ExprId(e)), "{target:?}");
+            }
+        }
+        Ok(())
+    }
+
+    #[test]
+    fn items_are_those_of_their_vector(rt: HostRuntime) -> Result<(), Fail> {
+        let alloc = rt.alloc();
+        let none: Items<ExprId> = Items::of(Vec::new(alloc));
+        assert!(rt; none.as_slice().is_empty());
+        let some = Items::of(vec![in alloc; ExprId(7), ExprId(7), ExprId(0)]?);
+        assert_eq!(rt;
+            some.as_slice(),
+            [ExprId(7), ExprId(7), ExprId(0)].as_slice()
+        );
+        let mut back = some.into_vec();
+        back.push(ExprId(1))?;
+        assert_eq!(rt;
+            back.as_slice(),
+            [ExprId(7), ExprId(7), ExprId(0), ExprId(1)].as_slice()
+        );
+        Ok(())
+    }
+}
