@@ -114,31 +114,29 @@ mod tests {
         let iri = Target::Label(Label::Iri(Text::from_str(alloc, "x")?));
         let blank = Target::Label(Label::Blank(Text::from_str(alloc, "x")?));
         let other = Target::Label(Label::Iri(Text::from_str(alloc, "y")?));
-        for (start, declared, wanted) in [
-            (None, false, [None, None, None, None]),
-            (Some(2), false, [Some(2), None, None, None]),
-            (None, true, [None, Some(1), Some(0), None]),
-            (Some(1), true, [Some(1), Some(1), Some(0), None]),
+        let mut labels = Labels::new(alloc);
+        labels.declare(Label::Blank(Text::from_str(alloc, "x")?), ExprId(0))?;
+        labels.declare(Label::Iri(Text::from_str(alloc, "x")?), ExprId(1))?;
+        let full = Schema {
+            exprs: Items::of(Vec::new(alloc)),
+            shapes: Items::of(Vec::new(alloc)),
+            labels,
+            start: Some(ExprId(2)),
+        };
+        let empty = Schema {
+            exprs: Items::of(Vec::new(alloc)),
+            shapes: Items::of(Vec::new(alloc)),
+            labels: Labels::new(alloc),
+            start: None,
+        };
+        for (target, wanted) in [
+            (&Target::Start, Some(ExprId(2))),
+            (&iri, Some(ExprId(1))),
+            (&blank, Some(ExprId(0))),
+            (&other, None),
         ] {
-            let mut labels = Labels::new(alloc);
-            if declared {
-                labels.declare(Label::Blank(Text::from_str(alloc, "x")?), ExprId(0))?;
-                labels.declare(Label::Iri(Text::from_str(alloc, "x")?), ExprId(1))?;
-            }
-            let schema = Schema {
-                exprs: Items::of(Vec::new(alloc)),
-                shapes: Items::of(Vec::new(alloc)),
-                labels,
-                start: start.map(|e| ExprId(e)),
-            };
-            for (target, e) in [
-                (&Target::Start, wanted[0]),
-                (&iri, wanted[1]),
-                (&blank, wanted[2]),
-                (&other, wanted[3]),
-            ] {
-                assert_eq!(rt; schema.target(target), e.map(|e| ExprId(e)), "{target:?}");
-            }
+            assert_eq!(rt; full.target(target), wanted, "{target:?}");
+            assert_eq!(rt; empty.target(target), None, "{target:?}");
         }
         Ok(())
     }
