@@ -8,3 +8,4 @@ pub mod Typings
 pub mod Loaded
 pub mod Samples
 pub mod WorkedShapes
+pub mod WorkedTypings
