@@ -1,6 +1,7 @@
 //! RDF terms, the table that numbers them, and triples of these numbers (RDF 1.1 Concepts, section 3).
 #![tactic(auto)]
 
+pub mod items;
 pub mod table;
 pub mod terms;
 pub mod text;

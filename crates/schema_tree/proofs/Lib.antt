@@ -1,0 +1,5 @@
+pub mod Dealt
+pub mod Groups
+pub mod Members
+pub mod SameLabels
+pub mod Sharing

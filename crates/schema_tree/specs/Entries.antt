@@ -1,0 +1,23 @@
+-- The entries of a loaded schema.
+use Rattle.std.specs.Prelude.{slice_get, Option, Some, None}
+use Rattle.rdf_terms.specs.declared.terms.Term.{Term}
+use Rattle.node_constraint.specs.declared.NodeConstraint.{NodeConstraint}
+use Rattle.node_constraint.specs.SatNode.{SatNode}
+use Rattle.schema_tree.specs.declared.schema.Schema.{Schema}
+use Rattle.schema_tree.specs.declared.schema.Shape.{Shape}
+use Rattle.schema_tree.specs.declared.schema.ShapeId.{ShapeId}
+use Rattle.schema_tree.specs.declared.schema.ExprId.{ExprId}
+use Rattle.schema_tree.specs.declared.schema.Expr.{Expr}
+
+-- the expression of a number, if there is one
+abbrev pub entry : Schema → ExprId → Option Expr
+entry s e = slice_get s.exprs e.0
+
+-- the Shape of a number, if there is one
+abbrev pub shape_at : Schema → ShapeId → Option Shape
+shape_at s i = slice_get s.shapes i.0
+
+-- the term, if there is one, satisfies the node constraint (ShEx 2.1, section 5.4)
+abbrev pub SatNodeAt : NodeConstraint → Option Term → Type 0
+SatNodeAt c None = ⊥
+SatNodeAt c (Some term) = SatNode c term

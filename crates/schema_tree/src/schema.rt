@@ -1,0 +1,114 @@
+//! A loaded schema: its expressions and its Shapes, each with a number.
+
+ghost use Rattle.std.specs.Prelude.{◌≡◌, ◌↔◌, IfSome, IsNone};
+
+use crate::labels::{Label, Labels};
+use node_constraint::NodeConstraint;
+use rdf_terms::items::Items;
+use rdf_terms::terms::TermId;
+use tally::Count;
+
+/// The number of a shape expression: its place among the schema's expressions.
+#[derive(Clone, Copy, Debug, PartialEq, Eq)]
+pub struct ExprId(pub u32);
+
+/// The number of a Shape: its place among the schema's Shapes.
+#[derive(Clone, Copy, Debug, PartialEq, Eq)]
+pub struct ShapeId(pub u32);
+
+/// A shape expression (ShEx 2.1, section 5.3) whose parts are numbers of expressions and Shapes. A reference is the
+/// number of its target.
+#[derive(Debug, Drop)]
+pub enum Expr {
+    /// ShapeAnd: each member is satisfied.
+    And(Items<ExprId>),
+    /// ShapeOr: some member is satisfied.
+    Or(Items<ExprId>),
+    /// ShapeNot: the member is not satisfied.
+    Not(ExprId),
+    /// A node constraint.
+    Node(NodeConstraint),
+    /// A Shape.
+    Shape(ShapeId),
+}
+
+/// An occurrence of a TripleConstraint in a Shape (ShEx 2.1, section 5.5), after inclusions are unfolded.
+#[derive(Clone, Copy, Debug, PartialEq, Eq)]
+pub struct Occurrence {
+    /// Whether it takes arcs in rather than arcs out.
+    pub inverse: bool,
+    /// The predicate of the arcs that it takes.
+    pub predicate: TermId,
+    /// What the other end has to satisfy, if anything.
+    pub value: Option<ExprId>,
+}
+
+/// A Shape (ShEx 2.1, section 5.5).
+#[derive(Drop)]
+pub struct Shape {
+    /// Whether other arcs out are refused.
+    pub closed: bool,
+    /// The predicates of which arcs may be left over.
+    pub extra: Items<TermId>,
+    /// The triple expression over the numbers of the occurrences, if there is one.
+    pub body: Option<Count>,
+    /// The occurrences, numbered from 0 in reading order.
+    pub occs: Items<Occurrence>,
+}
+
+/// A schema as it is loaded (ShEx 2.1, section 5.1).
+#[derive(Drop)]
+pub struct Schema {
+    /// The shape expressions; each refers to smaller numbers only.
+    pub exprs: Items<Expr>,
+    /// The Shapes.
+    pub shapes: Items<Shape>,
+    /// The declared labels.
+    pub labels: Labels,
+    /// The start expression, if there is one.
+    pub start: Option<ExprId>,
+}
+
+/// What a node is asked to satisfy: the start expression or that of a label.
+#[derive(Debug, Drop, PartialEq, Eq)]
+pub enum Target {
+    /// The start expression.
+    Start,
+    /// The expression of a label.
+    Label(Label),
+}
+
+impl Schema {
+    ghost use Rattle.schema_tree.specs.Loaded.{IsTarget, HasTarget};
+
+    /// The expression of a target, and `None` exactly where the label is not declared or there is no start.
+    pub fn target(&self, target: &Target) -> Option<ExprId>
+        ensures found { IfSome result (IsTarget self.now target.now) }
+        ensures absent { IsNone result ↔ (¬ HasTarget self.now target.now) }
+    {
+        match target {
+            Target::Start => self.start,
+            Target::Label(label) => self.labels.find(label),
+        }
+    }
+}
+
+/// A node with a Shape.
+#[derive(Clone, Copy, Debug, PartialEq, Eq)]
+pub struct Pair {
+    /// The node.
+    pub node: TermId,
+    /// The Shape.
+    pub shape: ShapeId,
+}
+
+/// Whether a node satisfies the expression of a target.
+#[derive(Debug, Drop, PartialEq, Eq)]
+pub struct Answer {
+    /// The node.
+    pub node: TermId,
+    /// What was asked.
+    pub target: Target,
+    /// Whether the node satisfies it.
+    pub holds: bool,
+}
