@@ -1,0 +1,5 @@
+pub mod Splits
+pub mod Value
+pub mod Order
+pub mod Zeros
+pub mod Signs

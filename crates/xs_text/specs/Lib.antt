@@ -1,0 +1,5 @@
+pub mod Digits
+pub mod Decimal
+pub mod DateTime
+pub mod Datatype
+pub mod Laws
