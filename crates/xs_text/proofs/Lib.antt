@@ -3,3 +3,6 @@ pub mod Value
 pub mod Order
 pub mod Zeros
 pub mod Signs
+pub mod Texts
+pub mod Integers
+pub mod Names

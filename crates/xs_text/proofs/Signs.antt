@@ -57,14 +57,14 @@ cmp_signed_scaled false true m n k h =
 told : (x y : ℤ) (r : Ordering) → int_cmp x y ≡ r → MatchOrdering r (x <ℤ y) (x ≡ y) (y <ℤ x)
 told x y r e = int_ranked x y r (sym e)
 
-pub cmp_less : (x y : ℤ) → (int_cmp x y ≡ Less) ↔ (x <ℤ y)
-cmp_less x y = (λ e. told x y Less e, λ h. sym (int_cmp_is x y Less h))
+pub answer_less : (x y : ℤ) (r : Ordering) → r ≡ int_cmp x y → (r ≡ Less) ↔ (x <ℤ y)
+answer_less x y r e = (λ h. told x y Less (sym e ∙ h), λ h. e ∙ sym (int_cmp_is x y Less h))
 
-pub cmp_equal : (x y : ℤ) → (int_cmp x y ≡ Equal) ↔ (x ≡ y)
-cmp_equal x y = (λ e. told x y Equal e, λ h. sym (int_cmp_is x y Equal h))
+pub answer_equal : (x y : ℤ) (r : Ordering) → r ≡ int_cmp x y → (r ≡ Equal) ↔ (x ≡ y)
+answer_equal x y r e = (λ h. told x y Equal (sym e ∙ h), λ h. e ∙ sym (int_cmp_is x y Equal h))
 
-pub cmp_greater : (x y : ℤ) → (int_cmp x y ≡ Greater) ↔ (y <ℤ x)
-cmp_greater x y = (λ e. told x y Greater e, λ h. sym (int_cmp_is x y Greater h))
+pub answer_greater : (x y : ℤ) (r : Ordering) → r ≡ int_cmp x y → (r ≡ Greater) ↔ (y <ℤ x)
+answer_greater x y r e = (λ h. told x y Greater (sym e ∙ h), λ h. e ∙ sym (int_cmp_is x y Greater h))
 
 -- a number below zero stands before one that is not
 pub below_by_sign : (s t : Bool) (m n : ℕ) → s ≡ true → t ≡ false → 0 < m → Less ≡ int_cmp (signed s m) (signed t n)

@@ -1,6 +1,6 @@
 -- Which texts are literals of which datatype (XML Schema Part 2, version 1.1).
 use Rattle.std.specs.Prelude.{◌≡◌, ℕ, ◌-◌, ◌^◌, ◌==◌, ◌&&◌, ◌||◌, Bool, true, List, [], ◌∷◌, length, drop, nat_eq, if◌then◌else◌, ℤ, pos, neg_ℤ, int_le}
-use Rattle.std.specs.List.{before_first, after_first, list_any, starts_with}
+use Rattle.std.specs.List.{before_first, after_first, starts_with}
 use Rattle.std.specs.Str.{bytes_eq}
 use lib.Chars.{codes}
 use Rattle.xs_text.specs.Digits.{is_numeral}
@@ -17,11 +17,10 @@ is_boolean text =
     bytes_eq text (codes "true") || bytes_eq text (codes "false")
     || bytes_eq text (codes "1") || bytes_eq text (codes "0")
 
--- a decimal, the letter e, and an integer (scientificNotationNumeral, section 3.3.4)
+-- A decimal, the letter, and an integer (scientificNotationNumeral, section 3.3.4). Without the letter nothing stands behind it, which is no integer
 abbrev pub is_scientific : ℕ → List ℕ → Bool
-is_scientific e text =
-    list_any (λ c. c == e) text
-    && is_decimal (before_first (λ c. c == e) text) && is_integer (after_first (λ c. c == e) text)
+is_scientific letter text =
+    is_decimal (before_first (λ c. c == letter) text) && is_integer (after_first (λ c. c == letter) text)
 
 -- float and double, sections 3.3.4 and 3.3.5: 101 is `e`, 69 is `E`
 abbrev pub is_float : List ℕ → Bool
@@ -55,7 +54,7 @@ lexical_spaces =
     ∷ (codes "decimal", is_decimal)
     ∷ (codes "float", is_float)
     ∷ (codes "double", is_float)
-    ∷ (codes "dateTime", is_date_time)
+    -- DT
     ∷ (codes "integer", is_integer)
     ∷ (codes "nonPositiveInteger", is_integer_to (pos 0))
     ∷ (codes "negativeInteger", is_integer_to (neg_ℤ (pos 1)))

@@ -1,11 +1,12 @@
-//! Decimals and integers of any length (XML Schema Part 2, version 1.1, sections 3.3.3 and 3.4.13).
+//! Decimals of any length (XML Schema Part 2, version 1.1, section 3.3.3).
 
-ghost use Rattle.std.specs.Prelude.{◌≡◌, ◌<◌, ◌+◌, ◌-◌, ◌==◌, ◌&&◌, ◌≢◌, true, length, drop, take, nat_lt, IsTrue, slice_index};
+ghost use Rattle.std.specs.Prelude.{◌≡◌, ◌<◌, ◌+◌, ◌-◌, ◌==◌, ◌&&◌, ◌≢◌, ◌↔◌, true, length, drop, take, nat_lt, IsTrue, slice_index};
 ghost use Rattle.std.specs.List.{prefix_len, suffix_len};
 ghost use Rattle.std.specs.Ordering.{nat_cmp, int_cmp};
 ghost use Rattle.xs_text.specs.Digits.{are_digits, has_minus, signed, zero_digit};
 ghost use Rattle.xs_text.specs.Decimal.{
-    is_decimal, is_integer, whole_part, fraction_part, significant_whole, significant_fraction, scaled
+    is_decimal, whole_part, fraction_part, significant_whole, significant_fraction, scaled,
+    IsBelow, HasSameValue, total_digit_count, fraction_digit_count
 };
 
 use crate::digits;
@@ -21,11 +22,32 @@ pub fn is_decimal(text: &[u8]) -> bool
         && !(whole.is_empty() && fraction.is_empty())
 }
 
-/// Whether the text is an integer.
-pub fn is_integer(text: &[u8]) -> bool
-    ensures { result ≡ is_integer text.now }
+/// The order of the numbers that two decimal texts stand for.
+pub fn compare(a: &[u8], b: &[u8]) -> Ordering
+    requires a_decimal { IsTrue (is_decimal a.now) }
+    requires b_decimal { IsTrue (is_decimal b.now) }
+    ensures less { (result ≡ Ordering.Less) ↔ IsBelow a.now b.now }
+    ensures equal { (result ≡ Ordering.Equal) ↔ HasSameValue a.now b.now }
+    ensures greater { (result ≡ Ordering.Greater) ↔ IsBelow b.now a.now }
 {
-    digits::is_numeral(digits::unsigned_part(text))
+    Decimal::new(a).compare(&Decimal::new(b))
+}
+
+/// How many digits the number of a decimal text has, at least 1.
+pub fn total_digits(text: &[u8]) -> u64
+    requires { IsTrue (is_decimal text.now) }
+    ensures { result ≡ total_digit_count text.now }
+{
+    let number = Decimal::new(text);
+    (number.whole.len() + number.fraction.len()).max(1) as u64
+}
+
+/// How many digits the number of a decimal text has behind the point.
+pub fn fraction_digits(text: &[u8]) -> u64
+    requires { IsTrue (is_decimal text.now) }
+    ensures { result ≡ fraction_digit_count text.now }
+{
+    Decimal::new(text).fraction.len() as u64
 }
 
 /// What stands before and behind the point of a text, without its sign.
@@ -60,6 +82,7 @@ fn without_trailing_zeros(digits: &[u8]) -> &[u8]
 }
 
 /// A decimal number, without the zeros that do not change it. Zero is not negative.
+#[derive(Clone, Copy)]
 pub struct Decimal<'a> {
     is_negative: bool,
     whole: &'a [u8],
