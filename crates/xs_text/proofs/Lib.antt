@@ -6,3 +6,5 @@ pub mod Signs
 pub mod Texts
 pub mod Integers
 pub mod Names
+pub mod Forms
+pub mod Cycle

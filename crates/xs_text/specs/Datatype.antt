@@ -12,7 +12,7 @@ abbrev pub is_string : List ℕ → Bool
 is_string text = true
 
 -- section 3.3.2
-abbrev pub is_boolean : List ℕ → Bool
+unfoldable pub is_boolean : List ℕ → Bool
 is_boolean text =
     bytes_eq text (codes "true") || bytes_eq text (codes "false")
     || bytes_eq text (codes "1") || bytes_eq text (codes "0")
@@ -23,7 +23,7 @@ is_scientific letter text =
     is_decimal (before_first (λ c. c == letter) text) && is_integer (after_first (λ c. c == letter) text)
 
 -- float and double, sections 3.3.4 and 3.3.5: 101 is `e`, 69 is `E`
-abbrev pub is_float : List ℕ → Bool
+unfoldable pub is_float : List ℕ → Bool
 is_float text =
     is_decimal text || is_scientific 101 text || is_scientific 69 text
     || bytes_eq text (codes "INF") || bytes_eq text (codes "+INF")
@@ -54,7 +54,7 @@ lexical_spaces =
     ∷ (codes "decimal", is_decimal)
     ∷ (codes "float", is_float)
     ∷ (codes "double", is_float)
-    -- DT
+    ∷ (codes "dateTime", is_date_time)
     ∷ (codes "integer", is_integer)
     ∷ (codes "nonPositiveInteger", is_integer_to (pos 0))
     ∷ (codes "negativeInteger", is_integer_to (neg_ℤ (pos 1)))

@@ -69,6 +69,7 @@ fn is_of_datatype(name: &str, text: &str) -> bool
         "boolean" => is_boolean(text),
         "decimal" => decimal::is_decimal(lex),
         "float" | "double" => is_float(text),
+        "dateTime" => date_time::is_date_time(lex),
         "integer" => integer::is_integer(lex),
         "nonPositiveInteger" => integer::is_integer_to(b"0", lex),
         "negativeInteger" => integer::is_integer_to(b"-1", lex),
@@ -87,6 +88,7 @@ fn is_of_datatype(name: &str, text: &str) -> bool
 }
 
 /// Whether the text is a truth value (section 3.3.2).
+#[tactic(auto, unfolding(crate::specs::Datatype::is_boolean))]
 fn is_boolean(text: &str) -> bool
     ensures { result ≡ is_boolean text.now }
 {
@@ -94,6 +96,7 @@ fn is_boolean(text: &str) -> bool
 }
 
 /// Whether the text is a floating-point number (sections 3.3.4 and 3.3.5).
+#[tactic(auto, unfolding(crate::specs::Datatype::is_float))]
 fn is_float(text: &str) -> bool
     ensures { result ≡ is_float text.now }
 {
