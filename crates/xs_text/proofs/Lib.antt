@@ -8,3 +8,4 @@ pub mod Integers
 pub mod Names
 pub mod Forms
 pub mod Cycle
+pub mod OrderLaws

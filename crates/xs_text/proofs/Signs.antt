@@ -76,3 +76,16 @@ pub above_by_sign : (s t : Bool) (m n : ℕ) → s ≡ false → t ≡ true → 
 above_by_sign false true m n e f h = nat_cmp_is (m + n) 0 Greater (omega arith) ∙ sym (cmp_above m n)
 above_by_sign false false m n e f h = absurd (false≢true f)
 above_by_sign true t m n e f h = absurd (true≢false e)
+
+-- a common factor changes no order of whole numbers
+pub int_cmp_scaled : (x y : ℤ) (k : ℕ) → 0 < k → int_cmp (x *ℤ pos k) (y *ℤ pos k) ≡ int_cmp x y
+int_cmp_scaled (pos m) (pos n) k h = cmp_signed_scaled false false m n k h
+int_cmp_scaled (pos m) (negsuc n) k h = cmp_signed_scaled false true m (suc n) k h
+int_cmp_scaled (negsuc m) (pos n) k h = cmp_signed_scaled true false (suc m) n k h
+int_cmp_scaled (negsuc m) (negsuc n) k h = cmp_signed_scaled true true (suc m) (suc n) k h
+
+pub int_mul_swap : (x : ℤ) (j k : ℕ) → x *ℤ pos j *ℤ pos k ≡ x *ℤ pos k *ℤ pos j
+int_mul_swap (pos m) j k = ap pos (omega arith)
+int_mul_swap (negsuc m) j k =
+    let swapped : suc m * j * k ≡ suc m * k * j = omega arith in
+    signed-mul true (suc m * j) k ∙ ap (signed true) swapped ∙ sym (signed-mul true (suc m * k) j)

@@ -5,6 +5,7 @@ mod date_time;
 mod decimal;
 mod digits;
 mod integer;
+pub mod laws;
 
 ghost use Rattle.std.specs.Prelude.{◌≡◌, ◌↔◌, IsTrue};
 ghost use Rattle.xs_text.specs.Decimal.{is_decimal, IsBelow, HasSameValue, total_digit_count, fraction_digit_count};
