@@ -28,9 +28,10 @@ digit_for c p h e = sym (ap (λ b. cond b (is_ascii_digit c) (eqb c p)) (eq-eqb 
 -- two digits of a picture stand for two digits
 pub digits_in_form : (p t : List ℕ) (k : ℕ) → has_form p t ≡ true → k + 1 < length p → get_or p k 0 ≡ 57 → get_or p (k + 1) 0 ≡ 57 → HasDigits k t
 digits_in_form p t k h l e f = record {
-    within = omega (arith, form_length p t h);
-    tens = digit_for (get_or t k 0) (get_or p k 0) (form_at p t k h (omega arith)) e;
-    ones = digit_for (get_or t (k + 1) 0) (get_or p (k + 1) 0) (form_at p t (k + 1) h l) f }
+  within = omega (arith, form_length p t h);
+  tens = digit_for (get_or t k 0) (get_or p k 0) (form_at p t k h (omega arith)) e;
+  ones = digit_for (get_or t (k + 1) 0) (get_or p (k + 1) 0) (form_at p t (k + 1) h l) f;
+}
 
 -- a text of another length has not the form
 form_short : (p t : List ℕ) → length t < length p → has_form p t ≡ false
@@ -55,4 +56,4 @@ day_and_time_short year t l =
     let none : is_time_with_fraction time (take (fraction_len tail) tail) ≡ false = time_short time (take (fraction_len tail) tail) short in
     let front = is_day year (take 5 t) && slice_index t 5 == 84 in
     sym (and_left (front && is_time_with_fraction time (take (fraction_len tail) tail)) (is_zone (drop (fraction_len tail) tail))
-        (and_right front (is_time_with_fraction time (take (fraction_len tail) tail)) none))
+    (and_right front (is_time_with_fraction time (take (fraction_len tail) tail)) none))

@@ -43,8 +43,9 @@ whole_from_integer text h =
     let parts = and_parts (ltb 0 (length (unsigned_part text))) (are_digits (unsigned_part text)) h in
     let end = no_point (unsigned_part text) parts.1 in
     record {
-        whole = ap (λ n. take n (unsigned_part text)) end ∙ take_all (length (unsigned_part text)) (unsigned_part text) (omega arith);
-        fraction = drop_all (position_or_len (λ c. eqb c 46) (unsigned_part text) + 1) (unsigned_part text) (omega arith) }
+      whole = ap (λ n. take n (unsigned_part text)) end ∙ take_all (length (unsigned_part text)) (unsigned_part text) (omega arith);
+      fraction = drop_all (position_or_len (λ c. eqb c 46) (unsigned_part text) + 1) (unsigned_part text) (omega arith);
+    }
 
 pub decimal_from_integer : (text : List ℕ) → is_integer text ≡ true → is_decimal text ≡ true
 decimal_from_integer text h =
@@ -55,8 +56,8 @@ decimal_from_integer text h =
     ap (λ w. tested w (fraction_part text)) form.whole
     ∙ ap (λ f. tested (unsigned_part text) f) form.fraction
     ∙ and_from (are_digits (unsigned_part text) && true) (ltb 0 (length (unsigned_part text) + 0))
-        (and_from (are_digits (unsigned_part text)) true parts.1 refl)
-        (lt-ltb 0 (length (unsigned_part text) + 0) (omega arith))
+    (and_from (are_digits (unsigned_part text)) true parts.1 refl)
+    (lt-ltb 0 (length (unsigned_part text) + 0) (omega arith))
 
 pub scale_of_integer : (text : List ℕ) → is_integer text ≡ true → scale text ≡ 0
 scale_of_integer text h = ap length (whole_from_integer text h).fraction
@@ -83,9 +84,10 @@ integer_at_scale a b h k =
 pub below_integer : (a b : List ℕ) → is_integer a ≡ true → is_integer b ≡ true → IsBelow a b ↔ (integer_value a <ℤ integer_value b)
 below_integer a b h k =
     let left = integer_at_scale a b h k in
-    let right = integer_at_scale b a k h in
-    (λ l. subst (λ z. z <ℤ integer_value b) left (subst (λ z. (unscaled_value a *ℤ pos (10 ^ scale b)) <ℤ z) right l),
-     λ l. subst (λ z. z <ℤ (unscaled_value b *ℤ pos (10 ^ scale a))) (sym left) (subst (λ z. integer_value a <ℤ z) (sym right) l))
+    let right = integer_at_scale b a k h in (
+      λ l. subst (λ z. z <ℤ integer_value b) left (subst (λ z. (unscaled_value a *ℤ pos (10 ^ scale b)) <ℤ z) right l),
+      λ l. subst (λ z. z <ℤ (unscaled_value b *ℤ pos (10 ^ scale a))) (sym left) (subst (λ z. integer_value a <ℤ z) (sym right) l),
+    )
 
 not_less : (x y : ℤ) → ¬ (x <ℤ y) → int_le y x ≡ true
 not_less x y h = by_lt_z x y (λ l. absurd (h l)) (λ l. grind (arith, ints))

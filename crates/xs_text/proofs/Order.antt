@@ -106,9 +106,9 @@ cmp_fraction (x ∷ xs) (y ∷ ys) h k z w =
     let L = 10 ^ length xs in
     let M = 10 ^ length ys in
     let left : value (x ∷ xs) * 10 ^ length (y ∷ ys) ≡ (digit_value x * (L * M) + value xs * M) * 10 =
-        ap (λ n. n * 10 ^ length (y ∷ ys)) (value-cons x xs) ∙ ap (λ n. (digit_value x * L + value xs) * n) (pow-suc 10 (length ys)) ∙ tenfold (digit_value x) (value xs) L M in
+    ap (λ n. n * 10 ^ length (y ∷ ys)) (value-cons x xs) ∙ ap (λ n. (digit_value x * L + value xs) * n) (pow-suc 10 (length ys)) ∙ tenfold (digit_value x) (value xs) L M in
     let right : value (y ∷ ys) * 10 ^ length (x ∷ xs) ≡ (digit_value y * (L * M) + value ys * L) * 10 =
-        ap (λ n. n * 10 ^ length (x ∷ xs)) (value-cons y ys) ∙ ap (λ n. (digit_value y * M + value ys) * n) (pow-suc 10 (length xs)) ∙ tenfold_turned (digit_value y) (value ys) L M in
+    ap (λ n. n * 10 ^ length (x ∷ xs)) (value-cons y ys) ∙ ap (λ n. (digit_value y * M + value ys) * n) (pow-suc 10 (length xs)) ∙ tenfold_turned (digit_value y) (value ys) L M in
     let positive : 0 < M = one-le-pow (length ys) 10 (omega arith) in
     let positive_too : 0 < L = one-le-pow (length xs) 10 (omega arith) in
     let low : value xs * M < L * M = mul-lt-mul_of_pos_right (value-lt xs a.1) positive in
@@ -127,9 +127,9 @@ cmp_magnitudes u v x y du dv dx dy zu zv zx zy =
     let F = 10 ^ length v in
     let G = 10 ^ length y in
     let left : value (u ++ v) * G ≡ value u * (F * G) + value v * G =
-        ap (λ n. n * G) (value-append u v) ∙ spread (value u) (value v) F G in
+    ap (λ n. n * G) (value-append u v) ∙ spread (value u) (value v) F G in
     let right : value (x ++ y) * F ≡ value x * (F * G) + value y * F =
-        ap (λ n. n * F) (value-append x y) ∙ spread_turned (value x) (value y) F G in
+    ap (λ n. n * F) (value-append x y) ∙ spread_turned (value x) (value y) F G in
     let positive : 0 < G = one-le-pow (length y) 10 (omega arith) in
     let positive_too : 0 < F = one-le-pow (length v) 10 (omega arith) in
     let low : value v * G < F * G = mul-lt-mul_of_pos_right (value-lt v dv) positive in
@@ -142,6 +142,7 @@ cmp_magnitudes u v x y du dv dx dy zu zv zx zy =
   where
     spread : (a b f g : ℕ) → (a * f + b) * g ≡ a * (f * g) + b * g
     spread a b f g = omega arith
+
     spread_turned : (a b f g : ℕ) → (a * g + b) * f ≡ a * (f * g) + b * f
     spread_turned a b f g = omega arith
 

@@ -35,20 +35,20 @@ chain x y z p q r hp hq hr l m =
 same_chain : (x y z : ℤ) (p q r : ℕ) → 0 < q → x *ℤ pos q ≡ y *ℤ pos p → y *ℤ pos r ≡ z *ℤ pos q → x *ℤ pos r ≡ z *ℤ pos p
 same_chain x y z p q r hq e f =
     same_narrower (x *ℤ pos r) (z *ℤ pos p) q hq
-        (int_mul_swap x r q ∙ ap (λ w. w *ℤ pos r) e ∙ int_mul_swap y p r ∙ ap (λ w. w *ℤ pos p) f ∙ int_mul_swap z q p)
+    (int_mul_swap x r q ∙ ap (λ w. w *ℤ pos r) e ∙ int_mul_swap y p r ∙ ap (λ w. w *ℤ pos p) f ∙ int_mul_swap z q p)
 
 -- y / q in place of x / p
 replaced : (x y z : ℤ) (p q r : ℕ) → 0 < p → 0 < q → 0 < r → x *ℤ pos q ≡ y *ℤ pos p → (x *ℤ pos r) <ℤ (z *ℤ pos p) → (y *ℤ pos r) <ℤ (z *ℤ pos q)
 replaced x y z p q r hp hq hr e l =
     narrower (y *ℤ pos r) (z *ℤ pos q) p hp
-        (subst (λ w. w <ℤ (z *ℤ pos q *ℤ pos p)) (int_mul_swap x r q ∙ ap (λ w. w *ℤ pos r) e ∙ int_mul_swap y p r)
-            (subst (λ w. (x *ℤ pos r *ℤ pos q) <ℤ w) (int_mul_swap z p q) (wider (x *ℤ pos r) (z *ℤ pos p) q hq l)))
+    (subst (λ w. w <ℤ (z *ℤ pos q *ℤ pos p)) (int_mul_swap x r q ∙ ap (λ w. w *ℤ pos r) e ∙ int_mul_swap y p r)
+    (subst (λ w. (x *ℤ pos r *ℤ pos q) <ℤ w) (int_mul_swap z p q) (wider (x *ℤ pos r) (z *ℤ pos p) q hq l)))
 
 replaced_above : (x y z : ℤ) (p q r : ℕ) → 0 < p → 0 < q → 0 < r → x *ℤ pos q ≡ y *ℤ pos p → (z *ℤ pos p) <ℤ (x *ℤ pos r) → (z *ℤ pos q) <ℤ (y *ℤ pos r)
 replaced_above x y z p q r hp hq hr e l =
     narrower (z *ℤ pos q) (y *ℤ pos r) p hp
-        (subst (λ w. (z *ℤ pos q *ℤ pos p) <ℤ w) (int_mul_swap x r q ∙ ap (λ w. w *ℤ pos r) e ∙ int_mul_swap y p r)
-            (subst (λ w. w <ℤ (x *ℤ pos r *ℤ pos q)) (int_mul_swap z p q) (wider (z *ℤ pos p) (x *ℤ pos r) q hq l)))
+    (subst (λ w. (z *ℤ pos q *ℤ pos p) <ℤ w) (int_mul_swap x r q ∙ ap (λ w. w *ℤ pos r) e ∙ int_mul_swap y p r)
+    (subst (λ w. w <ℤ (x *ℤ pos r *ℤ pos q)) (int_mul_swap z p q) (wider (z *ℤ pos p) (x *ℤ pos r) q hq l)))
 
 ranks : (x y : ℤ) → (x <ℤ y) ⊎ ((x ≡ y) ⊎ (y <ℤ x))
 ranks x y = by_ranked (x <ℤ y) (x ≡ y) (y <ℤ x) (int_cmp x y) (int_ranks x y) (λ _ l. inl l) (λ _ e. inr (inl e)) (λ _ l. inr (inr l))
@@ -69,23 +69,26 @@ pub order_is_total : OrderIsTotal
 order_is_total a b = ranks (unscaled_value a *ℤ pos (power b)) (unscaled_value b *ℤ pos (power a))
 
 pub order_is_strict : OrderIsStrict
-order_is_strict a b l =
-    (not_same (unscaled_value a *ℤ pos (power b)) (unscaled_value b *ℤ pos (power a)) l,
-     not_back (unscaled_value a *ℤ pos (power b)) (unscaled_value b *ℤ pos (power a)) l)
+order_is_strict a b l = (
+  not_same (unscaled_value a *ℤ pos (power b)) (unscaled_value b *ℤ pos (power a)) l,
+  not_back (unscaled_value a *ℤ pos (power b)) (unscaled_value b *ℤ pos (power a)) l,
+)
 
 pub order_is_transitive : OrderIsTransitive
 order_is_transitive a b c l m =
     chain (unscaled_value a) (unscaled_value b) (unscaled_value c) (power a) (power b) (power c) (power_positive a) (power_positive b) (power_positive c) l m
 
 pub order_is_of_values : OrderIsOfValues
-order_is_of_values a b c e =
-    (replaced (unscaled_value a) (unscaled_value b) (unscaled_value c) (power a) (power b) (power c) (power_positive a) (power_positive b) (power_positive c) e,
-     replaced_above (unscaled_value a) (unscaled_value b) (unscaled_value c) (power a) (power b) (power c) (power_positive a) (power_positive b) (power_positive c) e)
+order_is_of_values a b c e = (
+  replaced (unscaled_value a) (unscaled_value b) (unscaled_value c) (power a) (power b) (power c) (power_positive a) (power_positive b) (power_positive c) e,
+  replaced_above (unscaled_value a) (unscaled_value b) (unscaled_value c) (power a) (power b) (power c) (power_positive a) (power_positive b) (power_positive c) e,
+)
 
 pub order_is_decided : OrderIsDecided
-order_is_decided a b =
-    (below_or_not (unscaled_value a *ℤ pos (power b)) (unscaled_value b *ℤ pos (power a)),
-     same_or_not (unscaled_value a *ℤ pos (power b)) (unscaled_value b *ℤ pos (power a)))
+order_is_decided a b = (
+  below_or_not (unscaled_value a *ℤ pos (power b)) (unscaled_value b *ℤ pos (power a)),
+  same_or_not (unscaled_value a *ℤ pos (power b)) (unscaled_value b *ℤ pos (power a)),
+)
 
 pub same_value_is_transitive : SameValueIsTransitive
 same_value_is_transitive a b c e f =

@@ -54,9 +54,9 @@ cmp_texts a b =
     let x = value (significant_whole a ++ significant_fraction a) * 10 ^ m in
     let y = value (significant_whole b ++ significant_fraction b) * 10 ^ n in
     let left : unscaled_value a *ℤ pos (10 ^ scale b) ≡ signed s (x * 10 ^ (j + k)) =
-        ap (λ i. unscaled_value a *ℤ pos (10 ^ i)) (length_without_trailing (fraction_part b)) ∙ brought (has_minus a) (whole_part a) (fraction_part a) m k in
+    ap (λ i. unscaled_value a *ℤ pos (10 ^ i)) (length_without_trailing (fraction_part b)) ∙ brought (has_minus a) (whole_part a) (fraction_part a) m k in
     let right : unscaled_value b *ℤ pos (10 ^ scale a) ≡ signed t (y * 10 ^ (j + k)) =
-        ap (λ i. unscaled_value b *ℤ pos (10 ^ i)) (length_without_trailing (fraction_part a)) ∙ brought (has_minus b) (whole_part b) (fraction_part b) n j ∙ ap (λ i. signed t (y * 10 ^ i)) (add_comm k j) in
+    ap (λ i. unscaled_value b *ℤ pos (10 ^ i)) (length_without_trailing (fraction_part a)) ∙ brought (has_minus b) (whole_part b) (fraction_part b) n j ∙ ap (λ i. signed t (y * 10 ^ i)) (add_comm k j) in
     sym (ap (λ z. int_cmp z (unscaled_value b *ℤ pos (10 ^ scale a))) left ∙ ap (λ z. int_cmp (signed s (x * 10 ^ (j + k))) z) right ∙ cmp_signed_scaled s t x y (10 ^ (j + k)) (one-le-pow (j + k) 10 (omega arith)))
 
 -- an answer for what is kept of two texts is one for the texts

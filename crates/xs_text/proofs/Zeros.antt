@@ -49,7 +49,7 @@ no_trailing xs l e =
     let long : length (take n xs) ≡ n = length-take-le n xs (omega arith) in
     let more : k < length xs = omega arith in
     let at : get_or xs (length xs - 1 - k) 0 ≡ 48 =
-        ap (λ i. get_or xs i 0) (omega arith) ∙ sym (get_or-take n xs (length (take n xs) - 1) 0 (omega arith)) ∙ e in
+    ap (λ i. get_or xs i 0) (omega arith) ∙ sym (get_or-take n xs (length (take n xs) - 1) 0 (omega arith)) ∙ e in
     false≢true (sym (prefix_len_stops is_zero (reverse xs) 0 (omega (arith, length-reverse xs))) ∙ ap is_zero (get_or-reverse xs k 0 more ∙ at))
 
 value_first : (x : ℕ) (xs : List ℕ) (b : Bool) → eqb x 48 ≡ b → value (without_leading xs) ≡ value xs → value (drop (cond b (1 + prefix_len is_zero xs) 0) (x ∷ xs)) ≡ value (x ∷ xs)
@@ -78,10 +78,10 @@ value_without_trailing xs =
     let bound = suffix_len-le-length is_zero xs in
     let cut : length (drop n xs) ≡ k = omega (arith, length-drop n xs) in
     let zeros : value (drop n xs) ≡ 0 = value_zeros (drop n xs) (λ i l.
-        let j = length xs - 1 - (n + i) in
-        let passes = prefix_len_passes is_zero (reverse xs) j 0 (omega arith) in
-        let at : get_or (reverse xs) j 0 ≡ get_or (drop n xs) i 0 = get_or-reverse xs j 0 (omega arith) ∙ ap (λ m. get_or xs m 0) (omega arith) ∙ sym (get_or-drop n xs i 0) in
-        (Decides-eqb (get_or (drop n xs) i 0) 48).0 (ap is_zero (sym at) ∙ passes)) in
+    let j = length xs - 1 - (n + i) in
+    let passes = prefix_len_passes is_zero (reverse xs) j 0 (omega arith) in
+    let at : get_or (reverse xs) j 0 ≡ get_or (drop n xs) i 0 = get_or-reverse xs j 0 (omega arith) ∙ ap (λ m. get_or xs m 0) (omega arith) ∙ sym (get_or-drop n xs i 0) in
+    (Decides-eqb (get_or (drop n xs) i 0) 48).0 (ap is_zero (sym at) ∙ passes)) in
     ap value (sym (take-append-drop n xs)) ∙ value-append (take n xs) (drop n xs)
     ∙ ap (λ d. value (take n xs) * 10 ^ d + value (drop n xs)) cut ∙ omega arith
 

@@ -6,9 +6,23 @@ ghost use Rattle.std.specs.List.{prefix_len};
 ghost use Rattle.std.specs.Str.Parse.{digits_value};
 ghost use Rattle.xs_text.specs.Digits.{are_digits};
 ghost use Rattle.xs_text.specs.DateTime.{
-    stands_for, has_form, HasDigits, field, is_year, is_leap_year, days_in_month, is_day, is_time, fraction_len,
-    is_zero_fraction, is_time_with_fraction, is_offset, is_zone, without_minus, is_day_and_time,
-    is_date_time
+  stands_for,
+  has_form,
+  HasDigits,
+  field,
+  is_year,
+  is_leap_year,
+  days_in_month,
+  is_day,
+  is_time,
+  fraction_len,
+  is_zero_fraction,
+  is_time_with_fraction,
+  is_offset,
+  is_zone,
+  without_minus,
+  is_day_and_time,
+  is_date_time,
 };
 
 use crate::digits;
@@ -189,7 +203,11 @@ fn has_form(picture: &[u8], text: &[u8]) -> bool
 fn stands_for(c: u8, p: u8) -> bool
     ensures { result ≡ stands_for c p }
 {
-    if p == b'9' { c.is_ascii_digit() } else { c == p }
+    if p == b'9' {
+        c.is_ascii_digit()
+    } else {
+        c == p
+    }
 }
 
 /// The number of the two digits at a place.

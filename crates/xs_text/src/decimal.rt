@@ -5,8 +5,16 @@ ghost use Rattle.std.specs.List.{prefix_len, suffix_len};
 ghost use Rattle.std.specs.Ordering.{nat_cmp, int_cmp};
 ghost use Rattle.xs_text.specs.Digits.{are_digits, has_minus, signed, zero_digit};
 ghost use Rattle.xs_text.specs.Decimal.{
-    is_decimal, whole_part, fraction_part, significant_whole, significant_fraction, scaled,
-    IsBelow, HasSameValue, total_digit_count, fraction_digit_count
+  is_decimal,
+  whole_part,
+  fraction_part,
+  significant_whole,
+  significant_fraction,
+  scaled,
+  IsBelow,
+  HasSameValue,
+  total_digit_count,
+  fraction_digit_count,
 };
 
 use crate::digits;
@@ -77,7 +85,11 @@ fn without_trailing_zeros(digits: &[u8]) -> &[u8]
     ensures digits { IsTrue (are_digits result.now) }
     ensures last { 0 < length result.now → slice_index result.now (length result.now - 1) ≢ zero_digit }
 {
-    let zeros = digits.iter().rev().take_while(|digit| **digit == b'0').count();
+    let zeros = digits
+        .iter()
+        .rev()
+        .take_while(|digit| **digit == b'0')
+        .count();
     &digits[..digits.len() - zeros]
 }
 

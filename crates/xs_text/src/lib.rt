@@ -10,7 +10,12 @@ pub mod laws;
 ghost use Rattle.std.specs.Prelude.{◌≡◌, ◌↔◌, IsTrue};
 ghost use Rattle.xs_text.specs.Decimal.{is_decimal, IsBelow, HasSameValue, total_digit_count, fraction_digit_count};
 ghost use Rattle.xs_text.specs.Datatype.{
-    is_in_lexical_space, passes_test_of, lexical_spaces, is_boolean, is_float, is_scientific
+  is_in_lexical_space,
+  passes_test_of,
+  lexical_spaces,
+  is_boolean,
+  is_float,
+  is_scientific,
 };
 
 use std::cmp::Ordering;
@@ -115,3 +120,6 @@ fn is_scientific(letter: u8, text: &[u8]) -> bool
     let (mantissa, exponent) = digits::split_once(text, letter);
     decimal::is_decimal(mantissa) && integer::is_integer(exponent)
 }
+
+#[cfg(test)]
+mod tests;
