@@ -25,13 +25,13 @@ Less_is_not_Greater : Less ≢ Greater
 Less_is_not_Greater e = cc
 
 -- digits hold no point
-no_point : (xs : List ℕ) → are_digits xs ≡ true → position_or_len (λ c. eqb c 46) xs ≡ length xs
-no_point [] h = refl
-no_point (x ∷ xs) h =
+pub point_at_end : (xs : List ℕ) → are_digits xs ≡ true → position_or_len (λ c. eqb c 46) xs ≡ length xs
+point_at_end [] h = refl
+point_at_end (x ∷ xs) h =
     let parts = first_digit x xs h in
     let digit = digit_bound x parts.0 in
     let other : eqb x 46 ≡ false = ne_eqb x 46 (λ e. omega arith) in
-    let rest = no_point xs parts.1 in
+    let rest = point_at_end xs parts.1 in
     ap (λ b. cond (not b) (1 + position_or_len (λ c. eqb c 46) xs) 0) other ∙ omega arith
 
 pub record IsWhole (text : List ℕ) : Type 0 where
@@ -41,7 +41,7 @@ pub record IsWhole (text : List ℕ) : Type 0 where
 pub whole_from_integer : (text : List ℕ) → is_integer text ≡ true → IsWhole text
 whole_from_integer text h =
     let parts = and_parts (ltb 0 (length (unsigned_part text))) (are_digits (unsigned_part text)) h in
-    let end = no_point (unsigned_part text) parts.1 in
+    let end = point_at_end (unsigned_part text) parts.1 in
     record {
       whole = ap (λ n. take n (unsigned_part text)) end ∙ take_all (length (unsigned_part text)) (unsigned_part text) (omega arith);
       fraction = drop_all (position_or_len (λ c. eqb c 46) (unsigned_part text) + 1) (unsigned_part text) (omega arith);

@@ -9,3 +9,5 @@ pub mod Names
 pub mod Forms
 pub mod Cycle
 pub mod OrderLaws
+pub mod CountLaws
+pub mod Grammar

@@ -67,7 +67,7 @@ cmp_whole xs ys h k z w =
     (λ e l. ap (λ o. ordering_then o (slice_cmp nat_cmp xs ys)) e ∙ nat_cmp_is (value xs) (value ys) Greater (shorter_below ys xs k h z l))
 
 -- behind a digit that is not zero
-no_trailing_rest : (c : ℕ) (cs : List ℕ) → NoTrailingZero (c ∷ cs) → NoTrailingZero cs
+pub no_trailing_rest : (c : ℕ) (cs : List ℕ) → NoTrailingZero (c ∷ cs) → NoTrailingZero cs
 no_trailing_rest c [] z l = absurd (omega arith)
 no_trailing_rest c (d ∷ cs) z l =
     let last : length (c ∷ d ∷ cs) - 1 ≡ suc (length (d ∷ cs) - 1) = omega arith in

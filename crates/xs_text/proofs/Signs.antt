@@ -1,5 +1,5 @@
 -- Numbers with a sign, and their order.
-use Rattle.std.proofs.Common.{◌≡◌, ◌↔◌, ℕ, zero, suc, ◌+◌, ◌*◌, ◌<◌, Bool, true, false, ℤ, pos, negsuc, neg_ℤ, ◌*ℤ◌, ◌<ℤ◌, ◌≤ℤ◌, Ordering, Less, Equal, Greater, refl, sym, ◌∙◌, ap, arith, rules}
+use Rattle.std.proofs.Common.{◌≡◌, ◌↔◌, ℕ, zero, suc, ◌+◌, ◌*◌, ◌<◌, Bool, true, false, ℤ, pos, negsuc, neg_ℤ, ◌*ℤ◌, unsigned_abs, ◌<ℤ◌, ◌≤ℤ◌, Ordering, Less, Equal, Greater, refl, sym, ◌∙◌, ap, arith, rules}
 use Rattle.std.specs.Ordering.{nat_cmp, int_cmp, MatchOrdering}
 use Rattle.std.specs.Cmp.{int_cmp_is, nat_cmp_is}
 use Rattle.std.proofs.lemmas.Bool.{true≢false, false≢true}
@@ -89,3 +89,8 @@ int_mul_swap (pos m) j k = ap pos (omega arith)
 int_mul_swap (negsuc m) j k =
     let swapped : suc m * j * k ≡ suc m * k * j = omega arith in
     signed-mul true (suc m * j) k ∙ ap (signed true) swapped ∙ sym (signed-mul true (suc m * k) j)
+
+pub unsigned_abs-signed : (s : Bool) (m : ℕ) → unsigned_abs (signed s m) ≡ m
+unsigned_abs-signed false m = refl
+unsigned_abs-signed true zero = refl
+unsigned_abs-signed true (suc m) = refl

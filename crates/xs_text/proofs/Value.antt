@@ -76,3 +76,6 @@ cmp_scaled a b k h =
     (λ e l. sym (nat_cmp_is (a * k) (b * k) Less (mul-lt-mul_of_pos_right l h)) ∙ sym e)
     (λ e l. sym (nat_cmp_is (a * k) (b * k) Equal (ap (λ n. n * k) l)) ∙ sym e)
     (λ e l. sym (nat_cmp_is (a * k) (b * k) Greater (mul-lt-mul_of_pos_right l h)) ∙ sym e)
+
+pub same_scaled : (a b k : ℕ) → 0 < k → a * k ≡ b * k → a ≡ b
+same_scaled a b k h e = ranked a b Equal (nat_cmp_is (a * k) (b * k) Equal e ∙ cmp_scaled a b k h)

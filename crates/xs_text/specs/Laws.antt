@@ -1,6 +1,21 @@
 -- Laws of the definitions. Each is claimed by a function of `src/laws.rt`.
-use Rattle.std.specs.Prelude.{◌≡◌, ℕ, ◌≤◌, List, ◌++◌, ◌⊎◌, IsTrue}
-use Rattle.xs_text.specs.Decimal.{is_decimal, is_integer, IsBelow, HasSameValue}
+use Rattle.std.specs.Prelude.{◌≡◌, ℕ, ◌^◌, ◌<◌, ◌≤◌, ◌↔◌, List, [], ◌∷◌, ◌++◌, ◌⊎◌, IsTrue, ℤ, pos, ◌*ℤ◌, unsigned_abs}
+use Rattle.xs_text.specs.Digits.{plus, minus, point, are_digits, is_numeral}
+use Rattle.xs_text.specs.Decimal.{is_decimal, is_integer, unscaled_value, scale, IsBelow, HasSameValue, fraction_digit_count, total_digit_count}
+
+-- nothing, `+` or `-`
+abbrev pub IsSign : List ℕ → Type 0
+IsSign sign = (sign ≡ []) ⊎ ((sign ≡ plus ∷ []) ⊎ (sign ≡ minus ∷ []))
+
+-- The grammar of decimals (decimalLexicalRep, section 3.3.3): digits, or digits, a point and more digits or none, or a point and digits
+pub data SpellsDecimal (text : List ℕ) : Type 0 where
+  no_point : (sign whole : List ℕ) → text ≡ sign ++ whole → IsSign sign → IsTrue (is_numeral whole) → SpellsDecimal text
+  with_point : (sign whole fraction : List ℕ) → text ≡ sign ++ (whole ++ point ∷ fraction) → IsSign sign → IsTrue (is_numeral whole) → IsTrue (are_digits fraction) → SpellsDecimal text
+  point_first : (sign fraction : List ℕ) → text ≡ sign ++ point ∷ fraction → IsSign sign → IsTrue (is_numeral fraction) → SpellsDecimal text
+
+-- the test of decimal texts is the grammar
+abbrev pub DecimalsAreSpelled : Type 0
+DecimalsAreSpelled = (text : List ℕ) → IsTrue (is_decimal text) ↔ SpellsDecimal text
 
 -- of two decimals one is below the other, or they are the same number
 abbrev pub OrderIsTotal : Type 0
@@ -34,3 +49,17 @@ OrderIsDecided = (a b : List ℕ) → (IsBelow a b ⊎ (¬ IsBelow a b)) × (Has
 -- each integer text is a decimal text
 abbrev pub IntegersAreDecimals : Type 0
 IntegersAreDecimals = (text : List ℕ) → IsTrue (is_integer text) → IsTrue (is_decimal text)
+
+-- the number of a decimal text is i / 10 ^ n
+abbrev pub IsQuotient : List ℕ → ℤ → ℕ → Type 0
+IsQuotient text i n = unscaled_value text *ℤ pos (10 ^ n) ≡ i *ℤ pos (10 ^ scale text)
+
+-- A decimal has at most f digits behind the point where it is i / 10 ^ n with n up to f (fractionDigits, section 4.3.12)
+abbrev pub FractionDigitsAreLeast : Type 0
+FractionDigitsAreLeast = (text : List ℕ) (f : ℕ) → IsTrue (is_decimal text)
+    → (fraction_digit_count text ≤ f) ↔ ((i : ℤ) × (n : ℕ) × (n ≤ f) × IsQuotient text i n)
+
+-- It has at most t digits where it is i / 10 ^ n with i below 10 ^ t and n up to t (totalDigits, section 4.3.11)
+abbrev pub TotalDigitsAreLeast : Type 0
+TotalDigitsAreLeast = (text : List ℕ) (t : ℕ) → IsTrue (is_decimal text) → 1 ≤ t
+    → (total_digit_count text ≤ t) ↔ ((i : ℤ) × (n : ℕ) × (unsigned_abs i < 10 ^ t) × (n ≤ t) × IsQuotient text i n)

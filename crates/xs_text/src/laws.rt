@@ -1,16 +1,16 @@
 //! Laws of the definitions, for callers' proofs: each function's contract is a law, and its body is empty.
 
 ghost use Rattle.xs_text.specs.Laws.{
-  OrderIsTotal,
-  OrderIsStrict,
-  OrderIsTransitive,
-  OrderIsOfValues,
-  OrderIsDecided,
-  SameValueIsReflexive,
-  SameValueIsSymmetric,
-  SameValueIsTransitive,
-  IntegersAreDecimals,
+    DecimalsAreSpelled, OrderIsTotal, OrderIsStrict, OrderIsTransitive, OrderIsOfValues, OrderIsDecided,
+    SameValueIsReflexive, SameValueIsSymmetric, SameValueIsTransitive, IntegersAreDecimals,
+    TotalDigitsAreLeast, FractionDigitsAreLeast
 };
+
+/// The test of decimal texts is the grammar of XML Schema Part 2, section 3.3.3.
+pub fn decimals_are_spelled()
+    ensures { DecimalsAreSpelled }
+{
+}
 
 /// The order of decimals is a strict total order of their values.
 pub fn decimals_are_ordered()
@@ -32,3 +32,10 @@ pub fn same_value_is_equality()
 pub fn integers_are_decimals()
     ensures { IntegersAreDecimals }
 {}
+
+/// The counts of digits are those that XML Schema Part 2 asks for, sections 4.3.11 and 4.3.12.
+pub fn digit_counts_are_least()
+    ensures total { TotalDigitsAreLeast }
+    ensures fraction { FractionDigitsAreLeast }
+{
+}
