@@ -63,8 +63,8 @@ decimal_with_point text sign w f e s h hw hf l =
     let u = w ++ point ∷ f in
     let end = point_behind w f hw in
     decimal_from_parts text u w f (ap unsigned_part e ∙ unsigned_after sign u s h)
-        (ap (λ n. take n u) end ∙ take_before w f point)
-        (ap (λ n. drop (n + 1) u) end ∙ drop_behind w f point) hw hf l
+    (ap (λ n. take n u) end ∙ take_before w f point)
+    (ap (λ n. drop (n + 1) u) end ∙ drop_behind w f point) hw hf l
 
 numeral_parts : (x : List ℕ) → is_numeral x ≡ true → (0 < length x) × (are_digits x ≡ true)
 numeral_parts x h = let parts = and_parts (ltb 0 (length x)) (are_digits x) h in (ltb-true 0 (length x) parts.0, parts.1)
@@ -79,8 +79,8 @@ passes text (no_point sign whole e s h) =
     let end = point_at_end whole parts.1 in
     let plain : unsigned_part whole ≡ whole = ap unsigned_part (sym (append_none whole)) ∙ digits_unsigned whole [] parts.1 parts.0 ∙ append_none whole in
     decimal_from_parts text whole whole [] (ap unsigned_part e ∙ unsigned_after sign whole s plain)
-        (ap (λ n. take n whole) end ∙ take_all (length whole) whole (omega arith))
-        (drop_all (position_or_len is_point whole + 1) whole (omega arith)) parts.1 refl (omega arith)
+    (ap (λ n. take n whole) end ∙ take_all (length whole) whole (omega arith))
+    (drop_all (position_or_len is_point whole + 1) whole (omega arith)) parts.1 refl (omega arith)
 passes text (with_point sign whole fraction e s h k) =
     let parts = numeral_parts whole h in
     decimal_with_point text sign whole fraction e s (digits_unsigned whole (point ∷ fraction) parts.1 parts.0) parts.1 k (omega arith)
@@ -98,8 +98,9 @@ signed_at : (c : ℕ) (cs : List ℕ) (b : Bool) → is_sign c ≡ b → Signed 
 signed_at c cs true e =
     let rest : cs ≡ unsigned_part (c ∷ cs) = sym (ap (λ b. cond b cs (c ∷ cs)) e) in
     elim (or_cases (eqb c plus) (eqb c minus) e) [
-        inl h ↦ record { sign = c ∷ []; is_sign = inr (inl (ap (λ d. d ∷ []) (eqb-true c plus h))); spelled = ap (λ r. c ∷ r) rest }
-      | inr h ↦ record { sign = c ∷ []; is_sign = inr (inr (ap (λ d. d ∷ []) (eqb-true c minus h))); spelled = ap (λ r. c ∷ r) rest } ]
+      | inl h ↦ record { sign = c ∷ []; is_sign = inr (inl (ap (λ d. d ∷ []) (eqb-true c plus h))); spelled = ap (λ r. c ∷ r) rest }
+      | inr h ↦ record { sign = c ∷ []; is_sign = inr (inr (ap (λ d. d ∷ []) (eqb-true c minus h))); spelled = ap (λ r. c ∷ r) rest }
+    ]
 signed_at c cs false e = record { sign = []; is_sign = inl refl; spelled = sym (ap (λ b. cond b cs (c ∷ cs)) e) }
 
 signed_text : (text : List ℕ) → Signed text
@@ -122,17 +123,18 @@ spelled text h =
     let some = ltb-true 0 (length w + length f) outer.1 in
     let start = signed_text text in
     elim (cases_lt n (length u)) [
-        inl l ↦
-            (let at : get_or u n 0 ≡ point = eqb-true (get_or u n 0) point (passes_at_first is_point u 0 l) in
-            let cut : u ≡ w ++ point ∷ f = split_at_first is_point u 0 l ∙ ap (λ c. w ++ c ∷ f) at in
-            behind_point text start.sign w f start.is_sign (start.spelled ∙ ap (λ r. start.sign ++ r) cut) digits.0 digits.1 some)
+      | inl l ↦
+          (let at : get_or u n 0 ≡ point = eqb-true (get_or u n 0) point (passes_at_first is_point u 0 l) in
+          let cut : u ≡ w ++ point ∷ f = split_at_first is_point u 0 l ∙ ap (λ c. w ++ c ∷ f) at in
+          behind_point text start.sign w f start.is_sign (start.spelled ∙ ap (λ r. start.sign ++ r) cut) digits.0 digits.1 some)
       | inr l ↦
-            (let whole : w ≡ u = take_all n u l in
-            let none : f ≡ [] = drop_all (n + 1) u (omega arith) in
-            no_point start.sign u start.spelled start.is_sign
-                (and_from (ltb 0 (length u)) (are_digits u)
-                    (lt-ltb 0 (length u) (omega (arith, some, ap length whole, ap length none)))
-                    (sym (ap are_digits whole) ∙ digits.0))) ]
+          (let whole : w ≡ u = take_all n u l in
+          let none : f ≡ [] = drop_all (n + 1) u (omega arith) in
+          no_point start.sign u start.spelled start.is_sign
+          (and_from (ltb 0 (length u)) (are_digits u)
+          (lt-ltb 0 (length u) (omega (arith, some, ap length whole, ap length none)))
+          (sym (ap are_digits whole) ∙ digits.0)))
+    ]
 
 pub decimals_are_spelled : DecimalsAreSpelled
 decimals_are_spelled text = (spelled text, passes text)

@@ -85,3 +85,11 @@ abbrev pub is_in_lexical_space : List ℕ → List ℕ → Bool
 is_in_lexical_space iri text =
     if starts_with nat_eq iri namespace
     then passes_test_of lexical_spaces (drop (length namespace) iri) text else true
+
+-- the datatypes whose values are decimals: decimal (section 3.3.3) and the integers (sections 3.4.13 to 3.4.25)
+abbrev pub numeric_names : List (List ℕ)
+numeric_names =
+    codes "decimal" ∷ codes "integer" ∷ codes "nonPositiveInteger" ∷ codes "negativeInteger"
+    ∷ codes "long" ∷ codes "int" ∷ codes "short" ∷ codes "byte"
+    ∷ codes "nonNegativeInteger" ∷ codes "unsignedLong" ∷ codes "unsignedInt" ∷ codes "unsignedShort"
+    ∷ codes "unsignedByte" ∷ codes "positiveInteger" ∷ []

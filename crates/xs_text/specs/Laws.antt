@@ -1,5 +1,8 @@
 -- Laws of the definitions. Each is claimed by a function of `src/laws.rt`.
 use Rattle.std.specs.Prelude.{◌≡◌, ℕ, ◌^◌, ◌<◌, ◌≤◌, ◌↔◌, List, [], ◌∷◌, ◌++◌, ◌⊎◌, IsTrue, ℤ, pos, ◌*ℤ◌, unsigned_abs}
+use Rattle.std.specs.List.{list_any}
+use Rattle.std.specs.Str.{bytes_eq}
+use Rattle.xs_text.specs.Datatype.{namespace, numeric_names, is_in_lexical_space}
 use Rattle.xs_text.specs.Digits.{plus, minus, point, are_digits, is_numeral}
 use Rattle.xs_text.specs.Decimal.{is_decimal, is_integer, unscaled_value, scale, IsBelow, HasSameValue, fraction_digit_count, total_digit_count}
 
@@ -49,6 +52,11 @@ OrderIsDecided = (a b : List ℕ) → (IsBelow a b ⊎ (¬ IsBelow a b)) × (Has
 -- each integer text is a decimal text
 abbrev pub IntegersAreDecimals : Type 0
 IntegersAreDecimals = (text : List ℕ) → IsTrue (is_integer text) → IsTrue (is_decimal text)
+
+-- each text of a numeric datatype is a decimal text
+abbrev pub NumericTextsAreDecimals : Type 0
+NumericTextsAreDecimals = (name text : List ℕ) → IsTrue (list_any (bytes_eq name) numeric_names)
+    → IsTrue (is_in_lexical_space (namespace ++ name) text) → IsTrue (is_decimal text)
 
 -- the number of a decimal text is i / 10 ^ n
 abbrev pub IsQuotient : List ℕ → ℤ → ℕ → Type 0

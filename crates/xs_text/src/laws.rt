@@ -1,16 +1,25 @@
 //! Laws of the definitions, for callers' proofs: each function's contract is a law, and its body is empty.
 
 ghost use Rattle.xs_text.specs.Laws.{
-    DecimalsAreSpelled, OrderIsTotal, OrderIsStrict, OrderIsTransitive, OrderIsOfValues, OrderIsDecided,
-    SameValueIsReflexive, SameValueIsSymmetric, SameValueIsTransitive, IntegersAreDecimals,
-    TotalDigitsAreLeast, FractionDigitsAreLeast
+  DecimalsAreSpelled,
+  OrderIsTotal,
+  OrderIsStrict,
+  OrderIsTransitive,
+  OrderIsOfValues,
+  OrderIsDecided,
+  SameValueIsReflexive,
+  SameValueIsSymmetric,
+  SameValueIsTransitive,
+  IntegersAreDecimals,
+  NumericTextsAreDecimals,
+  TotalDigitsAreLeast,
+  FractionDigitsAreLeast,
 };
 
 /// The test of decimal texts is the grammar of XML Schema Part 2, section 3.3.3.
 pub fn decimals_are_spelled()
     ensures { DecimalsAreSpelled }
-{
-}
+{}
 
 /// The order of decimals is a strict total order of their values.
 pub fn decimals_are_ordered()
@@ -28,14 +37,14 @@ pub fn same_value_is_equality()
     ensures transitive { SameValueIsTransitive }
 {}
 
-/// Each integer text is a decimal text.
-pub fn integers_are_decimals()
-    ensures { IntegersAreDecimals }
+/// Each integer text, and each text of a numeric datatype, is a decimal text.
+pub fn numbers_are_decimals()
+    ensures integers { IntegersAreDecimals }
+    ensures numeric { NumericTextsAreDecimals }
 {}
 
 /// The counts of digits are those that XML Schema Part 2 asks for, sections 4.3.11 and 4.3.12.
 pub fn digit_counts_are_least()
     ensures total { TotalDigitsAreLeast }
     ensures fraction { FractionDigitsAreLeast }
-{
-}
+{}
