@@ -1,5 +1,5 @@
 -- The counts of digits are the least of a quotient that is the number.
-use Rattle.std.proofs.Common.{◌≡◌, ◌≢◌, ◌↔◌, ℕ, zero, suc, ◌+◌, ◌-◌, ◌*◌, ◌^◌, ◌%◌, ◌<◌, ◌≤◌, max, Bool, true, false, ◌&&◌, ltb, List, [], ◌∷◌, ◌++◌, length, get_or, ℤ, pos, ◌*ℤ◌, unsigned_abs, inl, inr, refl, sym, ◌∙◌, ap, arith, length-append}
+use Rattle.std.proofs.Common.{◌≡◌, ◌≢◌, ℕ, suc, ◌+◌, ◌-◌, ◌*◌, ◌^◌, ◌%◌, ◌<◌, ◌≤◌, true, ◌&&◌, ltb, List, [], ◌∷◌, ◌++◌, length, ℤ, pos, ◌*ℤ◌, unsigned_abs, inl, inr, sym, ◌∙◌, ap, arith, length-append}
 use Rattle.std.specs.List.{suffix_len, prefix_len}
 use Rattle.std.specs.Char.{digit_value}
 use Rattle.std.proofs.Math.Nat.{pow-suc, one-le-pow, pow-le-pow_right, mul-le-mul_right, add-mul-mod_self_right, mul-mod_left}
@@ -8,11 +8,11 @@ use Rattle.std.proofs.lemmas.Int.{unsigned_abs-mul}
 use Rattle.std.proofs.lemmas.List.Folds.{list_all-append}
 use Rattle.std.proofs.lemmas.Nat.{pow-add}
 use Rattle.xs_text.specs.Digits.{are_digits, has_minus, signed}
-use Rattle.xs_text.specs.Decimal.{is_decimal, whole_part, fraction_part, significant_whole, significant_fraction, unscaled_value, scale, fraction_digit_count, total_digit_count}
+use Rattle.xs_text.specs.Decimal.{is_decimal, whole_part, fraction_part, significant_whole, significant_fraction, unscaled_value, scale}
 use Rattle.xs_text.specs.Laws.{IsQuotient, FractionDigitsAreLeast, TotalDigitsAreLeast}
 use Rattle.xs_text.proofs.Value.{value, value-cons, value-append, value-lt, first_digit, digit_bound, same_scaled}
 use Rattle.xs_text.proofs.Order.{NoLeadingZero, NoTrailingZero, no_trailing_rest}
-use Rattle.xs_text.proofs.Zeros.{is_zero, without_leading, without_trailing, are_digits-drop, are_digits-take, no_leading, no_trailing, value_significant, length_without_trailing}
+use Rattle.xs_text.proofs.Zeros.{is_zero, are_digits-drop, are_digits-take, no_leading, no_trailing, value_significant, length_without_trailing}
 use Rattle.xs_text.proofs.Signs.{signed-mul, unsigned_abs-signed}
 
 -- digits that end in no zero write no multiple of ten

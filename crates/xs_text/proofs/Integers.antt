@@ -1,14 +1,11 @@
 -- Integer texts as decimal texts.
-use Rattle.std.proofs.Common.{◌≡◌, ℕ, zero, suc, ◌+◌, ◌-◌, ◌*◌, ◌^◌, ◌<◌, ◌≤◌, Bool, true, false, not, ◌&&◌, ltb, eqb, cond, List, [], ◌∷◌, ◌++◌, length, take, drop, ℤ, pos, negsuc, neg_ℤ, ◌*ℤ◌, ◌<ℤ◌, ◌≤ℤ◌, ◌≢◌, ◌↔◌, int_le, Ordering, Less, Equal, Greater, append-nil, subst, refl, sym, ◌∙◌, ap, arith, rules}
-use Rattle.std.specs.List.{prefix_len, position_or_len, before_first, after_first}
+use Rattle.std.proofs.Common.{◌≡◌, ℕ, suc, ◌+◌, ◌*◌, ◌^◌, true, false, not, ◌&&◌, ltb, eqb, cond, List, [], ◌∷◌, ◌++◌, length, take, ℤ, pos, negsuc, neg_ℤ, ◌*ℤ◌, ◌<ℤ◌, ◌≢◌, ◌↔◌, int_le, Ordering, Less, Equal, Greater, append-nil, subst, refl, sym, ◌∙◌, ap, arith}
+use Rattle.std.specs.List.{position_or_len}
 use Rattle.std.specs.Ordering.{is_ge, is_le}
 use Rattle.std.proofs.lemmas.Int.{ints, by_lt_z}
-use Rattle.std.specs.Char.{is_ascii_digit}
 use Rattle.std.proofs.lemmas.Bool.{and_parts, and_from, ltb-true, lt-ltb, ne_eqb}
-use Rattle.std.proofs.lemmas.Bool.Decides.{nat_tests}
 use Rattle.std.proofs.lemmas.List.{drop_all, take_all}
-use Rattle.std.proofs.lemmas.Grind.{common_steps}
-use Rattle.xs_text.specs.Digits.{are_digits, is_numeral, point, unsigned_part, has_minus, signed}
+use Rattle.xs_text.specs.Digits.{are_digits, unsigned_part, has_minus, signed}
 use Rattle.xs_text.specs.Decimal.{is_decimal, is_integer, whole_part, fraction_part, integer_value, unscaled_value, scale, IsBelow}
 use Rattle.xs_text.proofs.Value.{first_digit, digit_bound, value}
 

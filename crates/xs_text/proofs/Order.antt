@@ -1,13 +1,12 @@
 -- Digit texts without idle zeros are ordered as their numbers.
-use Rattle.std.proofs.Common.{◌≡◌, ◌≢◌, ℕ, suc, ◌+◌, ◌-◌, ◌*◌, ◌^◌, ◌<◌, ◌≤◌, Bool, true, false, List, [], ◌∷◌, ◌++◌, length, get_or, Ordering, Less, Equal, Greater, refl, sym, ◌∙◌, ap, arith, rules}
+use Rattle.std.proofs.Common.{◌≡◌, ◌≢◌, ℕ, suc, ◌+◌, ◌-◌, ◌*◌, ◌^◌, ◌<◌, ◌≤◌, true, List, [], ◌∷◌, ◌++◌, length, get_or, Less, Greater, refl, sym, ◌∙◌, ap, arith}
 use Rattle.std.specs.Char.{is_ascii_digit, digit_value}
 use Rattle.std.specs.Ordering.{nat_cmp, ordering_then}
 use Rattle.std.specs.Cmp.{nat_cmp_is}
 use Rattle.std.specs.Cmp.Lexicographic.{slice_cmp}
-use Rattle.std.proofs.Math.Nat.{pow-suc, mul_assoc, mul-le-mul_right, mul-lt-mul_of_pos_right, one-le-pow, pow-le-pow_right}
+use Rattle.std.proofs.Math.Nat.{pow-suc, mul-le-mul_right, mul-lt-mul_of_pos_right, one-le-pow, pow-le-pow_right}
 use Rattle.std.proofs.lemmas.Bool.Decides.{nat_tests}
 use Rattle.std.proofs.lemmas.Cmp.{ranked, by_ranked}
-use Rattle.std.proofs.lemmas.Nat.{pow-add}
 use Rattle.xs_text.specs.Digits.{are_digits}
 use Rattle.xs_text.proofs.Value.{value, value-cons, value-append, value-lt, cmp_mixed, cmp_scaled, first_digit, digit_bound}
 

@@ -1,11 +1,11 @@
 -- The order of decimal texts is an order of their values.
-use Rattle.std.proofs.Common.{◌≡◌, ℕ, ◌^◌, ◌<◌, List, ℤ, pos, ◌*ℤ◌, ◌<ℤ◌, ◌⊎◌, Ordering, Less, Equal, Greater, refl, sym, ◌∙◌, ap, subst, inl, inr, arith}
-use Rattle.std.specs.Ordering.{int_cmp, MatchOrdering}
+use Rattle.std.proofs.Common.{◌≡◌, ℕ, ◌^◌, ◌<◌, List, ℤ, pos, ◌*ℤ◌, ◌<ℤ◌, ◌⊎◌, Less, Equal, refl, sym, ◌∙◌, ap, subst, inl, inr, arith}
+use Rattle.std.specs.Ordering.{int_cmp}
 use Rattle.std.specs.Cmp.{int_cmp_is, int_ranks, int_chain}
 use Rattle.std.specs.Int.Signed.{<ℤ_irrefl}
 use Rattle.std.proofs.Math.Nat.{one-le-pow}
-use Rattle.std.proofs.lemmas.Cmp.{by_ranked, int_ranked}
-use Rattle.xs_text.specs.Decimal.{unscaled_value, scale, IsBelow, HasSameValue}
+use Rattle.std.proofs.lemmas.Cmp.{by_ranked}
+use Rattle.xs_text.specs.Decimal.{unscaled_value, scale}
 use Rattle.xs_text.specs.Laws.{OrderIsTotal, OrderIsStrict, OrderIsTransitive, OrderIsOfValues, OrderIsDecided, SameValueIsTransitive}
 use Rattle.xs_text.proofs.Signs.{answer_less, answer_equal, int_cmp_scaled, int_mul_swap}
 

@@ -1,11 +1,10 @@
 -- Numbers with a sign, and their order.
-use Rattle.std.proofs.Common.{◌≡◌, ◌↔◌, ℕ, zero, suc, ◌+◌, ◌*◌, ◌<◌, Bool, true, false, ℤ, pos, negsuc, neg_ℤ, ◌*ℤ◌, unsigned_abs, ◌<ℤ◌, ◌≤ℤ◌, Ordering, Less, Equal, Greater, refl, sym, ◌∙◌, ap, arith, rules}
+use Rattle.std.proofs.Common.{◌≡◌, ◌↔◌, ℕ, zero, suc, ◌+◌, ◌*◌, ◌<◌, Bool, true, false, ℤ, pos, negsuc, neg_ℤ, ◌*ℤ◌, unsigned_abs, ◌<ℤ◌, Ordering, Less, Equal, Greater, refl, sym, ◌∙◌, ap, arith}
 use Rattle.std.specs.Ordering.{nat_cmp, int_cmp, MatchOrdering}
 use Rattle.std.specs.Cmp.{int_cmp_is, nat_cmp_is}
 use Rattle.std.proofs.lemmas.Bool.{true≢false, false≢true}
 use Rattle.std.proofs.lemmas.Bool.Decides.{nat_tests}
 use Rattle.std.proofs.lemmas.Cmp.{int_ranked}
-use Rattle.std.proofs.lemmas.Int.{ints}
 use Rattle.xs_text.specs.Digits.{signed}
 use Rattle.xs_text.proofs.Value.{cmp_scaled}
 

@@ -1,5 +1,5 @@
 -- Two decimal texts are ordered as what is left of them without idle zeros.
-use Rattle.std.proofs.Common.{◌≡◌, ℕ, zero, suc, ◌+◌, ◌*◌, ◌^◌, ◌<◌, ◌≤◌, Bool, true, false, ◌&&◌, ltb, List, [], ◌∷◌, ◌++◌, length, ℤ, pos, ◌*ℤ◌, Ordering, refl, sym, ◌∙◌, ap, arith, rules}
+use Rattle.std.proofs.Common.{◌≡◌, ℕ, ◌+◌, ◌*◌, ◌^◌, Bool, true, false, ◌&&◌, ltb, List, [], ◌∷◌, ◌++◌, length, ℤ, pos, ◌*ℤ◌, Ordering, refl, sym, ◌∙◌, ap, arith}
 use Rattle.std.specs.List.{suffix_len}
 use Rattle.std.specs.Ordering.{int_cmp}
 use Rattle.std.proofs.Math.Nat.{one-le-pow, add_comm}

@@ -1,12 +1,11 @@
 -- Digits without the zeros at their front or at their end.
-use Rattle.std.proofs.Common.{◌≡◌, ◌≢◌, ℕ, zero, suc, ◌+◌, ◌-◌, ◌*◌, ◌^◌, ◌<◌, ◌≤◌, Bool, true, false, cond, eqb, List, [], ◌∷◌, ◌++◌, length, get_or, take, drop, reverse, refl, sym, ◌∙◌, ap, subst, arith, rules}
+use Rattle.std.proofs.Common.{◌≡◌, ℕ, zero, suc, ◌+◌, ◌-◌, ◌*◌, ◌^◌, ◌<◌, Bool, true, false, cond, eqb, List, [], ◌∷◌, ◌++◌, length, get_or, take, drop, reverse, refl, sym, ◌∙◌, ap, arith}
 use Rattle.std.specs.Char.{digit_value}
 use Rattle.std.specs.List.{prefix_len, suffix_len}
-use Rattle.std.proofs.Math.Nat.{mul_assoc, one-le-pow}
 use Rattle.std.proofs.lemmas.Bool.{false≢true, eqb-true}
-use Rattle.std.proofs.lemmas.Bool.Decides.{nat_tests, Decides-eqb}
+use Rattle.std.proofs.lemmas.Bool.Decides.{Decides-eqb}
 use Rattle.std.proofs.lemmas.List.{get_or-drop, get_or-take, get_or-reverse, length-drop, length-take-le, length-reverse, take-append-drop}
-use Rattle.std.proofs.lemmas.List.Sums.{prefix_len_stops, prefix_len_passes, prefix_len-le-length, suffix_len-le-length}
+use Rattle.std.proofs.lemmas.List.Sums.{prefix_len_stops, prefix_len_passes, suffix_len-le-length}
 use Rattle.std.proofs.lemmas.Nat.{pow-add}
 use Rattle.xs_text.specs.Digits.{are_digits, zero_digit}
 use Rattle.xs_text.proofs.Value.{value, value-cons, value-append, first_digit}

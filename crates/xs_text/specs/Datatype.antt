@@ -1,9 +1,8 @@
 -- Which texts are literals of which datatype (XML Schema Part 2, version 1.1).
-use Rattle.std.specs.Prelude.{◌≡◌, ℕ, ◌-◌, ◌^◌, ◌==◌, ◌&&◌, ◌||◌, Bool, true, List, [], ◌∷◌, length, drop, nat_eq, if◌then◌else◌, ℤ, pos, neg_ℤ, int_le}
+use Rattle.std.specs.Prelude.{ℕ, ◌-◌, ◌^◌, ◌==◌, ◌&&◌, ◌||◌, Bool, true, List, [], ◌∷◌, length, drop, nat_eq, if◌then◌else◌, ℤ, pos, neg_ℤ, int_le}
 use Rattle.std.specs.List.{before_first, after_first, starts_with}
 use Rattle.std.specs.Str.{bytes_eq}
 use lib.Chars.{codes}
-use Rattle.xs_text.specs.Digits.{is_numeral}
 use Rattle.xs_text.specs.Decimal.{is_decimal, is_integer, integer_value}
 use Rattle.xs_text.specs.DateTime.{is_date_time}
 

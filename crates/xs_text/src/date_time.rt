@@ -83,7 +83,7 @@ fn is_day(year: &[u8], text: &[u8]) -> bool
     }
     let month = field(0, text);
     let day = field(3, text);
-    1 <= month && month <= 12 && 1 <= day && day <= days_in_month(year, month)
+    (1..=12).contains(&month) && (1..=days_in_month(year, month)).contains(&day)
 }
 
 /// How many days a month of a year has.

@@ -95,7 +95,7 @@ fn without_trailing_zeros(digits: &[u8]) -> &[u8]
 
 /// A decimal number, without the zeros that do not change it. Zero is not negative.
 #[derive(Clone, Copy)]
-pub struct Decimal<'a> {
+struct Decimal<'a> {
     is_negative: bool,
     whole: &'a [u8],
     fraction: &'a [u8],
@@ -109,7 +109,7 @@ pub struct Decimal<'a> {
 
 impl<'a> Decimal<'a> {
     /// The number of a decimal text.
-    pub fn new(text: &'a [u8]) -> Self
+    fn new(text: &'a [u8]) -> Self
         requires { IsTrue (is_decimal text.now) }
         ensures whole { result.whole.now ≡ significant_whole text.now }
         ensures fraction { result.fraction.now ≡ significant_fraction text.now }
@@ -127,7 +127,7 @@ impl<'a> Decimal<'a> {
     }
 
     /// The order of two numbers.
-    pub fn compare(&self, other: &Self) -> Ordering
+    fn compare(&self, other: &Self) -> Ordering
         ensures { result ≡ int_cmp
             (signed self.now.is_negative (scaled self.now.whole.now self.now.fraction.now (length other.now.fraction.now)))
             (signed other.now.is_negative (scaled other.now.whole.now other.now.fraction.now (length self.now.fraction.now))) }

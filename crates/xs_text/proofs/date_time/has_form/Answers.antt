@@ -1,4 +1,4 @@
-use Rattle.std.proofs.Common.{rules, tests, ℕ, ◌==◌, ◌&&◌, length, ◌∙◌, ap, sym}
+use Rattle.std.proofs.Common.{rules, tests, ℕ, ◌&&◌, length, ◌∙◌, ap, sym}
 use Rattle.std.specs.List.{list_all, zip}
 use Rattle.std.proofs.lemmas.Bool.{eq-eqb}
 use Rattle.std.proofs.lemmas.Iterator.{YieldsList-from_slice, YieldsList-from_zip}

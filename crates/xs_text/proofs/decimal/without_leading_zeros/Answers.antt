@@ -1,6 +1,5 @@
-use Rattle.std.proofs.Common.{length, ◌-◌}
-use Rattle.std.specs.List.{prefix_len, suffix_len}
-use Rattle.xs_text.proofs.Zeros.{is_zero, no_leading, no_trailing, are_digits-drop, are_digits-take}
+use Rattle.std.specs.List.{prefix_len}
+use Rattle.xs_text.proofs.Zeros.{is_zero, no_leading, are_digits-drop}
 use Rattle.std.proofs.Common.{◌==◌, ◌∙◌, rules, tests}
 use Rattle.std.proofs.lemmas.List.{take_rest}
 use Rattle.std.proofs.lemmas.List.Folds.{length-prefix_len}

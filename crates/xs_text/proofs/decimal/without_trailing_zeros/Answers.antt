@@ -1,6 +1,6 @@
 use Rattle.std.proofs.Common.{length, ◌-◌}
-use Rattle.std.specs.List.{prefix_len, suffix_len}
-use Rattle.xs_text.proofs.Zeros.{is_zero, no_leading, no_trailing, are_digits-drop, are_digits-take}
+use Rattle.std.specs.List.{suffix_len}
+use Rattle.xs_text.proofs.Zeros.{is_zero, no_trailing, are_digits-take}
 use Rattle.std.proofs.Common.{◌==◌, ◌∙◌, reverse, rules, tests}
 use Rattle.std.proofs.lemmas.List.Folds.{length-prefix_len}
 use Rattle.std.proofs.lemmas.Iterator.Adapters.{YieldsList-from_rev_slice}

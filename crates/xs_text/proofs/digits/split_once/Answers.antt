@@ -1,4 +1,4 @@
-use Rattle.std.proofs.Common.{◌==◌, ◌∙◌, sym, ap, arith}
+use Rattle.std.proofs.Common.{◌==◌, ◌∙◌, sym, arith}
 use Rattle.std.proofs.lemmas.Grind.{common_steps}
 use Rattle.xs_text.proofs.Splits.{cut, uncut}
 use Rattle.xs_text.proofs.digits.split_once.Goals as goal

@@ -1,4 +1,4 @@
-use Rattle.std.proofs.Common.{◌*◌, ◌^◌, ◌++◌, length}
+use Rattle.std.proofs.Common.{◌++◌, length}
 use Rattle.xs_text.proofs.Value.{value}
 use Rattle.xs_text.proofs.Order.{magnitude_positive, scaled_positive}
 use Rattle.xs_text.proofs.Signs.{below_by_sign, above_by_sign}
