@@ -17,7 +17,7 @@ pub form_length : (p t : List ℕ) → has_form p t ≡ true → length t ≡ le
 unfolding has_form
 form_length p t h = eqb-true (length t) (length p) (and_parts (eqb (length t) (length p)) (list_all (λ (pair : ℕ × ℕ). stands_for pair.0 pair.1) (zip t p)) h).0
 
-form_at : (p t : List ℕ) (k : ℕ) → has_form p t ≡ true → k < length p → stands_for (get_or t k 0) (get_or p k 0) ≡ true
+pub form_at : (p t : List ℕ) (k : ℕ) → has_form p t ≡ true → k < length p → stands_for (get_or t k 0) (get_or p k 0) ≡ true
 unfolding has_form
 form_at p t k h l =
     each t p k (and_parts (eqb (length t) (length p)) (list_all (λ (pair : ℕ × ℕ). stands_for pair.0 pair.1) (zip t p)) h).1 (form_length p t h) l

@@ -7,7 +7,8 @@ use Rattle.std.proofs.lemmas.List.{take_all, drop_all}
 use Rattle.std.proofs.lemmas.List.Sums.{split_at_first, passes_at_first}
 use Rattle.xs_text.specs.Digits.{plus, minus, point, are_digits, is_numeral, is_sign, unsigned_part}
 use Rattle.xs_text.specs.Decimal.{is_decimal, whole_part, fraction_part}
-use Rattle.xs_text.specs.Laws.{IsSign, SpellsDecimal, no_point, with_point, point_first, DecimalsAreSpelled}
+use Rattle.xs_text.specs.Grammar.{IsSign, SpellsDecimal, no_point, with_point, point_first}
+use Rattle.xs_text.specs.Laws.{DecimalsAreSpelled}
 use Rattle.xs_text.proofs.Value.{first_digit, digit_bound}
 use Rattle.xs_text.proofs.Integers.{point_at_end}
 
@@ -39,11 +40,11 @@ point_behind (c ∷ w) f h =
     ap (λ b. cond (not b) (1 + position_or_len is_point (w ++ point ∷ f)) 0) other
     ∙ ap (λ n. 1 + n) (point_behind w f parts.1) ∙ omega arith
 
-take_before : (w f : List ℕ) (c : ℕ) → take (length w) (w ++ c ∷ f) ≡ w
+pub take_before : (w f : List ℕ) (c : ℕ) → take (length w) (w ++ c ∷ f) ≡ w
 take_before [] f c = refl
 take_before (d ∷ w) f c = ap (λ r. d ∷ r) (take_before w f c)
 
-drop_behind : (w f : List ℕ) (c : ℕ) → drop (length w + 1) (w ++ c ∷ f) ≡ f
+pub drop_behind : (w f : List ℕ) (c : ℕ) → drop (length w + 1) (w ++ c ∷ f) ≡ f
 drop_behind [] f c = refl
 drop_behind (d ∷ w) f c =
     let more : length (d ∷ w) + 1 ≡ suc (length w + 1) = omega arith in

@@ -11,3 +11,4 @@ pub mod Cycle
 pub mod OrderLaws
 pub mod CountLaws
 pub mod Grammar
+pub mod DateTimeGrammar

@@ -1,24 +1,19 @@
 -- Laws of the definitions. Each is claimed by a function of `src/laws.rt`.
-use Rattle.std.specs.Prelude.{◌≡◌, ℕ, ◌^◌, ◌<◌, ◌≤◌, ◌↔◌, List, [], ◌∷◌, ◌++◌, ◌⊎◌, IsTrue, ℤ, pos, ◌*ℤ◌, unsigned_abs}
+use Rattle.std.specs.Prelude.{◌≡◌, ℕ, ◌^◌, ◌<◌, ◌≤◌, ◌↔◌, List, ◌++◌, ◌⊎◌, IsTrue, ℤ, pos, ◌*ℤ◌, unsigned_abs}
 use Rattle.std.specs.List.{list_any}
 use Rattle.std.specs.Str.{bytes_eq}
 use Rattle.xs_text.specs.Datatype.{namespace, numeric_names, is_in_lexical_space}
-use Rattle.xs_text.specs.Digits.{plus, minus, point, are_digits, is_numeral}
+use Rattle.xs_text.specs.DateTime.{is_date_time}
+use Rattle.xs_text.specs.Grammar.{SpellsDecimal, SpellsDateTime}
 use Rattle.xs_text.specs.Decimal.{is_decimal, is_integer, unscaled_value, scale, IsBelow, HasSameValue, fraction_digit_count, total_digit_count}
-
--- nothing, `+` or `-`
-abbrev pub IsSign : List ℕ → Type 0
-IsSign sign = (sign ≡ []) ⊎ ((sign ≡ plus ∷ []) ⊎ (sign ≡ minus ∷ []))
-
--- The grammar of decimals (decimalLexicalRep, section 3.3.3): digits, or digits, a point and more digits or none, or a point and digits
-pub data SpellsDecimal (text : List ℕ) : Type 0 where
-  no_point : (sign whole : List ℕ) → text ≡ sign ++ whole → IsSign sign → IsTrue (is_numeral whole) → SpellsDecimal text
-  with_point : (sign whole fraction : List ℕ) → text ≡ sign ++ (whole ++ point ∷ fraction) → IsSign sign → IsTrue (is_numeral whole) → IsTrue (are_digits fraction) → SpellsDecimal text
-  point_first : (sign fraction : List ℕ) → text ≡ sign ++ point ∷ fraction → IsSign sign → IsTrue (is_numeral fraction) → SpellsDecimal text
 
 -- the test of decimal texts is the grammar
 abbrev pub DecimalsAreSpelled : Type 0
 DecimalsAreSpelled = (text : List ℕ) → IsTrue (is_decimal text) ↔ SpellsDecimal text
+
+-- the test of dateTime is the grammar
+abbrev pub DateTimesAreSpelled : Type 0
+DateTimesAreSpelled = (text : List ℕ) → IsTrue (is_date_time text) ↔ SpellsDateTime text
 
 -- of two decimals one is below the other, or they are the same number
 abbrev pub OrderIsTotal : Type 0

@@ -2,6 +2,7 @@
 
 ghost use Rattle.xs_text.specs.Laws.{
   DecimalsAreSpelled,
+  DateTimesAreSpelled,
   OrderIsTotal,
   OrderIsStrict,
   OrderIsTransitive,
@@ -16,9 +17,10 @@ ghost use Rattle.xs_text.specs.Laws.{
   FractionDigitsAreLeast,
 };
 
-/// The test of decimal texts is the grammar of XML Schema Part 2, section 3.3.3.
-pub fn decimals_are_spelled()
-    ensures { DecimalsAreSpelled }
+/// The tests of decimal and of dateTime texts are the grammars of XML Schema Part 2, sections 3.3.3 and 3.3.7.
+pub fn texts_are_spelled()
+    ensures decimals { DecimalsAreSpelled }
+    ensures date_times { DateTimesAreSpelled }
 {}
 
 /// The order of decimals is a strict total order of their values.

@@ -23,9 +23,10 @@ use std::cmp::Ordering;
 /// The namespace of the datatypes.
 const XML_SCHEMA: &str = "http://www.w3.org/2001/XMLSchema#";
 
-/// Whether the text is in the lexical space of the datatype with this IRI.
+/// Whether the text is in the lexical space of the datatype with this IRI (sections 3.3 and 3.4).
 ///
-/// A datatype that is not among those of `specs/Datatype.antt` is not looked into: every text is in its space.
+/// Known are string, boolean, decimal, float, double, dateTime, integer and the twelve integer types below it.
+/// Another datatype is not looked into: every text is in its space. White space is not trimmed.
 pub fn lexical_ok(datatype: &str, lex: &str) -> bool
     ensures { result ≡ is_in_lexical_space datatype.now lex.now }
 {
