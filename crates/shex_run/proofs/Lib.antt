@@ -1,0 +1,12 @@
+pub mod OneArc
+pub mod Truths
+pub mod Simples
+pub mod Standing
+pub mod Decided
+pub mod Fetched
+pub mod Spelt
+pub mod Said
+pub mod Wording
+pub mod Ended
+pub mod Exclusive
+pub mod Closing

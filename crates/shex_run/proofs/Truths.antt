@@ -1,0 +1,125 @@
+-- What the complete typing says of the only Shape of a schema: that a node has it, whatever the typing.
+use Rattle.std.proofs.Common.{◌≡◌, ℕ, suc, zero, ◌<◌, ◌≤◌, List, [], ◌∷◌, refl, sym, ◌∙◌, ap, subst, arith, length, filter, Bool, true, false, true≢false, max}
+use Rattle.std.specs.Prelude.{Contains, Option, Some, None, slice_get, slice_index, IsTrue, nat_lt}
+use Rattle.std.proofs.lemmas.Bool.{ltb-true}
+use Rattle.rdf_terms.specs.declared.terms.Term.{Term}
+use Rattle.rdf_terms.specs.declared.terms.TermId.{TermId}
+use Rattle.rdf_terms.specs.declared.terms.Triple.{Triple}
+use Rattle.tally.specs.declared.Count.{Count}
+use Rattle.node_constraint.specs.declared.NodeConstraint.{NodeConstraint}
+use Rattle.node_constraint.specs.declared.Kind4.{Kind4}
+use Rattle.one_shape.specs.declared.Constraint.{Constraint}
+use Rattle.one_shape.specs.declared.OneShape.{OneShape}
+use Rattle.schema_tree.specs.declared.labels.Label.{Label}
+use Rattle.schema_tree.specs.declared.labels.Label.TheVariants as Labels
+use Rattle.schema_tree.specs.declared.schema.Expr.{Expr}
+use Rattle.schema_tree.specs.declared.schema.Expr.TheVariants as Exprs
+use Rattle.schema_tree.specs.declared.schema.ExprId.{ExprId}
+use Rattle.schema_tree.specs.declared.schema.Occurrence.{Occurrence}
+use Rattle.schema_tree.specs.declared.schema.Pair.{Pair}
+use Rattle.schema_tree.specs.declared.schema.Schema.{Schema}
+use Rattle.schema_tree.specs.declared.schema.Shape.{Shape}
+use Rattle.schema_tree.specs.declared.schema.ShapeId.{ShapeId}
+use Rattle.schema_tree.specs.declared.schema.Target.TheVariants as Targets
+use Rattle.schema_tree.specs.Edges.{Edge, IsStratum, IsStratumOf, Path, StandsIn, StandsInValue, level, itself, in_and, in_or, in_not, stay, by_any, by_negative}
+use Rattle.schema_tree.specs.Entries.{entry, shape_at}
+use Rattle.schema_tree.specs.Loaded.{IsTarget}
+use Rattle.schema_tree.specs.Satisfies.{Sat, SatWithin, SatEntry}
+use Rattle.schema_tree.specs.Shapes.{ShapeOk}
+use Rattle.schema_tree.specs.Typings.{below, HoldsEnds, IsComplete, IsGreatestAt, IsTheTyping, IsPartOf, HaveSame, top_of}
+use Rattle.schema_tree.proofs.Members.{not_in_none, in_one, is_first}
+use Rattle.shex_run.specs.Inputs.{IsBodyOf, IsOccurrenceOf, IsValueOf, StandsFor}
+use Rattle.shex_run.proofs.OneArc.{in_filter}
+
+abbrev the_shape : ShapeId
+the_shape = record { 0 = 0 }
+
+-- no Shape stands in a node constraint
+nothing_stands : (s : Schema) (t : ShapeId) (e : ExprId) (c : NodeConstraint) (sign : Bool) → entry s e ≡ Some (Exprs.Node c) → StandsIn s t e sign → ⊥
+nothing_stands s t e c sign is (itself at) = cc
+nothing_stands s t e c sign is (in_and es d at held deeper) = cc
+nothing_stands s t e c sign is (in_or es d at held deeper) = cc
+nothing_stands s t e c sign is (in_not d at deeper) = cc
+
+-- nor in the value of an occurrence that is one, if there is a value
+nothing_valued : (s : Schema) (t : ShapeId) (kind : Option Kind4) (value : Option ExprId) (sign : Bool) → IsValueOf s kind value → StandsInValue s t value sign → ⊥
+nothing_valued s t kind None sign is h = h
+nothing_valued s t None (Some e) sign is h = is
+nothing_valued s t (Some kind) (Some e) sign is h = nothing_stands s t e (record { kind = Some kind }) sign is h
+
+module _ (terms : List Term) (doc : OneShape) (s : Schema) (stands : StandsFor terms doc s) where
+  -- the schema's Shape of any number is the only one
+  only_shape : (i : ShapeId) (sh : Shape) → shape_at s i ≡ Some sh → stands.shape ≡ sh
+  only_shape i sh at = go i.0 (sym (ap (λ shapes. slice_get shapes i.0) stands.shapes) ∙ at)
+    where
+      go : (k : ℕ) → slice_get (stands.shape ∷ []) k ≡ Some sh → stands.shape ≡ sh
+      go zero e = cc
+      go (suc k) e = cc
+
+  -- no edge leads from a Shape
+  no_edge : (i t : ShapeId) → Edge s i t → ⊥
+  no_edge i t edge = go stands.shape.body stands.shape.occs doc.constraint stands.body (subst (λ sh. Contains sh.occs edge.occ) (sym (only_shape i edge.shape edge.is)) edge.of)
+    where
+      go : (body : Option Count) (occs : List Occurrence) (c : Option Constraint) → IsBodyOf terms s c body occs → Contains occs edge.occ → ⊥
+      go None occs None is held = not_in_none edge.occ (subst (λ os. Contains os edge.occ) is held)
+      go (Some body) occs (Some c) (plan, (o, alone, made)) held =
+          let same : o ≡ edge.occ = in_one o edge.occ (subst (λ os. Contains os edge.occ) alone held) in
+          nothing_valued s t c.kind edge.occ.value edge.sign (subst (λ p. IsValueOf s c.kind p.value) same made.value) edge.stands
+      go None occs (Some c) is held = is
+      go (Some body) occs None is held = is
+
+  -- so every path has no negative edge
+  no_way : (i t : ShapeId) (k : ℕ) → Path s i t k → k ≡ 0
+  no_way i t k stay = refl
+  no_way i t k (by_any j edge way) = absurd (no_edge i j edge)
+  no_way i t k (by_negative j edge negative way) = absurd (no_edge i j edge)
+
+  -- and the only stratum is 0
+  stratum_zero : (f : List ℕ) → IsStratum s f → (level f the_shape ≡ 0) × (top_of f ≡ 0)
+  stratum_zero f (one_each, each) =
+      let zeroth : level f the_shape ≡ 0 = let way = (each the_shape (let l : length s.shapes ≡ 1 = ap length stands.shapes in omega (arith, l))).0 in no_way the_shape way.0 (level f the_shape) way.1 in
+      (zeroth, topped f (one_each ∙ ap length stands.shapes) zeroth)
+    where
+      topped : (h : List ℕ) → length h ≡ 1 → slice_index h 0 ≡ 0 → top_of h ≡ 0
+      topped [] l z = absurd (omega arith)
+      topped (k ∷ []) l z = ap (λ m. max m 0) z
+      topped (k ∷ m ∷ h) l z = absurd (omega arith)
+
+  -- nothing is below the stratum 0
+  none_below : (f : List ℕ) (T : List Pair) (p : Pair) → Contains (below f 0 T) p → ⊥
+  none_below f T p h =
+      let under : nat_lt (level f p.shape) 0 ≡ true = (in_filter (λ q. nat_lt (level f q.shape) 0) T p h).1 in
+      let less : level f p.shape < 0 = ltb-true (level f p.shape) 0 under in
+      omega (arith, less)
+
+  module _ (g : List Triple) (n : TermId) (holds : Bool) (exact : (T : List Pair) → (IsTrue holds → ShapeOk s terms g T n the_shape) × (ShapeOk s terms g T n the_shape → IsTrue holds)) where
+    abbrev pair : Pair
+    pair = record { node = n; shape = the_shape }
+
+    -- a complete typing has the node with the Shape exactly where it has the Shape
+    typed : (f : List ℕ) (U : List TermId) (T : List Pair) → IsStratum s f → Contains U n → IsTheTyping s terms g f U T → (IsTrue holds → Contains T pair) × (Contains T pair → IsTrue holds)
+    typed f U T stratum asked complete =
+        let (level_zero, top_zero) = stratum_zero f stratum in
+        let greatest : IsGreatestAt s terms g f U T 0 = subst (λ k. IsComplete s terms g f U T k) top_zero complete in
+        let Same : Pair → Type 0 = λ q. Contains U q.node × (q.shape.0 < length s.shapes) × (level f q.shape ≤ 0) in
+        let there : the_shape.0 < length s.shapes = (let l : length s.shapes ≡ 1 = ap length stands.shapes in omega (arith, l)) in
+        let low : level f the_shape ≤ 0 = omega (arith, level_zero) in (
+          λ yes_it_does. greatest.greatest (pair ∷ []) (record {
+            over = λ p h. subst Same (in_one pair p h) (asked, there, low);
+            agrees = (λ p h. absurd (none_below f (pair ∷ []) p h), λ p h. absurd (none_below f T p h));
+            correct = λ p h at. subst (λ q. ShapeOk s terms g (pair ∷ []) q.node q.shape) (in_one pair p h) ((exact (pair ∷ [])).0 yes_it_does);
+          }) pair (is_first pair []),
+          λ h. (exact T).1 (greatest.correct pair h level_zero),
+        )
+
+    -- and so it satisfies the label's expression exactly then
+    pub truth : (e : ExprId) → IsTarget s (Targets.Label (Labels.Iri doc.label)) e → (f : List ℕ) (U : List TermId) (T : List Pair) → IsStratum s f → Contains U n → IsTheTyping s terms g f U T →
+        (IsTrue holds → Sat s terms T n e) × (Sat s terms T n e → IsTrue holds)
+    unfolding SatWithin
+    truth e target f U T stratum asked complete =
+        let listed : Contains ((Labels.Iri doc.label, stands.expr) ∷ []) (Labels.Iri doc.label, e) = subst (λ ls. Contains ls (Labels.Iri doc.label, e)) stands.labels target in
+        let own : stands.expr ≡ e = ap (λ d. d.1) (in_one (Labels.Iri doc.label, stands.expr) (Labels.Iri doc.label, e) listed) in
+        let at : entry s e ≡ Some (Exprs.Shape the_shape) = ap (λ x. entry s x) (sym own) ∙ stands.shape_of in
+        let here = typed f U T stratum asked complete in
+        let M : Option Expr → Type 0 = λ x. SatEntry T terms n (SatWithin e.0 s terms T n) x in
+        (λ h. subst M (sym at) (here.0 h), λ sat. here.1 (subst M at sat))

@@ -1,0 +1,18 @@
+use Rattle.std.proofs.Common.{refl, ◌≡◌, ◌∙◌, ap, sym, subst, true≢false, Err}
+use Rattle.one_shape.specs.Texts.{IsNoSchemaText, IsSchemaText}
+use Rattle.shex_run.proofs.inputs.read_schema.Goals as goal
+
+pub returns-in-Ok-read-clause-cause : goal.returns-in-Ok-read-clause-cause
+returns-in-Ok-read-clause-cause g c = (
+  c.in-Ok-read.doc,
+  record {
+    bytes = c.in-Ok.bytes.items;
+    file = c.in-Ok.ensures.bytes;
+    spelled = subst (λ bytes. IsSchemaText c.in-Ok-read.doc bytes) c.as_slice.ensures.value c.in-Ok-read.ensures.sound;
+  },
+  λ e. true≢false (sym (c.is_same.ensures.1 e) ∙ c.if-is_same.false),
+)
+
+pub returns-in-Err-NotBuilt-clause-cause : goal.returns-in-Err-NotBuilt-clause-cause
+returns-in-Err-NotBuilt-clause-cause g c =
+    (tt, (c.in-Ok.bytes.items, c.in-Ok.ensures.bytes, subst IsNoSchemaText c.as_slice.ensures.value (c.in-Err-NotBuilt.ensures.not_built (ap Err c.in-Err-NotBuilt.field-0-is))))

@@ -1,0 +1,138 @@
+-- What the files hold, read with the words: a schema, a graph, and what is asked, in the numbers of one table of terms.
+use Rattle.std.specs.Prelude.{ℕ, true, false, List, [], ◌∷◌, ◌≡◌, ◌≢◌, ◌≤◌, ◌<◌, ◌⊎◌, Option, Some, None, length, slice_get, Contains, IsTrue, Bool}
+use Rattle.shex_io.specs.Files.{Told, Holds}
+use Rattle.rdf_terms.specs.Lists.{AreDistinct}
+use Rattle.rdf_terms.specs.declared.terms.Term.{Term}
+use Rattle.rdf_terms.specs.declared.terms.Term.TheVariants as Terms
+use Rattle.rdf_terms.specs.declared.terms.TermId.{TermId}
+use Rattle.rdf_terms.specs.declared.terms.Triple.{Triple}
+use Rattle.tally.specs.declared.Count.{Count}
+use Rattle.tally.specs.Plan.{plan_of, sym}
+use Rattle.node_constraint.specs.declared.Kind4.{Kind4}
+use Rattle.one_shape.specs.declared.OneShape.{OneShape}
+use Rattle.one_shape.specs.declared.Constraint.{Constraint}
+use Rattle.one_shape.specs.Texts.{IsSchemaText, IsNoSchemaText}
+use Rattle.plain_lines.specs.Lines.{Line, IsData}
+use Rattle.plain_lines.specs.Graphs.{IsGraphOf, IsUsed}
+use Rattle.schema_tree.specs.declared.schema.Schema.{Schema}
+use Rattle.schema_tree.specs.declared.schema.Shape.{Shape}
+use Rattle.schema_tree.specs.declared.schema.ShapeId.{ShapeId}
+use Rattle.schema_tree.specs.declared.schema.ExprId.{ExprId}
+use Rattle.schema_tree.specs.declared.schema.Expr.TheVariants as Exprs
+use Rattle.schema_tree.specs.declared.schema.Occurrence.{Occurrence}
+use Rattle.schema_tree.specs.declared.schema.Target.TheVariants as Targets
+use Rattle.schema_tree.specs.declared.schema.Pair.{Pair}
+use Rattle.schema_tree.specs.declared.labels.Label.TheVariants as Labels
+use Rattle.schema_tree.specs.Edges.{IsStratum}
+use Rattle.schema_tree.specs.Entries.{entry}
+use Rattle.schema_tree.specs.Loaded.{IsLoaded, IsTarget}
+use Rattle.schema_tree.specs.Satisfies.{Sat}
+use Rattle.schema_tree.specs.Typings.{HoldsEnds, IsTheTyping}
+use Rattle.shex_run.specs.Words.{Validate}
+
+-- how many bytes a schema file or a data file has at most
+abbrev pub max_file : ℕ
+max_file = 67108864
+
+-- the name holds these bytes, as far as is told, and they are within the limit
+pub record IsFile (told : Told) (name bytes : List ℕ) : Type 0 where
+  pub held : Holds told name (Some bytes)
+  pub within : length bytes ≤ max_file
+
+-- the name holds more bytes than the limit, as far as is told
+pub record IsTooLong (told : Told) (name : List ℕ) : Type 0 where
+  pub bytes : List ℕ
+  pub held : Holds told name (Some bytes)
+  pub above : max_file < length bytes
+
+-- the schema file holds the text of this schema
+pub record HoldsSchema (told : Told) (asked : Validate) (doc : OneShape) : Type 0 where
+  pub bytes : List ℕ
+  pub file : IsFile told asked.schema bytes
+  pub spelled : IsSchemaText doc bytes
+
+-- the schema file holds a schema whose label is the one asked for
+pub record HasLabel (told : Told) (asked : Validate) (doc : OneShape) : Type 0 where
+  pub schema : HoldsSchema told asked doc
+  pub label : doc.label ≡ asked.label
+
+-- the data file holds the text of these lines
+pub record HoldsData (told : Told) (asked : Validate) (lines : List Line) : Type 0 where
+  pub bytes : List ℕ
+  pub file : IsFile told asked.data_file bytes
+  pub spelled : IsData lines bytes
+
+-- the value of an occurrence is the node constraint of this kind, or is absent where no kind is given
+abbrev pub IsValueOf : Schema → Option Kind4 → Option ExprId → Type 0
+IsValueOf s None None = Unit {0}
+IsValueOf s (Some kind) (Some e) = entry s e ≡ Some (Exprs.Node (record { kind = Some kind }))
+IsValueOf s _ _ = ⊥
+
+-- the occurrence takes arcs out with the constraint's predicate, and its value is the constraint's
+pub record IsOccurrenceOf (terms : List Term) (s : Schema) (c : Constraint) (o : Occurrence) : Type 0 where
+  pub forward : o.inverse ≡ false
+  pub predicate : slice_get terms o.predicate.0 ≡ Some (Terms.Iri c.predicate)
+  pub value : IsValueOf s c.kind o.value
+
+-- the body and the occurrences are those of the constraint: one occurrence, once; or none
+abbrev pub IsBodyOf : List Term → Schema → Option Constraint → Option Count → List Occurrence → Type 0
+IsBodyOf terms s None None occs = occs ≡ []
+IsBodyOf terms s (Some c) (Some body) occs = (plan_of body ≡ sym 0) × ((o : Occurrence) × (occs ≡ o ∷ []) × IsOccurrenceOf terms s c o)
+IsBodyOf terms s _ _ occs = ⊥
+
+-- the schema stands for the document: one open Shape without EXTRA, whose label is the document's, and no start
+-- (ShEx 2.1, section 5)
+pub record StandsFor (terms : List Term) (doc : OneShape) (s : Schema) : Type 0 where
+  pub loaded : IsLoaded s
+  pub start : s.start ≡ None
+  pub expr : ExprId
+  pub labels : s.labels ≡ (Labels.Iri doc.label, expr) ∷ []
+  pub shape_of : entry s expr ≡ Some (Exprs.Shape (record { 0 = 0 }))
+  pub shape : Shape
+  pub shapes : s.shapes ≡ shape ∷ []
+  pub closed : shape.closed ≡ false
+  pub extra : shape.extra ≡ []
+  pub body : IsBodyOf terms s doc.constraint shape.body shape.occs
+
+-- the predicate of the document, if it has one
+abbrev pub IsPredicateOf : OneShape → Term → Type 0
+IsPredicateOf doc t = (c : Constraint) × (doc.constraint ≡ Some c) × (t ≡ Terms.Iri c.predicate)
+
+-- a table of terms, a schema and a graph in its numbers, and the node and the expression that are asked for
+pub record Inputs : Type 0 where
+  pub terms : List Term
+  pub schema : Schema
+  pub graph : List Triple
+  pub node : TermId
+  pub expr : ExprId
+
+-- the inputs are the schema of the document and the graph of the lines, and what is asked is whether the node satisfies
+-- the document's label; the table has each term once, and those of the schema, the graph and the node alone
+pub record IsInputs (doc : OneShape) (lines : List Line) (node : List ℕ) (i : Inputs) : Type 0 where
+  pub stands : StandsFor i.terms doc i.schema
+  pub graph : IsGraphOf i.terms lines i.graph
+  pub number : slice_get i.terms i.node.0 ≡ Some (Terms.Iri node)
+  pub target : IsTarget i.schema (Targets.Label (Labels.Iri doc.label)) i.expr
+  pub distinct : AreDistinct i.terms
+  pub used : (t : Term) → Contains i.terms t → (t ≡ Terms.Iri node) ⊎ (IsPredicateOf doc t ⊎ IsUsed lines t)
+
+-- the inputs are what the files hold for the words
+pub record IsTaken (told : Told) (asked : Validate) (i : Inputs) : Type 0 where
+  pub doc : OneShape
+  pub has_label : HasLabel told asked doc
+  pub lines : List Line
+  pub holds_data : HoldsData told asked lines
+  pub inputs : IsInputs doc lines asked.node i
+
+-- whether the complete typing satisfies what is asked: over every list of terms that holds the ends of the graph and the
+-- node, by the strata of the schema (ShEx 2.1, section 5.2)
+abbrev pub IsTruth : Inputs → Bool → Type 0
+IsTruth i holds =
+    (f : List ℕ) (U : List TermId) (T : List Pair) → IsStratum i.schema f → HoldsEnds U i.graph → Contains U i.node → IsTheTyping i.schema i.terms i.graph f U T →
+    (IsTrue holds → Sat i.schema i.terms T i.node i.expr) × (Sat i.schema i.terms T i.node i.expr → IsTrue holds)
+
+-- the answer is the truth of what the files hold for the words
+pub record IsAnswer (told : Told) (asked : Validate) (holds : Bool) : Type 0 where
+  pub inputs : Inputs
+  pub taken : IsTaken told asked inputs
+  pub truth : IsTruth inputs holds

@@ -1,0 +1,11 @@
+pub mod Words
+pub mod Inputs
+pub mod Outcomes
+pub mod Texts
+pub mod Results
+pub mod Simple
+pub mod Loading
+pub mod Lent
+pub mod Decisions
+pub mod Printing
+pub mod Endings

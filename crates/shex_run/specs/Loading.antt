@@ -1,0 +1,62 @@
+-- How a document of one Shape is put into numbers.
+use Rattle.std.specs.Prelude.{ℕ, false, List, [], ◌∷◌, ◌++◌, ◌≡◌, ◌⊎◌, Option, Some, None, slice_get}
+use Rattle.rdf_terms.specs.declared.terms.Term.{Term}
+use Rattle.rdf_terms.specs.declared.terms.Term.TheVariants as Terms
+use Rattle.tally.specs.declared.Count.{Count}
+use Rattle.tally.specs.Plan.{plan_of, sym}
+use Rattle.node_constraint.specs.declared.Kind4.{Kind4}
+use Rattle.one_shape.specs.declared.Constraint.{Constraint}
+use Rattle.one_shape.specs.declared.OneShape.{OneShape}
+use Rattle.schema_tree.specs.declared.schema.Expr.{Expr}
+use Rattle.schema_tree.specs.declared.schema.Expr.TheVariants as Exprs
+use Rattle.schema_tree.specs.declared.schema.ExprId.{ExprId}
+use Rattle.schema_tree.specs.declared.schema.Occurrence.{Occurrence}
+use Rattle.schema_tree.specs.declared.schema.Shape.{Shape}
+use Rattle.shex_run.specs.declared.load.Arc.{Arc}
+use Rattle.shex_run.specs.Inputs.{IsPredicateOf}
+
+-- the kind of the value, if there is an arc and it has one
+abbrev pub kind_of : Option Arc → Option Kind4
+kind_of None = None
+kind_of (Some arc) = arc.kind
+
+-- the expressions: the node constraint of the kind, if one is given, and the Shape
+abbrev pub entries_of : Option Kind4 → List Expr
+entries_of None = Exprs.Shape (record { 0 = 0 }) ∷ []
+entries_of (Some kind) = Exprs.Node (record { kind = Some kind }) ∷ Exprs.Shape (record { 0 = 0 }) ∷ []
+
+-- the number of the Shape among them
+abbrev pub place_of : Option Kind4 → ℕ
+place_of None = 0
+place_of (Some kind) = 1
+
+-- the number of the value, if there is one
+abbrev pub value_of : Option Kind4 → Option ExprId
+value_of None = None
+value_of (Some kind) = Some (record { 0 = 0 })
+
+-- the occurrence of an arc
+abbrev pub occurrence_of : Arc → Occurrence
+occurrence_of arc = record { inverse = false; predicate = arc.predicate; value = value_of arc.kind }
+
+-- the body and the occurrences of an arc, if there is one
+abbrev pub IsArcBody : Option Arc → Option Count → List Occurrence → Type 0
+IsArcBody None None occs = occs ≡ []
+IsArcBody (Some arc) (Some body) occs = (plan_of body ≡ sym 0) × (occs ≡ occurrence_of arc ∷ [])
+IsArcBody _ _ occs = ⊥
+
+-- the open Shape of an arc, if there is one
+pub record IsShapeOf (arc : Option Arc) (sh : Shape) : Type 0 where
+  pub closed : sh.closed ≡ false
+  pub extra : sh.extra ≡ []
+  pub body : IsArcBody arc sh.body sh.occs
+
+-- the arc has the number of the constraint's predicate, and its kind; there is one where there is a constraint
+abbrev pub IsArcOf : List Term → Option Constraint → Option Arc → Type 0
+IsArcOf terms None None = Unit {0}
+IsArcOf terms (Some c) (Some arc) = (slice_get terms arc.predicate.0 ≡ Some (Terms.Iri c.predicate)) × (arc.kind ≡ c.kind)
+IsArcOf terms _ _ = ⊥
+
+-- a table keeps its terms and gains at most this one
+abbrev pub GainsOnly : (Term → Type 0) → List Term → List Term → Type 0
+GainsOnly P old new = (new ≡ old) ⊎ ((t : Term) × P t × (new ≡ old ++ t ∷ []))
