@@ -4,11 +4,15 @@
 use shex_io::{DiskFiles, StdSink};
 use shex_run::run;
 use std::env;
+use std::io::ErrorKind;
 use std::process::ExitCode;
 
 fn main(rt: HostRuntime) -> ExitCode {
-    let Ok(args) = env::args(&rt) else {
-        return ExitCode::from(8);
+    let args = match env::args(&rt) {
+        Ok(args) => args,
+        Err(error) if error.kind() == ErrorKind::OutOfMemory => return ExitCode::from(8),
+        // A word that is no UTF-8 is no word of a command.
+        Err(_) => Vec::new(rt.alloc()).into_iter(),
     };
     let Ok(words) = args.skip(1).collect::<Vec<String>>(rt.alloc()) else {
         return ExitCode::from(8);
