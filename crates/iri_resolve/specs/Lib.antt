@@ -1,0 +1,3 @@
+pub mod Reference
+pub mod Dots
+pub mod Resolution
