@@ -7,3 +7,6 @@ mod resolution;
 
 pub use parts::{Parts, split};
 pub use resolution::{IriError, resolve};
+
+#[cfg(test)]
+mod tests;
