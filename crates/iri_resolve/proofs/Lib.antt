@@ -1,3 +1,5 @@
 pub mod Places
 pub mod Cuts
 pub mod Reading
+pub mod Unique
+pub mod Decomposed

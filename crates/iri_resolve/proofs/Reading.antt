@@ -1,15 +1,16 @@
 -- Removal of dot segments from left to right gives what is left of the segments.
-use Rattle.std.proofs.Common.{◌≡◌, ℕ, zero, suc, Bool, true, false, cond, eqb, List, [], ◌∷◌, ◌++◌, length, get_or, ◌<◌, refl, sym, ap, ◌∙◌, arith}
+use Rattle.std.proofs.Common.{◌≡◌, ℕ, zero, suc, Bool, true, false, cond, eqb, List, [], ◌∷◌, ◌++◌, length, get_or, ◌<◌, ◌≢◌, refl, sym, ap, ◌∙◌, arith}
 use Rattle.std.specs.List.{flat_map, before_last, after_first, slice_split, position_or_len, All}
 use Rattle.std.proofs.lemmas.List.{append-nil, append_assoc}
 use Rattle.std.proofs.lemmas.List.Splits.{slice_split_first, slice_split_none}
 use Rattle.std.proofs.Math.Dec.{eqb-suc-zero}
 use Rattle.std.proofs.lemmas.Bool.{ne_eqb}
 use Rattle.std.proofs.lemmas.Bool.Decides.{nat_tests}
-use Rattle.std.proofs.lemmas.List.Elements.{All-from_get_or}
+use Rattle.std.proofs.lemmas.List.Elements.{All-weaker}
 use Rattle.iri_resolve.specs.Reference.{slash, before, has}
 use Rattle.iri_resolve.specs.Dots.{segments_of, is_dot, is_dot_dot, is_dot_segment, after_leading_dots, closed, Left, keep, with_segment, left_of, path_with, path_of_segments, without_dot_segments, with_read}
-use Rattle.iri_resolve.proofs.Places.{Lacks, before_last-append, before_last-none, Lacks-before, Lacks-has, before-all}
+use Rattle.iri_resolve.specs.Decomposition.{Lacks}
+use Rattle.iri_resolve.proofs.Places.{before_last-append, before_last-none, Lacks-before, Lacks-has, before-all}
 
 -- the segments that are left, each behind a `/`
 abbrev pub behind_slashes : List (List ℕ) → List ℕ
@@ -61,7 +62,7 @@ segments_of-has path e =
 -- and of one without
 pub segments_of-lacks : (path : List ℕ) → has slash path ≡ false → segments_of path ≡ path ∷ []
 segments_of-lacks path e =
-    slice_split_none (λ b. eqb b slash) path (All-from_get_or (λ b. eqb b slash ≡ false) path 0 (λ i l. ne_eqb (get_or path i 0) slash (Lacks-has slash path e i l)))
+    slice_split_none (λ b. eqb b slash) path (All-weaker (λ b. b ≢ slash) (λ b. eqb b slash ≡ false) (λ b ne. ne_eqb b slash ne) path (Lacks-has slash path e))
 
 -- there is always one
 segments_of-cons : (path : List ℕ) → (first : List ℕ) × (more : List (List ℕ)) × (segments_of path ≡ first ∷ more)

@@ -1,3 +1,4 @@
 pub mod Reference
 pub mod Dots
+pub mod Decomposition
 pub mod Resolution

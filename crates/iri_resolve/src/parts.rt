@@ -3,6 +3,7 @@
 ghost use Rattle.std.specs.Prelude.{◌≡◌, ◌<◌};
 ghost use Rattle.std.specs.List.{list_all};
 ghost use Rattle.std.specs.Option.{option_copied};
+ghost use Rattle.iri_resolve.specs.Decomposition.{IsDecomposition};
 ghost use Rattle.iri_resolve.specs.Resolution.{recomposed};
 ghost use Rattle.iri_resolve.specs.Reference.{before, behind, from, Components, components_of, components_lent, is_scheme, is_scheme_byte, scheme_of, after_scheme, authority_of, path_of};
 
@@ -27,6 +28,8 @@ pub struct Parts<'a> {
 pub fn split(text: &str) -> Parts<'_>
     ensures parts { components_lent result ≡ components_of text.now }
     ensures whole { recomposed (components_lent result) ≡ text.now }
+    ensures decomposition { IsDecomposition text.now (components_lent result) }
+    ensures unique { (c : Components) → IsDecomposition text.now c → c ≡ components_lent result }
 {
     let (whole, fragment) = cut(text, '#');
     let (front, query) = cut(whole, '?');
