@@ -1,5 +1,6 @@
 pub mod Places
 pub mod Cuts
 pub mod Reading
+pub mod Rules
 pub mod Unique
 pub mod Decomposed

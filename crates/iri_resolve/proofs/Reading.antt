@@ -65,14 +65,14 @@ segments_of-lacks path e =
     slice_split_none (λ b. eqb b slash) path (All-weaker (λ b. b ≢ slash) (λ b. eqb b slash ≡ false) (λ b ne. ne_eqb b slash ne) path (Lacks-has slash path e))
 
 -- there is always one
-segments_of-cons : (path : List ℕ) → (first : List ℕ) × (more : List (List ℕ)) × (segments_of path ≡ first ∷ more)
+pub segments_of-cons : (path : List ℕ) → (first : List ℕ) × (more : List (List ℕ)) × (segments_of path ≡ first ∷ more)
 segments_of-cons path = go (has slash path) refl
   where
     go : (b : Bool) → has slash path ≡ b → (first : List ℕ) × (more : List (List ℕ)) × (segments_of path ≡ first ∷ more)
     go true e = (_, _, segments_of-has path e)
     go false e = (_, _, segments_of-lacks path e)
 
-closed-cons : (segment path : List ℕ) → closed (segment ∷ segments_of path) ≡ segment ∷ closed (segments_of path)
+pub closed-cons : (segment path : List ℕ) → closed (segment ∷ segments_of path) ≡ segment ∷ closed (segments_of path)
 closed-cons segment path =
     let w = segments_of-cons path in
     ap (λ ss. closed (segment ∷ ss)) w.2 ∙ ap (λ ss. segment ∷ closed ss) (sym w.2)

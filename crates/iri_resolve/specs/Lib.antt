@@ -1,4 +1,5 @@
 pub mod Reference
 pub mod Dots
 pub mod Decomposition
+pub mod Removal
 pub mod Resolution
