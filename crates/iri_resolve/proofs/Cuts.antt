@@ -1,12 +1,13 @@
 -- The components of a text, put together again, are the text.
-use Rattle.std.proofs.Common.{◌≡◌, ℕ, Bool, true, false, cond, List, [], ◌∷◌, ◌++◌, drop, take, codes, is_some, eqb, Some, None, refl, sym, ap, ◌∙◌, ◌&&◌}
+use Rattle.std.proofs.Common.{◌≡◌, ℕ, Bool, true, false, cond, List, [], ◌∷◌, ◌++◌, drop, codes, is_some, eqb, Some, None, refl, sym, ap, ◌∙◌, ◌&&◌}
 use Rattle.std.proofs.lemmas.Bool.Decides.{Decides-eqb}
 use Rattle.std.proofs.lemmas.Slice.Eq.{starts_is}
-use Rattle.std.specs.List.{after_first, starts_with, position_or_len}
+use Rattle.std.specs.List.{position_or_len}
 use Rattle.std.proofs.lemmas.List.{append-nil, append_assoc, take-append-drop}
-use Rattle.iri_resolve.specs.Reference.{Components, components_of, colon, slash, question, hash, before, behind, from, has, is_scheme, scheme_of, after_scheme, has_authority, authority_of, path_of}
+use Rattle.iri_resolve.specs.Text.{colon, slash, question, hash, has, before, after, part_after, from}
+use Rattle.iri_resolve.specs.Reference.{components_of, is_scheme, scheme_of, after_scheme, has_authority, authority_of, path_of}
 use Rattle.iri_resolve.specs.Resolution.{recomposed, led_by, ended_by}
-use Rattle.iri_resolve.proofs.Places.{before-behind, before-all}
+use Rattle.iri_resolve.proofs.Places.{before-append-after, before-all}
 
 -- a cut that is made where a test passes: the part behind the mark is put back
 cut_back : (b : Bool) (c : ℕ) (front rest bs : List ℕ) → (b ≡ true → front ++ c ∷ rest ≡ bs) → (b ≡ false → front ≡ bs) → front ++ led_by (c ∷ []) (cond b (Some rest) None) ≡ bs
@@ -28,14 +29,14 @@ left_true true b e = refl
 left_true false b e = e
 
 -- what a cut takes away is put back behind its mark
-pub before-led_by : (c : ℕ) (bs : List ℕ) → before c bs ++ led_by (c ∷ []) (behind c bs) ≡ bs
-before-led_by c bs = cut_back (has c bs) c (before c bs) (after_first (λ b. eqb b c) bs) bs (before-behind c bs) (before-all c bs)
+pub before-led_by : (c : ℕ) (bs : List ℕ) → before c bs ++ led_by (c ∷ []) (part_after c bs) ≡ bs
+before-led_by c bs = cut_back (has c bs) c (before c bs) (after c bs) bs (before-append-after c bs) (before-all c bs)
 
 -- the scheme and its `:` are put back
 pub ended_by-after_scheme : (bs : List ℕ) → ended_by (codes ":") (scheme_of bs) ++ after_scheme bs ≡ bs
 ended_by-after_scheme bs =
-    cut_front (has colon bs && is_scheme (before colon bs)) colon (before colon bs) (after_first (λ b. eqb b colon) bs) bs
-    (λ e. before-behind colon bs (left_true (has colon bs) (is_scheme (before colon bs)) e))
+    cut_front (has colon bs && is_scheme (before colon bs)) colon (before colon bs) (after colon bs) bs
+    (λ e. before-append-after colon bs (left_true (has colon bs) (is_scheme (before colon bs)) e))
 
 -- the authority and its `//` are put back
 pub led_by-path_of : (bs : List ℕ) → led_by (codes "//") (authority_of bs) ++ path_of bs ≡ bs
@@ -48,9 +49,9 @@ pub recomposed-components_of : (text : List ℕ) → recomposed (components_of t
 recomposed-components_of text =
     let whole = before hash text in
     let front = before question whole in
-    ap (λ t. t ++ led_by (codes "?") (behind question whole) ++ led_by (codes "#") (behind hash text))
+    ap (λ t. t ++ led_by (codes "?") (part_after question whole) ++ led_by (codes "#") (part_after hash text))
     (append_assoc (ended_by (codes ":") (scheme_of front)) (led_by (codes "//") (authority_of (after_scheme front))) (path_of (after_scheme front))
     ∙ ap (λ t. ended_by (codes ":") (scheme_of front) ++ t) (led_by-path_of (after_scheme front))
     ∙ ended_by-after_scheme front)
-    ∙ ap (λ t. t ++ led_by (codes "#") (behind hash text)) (before-led_by question whole)
+    ∙ ap (λ t. t ++ led_by (codes "#") (part_after hash text)) (before-led_by question whole)
     ∙ before-led_by hash text

@@ -1,14 +1,14 @@
 -- The components of a text are what they are said to be.
-use Rattle.std.proofs.Common.{◌≡◌, ◌≢◌, ◌+◌, ℕ, ◌⊎◌, inl, inr, Bool, true, false, cond, ◌&&◌, eqb, List, [], ◌∷◌, ◌++◌, length, drop, take, codes, is_some, is_none, Option, Some, None, IsSome, IsNone, IfSome, IsTrue, refl, sym, ap, ◌∙◌, rules, arith}
-use Rattle.std.specs.Prelude.{All}
-use Rattle.std.specs.List.{after_first, position_or_len}
+use Rattle.std.proofs.Common.{◌≡◌, ◌≢◌, ◌+◌, ℕ, ◌⊎◌, inl, inr, Bool, true, false, cond, ◌&&◌, eqb, List, [], ◌∷◌, ◌++◌, drop, codes, is_some, Some, None, IsSome, IsNone, IfSome, IsTrue, refl, sym, ap, ◌∙◌, arith}
+use Rattle.std.specs.List.{position_or_len}
 use Rattle.std.proofs.lemmas.List.{append_assoc}
 use Rattle.std.proofs.lemmas.List.Elements.{All-take, All-drop, All-append, All-cons, All-nil}
 use Rattle.std.proofs.lemmas.Bool.{false≢true}
 use Rattle.std.proofs.lemmas.Bool.Decides.{Decides-eqb}
 use Rattle.std.proofs.lemmas.Slice.Eq.{starts_is}
-use Rattle.iri_resolve.specs.Reference.{Components, components_of, colon, slash, question, hash, before, behind, from, has, is_scheme, scheme_of, after_scheme, has_authority, authority_of, path_of}
-use Rattle.iri_resolve.specs.Decomposition.{Lacks, BeginsWith, IsAuthority, IsDecomposition}
+use Rattle.iri_resolve.specs.Text.{colon, slash, question, hash, has, before, after, from, Lacks, BeginsWith}
+use Rattle.iri_resolve.specs.Reference.{components_of, is_scheme, scheme_of, after_scheme, has_authority, path_of}
+use Rattle.iri_resolve.specs.Decomposition.{IsAuthority, IsDecomposition}
 use Rattle.iri_resolve.proofs.Places.{Lacks-before, Lacks-has, before-later, from-has, from-none}
 use Rattle.iri_resolve.proofs.Cuts.{recomposed-components_of}
 use Rattle.iri_resolve.proofs.Unique.{both, Lacks-scheme, scheme_of-front}
@@ -24,7 +24,7 @@ if_taken P true part h = h refl
 if_taken P false part h = tt
 
 Lacks-after_scheme : (mark : ℕ) (front : List ℕ) → Lacks mark front → Lacks mark (after_scheme front)
-Lacks-after_scheme mark front h = Lacks-cond mark (is_some (scheme_of front)) (after_first (λ b. eqb b colon) front) front (All-drop (λ b. b ≢ mark) (position_or_len (λ b. eqb b colon) front + 1) front h) h
+Lacks-after_scheme mark front h = Lacks-cond mark (is_some (scheme_of front)) (after colon front) front (All-drop (λ b. b ≢ mark) (position_or_len (λ b. eqb b colon) front + 1) front h) h
 
 Lacks-path_of : (mark : ℕ) (hierarchy : List ℕ) → Lacks mark hierarchy → Lacks mark (path_of hierarchy)
 Lacks-path_of mark hierarchy h =
@@ -40,7 +40,7 @@ rooted_from : (text : List ℕ) → (from slash text ≡ []) ⊎ BeginsWith (fro
 rooted_from text = go (has slash text) refl
   where
     go : (b : Bool) → has slash text ≡ b → (from slash text ≡ []) ⊎ BeginsWith (from slash text) (codes "/")
-    go true e = inr (after_first (λ b. eqb b slash) text, from-has slash text e)
+    go true e = inr (after slash text, from-has slash text e)
     go false e = inl (from-none slash text (Lacks-has slash text e))
 
 rooted_path : (b : Bool) (text hierarchy : List ℕ) → IsSome (cond b (Some (before slash text)) None) → (cond b (from slash text) hierarchy ≡ []) ⊎ BeginsWith (cond b (from slash text) hierarchy) (codes "/")
@@ -92,5 +92,5 @@ module _ (text : List ℕ) where
         no_authority = no_slashes (has_authority hierarchy) (drop 2 hierarchy) hierarchy refl;
         path_question = Lacks-path_of question hierarchy question_left;
         path_hash = Lacks-path_of hash hierarchy hash_left;
-        query = if_taken (Lacks hash) (has question (before hash text)) (after_first (λ b. eqb b question) (before hash text)) (λ _. All-drop (λ b. b ≢ hash) (position_or_len (λ b. eqb b question) (before hash text) + 1) (before hash text) (Lacks-before hash text));
+        query = if_taken (Lacks hash) (has question (before hash text)) (after question (before hash text)) (λ _. All-drop (λ b. b ≢ hash) (position_or_len (λ b. eqb b question) (before hash text) + 1) (before hash text) (Lacks-before hash text));
       }

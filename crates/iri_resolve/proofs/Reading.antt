@@ -1,16 +1,15 @@
 -- Removal of dot segments from left to right gives what is left of the segments.
-use Rattle.std.proofs.Common.{◌≡◌, ℕ, zero, suc, Bool, true, false, cond, eqb, List, [], ◌∷◌, ◌++◌, length, get_or, ◌<◌, ◌≢◌, refl, sym, ap, ◌∙◌, arith}
-use Rattle.std.specs.List.{flat_map, before_last, after_first, slice_split, position_or_len, All}
+use Rattle.std.proofs.Common.{◌≡◌, ℕ, zero, suc, Bool, true, false, cond, eqb, List, [], ◌∷◌, ◌++◌, length, ◌<◌, ◌≢◌, refl, sym, ap, ◌∙◌, arith}
+use Rattle.std.specs.List.{flat_map, position_or_len}
 use Rattle.std.proofs.lemmas.List.{append-nil, append_assoc}
 use Rattle.std.proofs.lemmas.List.Splits.{slice_split_first, slice_split_none}
 use Rattle.std.proofs.Math.Dec.{eqb-suc-zero}
 use Rattle.std.proofs.lemmas.Bool.{ne_eqb}
 use Rattle.std.proofs.lemmas.Bool.Decides.{nat_tests}
 use Rattle.std.proofs.lemmas.List.Elements.{All-weaker}
-use Rattle.iri_resolve.specs.Reference.{slash, before, has}
-use Rattle.iri_resolve.specs.Dots.{segments_of, is_dot, is_dot_dot, is_dot_segment, after_leading_dots, closed, Left, keep, with_segment, left_of, path_with, path_of_segments, without_dot_segments, with_read}
-use Rattle.iri_resolve.specs.Decomposition.{Lacks}
-use Rattle.iri_resolve.proofs.Places.{before_last-append, before_last-none, Lacks-before, Lacks-has, before-all}
+use Rattle.iri_resolve.specs.Text.{slash, has, before, after, until_last, Lacks}
+use Rattle.iri_resolve.specs.Dots.{segments_of, is_dot, is_dot_dot, is_dot_segment, after_leading_dots, closed, Left, keep, with_segment, left_of, path_with, path_of_segments, with_read}
+use Rattle.iri_resolve.proofs.Places.{until_last-append, until_last-none, Lacks-before, Lacks-has}
 
 -- the segments that are left, each behind a `/`
 abbrev pub behind_slashes : List (List ℕ) → List ℕ
@@ -19,7 +18,7 @@ behind_slashes segments = flat_map (λ segment. slash ∷ segment) segments
 -- a text without its last n segments
 abbrev pub taken_back : ℕ → List ℕ → List ℕ
 taken_back zero text = text
-taken_back (suc n) text = taken_back n (before_last (λ b. eqb b slash) text)
+taken_back (suc n) text = taken_back n (until_last slash text)
 
 -- what a text so far and what is left of the segments behind it come to
 abbrev pub outcome : List ℕ → Left → List ℕ
@@ -32,13 +31,13 @@ taken_back-nil (suc n) = taken_back-nil n
 -- a segment that is kept stands behind the text, or is the first that is taken back
 outcome-keep : (text segment : List ℕ) (n : ℕ) (segments : List (List ℕ)) → Lacks slash segment → outcome text (keep segment n segments) ≡ outcome (text ++ slash ∷ segment) (record { taken_back = n; segments = segments })
 outcome-keep text segment zero segments h = sym (append_assoc text (slash ∷ segment) (behind_slashes segments))
-outcome-keep text segment (suc n) segments h = ap (λ t. taken_back n t ++ behind_slashes segments) (sym (before_last-append slash text segment h))
+outcome-keep text segment (suc n) segments h = ap (λ t. taken_back n t ++ behind_slashes segments) (sym (until_last-append slash text segment h))
 
 -- reading a segment in place of leaving it
 pub outcome-with_segment : (text segment : List ℕ) (left : Left) → Lacks slash segment → outcome text (with_segment segment left) ≡ outcome (with_read text segment) left
 outcome-with_segment text segment left h = go (is_dot segment) (is_dot_dot segment)
   where
-    go : (a b : Bool) → outcome text (cond a left (cond b (record { taken_back = suc left.taken_back; segments = left.segments }) (keep segment left.taken_back left.segments))) ≡ outcome (cond a text (cond b (before_last (λ b. eqb b slash) text) (text ++ slash ∷ segment))) left
+    go : (a b : Bool) → outcome text (cond a left (cond b (record { taken_back = suc left.taken_back; segments = left.segments }) (keep segment left.taken_back left.segments))) ≡ outcome (cond a text (cond b (until_last slash text) (text ++ slash ∷ segment))) left
     go true b = refl
     go false true = refl
     go false false = outcome-keep text segment left.taken_back left.segments h
@@ -47,14 +46,14 @@ first_kept : (first : List ℕ) (n : ℕ) (rest : List ℕ) → Lacks slash firs
 first_kept first zero rest h = refl
 first_kept first (suc n) rest h =
     let e : eqb (suc n) 0 ≡ false = eqb-suc-zero n in
-    rw e (ap (λ t. t ++ rest) (ap (taken_back n) (before_last-none slash first h) ∙ taken_back-nil n))
+    rw e (ap (λ t. t ++ rest) (ap (taken_back n) (until_last-none slash first h) ∙ taken_back-nil n))
 
 -- behind a first segment
 pub outcome-first : (first : List ℕ) (left : Left) → Lacks slash first → outcome first left ≡ path_with first left
 outcome-first first left h = first_kept first left.taken_back (behind_slashes left.segments) h
 
 -- the segments of a path with a slash
-pub segments_of-has : (path : List ℕ) → has slash path ≡ true → segments_of path ≡ before slash path ∷ segments_of (after_first (λ b. eqb b slash) path)
+pub segments_of-has : (path : List ℕ) → has slash path ≡ true → segments_of path ≡ before slash path ∷ segments_of (after slash path)
 segments_of-has path e =
     let n : position_or_len (λ b. eqb b slash) path < length path = grind (arith, nat_tests) in
     slice_split_first (λ b. eqb b slash) path 0 n
@@ -78,18 +77,18 @@ closed-cons segment path =
     ap (λ ss. closed (segment ∷ ss)) w.2 ∙ ap (λ ss. segment ∷ closed ss) (sym w.2)
 
 -- the text so far, once a segment that is not the last is read
-outcome-more : (text rest path : List ℕ) → has slash rest ≡ true → outcome text (left_of (closed (segments_of rest))) ≡ path → outcome (with_read text (before slash rest)) (left_of (closed (segments_of (after_first (λ b. eqb b slash) rest)))) ≡ path
+outcome-more : (text rest path : List ℕ) → has slash rest ≡ true → outcome text (left_of (closed (segments_of rest))) ≡ path → outcome (with_read text (before slash rest)) (left_of (closed (segments_of (after slash rest)))) ≡ path
 outcome-more text rest path e h =
-    let behind = after_first (λ b. eqb b slash) rest in
+    let behind = after slash rest in
     sym (outcome-with_segment text (before slash rest) (left_of (closed (segments_of behind))) (Lacks-before slash rest))
     ∙ ap (λ ss. outcome text (left_of ss)) (sym (closed-cons (before slash rest) behind))
     ∙ ap (λ ss. outcome text (left_of (closed ss))) (sym (segments_of-has rest e))
     ∙ h
 
-pub outcome-step : (was now segment behind rest path : List ℕ) → has slash rest ≡ true → segment ≡ before slash rest → behind ≡ after_first (λ b. eqb b slash) rest → now ≡ with_read was segment → outcome was (left_of (closed (segments_of rest))) ≡ path → outcome now (left_of (closed (segments_of behind))) ≡ path
+pub outcome-step : (was now segment behind rest path : List ℕ) → has slash rest ≡ true → segment ≡ before slash rest → behind ≡ after slash rest → now ≡ with_read was segment → outcome was (left_of (closed (segments_of rest))) ≡ path → outcome now (left_of (closed (segments_of behind))) ≡ path
 outcome-step was now segment behind rest path e s b n h =
     ap (λ ss. outcome now (left_of (closed (segments_of ss)))) b
-    ∙ ap (λ t. outcome t (left_of (closed (segments_of (after_first (λ b. eqb b slash) rest))))) (n ∙ ap (with_read was) s)
+    ∙ ap (λ t. outcome t (left_of (closed (segments_of (after slash rest))))) (n ∙ ap (with_read was) s)
     ∙ outcome-more was rest path e h
 
 -- and once the last is read, behind which a dot segment leaves a `/`
@@ -104,9 +103,9 @@ outcome-last text rest path e h =
     last text rest false e h = sym (outcome-with_segment text rest (record { taken_back = 0; segments = [] }) h)
 
 -- the start: a path with a slash
-pub outcome-start : (path : List ℕ) → has slash path ≡ true → outcome (before slash path) (left_of (closed (segments_of (after_first (λ b. eqb b slash) path)))) ≡ path_of_segments (segments_of path)
+pub outcome-start : (path : List ℕ) → has slash path ≡ true → outcome (before slash path) (left_of (closed (segments_of (after slash path)))) ≡ path_of_segments (segments_of path)
 outcome-start path e =
-    outcome-first (before slash path) (left_of (closed (segments_of (after_first (λ b. eqb b slash) path)))) (Lacks-before slash path)
+    outcome-first (before slash path) (left_of (closed (segments_of (after slash path)))) (Lacks-before slash path)
     ∙ ap path_of_segments (sym (segments_of-has path e))
 
 -- and one without
@@ -114,16 +113,16 @@ pub path_of_segments-one : (path : List ℕ) → has slash path ≡ false → pa
 path_of_segments-one path e = ap path_of_segments (segments_of-lacks path e) ∙ append-nil path
 
 -- a leading dot segment is passed over
-pub after_leading_dots-more : (path : List ℕ) → has slash path ≡ true → is_dot_segment (before slash path) ≡ true → after_leading_dots (segments_of path) ≡ after_leading_dots (segments_of (after_first (λ b. eqb b slash) path))
+pub after_leading_dots-more : (path : List ℕ) → has slash path ≡ true → is_dot_segment (before slash path) ≡ true → after_leading_dots (segments_of path) ≡ after_leading_dots (segments_of (after slash path))
 after_leading_dots-more path e d =
     ap after_leading_dots (segments_of-has path e)
-    ∙ ap (λ b. cond b (after_leading_dots (segments_of (after_first (λ b. eqb b slash) path))) (before slash path ∷ segments_of (after_first (λ b. eqb b slash) path))) d
+    ∙ ap (λ b. cond b (after_leading_dots (segments_of (after slash path))) (before slash path ∷ segments_of (after slash path))) d
 
 -- and any other ends that
 pub after_leading_dots-end : (path : List ℕ) → has slash path ≡ true → is_dot_segment (before slash path) ≡ false → after_leading_dots (segments_of path) ≡ segments_of path
 after_leading_dots-end path e d =
     ap after_leading_dots (segments_of-has path e)
-    ∙ ap (λ b. cond b (after_leading_dots (segments_of (after_first (λ b. eqb b slash) path))) (before slash path ∷ segments_of (after_first (λ b. eqb b slash) path))) d
+    ∙ ap (λ b. cond b (after_leading_dots (segments_of (after slash path))) (before slash path ∷ segments_of (after slash path))) d
     ∙ sym (segments_of-has path e)
 
 pub after_leading_dots-other : (path : List ℕ) → has slash path ≡ false → is_dot_segment path ≡ false → after_leading_dots (segments_of path) ≡ segments_of path

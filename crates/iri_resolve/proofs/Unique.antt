@@ -1,18 +1,18 @@
 -- A text has no components but those that the definition finds.
-use Rattle.std.proofs.Common.{◌≡◌, ◌≢◌, ℕ, ◌⊎◌, inl, inr, Bool, true, false, cond, ◌&&◌, eqb, List, [], ◌∷◌, ◌++◌, length, drop, take, codes, is_some, Option, Some, None, IsSome, IsNone, IfSome, IsTrue, refl, sym, ap, ◌∙◌, rules, arith}
-use Rattle.std.specs.Prelude.{All}
+use Rattle.std.proofs.Common.{◌≡◌, ◌≢◌, ℕ, ◌⊎◌, inl, inr, Bool, true, false, cond, ◌&&◌, List, [], ◌∷◌, ◌++◌, drop, codes, is_some, Option, Some, None, IsSome, IsNone, IfSome, IsTrue, refl, sym, ap, ◌∙◌, arith}
 use Rattle.std.specs.Char.{is_ascii_alphabetic}
-use Rattle.std.specs.List.{after_first, starts_with, list_all, AllPass}
+use Rattle.std.specs.List.{list_all}
 use Rattle.std.proofs.lemmas.List.{append-nil, append_assoc}
 use Rattle.std.proofs.lemmas.List.Sums.{AllPass-from_list_all}
 use Rattle.std.proofs.lemmas.List.Elements.{All-append, All-nil, All-cons, All-weaker}
 use Rattle.std.proofs.lemmas.Bool.{false≢true}
 use Rattle.std.proofs.lemmas.Bool.Decides.{Decides-eqb}
 use Rattle.std.proofs.lemmas.Slice.Eq.{starts_is}
-use Rattle.iri_resolve.specs.Reference.{Components, components_of, colon, slash, question, hash, before, behind, from, has, is_scheme, is_scheme_byte, scheme_of, after_scheme, has_authority, authority_of, path_of}
-use Rattle.iri_resolve.specs.Decomposition.{Lacks, BeginsWith, IsAuthority, IsDecomposition}
-use Rattle.iri_resolve.specs.Resolution.{recomposed, led_by, ended_by}
-use Rattle.iri_resolve.proofs.Places.{has-append, before-append, after_first-append, from-append, has-none, from-none, before-all, before-behind}
+use Rattle.iri_resolve.specs.Text.{colon, slash, question, hash, has, before, after, part_after, from, Lacks, BeginsWith}
+use Rattle.iri_resolve.specs.Reference.{Components, components_of, is_scheme, is_scheme_byte, scheme_of, after_scheme, has_authority, authority_of, path_of}
+use Rattle.iri_resolve.specs.Decomposition.{IsAuthority, IsDecomposition}
+use Rattle.iri_resolve.specs.Resolution.{led_by, ended_by}
+use Rattle.iri_resolve.proofs.Places.{has-append, before-append, after-append, from-append, has-none, from-none, before-all, before-append-after}
 
 -- two records of components with equal fields are equal
 same_components : (c d : Components) → c.scheme ≡ d.scheme → c.authority ≡ d.authority → c.path ≡ d.path → c.query ≡ d.query → c.fragment ≡ d.fragment → c ≡ d
@@ -41,11 +41,11 @@ before-led : (c : ℕ) (xs : List ℕ) (o : Option (List ℕ)) → Lacks c xs �
 before-led c xs None h = ap (before c) (append-nil xs) ∙ before-all c xs (has-none c xs h)
 before-led c xs (Some ys) h = before-append c xs ys h
 
-behind-led : (c : ℕ) (xs : List ℕ) (o : Option (List ℕ)) → Lacks c xs → behind c (xs ++ led_by (c ∷ []) o) ≡ o
-behind-led c xs None h = ap (behind c) (append-nil xs) ∙ ap (λ b. cond b (Some (after_first (λ b. eqb b c) xs)) None) (has-none c xs h)
-behind-led c xs (Some ys) h =
-    ap (λ b. cond b (Some (after_first (λ b. eqb b c) (xs ++ c ∷ ys))) None) (has-append c xs ys h)
-    ∙ ap (λ t. Some t) (after_first-append c xs ys h)
+part_after-led : (c : ℕ) (xs : List ℕ) (o : Option (List ℕ)) → Lacks c xs → part_after c (xs ++ led_by (c ∷ []) o) ≡ o
+part_after-led c xs None h = ap (part_after c) (append-nil xs) ∙ ap (λ b. cond b (Some (after c xs)) None) (has-none c xs h)
+part_after-led c xs (Some ys) h =
+    ap (λ b. cond b (Some (after c (xs ++ c ∷ ys))) None) (has-append c xs ys h)
+    ∙ ap (λ t. Some t) (after-append c xs ys h)
 
 -- a scheme in front is found
 pub scheme_of-front : (name rest : List ℕ) → is_scheme name ≡ true → scheme_of (name ++ colon ∷ rest) ≡ Some name
@@ -60,11 +60,11 @@ scheme_of-ended None rest h n = n refl
 scheme_of-ended (Some name) rest h n = ap scheme_of (append_assoc name (codes ":") rest) ∙ scheme_of-front name rest h
 
 after_scheme-ended : (o : Option (List ℕ)) (rest : List ℕ) → IfSome o (λ name. IsTrue (is_scheme name)) → (IsNone o → scheme_of rest ≡ None) → after_scheme (ended_by (codes ":") o ++ rest) ≡ rest
-after_scheme-ended None rest h n = ap (λ o. cond (is_some o) (after_first (λ b. eqb b colon) rest) rest) (n refl)
+after_scheme-ended None rest h n = ap (λ o. cond (is_some o) (after colon rest) rest) (n refl)
 after_scheme-ended (Some name) rest h n =
     ap after_scheme (append_assoc name (codes ":") rest)
-    ∙ ap (λ o. cond (is_some o) (after_first (λ b. eqb b colon) (name ++ colon ∷ rest)) (name ++ colon ∷ rest)) (scheme_of-front name rest h)
-    ∙ after_first-append colon name rest (Lacks-scheme colon name refl refl h)
+    ∙ ap (λ o. cond (is_some o) (after colon (name ++ colon ∷ rest)) (name ++ colon ∷ rest)) (scheme_of-front name rest h)
+    ∙ after-append colon name rest (Lacks-scheme colon name refl refl h)
 
 -- and so is an authority
 before-path : (authority path : List ℕ) → Lacks slash authority → (path ≡ []) ⊎ BeginsWith path (codes "/") → before slash (authority ++ path) ≡ authority
@@ -124,7 +124,7 @@ scheme_of-none front never = go (has colon front && is_scheme (before colon fron
     go : (b : Bool) → (has colon front && is_scheme (before colon front)) ≡ b → cond b (Some (before colon front)) None ≡ None
     go true e =
         let w = both (has colon front) (is_scheme (before colon front)) e in
-        absurd (never (before colon front) (after_first (λ b. eqb b colon) front) w.1 (sym (before-behind colon front w.0)))
+        absurd (never (before colon front) (after colon front) w.1 (sym (before-append-after colon front w.0)))
     go false e = refl
 
 module _ (text : List ℕ) (c : Components) (d : IsDecomposition text c) where
@@ -179,5 +179,5 @@ module _ (text : List ℕ) (c : Components) (d : IsDecomposition text c) where
       (sym s)
       (sym (ap authority_of h ∙ authority_of-led c.authority c.path d.authority d.rooted d.no_authority))
       (sym (ap path_of h ∙ path_of-led c.authority c.path d.authority d.rooted d.no_authority))
-      (sym (ap (behind question) before-hash ∙ behind-led question _ c.query front-question))
-      (sym (ap (behind hash) d.whole ∙ behind-led hash _ c.fragment whole-hash))
+      (sym (ap (part_after question) before-hash ∙ part_after-led question _ c.query front-question))
+      (sym (ap (part_after hash) d.whole ∙ part_after-led hash _ c.fragment whole-hash))

@@ -1,15 +1,8 @@
 -- What it is to be the components of a text, with no word on how they are found (RFC 3986 sections 3, 4.2 and 5.3).
-use Rattle.std.specs.Prelude.{◌≡◌, ◌≢◌, ℕ, ◌⊎◌, List, [], ◌++◌, IsTrue, IsSome, IsNone, IfSome, All, codes}
-use Rattle.iri_resolve.specs.Reference.{slash, question, hash, Components, is_scheme}
+use Rattle.std.specs.Prelude.{◌≡◌, ℕ, ◌⊎◌, List, [], ◌++◌, IsTrue, IsSome, IsNone, IfSome, codes}
+use Rattle.iri_resolve.specs.Text.{slash, question, hash, Lacks, BeginsWith}
+use Rattle.iri_resolve.specs.Reference.{Components, is_scheme}
 use Rattle.iri_resolve.specs.Resolution.{recomposed}
-
--- a text has no such byte
-abbrev pub Lacks : ℕ → List ℕ → Type 0
-Lacks mark text = All (λ b. b ≢ mark) text
-
--- a text begins with another
-abbrev pub BeginsWith : List ℕ → List ℕ → Type 0
-BeginsWith text front = (rest : List ℕ) × (text ≡ front ++ rest)
 
 -- `//` and an authority, which has no `/`, `?` or `#` (RFC 3986 section 3.2)
 pub record IsAuthority (text : List ℕ) : Type 0 where

@@ -1,8 +1,8 @@
 -- Removal of dot segments from a path (RFC 3986 section 5.2.4), over the list of its segments.
-use Rattle.std.specs.Prelude.{ℕ, zero, suc, ◌+◌, ◌==◌, Bool, ◌||◌, List, [], ◌∷◌, ◌++◌, codes, if◌then◌else◌}
-use Rattle.std.specs.List.{flat_map, slice_split, before_last}
+use Rattle.std.specs.Prelude.{ℕ, zero, suc, ◌==◌, Bool, ◌||◌, List, [], ◌∷◌, ◌++◌, codes, if◌then◌else◌}
+use Rattle.std.specs.List.{flat_map, slice_split}
 use Rattle.std.specs.Str.{bytes_eq}
-use Rattle.iri_resolve.specs.Reference.{slash}
+use Rattle.iri_resolve.specs.Text.{slash, until_last}
 
 -- the segments of a path: what stands before its first `/`, between each two, and behind its last (RFC 3986 section 3.3)
 abbrev pub segments_of : List ℕ → List (List ℕ)
@@ -67,5 +67,5 @@ without_dot_segments path = path_of_segments (after_leading_dots (segments_of pa
 abbrev pub with_read : List ℕ → List ℕ → List ℕ
 with_read text segment =
     if is_dot segment then text
-    else (if is_dot_dot segment then before_last (λ b. b == slash) text
+    else (if is_dot_dot segment then until_last slash text
     else text ++ slash ∷ segment)

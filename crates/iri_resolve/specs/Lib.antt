@@ -1,3 +1,4 @@
+pub mod Text
 pub mod Reference
 pub mod Dots
 pub mod Decomposition

@@ -1,22 +1,10 @@
--- What a reference consists of, and how its text is cut into its components (RFC 3986 section 3 and appendix B). A text is the list of its UTF-8 bytes, and every byte of a character outside ASCII is a byte like any other: none of them is a delimiter.
-use Rattle.std.specs.Prelude.{ℕ, ◌==◌, Bool, false, ◌&&◌, ◌||◌, List, [], ◌∷◌, ◌++◌, length, drop, Option, Some, None, is_some, codes, nat_eq, nat_lt, if◌then◌else◌}
+-- The components of a reference, and how its text is cut into them (RFC 3986 section 3 and appendix B).
+use Rattle.std.specs.Prelude.{ℕ, ◌==◌, Bool, false, ◌&&◌, ◌||◌, List, [], ◌∷◌, drop, Option, Some, None, is_some, codes, nat_eq, if◌then◌else◌}
 use Rattle.std.specs.Char.{is_ascii_alphabetic, is_ascii_alphanumeric}
-use Rattle.std.specs.List.{list_all, position_or_len, before_first, after_first, starts_with}
+use Rattle.std.specs.List.{list_all, starts_with}
 use Rattle.std.specs.Option.{option_copied}
+use Rattle.iri_resolve.specs.Text.{colon, slash, question, hash, before, has, after, part_after, from}
 use Rattle.iri_resolve.specs.declared.parts.Parts.{Parts}
-
--- `:`, `/`, `?` and `#`, the delimiters between components (RFC 3986 section 2.2)
-abbrev pub colon : ℕ
-colon = 58
-
-abbrev pub slash : ℕ
-slash = 47
-
-abbrev pub question : ℕ
-question = 63
-
-abbrev pub hash : ℕ
-hash = 35
 
 -- the five components of a reference; a path is always there, if only as the empty text (RFC 3986 section 3)
 pub record Components : Type 0 where
@@ -25,22 +13,6 @@ pub record Components : Type 0 where
   pub path : List ℕ
   pub query : Option (List ℕ)
   pub fragment : Option (List ℕ)
-
--- what stands before the first such byte, or all where there is none
-abbrev pub before : ℕ → List ℕ → List ℕ
-before mark text = before_first (λ b. b == mark) text
-
--- whether there is such a byte
-abbrev pub has : ℕ → List ℕ → Bool
-has mark text = nat_lt (position_or_len (λ b. b == mark) text) (length text)
-
--- what stands behind the first such byte, if there is one
-abbrev pub behind : ℕ → List ℕ → Option (List ℕ)
-behind mark text = if has mark text then Some (after_first (λ b. b == mark) text) else None
-
--- the text from the first such byte on, or nothing where there is none
-abbrev pub from : ℕ → List ℕ → List ℕ
-from mark text = drop (position_or_len (λ b. b == mark) text) text
 
 -- a letter, a digit, `+`, `-` or `.` (RFC 3986 section 3.1)
 abbrev pub is_scheme_byte : ℕ → Bool
@@ -57,7 +29,7 @@ scheme_of front = if has colon front && is_scheme (before colon front) then Some
 
 -- what follows the scheme and its `:`
 abbrev pub after_scheme : List ℕ → List ℕ
-after_scheme front = if is_some (scheme_of front) then after_first (λ b. b == colon) front else front
+after_scheme front = if is_some (scheme_of front) then after colon front else front
 
 -- whether an authority follows: it is preceded by `//` (RFC 3986 section 3.2)
 abbrev pub has_authority : List ℕ → Bool
@@ -80,8 +52,8 @@ components_of text =
       scheme = scheme_of front;
       authority = authority_of (after_scheme front);
       path = path_of (after_scheme front);
-      query = behind question whole;
-      fragment = behind hash text;
+      query = part_after question whole;
+      fragment = part_after hash text;
     }
 
 -- the components that the parts lend

@@ -1,19 +1,13 @@
 -- Removal of dot segments in the words of RFC 3986 section 5.2.4: an input buffer, an output buffer, and the rules 2A to 2E, of which the first that fits is applied until the input is empty.
-use Rattle.std.specs.Prelude.{◌≡◌, ◌≢◌, ℕ, ◌==◌, ◌↔◌, ◌⊎◌, true, false, List, [], ◌∷◌, ◌++◌, codes}
-use Rattle.std.specs.List.{before_last}
-use Rattle.iri_resolve.specs.Reference.{slash}
+use Rattle.std.specs.Prelude.{◌≡◌, ◌≢◌, ℕ, ◌↔◌, ◌⊎◌, true, false, List, [], ◌∷◌, ◌++◌, codes}
+use Rattle.iri_resolve.specs.Text.{slash, Lacks, BeginsWith, until_last}
 use Rattle.iri_resolve.specs.Dots.{is_dot_segment, without_dot_segments}
-use Rattle.iri_resolve.specs.Decomposition.{Lacks, BeginsWith}
 
 -- a text is a path segment, and no dot segment, up to the next `/` of the input or its end
 pub record IsMoved (segment input : List ℕ) : Type 0 where
-  pub whole : Lacks slash segment
+  pub no_slash : Lacks slash segment
   pub ends : (input ≡ []) ⊎ BeginsWith input (codes "/")
-  pub other : is_dot_segment segment ≡ false
-
--- the output without its last segment and the `/` before it, if any
-abbrev pub without_last : List ℕ → List ℕ
-without_last output = before_last (λ b. b == slash) output
+  pub no_dot_segment : is_dot_segment segment ≡ false
 
 -- an input and an output lead to a result
 pub data Removes : List ℕ → List ℕ → List ℕ → Type 0 where
@@ -25,8 +19,8 @@ pub data Removes : List ℕ → List ℕ → List ℕ → Type 0 where
   drops_dot : {input output result : List ℕ} → Removes (slash ∷ input) output result → Removes (codes "/./" ++ input) output result
   drops_last_dot : {output result : List ℕ} → Removes (codes "/") output result → Removes (codes "/.") output result
   -- 2C: a prefix `/../`, or the whole input `/..`, is replaced by `/`, and the last segment is removed from the output
-  takes_back : {input output result : List ℕ} → Removes (slash ∷ input) (without_last output) result → Removes (codes "/../" ++ input) output result
-  takes_last_back : {output result : List ℕ} → Removes (codes "/") (without_last output) result → Removes (codes "/..") output result
+  takes_back : {input output result : List ℕ} → Removes (slash ∷ input) (until_last slash output) result → Removes (codes "/../" ++ input) output result
+  takes_last_back : {output result : List ℕ} → Removes (codes "/") (until_last slash output) result → Removes (codes "/..") output result
   -- 2D: the whole input `.` or `..` is removed
   drops_all : {dots output result : List ℕ} → is_dot_segment dots ≡ true → Removes [] output result → Removes dots output result
   -- 2E: else the first segment of the input, with its initial `/` if it has one, is moved to the output

@@ -1,8 +1,9 @@
 -- Resolution of a reference against a base (RFC 3986 sections 5.2 and 5.3).
-use Rattle.std.specs.Prelude.{ℕ, ◌-◌, ◌==◌, Bool, ◌&&◌, List, [], ◌∷◌, ◌++◌, length, take, Option, Some, None, is_some, string_bytes, nat_eq, not, codes, if◌then◌else◌}
+use Rattle.std.specs.Prelude.{ℕ, ◌-◌, ◌==◌, Bool, ◌&&◌, List, [], ◌++◌, length, take, Option, Some, None, is_some, string_bytes, nat_eq, not, codes, if◌then◌else◌}
 use Rattle.std.specs.List.{suffix_len, starts_with}
 use Rattle.std.specs.Option.{option_or, option_copied}
-use Rattle.iri_resolve.specs.Reference.{slash, Components, components_of}
+use Rattle.iri_resolve.specs.Text.{slash}
+use Rattle.iri_resolve.specs.Reference.{Components, components_of}
 use Rattle.iri_resolve.specs.declared.resolution.Target.{Target}
 use Rattle.iri_resolve.specs.Dots.{without_dot_segments}
 

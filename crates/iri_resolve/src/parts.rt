@@ -3,9 +3,10 @@
 ghost use Rattle.std.specs.Prelude.{◌≡◌, ◌<◌};
 ghost use Rattle.std.specs.List.{list_all};
 ghost use Rattle.std.specs.Option.{option_copied};
+ghost use Rattle.iri_resolve.specs.Text.{before, part_after, from};
 ghost use Rattle.iri_resolve.specs.Decomposition.{IsDecomposition};
 ghost use Rattle.iri_resolve.specs.Resolution.{recomposed};
-ghost use Rattle.iri_resolve.specs.Reference.{before, behind, from, Components, components_of, components_lent, is_scheme, is_scheme_byte, scheme_of, after_scheme, authority_of, path_of};
+ghost use Rattle.iri_resolve.specs.Reference.{Components, components_of, components_lent, is_scheme, is_scheme_byte, scheme_of, after_scheme, authority_of, path_of};
 
 /// The components of a reference, lent from its text (RFC 3986 section 3).
 #[derive(Clone, Copy, Debug, PartialEq, Eq)]
@@ -48,7 +49,7 @@ pub fn split(text: &str) -> Parts<'_>
 fn cut(text: &str, mark: char) -> (&str, Option<&str>)
     requires { mark < 128 }
     ensures before { result.0.now ≡ before mark text.now }
-    ensures behind { option_copied result.1 ≡ behind mark text.now }
+    ensures after { option_copied result.1 ≡ part_after mark text.now }
 {
     match text.split_once(mark) {
         Some((front, rest)) => (front, Some(rest)),

@@ -1,8 +1,8 @@
 // Paths: merging, and removal of dot segments.
 
 ghost use Rattle.std.specs.Prelude.{◌≡◌, ◌++◌, ◌∷◌, ◌==◌, [], false, List, length, IfOk, OnOk, IsTrue, string_bytes, if◌then◌else◌};
-ghost use Rattle.std.specs.List.{before_last};
-ghost use Rattle.iri_resolve.specs.Reference.{has, slash, Components, components_lent};
+ghost use Rattle.iri_resolve.specs.Text.{slash, until_last};
+ghost use Rattle.iri_resolve.specs.Reference.{components_lent};
 ghost use Rattle.iri_resolve.specs.Dots.{is_dot, is_dot_dot, is_dot_segment, segments_of, path_of_segments, without_dot_segments, with_read};
 ghost use Rattle.iri_resolve.specs.Resolution.{up_to_last_slash, merged};
 
@@ -70,7 +70,7 @@ fn read_last_segment(output: &mut String, segment: &str) -> Result<(), AllocErro
 
 // Cuts off the last segment with the `/` before it, or all where there is none.
 fn cut_last_segment(output: &mut String)
-    ensures { string_bytes output.new ≡ before_last (λ b. b == slash) (string_bytes output.old) }
+    ensures { string_bytes output.new ≡ until_last slash (string_bytes output.old) }
 {
     output.truncate(output.rfind('/').unwrap_or(0));
 }

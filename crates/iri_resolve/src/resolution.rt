@@ -12,7 +12,7 @@ use std::alloc::{AllocError, Global};
 use thiserror::Error;
 
 /// Why a reference is not resolved.
-#[derive(Debug, Drop, Error)]
+#[derive(Clone, Copy, Debug, PartialEq, Eq, Error)]
 pub enum IriError {
     /// Neither the base nor the reference has a scheme.
     #[error("neither the base nor the reference has a scheme")]
@@ -36,8 +36,8 @@ impl From<AllocError> for IriError {
 pub fn resolve(alloc: Global, base: &str, reference: &str) -> Result<String, IriError>
     ensures text { IfOk result (λ t. string_bytes t ≡ resolved base.now reference.now) }
     ensures no_scheme { IsErrOf result IriError.NoScheme ↔ (IsNone (components_of base.now).scheme × IsNone (components_of reference.now).scheme) }
-    ensures by_base { IsSome (components_of base.now).scheme → IsOkUnless result IriError.Memory }
-    ensures by_reference { IsSome (components_of reference.now).scheme → IsOkUnless result IriError.Memory }
+    ensures ok_by_base { IsSome (components_of base.now).scheme → IsOkUnless result IriError.Memory }
+    ensures ok_by_reference { IsSome (components_of reference.now).scheme → IsOkUnless result IriError.Memory }
     ensures as_written { IsSome (components_of reference.now).scheme → IfOk result (λ t. string_bytes t ≡ reference.now) }
 {
     let parts = split(reference);
@@ -58,7 +58,7 @@ fn target_path(alloc: Global, base: &Parts, reference: &Parts) -> Result<String,
     requires { IsNone reference.now.scheme }
     ensures { IfOk result (λ t. string_bytes t ≡ (target (components_lent base.now) (components_lent reference.now)).path) }
 {
-    if reference.authority.is_some() || reference.path.starts_with("/") {
+    if reference.authority.is_some() || reference.path.starts_with('/') {
         return remove_dot_segments(alloc, reference.path);
     }
     if reference.path.is_empty() {

@@ -1,5 +1,4 @@
-use Rattle.std.proofs.Common.{◌≡◌, ◌∙◌, ap, take, drop, length, unwrap_or, eqb}
-use Rattle.std.specs.List.{position_or_len}
+use Rattle.std.proofs.Common.{◌∙◌, ap, take, drop}
 use Rattle.std.proofs.lemmas.Str.Pattern.{find_char}
 use Rattle.iri_resolve.proofs.Places.{first_place}
 use Rattle.iri_resolve.proofs.parts.cut_before.Goals as goal

@@ -1,5 +1,5 @@
 use Rattle.std.proofs.Common.{◌≡◌, ◌∙◌, ap, sym, subst, rules}
-use Rattle.iri_resolve.specs.Reference.{Components, components_lent, components_of}
+use Rattle.iri_resolve.specs.Reference.{components_lent, components_of}
 use Rattle.iri_resolve.specs.Decomposition.{IsDecomposition}
 use Rattle.iri_resolve.specs.Resolution.{recomposed}
 use Rattle.iri_resolve.proofs.Cuts.{recomposed-components_of}

@@ -1,7 +1,7 @@
-use Rattle.std.proofs.Common.{◌≡◌, ◌∙◌, ap, sym, lit<, List, ℕ, Some, None, string_bytes, rules, arith}
+use Rattle.std.proofs.Common.{◌≡◌, ◌∙◌, ap, sym, lit<, string_bytes, rules, arith}
 use Rattle.std.proofs.lemmas.Grind.{common_steps}
-use Rattle.iri_resolve.specs.Reference.{slash, before}
-use Rattle.iri_resolve.specs.Dots.{path_of_segments, without_dot_segments, left_of, closed, segments_of}
+use Rattle.iri_resolve.specs.Text.{slash, before}
+use Rattle.iri_resolve.specs.Dots.{without_dot_segments, left_of, closed, segments_of}
 use Rattle.iri_resolve.proofs.Places.{split_once_some, split_once_none}
 use Rattle.iri_resolve.proofs.Reading.{outcome, outcome-start, outcome-step, outcome-last, path_of_segments-one}
 use Rattle.iri_resolve.proofs.path.remove_dot_segments.Goals as goal

@@ -1,5 +1,5 @@
-use Rattle.std.proofs.Common.{◌≡◌, ◌∙◌, ap, sym, lit<, Some, None}
-use Rattle.iri_resolve.specs.Reference.{slash}
+use Rattle.std.proofs.Common.{◌∙◌, ap, sym, lit<}
+use Rattle.iri_resolve.specs.Text.{slash}
 use Rattle.iri_resolve.specs.Dots.{path_of_segments, is_dot_segment}
 use Rattle.iri_resolve.proofs.Places.{split_once_some, split_once_none}
 use Rattle.iri_resolve.proofs.Reading.{after_leading_dots-end, after_leading_dots-other}

@@ -1,7 +1,7 @@
-use Rattle.std.proofs.Common.{◌≡◌, ◌∙◌, ap, sym, take, Some, None, lit<}
+use Rattle.std.proofs.Common.{◌∙◌, ap, sym, take, Some, None, lit<}
 use Rattle.std.proofs.lemmas.Str.Pattern.{rfind_char}
 use Rattle.std.proofs.lemmas.Slice.{between_from_start}
-use Rattle.iri_resolve.specs.Reference.{slash}
+use Rattle.iri_resolve.specs.Text.{slash}
 use Rattle.iri_resolve.proofs.Places.{last_place}
 use Rattle.iri_resolve.proofs.path.up_to_last_slash.Goals as goal
 
