@@ -6,21 +6,21 @@ use Rattle.std.specs.List.{position_or_len}
 use Rattle.std.proofs.lemmas.List.{append-nil, append_assoc, take-append-drop}
 use Rattle.iri_resolve.specs.Text.{colon, slash, question, hash, has, before, after, part_after, from}
 use Rattle.iri_resolve.specs.Reference.{components_of, is_scheme, scheme_of, after_scheme, has_authority, authority_of, path_of}
-use Rattle.iri_resolve.specs.Resolution.{recomposed, led_by, ended_by}
+use Rattle.iri_resolve.specs.Resolution.{text_of, with_mark_before, with_mark_after}
 use Rattle.iri_resolve.proofs.Places.{before-append-after, before-all}
 
 -- a cut that is made where a test passes: the part behind the mark is put back
-cut_back : (b : Bool) (c : ℕ) (front rest bs : List ℕ) → (b ≡ true → front ++ c ∷ rest ≡ bs) → (b ≡ false → front ≡ bs) → front ++ led_by (c ∷ []) (cond b (Some rest) None) ≡ bs
+cut_back : (b : Bool) (c : ℕ) (front rest bs : List ℕ) → (b ≡ true → front ++ c ∷ rest ≡ bs) → (b ≡ false → front ≡ bs) → front ++ with_mark_before (c ∷ []) (cond b (Some rest) None) ≡ bs
 cut_back true c front rest bs h g = h refl
 cut_back false c front rest bs h g = append-nil front ∙ g refl
 
 -- the same of the part before the mark
-cut_front : (b : Bool) (c : ℕ) (front rest bs : List ℕ) → (b ≡ true → front ++ c ∷ rest ≡ bs) → ended_by (c ∷ []) (cond b (Some front) None) ++ cond (is_some (cond b (Some front) None)) rest bs ≡ bs
+cut_front : (b : Bool) (c : ℕ) (front rest bs : List ℕ) → (b ≡ true → front ++ c ∷ rest ≡ bs) → with_mark_after (c ∷ []) (cond b (Some front) None) ++ cond (is_some (cond b (Some front) None)) rest bs ≡ bs
 cut_front true c front rest bs h = append_assoc front (c ∷ []) rest ∙ h refl
 cut_front false c front rest bs h = refl
 
 -- the same of a part with a mark before it, up to the rest
-cut_led : (b : Bool) (mark part rest bs : List ℕ) → (b ≡ true → mark ++ (part ++ rest) ≡ bs) → led_by mark (cond b (Some part) None) ++ cond b rest bs ≡ bs
+cut_led : (b : Bool) (mark part rest bs : List ℕ) → (b ≡ true → mark ++ (part ++ rest) ≡ bs) → with_mark_before mark (cond b (Some part) None) ++ cond b rest bs ≡ bs
 cut_led true mark part rest bs h = append_assoc mark part rest ∙ h refl
 cut_led false mark part rest bs h = refl
 
@@ -29,29 +29,29 @@ left_true true b e = refl
 left_true false b e = e
 
 -- what a cut takes away is put back behind its mark
-pub before-led_by : (c : ℕ) (bs : List ℕ) → before c bs ++ led_by (c ∷ []) (part_after c bs) ≡ bs
-before-led_by c bs = cut_back (has c bs) c (before c bs) (after c bs) bs (before-append-after c bs) (before-all c bs)
+pub before-with_mark_before : (c : ℕ) (bs : List ℕ) → before c bs ++ with_mark_before (c ∷ []) (part_after c bs) ≡ bs
+before-with_mark_before c bs = cut_back (has c bs) c (before c bs) (after c bs) bs (before-append-after c bs) (before-all c bs)
 
 -- the scheme and its `:` are put back
-pub ended_by-after_scheme : (bs : List ℕ) → ended_by (codes ":") (scheme_of bs) ++ after_scheme bs ≡ bs
-ended_by-after_scheme bs =
+pub with_mark_after-after_scheme : (bs : List ℕ) → with_mark_after (codes ":") (scheme_of bs) ++ after_scheme bs ≡ bs
+with_mark_after-after_scheme bs =
     cut_front (has colon bs && is_scheme (before colon bs)) colon (before colon bs) (after colon bs) bs
     (λ e. before-append-after colon bs (left_true (has colon bs) (is_scheme (before colon bs)) e))
 
 -- the authority and its `//` are put back
-pub led_by-path_of : (bs : List ℕ) → led_by (codes "//") (authority_of bs) ++ path_of bs ≡ bs
-led_by-path_of bs =
+pub with_mark_before-path_of : (bs : List ℕ) → with_mark_before (codes "//") (authority_of bs) ++ path_of bs ≡ bs
+with_mark_before-path_of bs =
     cut_led (has_authority bs) (codes "//") (before slash (drop 2 bs)) (from slash (drop 2 bs)) bs
     (λ e. ap (λ t. codes "//" ++ t) (take-append-drop (position_or_len (λ b. eqb b slash) (drop 2 bs)) (drop 2 bs))
     ∙ sym ((starts_is Decides-eqb bs (codes "//") (has_authority bs) refl).0 e))
 
-pub recomposed-components_of : (text : List ℕ) → recomposed (components_of text) ≡ text
-recomposed-components_of text =
+pub text_of-components_of : (text : List ℕ) → text_of (components_of text) ≡ text
+text_of-components_of text =
     let whole = before hash text in
     let front = before question whole in
-    ap (λ t. t ++ led_by (codes "?") (part_after question whole) ++ led_by (codes "#") (part_after hash text))
-    (append_assoc (ended_by (codes ":") (scheme_of front)) (led_by (codes "//") (authority_of (after_scheme front))) (path_of (after_scheme front))
-    ∙ ap (λ t. ended_by (codes ":") (scheme_of front) ++ t) (led_by-path_of (after_scheme front))
-    ∙ ended_by-after_scheme front)
-    ∙ ap (λ t. t ++ led_by (codes "#") (part_after hash text)) (before-led_by question whole)
-    ∙ before-led_by hash text
+    ap (λ t. t ++ with_mark_before (codes "?") (part_after question whole) ++ with_mark_before (codes "#") (part_after hash text))
+    (append_assoc (with_mark_after (codes ":") (scheme_of front)) (with_mark_before (codes "//") (authority_of (after_scheme front))) (path_of (after_scheme front))
+    ∙ ap (λ t. with_mark_after (codes ":") (scheme_of front) ++ t) (with_mark_before-path_of (after_scheme front))
+    ∙ with_mark_after-after_scheme front)
+    ∙ ap (λ t. t ++ with_mark_before (codes "#") (part_after hash text)) (before-with_mark_before question whole)
+    ∙ before-with_mark_before hash text

@@ -10,7 +10,7 @@ use Rattle.iri_resolve.specs.Text.{colon, slash, question, hash, has, before, af
 use Rattle.iri_resolve.specs.Reference.{components_of, is_scheme, scheme_of, after_scheme, has_authority, path_of}
 use Rattle.iri_resolve.specs.Decomposition.{IsAuthority, IsDecomposition}
 use Rattle.iri_resolve.proofs.Places.{Lacks-before, Lacks-has, before-later, from-has, from-none}
-use Rattle.iri_resolve.proofs.Cuts.{recomposed-components_of}
+use Rattle.iri_resolve.proofs.Cuts.{text_of-components_of}
 use Rattle.iri_resolve.proofs.Unique.{both, Lacks-scheme, scheme_of-front}
 
 -- a choice between two texts lacks what both lack
@@ -53,7 +53,7 @@ no_slashes true text hierarchy e h w = false≢true (sym h)
 no_slashes false text hierarchy e h w = false≢true (sym e ∙ (starts_is Decides-eqb hierarchy (codes "//") (has_authority hierarchy) refl).1 w.0 w.1)
 
 -- a scheme with its `:` in front of a text is in front of the part before its query and fragment
-front_begins : (name rest : List ℕ) → is_scheme name ≡ true → before question (before hash (name ++ codes ":" ++ rest)) ≡ name ++ colon ∷ before question (before hash rest)
+pub front_begins : (name rest : List ℕ) → is_scheme name ≡ true → before question (before hash (name ++ codes ":" ++ rest)) ≡ name ++ colon ∷ before question (before hash rest)
 front_begins name rest e =
     let ended : (mark : ℕ) → Lacks mark name → colon ≢ mark → Lacks mark (name ++ codes ":") =
     λ mark h n. All-append (λ b. b ≢ mark) name (codes ":") h (All-cons (λ b. b ≢ mark) colon [] n (All-nil (λ b. b ≢ mark))) in
@@ -80,7 +80,7 @@ module _ (text : List ℕ) where
       let question_left = Lacks-after_scheme question front front_lacks.0 in
       let hash_left = Lacks-after_scheme hash front front_lacks.1 in
       record {
-        whole = sym (recomposed-components_of text);
+        whole = sym (text_of-components_of text);
         scheme = if_taken (λ name. IsTrue (is_scheme name)) (has colon front && is_scheme (before colon front)) (before colon front) (λ e. (both (has colon front) (is_scheme (before colon front)) e).1);
         no_scheme = λ h name e w. no_scheme_left text name h e w;
         authority = if_taken IsAuthority (has_authority hierarchy) (before slash (drop 2 hierarchy)) (λ _. record {

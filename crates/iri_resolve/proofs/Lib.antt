@@ -4,3 +4,4 @@ pub mod Reading
 pub mod Rules
 pub mod Unique
 pub mod Decomposed
+pub mod Schemes

@@ -8,7 +8,7 @@ use Rattle.std.proofs.lemmas.Bool.{ne_eqb}
 use Rattle.std.proofs.lemmas.Bool.Decides.{nat_tests}
 use Rattle.std.proofs.lemmas.List.Elements.{All-weaker}
 use Rattle.iri_resolve.specs.Text.{slash, has, before, after, until_last, Lacks}
-use Rattle.iri_resolve.specs.Dots.{segments_of, is_dot, is_dot_dot, is_dot_segment, after_leading_dots, closed, Left, keep, with_segment, left_of, path_with, path_of_segments, with_read}
+use Rattle.iri_resolve.specs.Dots.{segments_of, is_dot, is_dot_dot, is_dot_segment, after_leading_dots, with_end, Left, with_name, with_segment, left_of, path_with, path_of_segments, with_read}
 use Rattle.iri_resolve.proofs.Places.{until_last-append, until_last-none, Lacks-before, Lacks-has}
 
 -- the segments that are left, each behind a `/`
@@ -29,28 +29,28 @@ taken_back-nil zero = refl
 taken_back-nil (suc n) = taken_back-nil n
 
 -- a segment that is kept stands behind the text, or is the first that is taken back
-outcome-keep : (text segment : List ℕ) (n : ℕ) (segments : List (List ℕ)) → Lacks slash segment → outcome text (keep segment n segments) ≡ outcome (text ++ slash ∷ segment) (record { taken_back = n; segments = segments })
-outcome-keep text segment zero segments h = sym (append_assoc text (slash ∷ segment) (behind_slashes segments))
-outcome-keep text segment (suc n) segments h = ap (λ t. taken_back n t ++ behind_slashes segments) (sym (until_last-append slash text segment h))
+outcome-with_name : (text segment : List ℕ) (n : ℕ) (segments : List (List ℕ)) → Lacks slash segment → outcome text (with_name segment n segments) ≡ outcome (text ++ slash ∷ segment) (record { taken_back = n; segments = segments })
+outcome-with_name text segment zero segments h = sym (append_assoc text (slash ∷ segment) (behind_slashes segments))
+outcome-with_name text segment (suc n) segments h = ap (λ t. taken_back n t ++ behind_slashes segments) (sym (until_last-append slash text segment h))
 
 -- reading a segment in place of leaving it
 pub outcome-with_segment : (text segment : List ℕ) (left : Left) → Lacks slash segment → outcome text (with_segment segment left) ≡ outcome (with_read text segment) left
 outcome-with_segment text segment left h = go (is_dot segment) (is_dot_dot segment)
   where
-    go : (a b : Bool) → outcome text (cond a left (cond b (record { taken_back = suc left.taken_back; segments = left.segments }) (keep segment left.taken_back left.segments))) ≡ outcome (cond a text (cond b (until_last slash text) (text ++ slash ∷ segment))) left
+    go : (a b : Bool) → outcome text (cond a left (cond b (record { taken_back = suc left.taken_back; segments = left.segments }) (with_name segment left.taken_back left.segments))) ≡ outcome (cond a text (cond b (until_last slash text) (text ++ slash ∷ segment))) left
     go true b = refl
     go false true = refl
-    go false false = outcome-keep text segment left.taken_back left.segments h
+    go false false = outcome-with_name text segment left.taken_back left.segments h
 
-first_kept : (first : List ℕ) (n : ℕ) (rest : List ℕ) → Lacks slash first → taken_back n first ++ rest ≡ cond (eqb n 0) first [] ++ rest
-first_kept first zero rest h = refl
-first_kept first (suc n) rest h =
+outcome_first : (first : List ℕ) (n : ℕ) (rest : List ℕ) → Lacks slash first → taken_back n first ++ rest ≡ cond (eqb n 0) first [] ++ rest
+outcome_first first zero rest h = refl
+outcome_first first (suc n) rest h =
     let e : eqb (suc n) 0 ≡ false = eqb-suc-zero n in
     rw e (ap (λ t. t ++ rest) (ap (taken_back n) (until_last-none slash first h) ∙ taken_back-nil n))
 
 -- behind a first segment
 pub outcome-first : (first : List ℕ) (left : Left) → Lacks slash first → outcome first left ≡ path_with first left
-outcome-first first left h = first_kept first left.taken_back (behind_slashes left.segments) h
+outcome-first first left h = outcome_first first left.taken_back (behind_slashes left.segments) h
 
 -- the segments of a path with a slash
 pub segments_of-has : (path : List ℕ) → has slash path ≡ true → segments_of path ≡ before slash path ∷ segments_of (after slash path)
@@ -71,31 +71,31 @@ segments_of-cons path = go (has slash path) refl
     go true e = (_, _, segments_of-has path e)
     go false e = (_, _, segments_of-lacks path e)
 
-pub closed-cons : (segment path : List ℕ) → closed (segment ∷ segments_of path) ≡ segment ∷ closed (segments_of path)
-closed-cons segment path =
+pub with_end-cons : (segment path : List ℕ) → with_end (segment ∷ segments_of path) ≡ segment ∷ with_end (segments_of path)
+with_end-cons segment path =
     let w = segments_of-cons path in
-    ap (λ ss. closed (segment ∷ ss)) w.2 ∙ ap (λ ss. segment ∷ closed ss) (sym w.2)
+    ap (λ ss. with_end (segment ∷ ss)) w.2 ∙ ap (λ ss. segment ∷ with_end ss) (sym w.2)
 
 -- the text so far, once a segment that is not the last is read
-outcome-more : (text rest path : List ℕ) → has slash rest ≡ true → outcome text (left_of (closed (segments_of rest))) ≡ path → outcome (with_read text (before slash rest)) (left_of (closed (segments_of (after slash rest)))) ≡ path
+outcome-more : (text rest path : List ℕ) → has slash rest ≡ true → outcome text (left_of (with_end (segments_of rest))) ≡ path → outcome (with_read text (before slash rest)) (left_of (with_end (segments_of (after slash rest)))) ≡ path
 outcome-more text rest path e h =
     let behind = after slash rest in
-    sym (outcome-with_segment text (before slash rest) (left_of (closed (segments_of behind))) (Lacks-before slash rest))
-    ∙ ap (λ ss. outcome text (left_of ss)) (sym (closed-cons (before slash rest) behind))
-    ∙ ap (λ ss. outcome text (left_of (closed ss))) (sym (segments_of-has rest e))
+    sym (outcome-with_segment text (before slash rest) (left_of (with_end (segments_of behind))) (Lacks-before slash rest))
+    ∙ ap (λ ss. outcome text (left_of ss)) (sym (with_end-cons (before slash rest) behind))
+    ∙ ap (λ ss. outcome text (left_of (with_end ss))) (sym (segments_of-has rest e))
     ∙ h
 
-pub outcome-step : (was now segment behind rest path : List ℕ) → has slash rest ≡ true → segment ≡ before slash rest → behind ≡ after slash rest → now ≡ with_read was segment → outcome was (left_of (closed (segments_of rest))) ≡ path → outcome now (left_of (closed (segments_of behind))) ≡ path
+pub outcome-step : (was now segment behind rest path : List ℕ) → has slash rest ≡ true → segment ≡ before slash rest → behind ≡ after slash rest → now ≡ with_read was segment → outcome was (left_of (with_end (segments_of rest))) ≡ path → outcome now (left_of (with_end (segments_of behind))) ≡ path
 outcome-step was now segment behind rest path e s b n h =
-    ap (λ ss. outcome now (left_of (closed (segments_of ss)))) b
-    ∙ ap (λ t. outcome t (left_of (closed (segments_of (after slash rest))))) (n ∙ ap (with_read was) s)
+    ap (λ ss. outcome now (left_of (with_end (segments_of ss)))) b
+    ∙ ap (λ t. outcome t (left_of (with_end (segments_of (after slash rest))))) (n ∙ ap (with_read was) s)
     ∙ outcome-more was rest path e h
 
 -- and once the last is read, behind which a dot segment leaves a `/`
-pub outcome-last : (text rest path : List ℕ) → has slash rest ≡ false → outcome text (left_of (closed (segments_of rest))) ≡ path → with_read text rest ++ cond (is_dot_segment rest) (slash ∷ []) [] ≡ path
+pub outcome-last : (text rest path : List ℕ) → has slash rest ≡ false → outcome text (left_of (with_end (segments_of rest))) ≡ path → with_read text rest ++ cond (is_dot_segment rest) (slash ∷ []) [] ≡ path
 outcome-last text rest path e h =
     last text rest (is_dot_segment rest) refl (Lacks-has slash rest e)
-    ∙ ap (λ ss. outcome text (left_of (closed ss))) (sym (segments_of-lacks rest e))
+    ∙ ap (λ ss. outcome text (left_of (with_end ss))) (sym (segments_of-lacks rest e))
     ∙ h
   where
     last : (text rest : List ℕ) (b : Bool) → is_dot_segment rest ≡ b → Lacks slash rest → with_read text rest ++ cond b (slash ∷ []) [] ≡ outcome text (left_of (cond b (rest ∷ [] ∷ []) (rest ∷ [])))
@@ -103,9 +103,9 @@ outcome-last text rest path e h =
     last text rest false e h = sym (outcome-with_segment text rest (record { taken_back = 0; segments = [] }) h)
 
 -- the start: a path with a slash
-pub outcome-start : (path : List ℕ) → has slash path ≡ true → outcome (before slash path) (left_of (closed (segments_of (after slash path)))) ≡ path_of_segments (segments_of path)
+pub outcome-start : (path : List ℕ) → has slash path ≡ true → outcome (before slash path) (left_of (with_end (segments_of (after slash path)))) ≡ path_of_segments (segments_of path)
 outcome-start path e =
-    outcome-first (before slash path) (left_of (closed (segments_of (after slash path)))) (Lacks-before slash path)
+    outcome-first (before slash path) (left_of (with_end (segments_of (after slash path)))) (Lacks-before slash path)
     ∙ ap path_of_segments (sym (segments_of-has path e))
 
 -- and one without

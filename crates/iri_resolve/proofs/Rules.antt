@@ -6,15 +6,15 @@ use Rattle.std.proofs.lemmas.List.Elements.{All-nil, All-cons}
 use Rattle.std.proofs.lemmas.Bool.{false≢true, eqb-false, eqb-true}
 use Rattle.std.proofs.lemmas.Slice.Eq.{bytes_eq-Decides}
 use Rattle.iri_resolve.specs.Text.{slash, has, before, after, until_last, Lacks, BeginsWith}
-use Rattle.iri_resolve.specs.Dots.{segments_of, is_dot, is_dot_dot, is_dot_segment, after_leading_dots, closed, left_of, path_of_segments, without_dot_segments, with_read}
+use Rattle.iri_resolve.specs.Dots.{segments_of, is_dot, is_dot_dot, is_dot_segment, after_leading_dots, with_end, left_of, path_of_segments, without_dot_segments, with_read}
 use Rattle.iri_resolve.specs.Removal.{Removes, ends, drops_prefix, drops_dot, drops_last_dot, takes_back, takes_last_back, drops_all, moves, moves_first, IsMoved, RemovalIsByTheRules}
 use Rattle.iri_resolve.proofs.Places.{Lacks-before, Lacks-has, before-append-after, before-append, after-append, has-append, has-none}
-use Rattle.iri_resolve.proofs.Reading.{outcome, outcome-with_segment, outcome-first, closed-cons, segments_of-has, segments_of-lacks}
+use Rattle.iri_resolve.proofs.Reading.{outcome, outcome-with_segment, outcome-first, with_end-cons, segments_of-has, segments_of-lacks}
 
 -- what an output and the segments of an input come to
 abbrev with_output : List ℕ → List (List ℕ) → List ℕ
 with_output output [] = output
-with_output output (first ∷ segments) = outcome (output ++ first) (left_of (closed segments))
+with_output output (first ∷ segments) = outcome (output ++ first) (left_of (with_end segments))
 
 abbrev remaining : List ℕ → List ℕ → List ℕ
 remaining input output = with_output output (after_leading_dots (segments_of input))
@@ -73,14 +73,14 @@ no_input : (output : List ℕ) → remaining [] output ≡ output
 no_input output = append-nil (output ++ []) ∙ append-nil output
 
 -- behind a text, an input that is empty or begins with `/`
-behind_text : (text input : List ℕ) (segments : List (List ℕ)) → (input ≡ []) × (segments ≡ []) ⊎ (rest : List ℕ) × (input ≡ slash ∷ rest) × (segments ≡ segments_of rest) → outcome text (left_of (closed segments)) ≡ remaining input text
+behind_text : (text input : List ℕ) (segments : List (List ℕ)) → (input ≡ []) × (segments ≡ []) ⊎ (rest : List ℕ) × (input ≡ slash ∷ rest) × (segments ≡ segments_of rest) → outcome text (left_of (with_end segments)) ≡ remaining input text
 behind_text text input segments (inl w) =
-    ap (λ ss. outcome text (left_of (closed ss))) w.1
+    ap (λ ss. outcome text (left_of (with_end ss))) w.1
     ∙ ap (λ t. t ++ []) (sym (append-nil text))
     ∙ ap (λ t. remaining t text) (sym w.0)
 behind_text text input segments (inr w) =
-    ap (λ ss. outcome text (left_of (closed ss))) w.2
-    ∙ ap (λ t. outcome t (left_of (closed (segments_of w.0)))) (sym (append-nil text))
+    ap (λ ss. outcome text (left_of (with_end ss))) w.2
+    ∙ ap (λ t. outcome t (left_of (with_end (segments_of w.0)))) (sym (append-nil text))
     ∙ ap (λ t. remaining t text) (sym w.1)
 
 -- the segments of a segment and such an input
@@ -93,14 +93,14 @@ segments_of-moved segment input m = go m.ends
 
 -- rule 2B, behind any output
 dot : (input output : List ℕ) → remaining (codes "/./" ++ input) output ≡ remaining (slash ∷ input) output
-dot input output = ap (λ ss. outcome (output ++ []) (left_of ss)) (closed-cons (codes ".") input)
+dot input output = ap (λ ss. outcome (output ++ []) (left_of ss)) (with_end-cons (codes ".") input)
 
 -- rule 2C
 dot_dot : (input output : List ℕ) → remaining (codes "/../" ++ input) output ≡ remaining (slash ∷ input) (until_last slash output)
 dot_dot input output =
-    ap (λ ss. outcome (output ++ []) (left_of ss)) (closed-cons (codes "..") input)
-    ∙ ap (λ t. outcome (until_last slash t) (left_of (closed (segments_of input)))) (append-nil output)
-    ∙ ap (λ t. outcome t (left_of (closed (segments_of input)))) (sym (append-nil (until_last slash output)))
+    ap (λ ss. outcome (output ++ []) (left_of ss)) (with_end-cons (codes "..") input)
+    ∙ ap (λ t. outcome (until_last slash t) (left_of (with_end (segments_of input)))) (append-nil output)
+    ∙ ap (λ t. outcome t (left_of (with_end (segments_of input)))) (sym (append-nil (until_last slash output)))
 
 last_dot_dot : (output : List ℕ) → remaining (codes "/..") output ≡ remaining (codes "/") (until_last slash output)
 last_dot_dot output =
@@ -111,20 +111,20 @@ last_dot_dot output =
 moved : (segment input output : List ℕ) → IsMoved segment input → remaining (slash ∷ (segment ++ input)) output ≡ remaining input (output ++ slash ∷ segment)
 moved segment input output m =
     let w = segments_of-moved segment input m in
-    ap (λ ss. outcome (output ++ []) (left_of (closed ss))) w.1
-    ∙ ap (λ t. outcome t (left_of (closed (segment ∷ w.0)))) (append-nil output)
+    ap (λ ss. outcome (output ++ []) (left_of (with_end ss))) w.1
+    ∙ ap (λ t. outcome t (left_of (with_end (segment ∷ w.0)))) (append-nil output)
     ∙ read output segment w.0 m.no_dot_segment m.no_slash
     ∙ behind_text (output ++ slash ∷ segment) input w.0 w.2
   where
-    closed-other : (segment : List ℕ) (segments : List (List ℕ)) → is_dot_segment segment ≡ false → closed (segment ∷ segments) ≡ segment ∷ closed segments
-    closed-other segment [] e = ap (λ b. cond b (segment ∷ [] ∷ []) (segment ∷ [])) e
-    closed-other segment (next ∷ segments) e = refl
+    with_end-other : (segment : List ℕ) (segments : List (List ℕ)) → is_dot_segment segment ≡ false → with_end (segment ∷ segments) ≡ segment ∷ with_end segments
+    with_end-other segment [] e = ap (λ b. cond b (segment ∷ [] ∷ []) (segment ∷ [])) e
+    with_end-other segment (next ∷ segments) e = refl
 
-    read : (output segment : List ℕ) (segments : List (List ℕ)) → is_dot_segment segment ≡ false → Lacks slash segment → outcome output (left_of (closed (segment ∷ segments))) ≡ outcome (output ++ slash ∷ segment) (left_of (closed segments))
+    read : (output segment : List ℕ) (segments : List (List ℕ)) → is_dot_segment segment ≡ false → Lacks slash segment → outcome output (left_of (with_end (segment ∷ segments))) ≡ outcome (output ++ slash ∷ segment) (left_of (with_end segments))
     read output segment segments e h =
-        ap (λ ss. outcome output (left_of ss)) (closed-other segment segments e)
-        ∙ outcome-with_segment output segment (left_of (closed segments)) h
-        ∙ ap (λ t. outcome t (left_of (closed segments))) (with_read-other output segment e)
+        ap (λ ss. outcome output (left_of ss)) (with_end-other segment segments e)
+        ∙ outcome-with_segment output segment (left_of (with_end segments)) h
+        ∙ ap (λ t. outcome t (left_of (with_end segments))) (with_read-other output segment e)
 
 moved_first : (segment input output : List ℕ) → IsMoved segment input → remaining (segment ++ input) output ≡ remaining input (output ++ segment)
 moved_first segment input output m =
@@ -267,7 +267,7 @@ from_nothing (segment ∷ segments) h = go (is_dot_segment segment) (from_nothin
   where
     go : (c : Bool) → with_output [] (after_leading_dots segments) ≡ path_of_segments (after_leading_dots segments) → with_output [] (cond c (after_leading_dots segments) (segment ∷ segments)) ≡ path_of_segments (cond c (after_leading_dots segments) (segment ∷ segments))
     go true r = r
-    go false r = outcome-first segment (left_of (closed segments)) h.0
+    go false r = outcome-first segment (left_of (with_end segments)) h.0
 
 remaining-nil : (path : List ℕ) → remaining path [] ≡ without_dot_segments path
 remaining-nil path = from_nothing (segments_of path) (segments_lack path)

@@ -11,7 +11,7 @@ use Rattle.std.proofs.lemmas.Slice.Eq.{starts_is}
 use Rattle.iri_resolve.specs.Text.{colon, slash, question, hash, has, before, after, part_after, from, Lacks, BeginsWith}
 use Rattle.iri_resolve.specs.Reference.{Components, components_of, is_scheme, is_scheme_byte, scheme_of, after_scheme, has_authority, authority_of, path_of}
 use Rattle.iri_resolve.specs.Decomposition.{IsAuthority, IsDecomposition}
-use Rattle.iri_resolve.specs.Resolution.{led_by, ended_by}
+use Rattle.iri_resolve.specs.Resolution.{with_mark_before, with_mark_after}
 use Rattle.iri_resolve.proofs.Places.{has-append, before-append, after-append, from-append, has-none, from-none, before-all, before-append-after}
 
 -- two records of components with equal fields are equal
@@ -37,11 +37,11 @@ Lacks-scheme mark (b ∷ bs) first never e =
     (All-weaker (λ b. is_scheme_byte b ≡ true) (λ b. b ≢ mark) (λ x p q. false≢true (sym never ∙ ap is_scheme_byte (sym q) ∙ p)) bs (AllPass-from_list_all is_scheme_byte bs w.1))
 
 -- a component that stands behind a text without its mark is found there
-before-led : (c : ℕ) (xs : List ℕ) (o : Option (List ℕ)) → Lacks c xs → before c (xs ++ led_by (c ∷ []) o) ≡ xs
+before-led : (c : ℕ) (xs : List ℕ) (o : Option (List ℕ)) → Lacks c xs → before c (xs ++ with_mark_before (c ∷ []) o) ≡ xs
 before-led c xs None h = ap (before c) (append-nil xs) ∙ before-all c xs (has-none c xs h)
 before-led c xs (Some ys) h = before-append c xs ys h
 
-part_after-led : (c : ℕ) (xs : List ℕ) (o : Option (List ℕ)) → Lacks c xs → part_after c (xs ++ led_by (c ∷ []) o) ≡ o
+part_after-led : (c : ℕ) (xs : List ℕ) (o : Option (List ℕ)) → Lacks c xs → part_after c (xs ++ with_mark_before (c ∷ []) o) ≡ o
 part_after-led c xs None h = ap (part_after c) (append-nil xs) ∙ ap (λ b. cond b (Some (after c xs)) None) (has-none c xs h)
 part_after-led c xs (Some ys) h =
     ap (λ b. cond b (Some (after c (xs ++ c ∷ ys))) None) (has-append c xs ys h)
@@ -55,11 +55,11 @@ scheme_of-front name rest e =
     ∙ ap (λ t. cond (is_scheme t) (Some t) None) (before-append colon name rest h)
     ∙ ap (λ b. cond b (Some name) None) e
 
-scheme_of-ended : (o : Option (List ℕ)) (rest : List ℕ) → IfSome o (λ name. IsTrue (is_scheme name)) → (IsNone o → scheme_of rest ≡ None) → scheme_of (ended_by (codes ":") o ++ rest) ≡ o
+scheme_of-ended : (o : Option (List ℕ)) (rest : List ℕ) → IfSome o (λ name. IsTrue (is_scheme name)) → (IsNone o → scheme_of rest ≡ None) → scheme_of (with_mark_after (codes ":") o ++ rest) ≡ o
 scheme_of-ended None rest h n = n refl
 scheme_of-ended (Some name) rest h n = ap scheme_of (append_assoc name (codes ":") rest) ∙ scheme_of-front name rest h
 
-after_scheme-ended : (o : Option (List ℕ)) (rest : List ℕ) → IfSome o (λ name. IsTrue (is_scheme name)) → (IsNone o → scheme_of rest ≡ None) → after_scheme (ended_by (codes ":") o ++ rest) ≡ rest
+after_scheme-ended : (o : Option (List ℕ)) (rest : List ℕ) → IfSome o (λ name. IsTrue (is_scheme name)) → (IsNone o → scheme_of rest ≡ None) → after_scheme (with_mark_after (codes ":") o ++ rest) ≡ rest
 after_scheme-ended None rest h n = ap (λ o. cond (is_some o) (after colon rest) rest) (n refl)
 after_scheme-ended (Some name) rest h n =
     ap after_scheme (append_assoc name (codes ":") rest)
@@ -82,20 +82,20 @@ has_authority-no path never = go (has_authority path) refl
     go true e = absurd (never (drop 2 path, (starts_is Decides-eqb path (codes "//") (has_authority path) refl).0 e))
     go false e = refl
 
-authority_of-led : (o : Option (List ℕ)) (path : List ℕ) → IfSome o IsAuthority → (IsSome o → (path ≡ []) ⊎ BeginsWith path (codes "/")) → (IsNone o → ¬ (BeginsWith path (codes "//"))) → authority_of (led_by (codes "//") o ++ path) ≡ o
+authority_of-led : (o : Option (List ℕ)) (path : List ℕ) → IfSome o IsAuthority → (IsSome o → (path ≡ []) ⊎ BeginsWith path (codes "/")) → (IsNone o → ¬ (BeginsWith path (codes "//"))) → authority_of (with_mark_before (codes "//") o ++ path) ≡ o
 authority_of-led None path h r n = ap (λ b. cond b (Some (before slash (drop 2 path))) None) (has_authority-no path (n refl))
 authority_of-led (Some authority) path h r n = ap (λ t. Some t) (before-path authority path h.slash (r refl))
 
-path_of-led : (o : Option (List ℕ)) (path : List ℕ) → IfSome o IsAuthority → (IsSome o → (path ≡ []) ⊎ BeginsWith path (codes "/")) → (IsNone o → ¬ (BeginsWith path (codes "//"))) → path_of (led_by (codes "//") o ++ path) ≡ path
+path_of-led : (o : Option (List ℕ)) (path : List ℕ) → IfSome o IsAuthority → (IsSome o → (path ≡ []) ⊎ BeginsWith path (codes "/")) → (IsNone o → ¬ (BeginsWith path (codes "//"))) → path_of (with_mark_before (codes "//") o ++ path) ≡ path
 path_of-led None path h r n = ap (λ b. cond b (from slash (drop 2 path)) path) (has_authority-no path (n refl))
 path_of-led (Some authority) path h r n = from-path authority path h.slash (r refl)
 
 -- a component with its delimiter lacks a byte that neither has
-Lacks-ended : (mark : ℕ) (o : Option (List ℕ)) → IfSome o (λ name. Lacks mark name) → colon ≢ mark → Lacks mark (ended_by (codes ":") o)
+Lacks-ended : (mark : ℕ) (o : Option (List ℕ)) → IfSome o (λ name. Lacks mark name) → colon ≢ mark → Lacks mark (with_mark_after (codes ":") o)
 Lacks-ended mark None h n = All-nil (λ b. b ≢ mark)
 Lacks-ended mark (Some name) h n = All-append (λ b. b ≢ mark) name (colon ∷ []) h (All-cons (λ b. b ≢ mark) colon [] n (All-nil (λ b. b ≢ mark)))
 
-Lacks-led : (mark : ℕ) (front : List ℕ) (o : Option (List ℕ)) → Lacks mark front → IfSome o (λ part. Lacks mark part) → Lacks mark (led_by front o)
+Lacks-led : (mark : ℕ) (front : List ℕ) (o : Option (List ℕ)) → Lacks mark front → IfSome o (λ part. Lacks mark part) → Lacks mark (with_mark_before front o)
 Lacks-led mark front None l h = All-nil (λ b. b ≢ mark)
 Lacks-led mark front (Some part) l h = All-append (λ b. b ≢ mark) front part l h
 
@@ -113,9 +113,9 @@ if_authority : (o : Option (List ℕ)) → IfSome o IsAuthority → IfSome o (λ
 if_authority None h = (h, h)
 if_authority (Some part) h = (h.question, h.hash)
 
-ended_by-none : (mark : List ℕ) (o : Option (List ℕ)) → IsNone o → ended_by mark o ≡ []
-ended_by-none mark None h = refl
-ended_by-none mark (Some part) h = absurd (false≢true (sym h))
+with_mark_after-none : (mark : List ℕ) (o : Option (List ℕ)) → IsNone o → with_mark_after mark o ≡ []
+with_mark_after-none mark None h = refl
+with_mark_after-none mark (Some part) h = absurd (false≢true (sym h))
 
 -- a text that has a scheme in front begins with it and its `:`
 scheme_of-none : (front : List ℕ) → ((name rest : List ℕ) → is_scheme name ≡ true → front ≡ name ++ colon ∷ rest → ⊥) → scheme_of front ≡ None
@@ -128,53 +128,53 @@ scheme_of-none front never = go (has colon front && is_scheme (before colon fron
     go false e = refl
 
 module _ (text : List ℕ) (c : Components) (d : IsDecomposition text c) where
-  Lacks-front : (mark : ℕ) → Lacks mark (ended_by (codes ":") c.scheme) → Lacks mark (led_by (codes "//") c.authority) → Lacks mark c.path → Lacks mark (ended_by (codes ":") c.scheme ++ led_by (codes "//") c.authority ++ c.path)
-  Lacks-front mark s a p = All-append (λ b. b ≢ mark) (ended_by (codes ":") c.scheme ++ led_by (codes "//") c.authority) c.path (All-append (λ b. b ≢ mark) (ended_by (codes ":") c.scheme) (led_by (codes "//") c.authority) s a) p
+  Lacks-front : (mark : ℕ) → Lacks mark (with_mark_after (codes ":") c.scheme) → Lacks mark (with_mark_before (codes "//") c.authority) → Lacks mark c.path → Lacks mark (with_mark_after (codes ":") c.scheme ++ with_mark_before (codes "//") c.authority ++ c.path)
+  Lacks-front mark s a p = All-append (λ b. b ≢ mark) (with_mark_after (codes ":") c.scheme ++ with_mark_before (codes "//") c.authority) c.path (All-append (λ b. b ≢ mark) (with_mark_after (codes ":") c.scheme) (with_mark_before (codes "//") c.authority) s a) p
 
-  front-question : Lacks question (ended_by (codes ":") c.scheme ++ led_by (codes "//") c.authority ++ c.path)
+  front-question : Lacks question (with_mark_after (codes ":") c.scheme ++ with_mark_before (codes "//") c.authority ++ c.path)
   front-question =
       Lacks-front question
       (Lacks-ended question c.scheme (if_scheme question c.scheme refl refl d.scheme) (λ e. omega arith))
       (Lacks-led question (codes "//") c.authority (Lacks-two question slash slash (λ e. omega arith) (λ e. omega arith)) (if_authority c.authority d.authority).0)
       d.path_question
 
-  whole-hash : Lacks hash (ended_by (codes ":") c.scheme ++ led_by (codes "//") c.authority ++ c.path ++ led_by (codes "?") c.query)
+  whole-hash : Lacks hash (with_mark_after (codes ":") c.scheme ++ with_mark_before (codes "//") c.authority ++ c.path ++ with_mark_before (codes "?") c.query)
   whole-hash =
-      All-append (λ b. b ≢ hash) (ended_by (codes ":") c.scheme ++ led_by (codes "//") c.authority ++ c.path) (led_by (codes "?") c.query)
+      All-append (λ b. b ≢ hash) (with_mark_after (codes ":") c.scheme ++ with_mark_before (codes "//") c.authority ++ c.path) (with_mark_before (codes "?") c.query)
       (Lacks-front hash
       (Lacks-ended hash c.scheme (if_scheme hash c.scheme refl refl d.scheme) (λ e. omega arith))
       (Lacks-led hash (codes "//") c.authority (Lacks-two hash slash slash (λ e. omega arith) (λ e. omega arith)) (if_authority c.authority d.authority).1)
       d.path_hash)
       (Lacks-led hash (codes "?") c.query (Lacks-one hash question (λ e. omega arith)) d.query)
 
-  before-hash : before hash text ≡ ended_by (codes ":") c.scheme ++ led_by (codes "//") c.authority ++ c.path ++ led_by (codes "?") c.query
+  before-hash : before hash text ≡ with_mark_after (codes ":") c.scheme ++ with_mark_before (codes "//") c.authority ++ c.path ++ with_mark_before (codes "?") c.query
   before-hash = ap (before hash) d.whole ∙ before-led hash _ c.fragment whole-hash
 
-  front-is : before question (before hash text) ≡ ended_by (codes ":") c.scheme ++ (led_by (codes "//") c.authority ++ c.path)
-  front-is = ap (before question) before-hash ∙ before-led question _ c.query front-question ∙ append_assoc (ended_by (codes ":") c.scheme) (led_by (codes "//") c.authority) c.path
+  front-is : before question (before hash text) ≡ with_mark_after (codes ":") c.scheme ++ (with_mark_before (codes "//") c.authority ++ c.path)
+  front-is = ap (before question) before-hash ∙ before-led question _ c.query front-question ∙ append_assoc (with_mark_after (codes ":") c.scheme) (with_mark_before (codes "//") c.authority) c.path
 
-  none : IsNone c.scheme → scheme_of (led_by (codes "//") c.authority ++ c.path) ≡ None
+  none : IsNone c.scheme → scheme_of (with_mark_before (codes "//") c.authority ++ c.path) ≡ None
   none h =
-      scheme_of-none (led_by (codes "//") c.authority ++ c.path)
+      scheme_of-none (with_mark_before (codes "//") c.authority ++ c.path)
       (λ name rest e q.
-      let hierarchy : List ℕ = led_by (codes "//") c.authority ++ c.path in
-      let front : ended_by (codes ":") c.scheme ++ led_by (codes "//") c.authority ++ c.path ≡ name ++ codes ":" ++ rest =
-      append_assoc (ended_by (codes ":") c.scheme) (led_by (codes "//") c.authority) c.path
-      ∙ ap (λ t. t ++ hierarchy) (ended_by-none (codes ":") c.scheme h)
+      let hierarchy : List ℕ = with_mark_before (codes "//") c.authority ++ c.path in
+      let front : with_mark_after (codes ":") c.scheme ++ with_mark_before (codes "//") c.authority ++ c.path ≡ name ++ codes ":" ++ rest =
+      append_assoc (with_mark_after (codes ":") c.scheme) (with_mark_before (codes "//") c.authority) c.path
+      ∙ ap (λ t. t ++ hierarchy) (with_mark_after-none (codes ":") c.scheme h)
       ∙ q
       ∙ sym (append_assoc name (codes ":") rest) in
       d.no_scheme h name e (
-        rest ++ led_by (codes "?") c.query ++ led_by (codes "#") c.fragment,
+        rest ++ with_mark_before (codes "?") c.query ++ with_mark_before (codes "#") c.fragment,
         d.whole
-            ∙ ap (λ t. t ++ led_by (codes "?") c.query ++ led_by (codes "#") c.fragment) front
-            ∙ ap (λ t. t ++ led_by (codes "#") c.fragment) (append_assoc (name ++ codes ":") rest (led_by (codes "?") c.query))
-            ∙ append_assoc (name ++ codes ":") (rest ++ led_by (codes "?") c.query) (led_by (codes "#") c.fragment),
+            ∙ ap (λ t. t ++ with_mark_before (codes "?") c.query ++ with_mark_before (codes "#") c.fragment) front
+            ∙ ap (λ t. t ++ with_mark_before (codes "#") c.fragment) (append_assoc (name ++ codes ":") rest (with_mark_before (codes "?") c.query))
+            ∙ append_assoc (name ++ codes ":") (rest ++ with_mark_before (codes "?") c.query) (with_mark_before (codes "#") c.fragment),
       ))
 
   pub components_of-unique : c ≡ components_of text
   components_of-unique =
-      let s = ap scheme_of front-is ∙ scheme_of-ended c.scheme (led_by (codes "//") c.authority ++ c.path) d.scheme none in
-      let h = ap after_scheme front-is ∙ after_scheme-ended c.scheme (led_by (codes "//") c.authority ++ c.path) d.scheme none in
+      let s = ap scheme_of front-is ∙ scheme_of-ended c.scheme (with_mark_before (codes "//") c.authority ++ c.path) d.scheme none in
+      let h = ap after_scheme front-is ∙ after_scheme-ended c.scheme (with_mark_before (codes "//") c.authority ++ c.path) d.scheme none in
       same_components c (components_of text)
       (sym s)
       (sym (ap authority_of h ∙ authority_of-led c.authority c.path d.authority d.rooted d.no_authority))

@@ -2,17 +2,18 @@
 use Rattle.std.specs.Prelude.{◌≡◌, ℕ, ◌⊎◌, List, [], ◌++◌, IsTrue, IsSome, IsNone, IfSome, codes}
 use Rattle.iri_resolve.specs.Text.{slash, question, hash, Lacks, BeginsWith}
 use Rattle.iri_resolve.specs.Reference.{Components, is_scheme}
-use Rattle.iri_resolve.specs.Resolution.{recomposed}
+use Rattle.iri_resolve.specs.Resolution.{text_of}
 
--- `//` and an authority, which has no `/`, `?` or `#` (RFC 3986 section 3.2)
+-- an authority has no `/`, `?` or `#` (RFC 3986 section 3.2)
 pub record IsAuthority (text : List ℕ) : Type 0 where
   pub slash : Lacks slash text
   pub question : Lacks question text
   pub hash : Lacks hash text
 
+-- components are those of a text
 pub record IsDecomposition (text : List ℕ) (c : Components) : Type 0 where
   -- the components with their delimiters are the text (section 5.3)
-  pub whole : text ≡ recomposed c
+  pub whole : text ≡ text_of c
   -- a scheme is one, and none is left out: without one, the text does not begin with a scheme and `:` (sections 3.1 and 4.2)
   pub scheme : IfSome c.scheme (λ name. IsTrue (is_scheme name))
   pub no_scheme : IsNone c.scheme → (name : List ℕ) → IsTrue (is_scheme name) → ¬ (BeginsWith text (name ++ codes ":"))

@@ -24,27 +24,27 @@ after_leading_dots [] = []
 after_leading_dots (segment ∷ segments) = if is_dot_segment segment then after_leading_dots segments else segment ∷ segments
 
 -- a dot segment at the end names a directory, so the empty segment follows it
-abbrev pub closed : List (List ℕ) → List (List ℕ)
-closed [] = []
-closed (last ∷ []) = if is_dot_segment last then last ∷ [] ∷ [] else last ∷ []
-closed (segment ∷ next ∷ segments) = segment ∷ closed (next ∷ segments)
+abbrev pub with_end : List (List ℕ) → List (List ℕ)
+with_end [] = []
+with_end (last ∷ []) = if is_dot_segment last then last ∷ [] ∷ [] else last ∷ []
+with_end (segment ∷ next ∷ segments) = segment ∷ with_end (next ∷ segments)
 
 -- what is left of some segments, and how many of those before them the `..` among them take back
 pub record Left : Type 0 where
   pub taken_back : ℕ
   pub segments : List (List ℕ)
 
--- a segment in front of others is left, unless one of them takes it back
-abbrev pub keep : List ℕ → ℕ → List (List ℕ) → Left
-keep segment zero segments = record { taken_back = 0; segments = segment ∷ segments }
-keep segment (suc n) segments = record { taken_back = n; segments = segments }
+-- any other segment is left, unless it is taken back
+abbrev pub with_name : List ℕ → ℕ → List (List ℕ) → Left
+with_name segment zero segments = record { taken_back = 0; segments = segment ∷ segments }
+with_name segment (suc n) segments = record { taken_back = n; segments = segments }
 
 -- `.` is dropped, `..` takes back one segment more
 abbrev pub with_segment : List ℕ → Left → Left
 with_segment segment left =
     if is_dot segment then left
     else (if is_dot_dot segment then record { taken_back = suc left.taken_back; segments = left.segments }
-    else keep segment left.taken_back left.segments)
+    else with_name segment left.taken_back left.segments)
 
 -- what is left of segments
 abbrev pub left_of : List (List ℕ) → Left
@@ -57,7 +57,7 @@ path_with first left = (if left.taken_back == 0 then first else []) ++ flat_map 
 
 abbrev pub path_of_segments : List (List ℕ) → List ℕ
 path_of_segments [] = []
-path_of_segments (first ∷ segments) = path_with first (left_of (closed segments))
+path_of_segments (first ∷ segments) = path_with first (left_of (with_end segments))
 
 -- the path without its dot segments
 abbrev pub without_dot_segments : List ℕ → List ℕ

@@ -7,18 +7,19 @@ use Rattle.iri_resolve.specs.Reference.{Components, components_of}
 use Rattle.iri_resolve.specs.declared.resolution.Target.{Target}
 use Rattle.iri_resolve.specs.Dots.{without_dot_segments}
 
--- a component behind its delimiter, or before it; nothing where it is not there
-abbrev pub led_by : List ℕ → Option (List ℕ) → List ℕ
-led_by mark None = []
-led_by mark (Some component) = mark ++ component
+-- a component with its delimiter in front of it, or nothing where it is not there
+abbrev pub with_mark_before : List ℕ → Option (List ℕ) → List ℕ
+with_mark_before mark None = []
+with_mark_before mark (Some component) = mark ++ component
 
-abbrev pub ended_by : List ℕ → Option (List ℕ) → List ℕ
-ended_by mark None = []
-ended_by mark (Some component) = component ++ mark
+-- the same with the delimiter behind it
+abbrev pub with_mark_after : List ℕ → Option (List ℕ) → List ℕ
+with_mark_after mark None = []
+with_mark_after mark (Some component) = component ++ mark
 
 -- the text of components (RFC 3986 section 5.3)
-abbrev pub recomposed : Components → List ℕ
-recomposed c = ended_by (codes ":") c.scheme ++ led_by (codes "//") c.authority ++ c.path ++ led_by (codes "?") c.query ++ led_by (codes "#") c.fragment
+abbrev pub text_of : Components → List ℕ
+text_of c = with_mark_after (codes ":") c.scheme ++ with_mark_before (codes "//") c.authority ++ c.path ++ with_mark_before (codes "?") c.query ++ with_mark_before (codes "#") c.fragment
 
 -- whether a path has no character
 abbrev pub is_empty : List ℕ → Bool
@@ -33,27 +34,28 @@ abbrev pub up_to_last_slash : List ℕ → List ℕ
 up_to_last_slash path = take (length path - suffix_len (λ b. not (b == slash)) path) path
 
 -- a relative path in the place of the last segment of the base's path (RFC 3986 section 5.2.3)
-abbrev pub merged : Components → List ℕ → List ℕ
-merged base path =
+abbrev pub merged_path : Components → List ℕ → List ℕ
+merged_path base path =
     if is_some base.authority && is_empty base.path then codes "/" ++ path
     else up_to_last_slash base.path ++ path
 
--- the components of the target (RFC 3986 section 5.2.2). A reference that has a scheme is taken as written, with its dot segments
+-- a target with this authority, path and query: its scheme is the base's, and its fragment the reference's (RFC 3986 section 5.2.2)
+abbrev pub target_with : Components → Components → Option (List ℕ) → List ℕ → Option (List ℕ) → Components
+target_with base reference authority path query =
+    record { scheme = base.scheme; authority = authority; path = path; query = query; fragment = reference.fragment }
+
+-- the target of a reference (RFC 3986 section 5.2.2). One that has a scheme is taken as written, with its dot segments
 abbrev pub target : Components → Components → Components
-target base r =
-    if is_some r.scheme then r
-    else (if is_some r.authority then
-    record { scheme = base.scheme; authority = r.authority; path = without_dot_segments r.path; query = r.query; fragment = r.fragment }
-    else (if is_empty r.path then
-    record { scheme = base.scheme; authority = base.authority; path = base.path; query = option_or r.query base.query; fragment = r.fragment }
-    else (if is_absolute r.path then
-    record { scheme = base.scheme; authority = base.authority; path = without_dot_segments r.path; query = r.query; fragment = r.fragment }
-    else
-    record { scheme = base.scheme; authority = base.authority; path = without_dot_segments (merged base r.path); query = r.query; fragment = r.fragment })))
+target base reference =
+    if is_some reference.scheme then reference
+    else (if is_some reference.authority then target_with base reference reference.authority (without_dot_segments reference.path) reference.query
+    else (if is_empty reference.path then target_with base reference base.authority base.path (option_or reference.query base.query)
+    else (if is_absolute reference.path then target_with base reference base.authority (without_dot_segments reference.path) reference.query
+    else target_with base reference base.authority (without_dot_segments (merged_path base reference.path)) reference.query)))
 
 -- the text that a reference stands for in a document with this base (RFC 3986 section 5.2)
-abbrev pub resolved : List ℕ → List ℕ → List ℕ
-resolved base reference = recomposed (target (components_of base) (components_of reference))
+abbrev pub resolved_text : List ℕ → List ℕ → List ℕ
+resolved_text base reference = text_of (target (components_of base) (components_of reference))
 
 -- the components that a target holds
 abbrev pub components_held : Target → Components

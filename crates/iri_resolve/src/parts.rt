@@ -5,7 +5,7 @@ ghost use Rattle.std.specs.List.{list_all};
 ghost use Rattle.std.specs.Option.{option_copied};
 ghost use Rattle.iri_resolve.specs.Text.{before, part_after, from};
 ghost use Rattle.iri_resolve.specs.Decomposition.{IsDecomposition};
-ghost use Rattle.iri_resolve.specs.Resolution.{recomposed};
+ghost use Rattle.iri_resolve.specs.Resolution.{text_of};
 ghost use Rattle.iri_resolve.specs.Reference.{Components, components_of, components_lent, is_scheme, is_scheme_byte, scheme_of, after_scheme, authority_of, path_of};
 
 /// The components of a reference, lent from its text (RFC 3986 section 3).
@@ -28,7 +28,7 @@ pub struct Parts<'a> {
 /// never fails.
 pub fn split(text: &str) -> Parts<'_>
     ensures parts { components_lent result ≡ components_of text.now }
-    ensures whole { recomposed (components_lent result) ≡ text.now }
+    ensures whole { text_of (components_lent result) ≡ text.now }
     ensures decomposition { IsDecomposition text.now (components_lent result) }
     ensures unique { (c : Components) → IsDecomposition text.now c → c ≡ components_lent result }
 {

@@ -4,7 +4,7 @@ ghost use Rattle.std.specs.Prelude.{◌≡◌, ◌++◌, ◌∷◌, ◌==◌, []
 ghost use Rattle.iri_resolve.specs.Text.{slash, until_last};
 ghost use Rattle.iri_resolve.specs.Reference.{components_lent};
 ghost use Rattle.iri_resolve.specs.Dots.{is_dot, is_dot_dot, is_dot_segment, segments_of, path_of_segments, without_dot_segments, with_read};
-ghost use Rattle.iri_resolve.specs.Resolution.{up_to_last_slash, merged};
+ghost use Rattle.iri_resolve.specs.Resolution.{up_to_last_slash, merged_path};
 
 use crate::parts::Parts;
 use std::alloc::{AllocError, Global};
@@ -84,7 +84,7 @@ fn is_dot_segment(segment: &str) -> bool
 
 // A relative path in the place of the last segment of the base's path (RFC 3986 section 5.2.3).
 pub(crate) fn merge(alloc: Global, base: &Parts, path: &str) -> Result<String, AllocError>
-    ensures { IfOk result (λ t. string_bytes t ≡ merged (components_lent base.now) path.now) }
+    ensures { IfOk result (λ t. string_bytes t ≡ merged_path (components_lent base.now) path.now) }
 {
     if base.authority.is_some() && base.path.is_empty() {
         return joined(alloc, "/", path);

@@ -1,9 +1,9 @@
 // Resolution of a reference against a base.
 
 ghost use Rattle.std.specs.Prelude.{◌≡◌, ◌↔◌, ◌++◌, ◌⊎◌, List, ℕ, IfOk, OnOk, IsSome, IsNone, IsErrOf, IsOkUnless, string_bytes};
-ghost use Rattle.std.specs.Option.{option_copied};
+ghost use Rattle.std.specs.Option.{option_copied, option_or};
 ghost use Rattle.iri_resolve.specs.Reference.{Components, components_of, components_lent};
-ghost use Rattle.iri_resolve.specs.Resolution.{led_by, recomposed, resolved, target, components_held};
+ghost use Rattle.iri_resolve.specs.Resolution.{with_mark_before, text_of, resolved_text, target, components_held};
 ghost use Rattle.iri_resolve.specs.declared.resolution.IriError.TheVariants.{Memory};
 
 use crate::parts::{Parts, split};
@@ -11,7 +11,7 @@ use crate::path::{merge, remove_dot_segments};
 use std::alloc::{AllocError, Global};
 use thiserror::Error;
 
-/// Why a reference is not resolved.
+/// Why a reference is not resolved_text.
 #[derive(Clone, Copy, Debug, PartialEq, Eq, Error)]
 pub enum IriError {
     /// Neither the base nor the reference has a scheme.
@@ -34,22 +34,23 @@ impl From<AllocError> for IriError {
 /// and 5.3). A reference that has a scheme is taken as written; nothing is normalised otherwise.
 /// Fails with `NoScheme` where neither text has a scheme.
 pub fn resolve(alloc: Global, base: &str, reference: &str) -> Result<String, IriError>
-    ensures text { IfOk result (λ t. string_bytes t ≡ resolved base.now reference.now) }
+    ensures text { IfOk result (λ t. string_bytes t ≡ resolved_text base.now reference.now) }
     ensures no_scheme { IsErrOf result IriError.NoScheme ↔ (IsNone (components_of base.now).scheme × IsNone (components_of reference.now).scheme) }
     ensures ok_by_base { IsSome (components_of base.now).scheme → IsOkUnless result IriError.Memory }
     ensures ok_by_reference { IsSome (components_of reference.now).scheme → IsOkUnless result IriError.Memory }
+    ensures scheme { IfOk result (λ t. (components_of (string_bytes t)).scheme ≡ option_or (components_of reference.now).scheme (components_of base.now).scheme) }
     ensures as_written { IsSome (components_of reference.now).scheme → IfOk result (λ t. string_bytes t ≡ reference.now) }
 {
-    let parts = split(reference);
-    if parts.scheme.is_some() {
+    let reference_parts = split(reference);
+    if reference_parts.scheme.is_some() {
         return Ok(String::from_str(alloc, reference)?);
     }
-    let base = split(base);
-    if base.scheme.is_none() {
+    let base_parts = split(base);
+    if base_parts.scheme.is_none() {
         return Err(IriError::NoScheme);
     }
-    let path = target_path(alloc, &base, &parts)?;
-    let target = Target::new(&base, &parts, path);
+    let path = target_path(alloc, &base_parts, &reference_parts)?;
+    let target = Target::new(&base_parts, &reference_parts, path);
     Ok(target.recompose(alloc)?)
 }
 
@@ -102,24 +103,24 @@ impl<'a> Target<'a> {
 
     // The text of the components (RFC 3986 section 5.3).
     fn recompose(&self, alloc: Global) -> Result<String, AllocError>
-        ensures { IfOk result (λ t. string_bytes t ≡ recomposed (components_held self.now)) }
+        ensures { IfOk result (λ t. string_bytes t ≡ text_of (components_held self.now)) }
     {
         let mut text = String::new(alloc);
         if let Some(scheme) = self.scheme {
             text.push_str(scheme)?;
             text.push(':')?;
         }
-        push_led_by(&mut text, "//", self.authority)?;
+        push_with_mark(&mut text, "//", self.authority)?;
         text.push_str(self.path.as_str())?;
-        push_led_by(&mut text, "?", self.query)?;
-        push_led_by(&mut text, "#", self.fragment)?;
+        push_with_mark(&mut text, "?", self.query)?;
+        push_with_mark(&mut text, "#", self.fragment)?;
         Ok(text)
     }
 }
 
-// Appends a component behind its delimiter, if it is there.
-fn push_led_by(text: &mut String, mark: &str, component: Option<&str>) -> Result<(), AllocError>
-    ensures { OnOk result (string_bytes text.new ≡ string_bytes text.old ++ led_by mark.now (option_copied component.entry)) }
+// Appends a component with its delimiter in front of it, if it is there.
+fn push_with_mark(text: &mut String, mark: &str, component: Option<&str>) -> Result<(), AllocError>
+    ensures { OnOk result (string_bytes text.new ≡ string_bytes text.old ++ with_mark_before mark.now (option_copied component.entry)) }
 {
     if let Some(component) = component {
         text.push_str(mark)?;

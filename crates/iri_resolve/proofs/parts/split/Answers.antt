@@ -1,8 +1,8 @@
 use Rattle.std.proofs.Common.{◌≡◌, ◌∙◌, ap, sym, subst, rules}
 use Rattle.iri_resolve.specs.Reference.{components_lent, components_of}
 use Rattle.iri_resolve.specs.Decomposition.{IsDecomposition}
-use Rattle.iri_resolve.specs.Resolution.{recomposed}
-use Rattle.iri_resolve.proofs.Cuts.{recomposed-components_of}
+use Rattle.iri_resolve.specs.Resolution.{text_of}
+use Rattle.iri_resolve.proofs.Cuts.{text_of-components_of}
 use Rattle.iri_resolve.proofs.Decomposed.{decomposition}
 use Rattle.iri_resolve.proofs.Unique.{components_of-unique}
 use Rattle.iri_resolve.proofs.parts.split.Goals as goal
@@ -20,7 +20,7 @@ returns c =
     }) ≡ components_of text = search rules in
     record {
       parts = parts;
-      whole = ap recomposed parts ∙ recomposed-components_of text;
+      whole = ap text_of parts ∙ text_of-components_of text;
       decomposition = subst (IsDecomposition text) (sym parts) (decomposition text);
       unique = λ d h. components_of-unique text d h ∙ sym parts;
     }

@@ -1,7 +1,7 @@
 use Rattle.std.proofs.Common.{◌≡◌, ◌∙◌, ap, sym, lit<, string_bytes, rules, arith}
 use Rattle.std.proofs.lemmas.Grind.{common_steps}
 use Rattle.iri_resolve.specs.Text.{slash, before}
-use Rattle.iri_resolve.specs.Dots.{without_dot_segments, left_of, closed, segments_of}
+use Rattle.iri_resolve.specs.Dots.{without_dot_segments, left_of, with_end, segments_of}
 use Rattle.iri_resolve.proofs.Places.{split_once_some, split_once_none}
 use Rattle.iri_resolve.proofs.Reading.{outcome, outcome-start, outcome-step, outcome-last, path_of_segments-one}
 use Rattle.iri_resolve.proofs.path.remove_dot_segments.Goals as goal
@@ -22,8 +22,8 @@ loop-segment-init c =
     record {
       text = search rules;
       reads =
-          ap (λ t. outcome t (left_of (closed (segments_of c.in-Some.later.now)))) (c.in_ok-output.ensures.ok ∙ cut.1)
-          ∙ ap (λ t. outcome (before slash path) (left_of (closed (segments_of t)))) cut.2
+          ap (λ t. outcome t (left_of (with_end (segments_of c.in-Some.later.now)))) (c.in_ok-output.ensures.ok ∙ cut.1)
+          ∙ ap (λ t. outcome (before slash path) (left_of (with_end (segments_of t)))) cut.2
           ∙ outcome-start path cut.0
           ∙ c.skip_leading_dots-relative.ensures;
     }

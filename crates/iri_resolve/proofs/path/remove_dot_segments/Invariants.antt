@@ -1,7 +1,7 @@
 use Rattle.std.proofs.Common.{◌≡◌, length, string_bytes}
 use denote.Text.{Utf8}
 use denote.Shadow.{shadow}
-use Rattle.iri_resolve.specs.Dots.{segments_of, without_dot_segments, closed, left_of}
+use Rattle.iri_resolve.specs.Dots.{segments_of, without_dot_segments, with_end, left_of}
 use Rattle.iri_resolve.proofs.Reading.{outcome}
 use Rattle.iri_resolve.proofs.path.remove_dot_segments.Given as goal
 
@@ -9,7 +9,7 @@ use Rattle.iri_resolve.proofs.path.remove_dot_segments.Given as goal
 abbrev pub invariant-loop-segment : goal.invariant-loop-segment
 invariant-loop-segment l = record {
   text : shadow (Utf8 l.rest);
-  reads : outcome (string_bytes l.output) (left_of (closed (segments_of l.rest))) ≡ without_dot_segments l.fn.path;
+  reads : outcome (string_bytes l.output) (left_of (with_end (segments_of l.rest))) ≡ without_dot_segments l.fn.path;
 }
 
 abbrev pub decreases-loop-segment : goal.decreases-loop-segment
