@@ -46,15 +46,16 @@ with_segment segment left =
     else (if is_dot_dot segment then record { taken_back = suc left.taken_back; segments = left.segments }
     else with_name segment left.taken_back left.segments)
 
--- what is left of segments
+-- what is left of the segments behind the first
 abbrev pub left_of : List (List ℕ) → Left
 left_of [] = record { taken_back = 0; segments = [] }
 left_of (segment ∷ segments) = with_segment segment (left_of segments)
 
--- a path of a first segment, if none takes that back, and others
+-- a first segment, unless it is taken back, and behind it the segments that are left, each with its `/`
 abbrev pub path_with : List ℕ → Left → List ℕ
 path_with first left = (if left.taken_back == 0 then first else []) ++ flat_map (λ segment. slash ∷ segment) left.segments
 
+-- the path that is left of segments, the first of which has no `/` in front of it
 abbrev pub path_of_segments : List (List ℕ) → List ℕ
 path_of_segments [] = []
 path_of_segments (first ∷ segments) = path_with first (left_of (with_end segments))

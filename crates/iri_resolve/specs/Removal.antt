@@ -3,7 +3,7 @@ use Rattle.std.specs.Prelude.{◌≡◌, ◌≢◌, ℕ, ◌↔◌, ◌⊎◌, t
 use Rattle.iri_resolve.specs.Text.{slash, Lacks, BeginsWith, until_last}
 use Rattle.iri_resolve.specs.Dots.{is_dot_segment, without_dot_segments}
 
--- a text is a path segment, and no dot segment, up to the next `/` of the input or its end
+-- what rule 2E moves: a segment that is no dot segment, behind which the input ends or goes on with `/`
 pub record IsMoved (segment input : List ℕ) : Type 0 where
   pub no_slash : Lacks slash segment
   pub ends : (input ≡ []) ⊎ BeginsWith input (codes "/")
