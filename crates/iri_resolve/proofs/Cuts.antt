@@ -5,7 +5,7 @@ use Rattle.std.proofs.lemmas.Slice.Eq.{starts_is}
 use Rattle.std.specs.List.{position_or_len}
 use Rattle.std.proofs.lemmas.List.{append-nil, append_assoc, take-append-drop}
 use Rattle.iri_resolve.specs.Text.{colon, slash, question, hash, has, before, after, part_after, from}
-use Rattle.iri_resolve.specs.Reference.{components_of, is_scheme, scheme_of, after_scheme, has_authority, authority_of, path_of}
+use Rattle.iri_resolve.specs.Reference.{components_of, is_scheme, front_scheme, after_scheme, has_authority, authority_of, path_of}
 use Rattle.iri_resolve.specs.Resolution.{text_of, with_mark_before, with_mark_after}
 use Rattle.iri_resolve.proofs.Places.{before-append-after, before-all}
 
@@ -33,7 +33,7 @@ pub before-with_mark_before : (c : ℕ) (bs : List ℕ) → before c bs ++ with_
 before-with_mark_before c bs = cut_back (has c bs) c (before c bs) (after c bs) bs (before-append-after c bs) (before-all c bs)
 
 -- the scheme and its `:` are put back
-pub with_mark_after-after_scheme : (bs : List ℕ) → with_mark_after (codes ":") (scheme_of bs) ++ after_scheme bs ≡ bs
+pub with_mark_after-after_scheme : (bs : List ℕ) → with_mark_after (codes ":") (front_scheme bs) ++ after_scheme bs ≡ bs
 with_mark_after-after_scheme bs =
     cut_front (has colon bs && is_scheme (before colon bs)) colon (before colon bs) (after colon bs) bs
     (λ e. before-append-after colon bs (left_true (has colon bs) (is_scheme (before colon bs)) e))
@@ -50,8 +50,8 @@ text_of-components_of text =
     let whole = before hash text in
     let front = before question whole in
     ap (λ t. t ++ with_mark_before (codes "?") (part_after question whole) ++ with_mark_before (codes "#") (part_after hash text))
-    (append_assoc (with_mark_after (codes ":") (scheme_of front)) (with_mark_before (codes "//") (authority_of (after_scheme front))) (path_of (after_scheme front))
-    ∙ ap (λ t. with_mark_after (codes ":") (scheme_of front) ++ t) (with_mark_before-path_of (after_scheme front))
+    (append_assoc (with_mark_after (codes ":") (front_scheme front)) (with_mark_before (codes "//") (authority_of (after_scheme front))) (path_of (after_scheme front))
+    ∙ ap (λ t. with_mark_after (codes ":") (front_scheme front) ++ t) (with_mark_before-path_of (after_scheme front))
     ∙ with_mark_after-after_scheme front)
     ∙ ap (λ t. t ++ with_mark_before (codes "#") (part_after hash text)) (before-with_mark_before question whole)
     ∙ before-with_mark_before hash text

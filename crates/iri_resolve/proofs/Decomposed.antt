@@ -7,11 +7,11 @@ use Rattle.std.proofs.lemmas.Bool.{false≢true}
 use Rattle.std.proofs.lemmas.Bool.Decides.{Decides-eqb}
 use Rattle.std.proofs.lemmas.Slice.Eq.{starts_is}
 use Rattle.iri_resolve.specs.Text.{colon, slash, question, hash, has, before, after, from, Lacks, BeginsWith}
-use Rattle.iri_resolve.specs.Reference.{components_of, is_scheme, scheme_of, after_scheme, has_authority, path_of}
+use Rattle.iri_resolve.specs.Reference.{components_of, is_scheme, front_scheme, after_scheme, has_authority, path_of}
 use Rattle.iri_resolve.specs.Decomposition.{IsAuthority, IsDecomposition}
 use Rattle.iri_resolve.proofs.Places.{Lacks-before, Lacks-has, before-later, from-has, from-none}
 use Rattle.iri_resolve.proofs.Cuts.{text_of-components_of}
-use Rattle.iri_resolve.proofs.Unique.{both, Lacks-scheme, scheme_of-front}
+use Rattle.iri_resolve.proofs.Unique.{both, Lacks-scheme, front_scheme-front}
 
 -- a choice between two texts lacks what both lack
 Lacks-cond : (mark : ℕ) (b : Bool) (xs ys : List ℕ) → Lacks mark xs → Lacks mark ys → Lacks mark (cond b xs ys)
@@ -24,7 +24,7 @@ if_taken P true part h = h refl
 if_taken P false part h = tt
 
 Lacks-after_scheme : (mark : ℕ) (front : List ℕ) → Lacks mark front → Lacks mark (after_scheme front)
-Lacks-after_scheme mark front h = Lacks-cond mark (is_some (scheme_of front)) (after colon front) front (All-drop (λ b. b ≢ mark) (position_or_len (λ b. eqb b colon) front + 1) front h) h
+Lacks-after_scheme mark front h = Lacks-cond mark (is_some (front_scheme front)) (after colon front) front (All-drop (λ b. b ≢ mark) (position_or_len (λ b. eqb b colon) front + 1) front h) h
 
 Lacks-path_of : (mark : ℕ) (hierarchy : List ℕ) → Lacks mark hierarchy → Lacks mark (path_of hierarchy)
 Lacks-path_of mark hierarchy h =
@@ -61,9 +61,9 @@ front_begins name rest e =
     ∙ before-later question (name ++ codes ":") (before hash rest) (ended question (Lacks-scheme question name refl refl e) (λ q. omega arith))
     ∙ append_assoc name (codes ":") (before question (before hash rest))
 
-no_scheme_left : (text name : List ℕ) → IsNone (scheme_of (before question (before hash text))) → is_scheme name ≡ true → BeginsWith text (name ++ codes ":") → ⊥
+no_scheme_left : (text name : List ℕ) → IsNone (front_scheme (before question (before hash text))) → is_scheme name ≡ true → BeginsWith text (name ++ codes ":") → ⊥
 no_scheme_left text name h e w =
-    let s = ap (λ t. scheme_of (before question (before hash t))) w.1 ∙ ap scheme_of (front_begins name w.0 e) ∙ scheme_of-front name (before question (before hash w.0)) e in
+    let s = ap (λ t. front_scheme (before question (before hash t))) w.1 ∙ ap front_scheme (front_begins name w.0 e) ∙ front_scheme-front name (before question (before hash w.0)) e in
     false≢true (sym h ∙ ap is_some s)
 
 module _ (text : List ℕ) where

@@ -4,11 +4,11 @@ use Rattle.std.specs.Option.{option_or}
 use Rattle.std.proofs.lemmas.List.{append_assoc}
 use Rattle.std.proofs.lemmas.Bool.{false≢true}
 use Rattle.iri_resolve.specs.Text.{question, hash, before}
-use Rattle.iri_resolve.specs.Reference.{Components, components_of, is_scheme, scheme_of}
+use Rattle.iri_resolve.specs.Reference.{Components, components_of, is_scheme, front_scheme}
 use Rattle.iri_resolve.specs.Dots.{without_dot_segments}
 use Rattle.iri_resolve.specs.Resolution.{text_of, with_mark_before, with_mark_after, target, target_with, is_empty, is_absolute, merged_path, resolved_text}
 use Rattle.iri_resolve.proofs.Decomposed.{decomposition, front_begins}
-use Rattle.iri_resolve.proofs.Unique.{scheme_of-front}
+use Rattle.iri_resolve.proofs.Unique.{front_scheme-front}
 
 -- a text of components with a scheme has that scheme
 scheme-text_of : (c : Components) (name : List ℕ) → c.scheme ≡ Some name → is_scheme name ≡ true → (components_of (text_of c)).scheme ≡ Some name
@@ -21,9 +21,9 @@ scheme-text_of c name s e =
     ∙ ap (λ t. t ++ q ++ f) (append_assoc (name ++ codes ":") a c.path)
     ∙ ap (λ t. t ++ f) (append_assoc (name ++ codes ":") (a ++ c.path) q)
     ∙ append_assoc (name ++ codes ":") (a ++ c.path ++ q) f in
-    ap (λ t. scheme_of (before question (before hash t))) joined
-    ∙ ap scheme_of (front_begins name (a ++ c.path ++ q ++ f) e)
-    ∙ scheme_of-front name (before question (before hash (a ++ c.path ++ q ++ f))) e
+    ap (λ t. front_scheme (before question (before hash t))) joined
+    ∙ ap front_scheme (front_begins name (a ++ c.path ++ q ++ f) e)
+    ∙ front_scheme-front name (before question (before hash (a ++ c.path ++ q ++ f))) e
 
 -- the scheme of a target is that of the reference, or else of the base
 scheme-target : (base reference : Components) → (target base reference).scheme ≡ option_or reference.scheme base.scheme

@@ -9,7 +9,7 @@ use Rattle.std.proofs.lemmas.Bool.{false≢true}
 use Rattle.std.proofs.lemmas.Bool.Decides.{Decides-eqb}
 use Rattle.std.proofs.lemmas.Slice.Eq.{starts_is}
 use Rattle.iri_resolve.specs.Text.{colon, slash, question, hash, has, before, after, part_after, from, Lacks, BeginsWith}
-use Rattle.iri_resolve.specs.Reference.{Components, components_of, is_scheme, is_scheme_byte, scheme_of, after_scheme, has_authority, authority_of, path_of}
+use Rattle.iri_resolve.specs.Reference.{Components, components_of, is_scheme, is_scheme_byte, front_scheme, after_scheme, has_authority, authority_of, path_of}
 use Rattle.iri_resolve.specs.Decomposition.{IsAuthority, IsDecomposition}
 use Rattle.iri_resolve.specs.Resolution.{with_mark_before, with_mark_after}
 use Rattle.iri_resolve.proofs.Places.{has-append, before-append, after-append, from-append, has-none, from-none, before-all, before-append-after}
@@ -48,22 +48,22 @@ part_after-led c xs (Some ys) h =
     ∙ ap (λ t. Some t) (after-append c xs ys h)
 
 -- a scheme in front is found
-pub scheme_of-front : (name rest : List ℕ) → is_scheme name ≡ true → scheme_of (name ++ colon ∷ rest) ≡ Some name
-scheme_of-front name rest e =
+pub front_scheme-front : (name rest : List ℕ) → is_scheme name ≡ true → front_scheme (name ++ colon ∷ rest) ≡ Some name
+front_scheme-front name rest e =
     let h = Lacks-scheme colon name refl refl e in
     ap (λ b. cond (b && is_scheme (before colon (name ++ colon ∷ rest))) (Some (before colon (name ++ colon ∷ rest))) None) (has-append colon name rest h)
     ∙ ap (λ t. cond (is_scheme t) (Some t) None) (before-append colon name rest h)
     ∙ ap (λ b. cond b (Some name) None) e
 
-scheme_of-ended : (o : Option (List ℕ)) (rest : List ℕ) → IfSome o (λ name. IsTrue (is_scheme name)) → (IsNone o → scheme_of rest ≡ None) → scheme_of (with_mark_after (codes ":") o ++ rest) ≡ o
-scheme_of-ended None rest h n = n refl
-scheme_of-ended (Some name) rest h n = ap scheme_of (append_assoc name (codes ":") rest) ∙ scheme_of-front name rest h
+front_scheme-ended : (o : Option (List ℕ)) (rest : List ℕ) → IfSome o (λ name. IsTrue (is_scheme name)) → (IsNone o → front_scheme rest ≡ None) → front_scheme (with_mark_after (codes ":") o ++ rest) ≡ o
+front_scheme-ended None rest h n = n refl
+front_scheme-ended (Some name) rest h n = ap front_scheme (append_assoc name (codes ":") rest) ∙ front_scheme-front name rest h
 
-after_scheme-ended : (o : Option (List ℕ)) (rest : List ℕ) → IfSome o (λ name. IsTrue (is_scheme name)) → (IsNone o → scheme_of rest ≡ None) → after_scheme (with_mark_after (codes ":") o ++ rest) ≡ rest
+after_scheme-ended : (o : Option (List ℕ)) (rest : List ℕ) → IfSome o (λ name. IsTrue (is_scheme name)) → (IsNone o → front_scheme rest ≡ None) → after_scheme (with_mark_after (codes ":") o ++ rest) ≡ rest
 after_scheme-ended None rest h n = ap (λ o. cond (is_some o) (after colon rest) rest) (n refl)
 after_scheme-ended (Some name) rest h n =
     ap after_scheme (append_assoc name (codes ":") rest)
-    ∙ ap (λ o. cond (is_some o) (after colon (name ++ colon ∷ rest)) (name ++ colon ∷ rest)) (scheme_of-front name rest h)
+    ∙ ap (λ o. cond (is_some o) (after colon (name ++ colon ∷ rest)) (name ++ colon ∷ rest)) (front_scheme-front name rest h)
     ∙ after-append colon name rest (Lacks-scheme colon name refl refl h)
 
 -- and so is an authority
@@ -118,8 +118,8 @@ with_mark_after-none mark None h = refl
 with_mark_after-none mark (Some part) h = absurd (false≢true (sym h))
 
 -- a text that has a scheme in front begins with it and its `:`
-scheme_of-none : (front : List ℕ) → ((name rest : List ℕ) → is_scheme name ≡ true → front ≡ name ++ colon ∷ rest → ⊥) → scheme_of front ≡ None
-scheme_of-none front never = go (has colon front && is_scheme (before colon front)) refl
+front_scheme-none : (front : List ℕ) → ((name rest : List ℕ) → is_scheme name ≡ true → front ≡ name ++ colon ∷ rest → ⊥) → front_scheme front ≡ None
+front_scheme-none front never = go (has colon front && is_scheme (before colon front)) refl
   where
     go : (b : Bool) → (has colon front && is_scheme (before colon front)) ≡ b → cond b (Some (before colon front)) None ≡ None
     go true e =
@@ -153,9 +153,9 @@ module _ (text : List ℕ) (c : Components) (d : IsDecomposition text c) where
   front-is : before question (before hash text) ≡ with_mark_after (codes ":") c.scheme ++ (with_mark_before (codes "//") c.authority ++ c.path)
   front-is = ap (before question) before-hash ∙ before-led question _ c.query front-question ∙ append_assoc (with_mark_after (codes ":") c.scheme) (with_mark_before (codes "//") c.authority) c.path
 
-  none : IsNone c.scheme → scheme_of (with_mark_before (codes "//") c.authority ++ c.path) ≡ None
+  none : IsNone c.scheme → front_scheme (with_mark_before (codes "//") c.authority ++ c.path) ≡ None
   none h =
-      scheme_of-none (with_mark_before (codes "//") c.authority ++ c.path)
+      front_scheme-none (with_mark_before (codes "//") c.authority ++ c.path)
       (λ name rest e q.
       let hierarchy : List ℕ = with_mark_before (codes "//") c.authority ++ c.path in
       let front : with_mark_after (codes ":") c.scheme ++ with_mark_before (codes "//") c.authority ++ c.path ≡ name ++ codes ":" ++ rest =
@@ -173,7 +173,7 @@ module _ (text : List ℕ) (c : Components) (d : IsDecomposition text c) where
 
   pub components_of-unique : c ≡ components_of text
   components_of-unique =
-      let s = ap scheme_of front-is ∙ scheme_of-ended c.scheme (with_mark_before (codes "//") c.authority ++ c.path) d.scheme none in
+      let s = ap front_scheme front-is ∙ front_scheme-ended c.scheme (with_mark_before (codes "//") c.authority ++ c.path) d.scheme none in
       let h = ap after_scheme front-is ∙ after_scheme-ended c.scheme (with_mark_before (codes "//") c.authority ++ c.path) d.scheme none in
       same_components c (components_of text)
       (sym s)

@@ -24,12 +24,12 @@ is_scheme [] = false
 is_scheme (b ∷ bs) = is_ascii_alphabetic b && list_all is_scheme_byte bs
 
 -- the scheme of a text without query and fragment: what stands before the first `:`, if that is a scheme. A scheme has no `/`, so this `:` comes before any `/`, `?` or `#` (RFC 3986 sections 3.1 and 4.2)
-abbrev pub scheme_of : List ℕ → Option (List ℕ)
-scheme_of front = if has colon front && is_scheme (before colon front) then Some (before colon front) else None
+abbrev pub front_scheme : List ℕ → Option (List ℕ)
+front_scheme front = if has colon front && is_scheme (before colon front) then Some (before colon front) else None
 
 -- what follows the scheme and its `:`
 abbrev pub after_scheme : List ℕ → List ℕ
-after_scheme front = if is_some (scheme_of front) then after colon front else front
+after_scheme front = if is_some (front_scheme front) then after colon front else front
 
 -- whether an authority follows: it is preceded by `//` (RFC 3986 section 3.2)
 abbrev pub has_authority : List ℕ → Bool
@@ -49,12 +49,16 @@ components_of text =
     let whole = before hash text in
     let front = before question whole in
     record {
-      scheme = scheme_of front;
+      scheme = front_scheme front;
       authority = authority_of (after_scheme front);
       path = path_of (after_scheme front);
       query = part_after question whole;
       fragment = part_after hash text;
     }
+
+-- the scheme of a text, if it has one
+abbrev pub scheme_of : List ℕ → Option (List ℕ)
+scheme_of text = (components_of text).scheme
 
 -- the components that the parts lend
 abbrev pub components_lent : Parts → Components

@@ -6,7 +6,7 @@ ghost use Rattle.std.specs.Option.{option_copied};
 ghost use Rattle.iri_resolve.specs.Text.{before, part_after, from};
 ghost use Rattle.iri_resolve.specs.Decomposition.{IsDecomposition};
 ghost use Rattle.iri_resolve.specs.Resolution.{text_of};
-ghost use Rattle.iri_resolve.specs.Reference.{Components, components_of, components_lent, is_scheme, is_scheme_byte, scheme_of, after_scheme, authority_of, path_of};
+ghost use Rattle.iri_resolve.specs.Reference.{Components, components_of, components_lent, is_scheme, is_scheme_byte, front_scheme, after_scheme, authority_of, path_of};
 
 /// The components of a reference, lent from its text (RFC 3986 section 3).
 #[derive(Clone, Copy, Debug, PartialEq, Eq)]
@@ -59,7 +59,7 @@ fn cut(text: &str, mark: char) -> (&str, Option<&str>)
 
 // The scheme, and what follows it.
 fn cut_scheme(front: &str) -> (Option<&str>, &str)
-    ensures scheme { option_copied result.0 ≡ scheme_of front.now }
+    ensures scheme { option_copied result.0 ≡ front_scheme front.now }
     ensures rest { result.1.now ≡ after_scheme front.now }
 {
     match front.split_once(':') {

@@ -1,9 +1,9 @@
 // Paths: merging, and removal of dot segments.
 
-ghost use Rattle.std.specs.Prelude.{◌≡◌, ◌++◌, ◌∷◌, ◌==◌, [], false, List, length, IfOk, OnOk, IsTrue, string_bytes, if◌then◌else◌};
+ghost use Rattle.std.specs.Prelude.{◌≡◌, ◌++◌, [], ◌∷◌, IfOk, OnOk, string_bytes, if◌then◌else◌};
 ghost use Rattle.iri_resolve.specs.Text.{slash, until_last};
 ghost use Rattle.iri_resolve.specs.Reference.{components_lent};
-ghost use Rattle.iri_resolve.specs.Dots.{is_dot, is_dot_dot, is_dot_segment, segments_of, path_of_segments, without_dot_segments, with_read};
+ghost use Rattle.iri_resolve.specs.Dots.{is_dot_segment, segments_of, path_of_segments, without_dot_segments, with_read};
 ghost use Rattle.iri_resolve.specs.Resolution.{up_to_last_slash, merged_path};
 
 use crate::parts::Parts;
@@ -44,7 +44,8 @@ fn skip_leading_dots(path: &str) -> &str
 // Reads one more segment of a path whose text so far is `output`: `.` adds nothing, `..` takes back
 // the last segment, and any other is put behind a `/`.
 fn read_segment(output: &mut String, segment: &str) -> Result<(), AllocError>
-    ensures { OnOk result (string_bytes output.new ≡ with_read (string_bytes output.old) segment.now) }
+    ensures { OnOk result (string_bytes output.new
+        ≡ with_read (string_bytes output.old) segment.now) }
 {
     if segment == "." {
         return Ok(());
@@ -59,7 +60,9 @@ fn read_segment(output: &mut String, segment: &str) -> Result<(), AllocError>
 
 // Reads the last segment of a path: a dot segment leaves a `/` at the end.
 fn read_last_segment(output: &mut String, segment: &str) -> Result<(), AllocError>
-    ensures { OnOk result (string_bytes output.new ≡ with_read (string_bytes output.old) segment.now ++ (if is_dot_segment segment.now then slash ∷ [] else [])) }
+    ensures { OnOk result (string_bytes output.new
+        ≡ with_read (string_bytes output.old) segment.now
+        ++ (if is_dot_segment segment.now then slash ∷ [] else [])) }
 {
     read_segment(output, segment)?;
     if is_dot_segment(segment) {

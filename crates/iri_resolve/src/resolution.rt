@@ -1,8 +1,8 @@
 // Resolution of a reference against a base.
 
-ghost use Rattle.std.specs.Prelude.{◌≡◌, ◌↔◌, ◌++◌, ◌⊎◌, List, ℕ, IfOk, OnOk, IsSome, IsNone, IsErrOf, IsOkUnless, string_bytes};
+ghost use Rattle.std.specs.Prelude.{◌≡◌, ◌↔◌, ◌++◌, IfOk, OnOk, IsSome, IsNone, IsErrOf, IsOkUnless, string_bytes};
 ghost use Rattle.std.specs.Option.{option_copied, option_or};
-ghost use Rattle.iri_resolve.specs.Reference.{Components, components_of, components_lent};
+ghost use Rattle.iri_resolve.specs.Reference.{components_lent, scheme_of};
 ghost use Rattle.iri_resolve.specs.Resolution.{with_mark_before, text_of, resolved_text, target, components_held};
 ghost use Rattle.iri_resolve.specs.declared.resolution.IriError.TheVariants.{Memory};
 
@@ -35,11 +35,16 @@ impl From<AllocError> for IriError {
 /// Fails with `NoScheme` where neither text has a scheme.
 pub fn resolve(alloc: Global, base: &str, reference: &str) -> Result<String, IriError>
     ensures text { IfOk result (λ t. string_bytes t ≡ resolved_text base.now reference.now) }
-    ensures no_scheme { IsErrOf result IriError.NoScheme ↔ (IsNone (components_of base.now).scheme × IsNone (components_of reference.now).scheme) }
-    ensures ok_by_base { IsSome (components_of base.now).scheme → IsOkUnless result IriError.Memory }
-    ensures ok_by_reference { IsSome (components_of reference.now).scheme → IsOkUnless result IriError.Memory }
-    ensures scheme { IfOk result (λ t. (components_of (string_bytes t)).scheme ≡ option_or (components_of reference.now).scheme (components_of base.now).scheme) }
-    ensures as_written { IsSome (components_of reference.now).scheme → IfOk result (λ t. string_bytes t ≡ reference.now) }
+
+    ensures no_scheme { IsErrOf result IriError.NoScheme
+        ↔ (IsNone (scheme_of base.now) × IsNone (scheme_of reference.now)) }
+    ensures ok_by_base { IsSome (scheme_of base.now) → IsOkUnless result IriError.Memory }
+    ensures ok_by_reference { IsSome (scheme_of reference.now) → IsOkUnless result IriError.Memory }
+
+    ensures as_written { IsSome (scheme_of reference.now)
+        → IfOk result (λ t. string_bytes t ≡ reference.now) }
+    ensures scheme { IfOk result (λ t. scheme_of (string_bytes t)
+        ≡ option_or (scheme_of reference.now) (scheme_of base.now)) }
 {
     let reference_parts = split(reference);
     if reference_parts.scheme.is_some() {
@@ -57,7 +62,8 @@ pub fn resolve(alloc: Global, base: &str, reference: &str) -> Result<String, Iri
 // The path of the target of a reference without a scheme (RFC 3986 section 5.2.2).
 fn target_path(alloc: Global, base: &Parts, reference: &Parts) -> Result<String, AllocError>
     requires { IsNone reference.now.scheme }
-    ensures { IfOk result (λ t. string_bytes t ≡ (target (components_lent base.now) (components_lent reference.now)).path) }
+    ensures { IfOk result (λ t. string_bytes t
+        ≡ (target (components_lent base.now) (components_lent reference.now)).path) }
 {
     if reference.authority.is_some() || reference.path.starts_with('/') {
         return remove_dot_segments(alloc, reference.path);
@@ -84,8 +90,10 @@ impl<'a> Target<'a> {
     // The target of a reference without a scheme, given its path.
     fn new(base: &Parts<'a>, reference: &Parts<'a>, path: String) -> Target<'a>
         requires none { IsNone reference.now.scheme }
-        requires path { string_bytes path ≡ (target (components_lent base.now) (components_lent reference.now)).path }
-        ensures { components_held result ≡ target (components_lent base.now) (components_lent reference.now) }
+        requires path { string_bytes path
+            ≡ (target (components_lent base.now) (components_lent reference.now)).path }
+        ensures { components_held result
+            ≡ target (components_lent base.now) (components_lent reference.now) }
     {
         let keeps_query = reference.authority.is_none() && reference.path.is_empty();
         Target {
@@ -120,7 +128,8 @@ impl<'a> Target<'a> {
 
 // Appends a component with its delimiter in front of it, if it is there.
 fn push_with_mark(text: &mut String, mark: &str, component: Option<&str>) -> Result<(), AllocError>
-    ensures { OnOk result (string_bytes text.new ≡ string_bytes text.old ++ with_mark_before mark.now (option_copied component.entry)) }
+    ensures { OnOk result (string_bytes text.new
+        ≡ string_bytes text.old ++ with_mark_before mark.now (option_copied component.entry)) }
 {
     if let Some(component) = component {
         text.push_str(mark)?;
