@@ -63,7 +63,7 @@ fn resolves_the_examples_of_the_rfc(rt: HostRuntime) -> Result<(), Fail> {
 
 // Bases and references of forms that those examples lack: a base whose path is empty or that has no
 // authority, a base with a fragment, characters outside ASCII, a `:` that ends no scheme.
-const OTHERS: [(&str, &str, &str); 24] = [
+const OTHERS: [(&str, &str, &str); 26] = [
     ("http://a", "g", "http://a/g"),
     ("http://a?q", "../g", "http://a/g"),
     ("http://a#f", "", "http://a"),
@@ -80,6 +80,8 @@ const OTHERS: [(&str, &str, &str); 24] = [
     ("file:/a/b", "../../c", "file:/c"),
     ("file:/a/b", "c/..", "file:/a/"),
     ("s:", "", "s:"),
+    ("http://a/b//c", "../d", "http://a/b/d"),
+    ("a:/b", "/.//c", "a://c"),
     ("http://a/b/c", "d/e:f", "http://a/b/d/e:f"),
     ("http://a/b/c", "1a:b", "http://a/b/1a:b"),
     ("http://a/b/c", ":d", "http://a/b/:d"),
