@@ -1,0 +1,7 @@
+pub mod Places
+pub mod Cuts
+pub mod Reading
+pub mod Rules
+pub mod Unique
+pub mod Decomposed
+pub mod Schemes
