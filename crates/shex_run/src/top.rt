@@ -76,29 +76,57 @@ pub fn run<F: Files, O: Sink, E: Sink>(
     ensures statuses { IsStatus result }
 
     // An answer is the truth of what the files hold, by the complete typing over the graph, and it alone is printed.
-    ensures answered { (result ≡ 0) ⊎ (result ≡ 1) → (text : List ℕ) × IsAnswered (F.told files.old) (map string_bytes words.now) result text × Gains (O.got out.old) (O.got out.new) text }
+    ensures answered { (result ≡ 0) ⊎ (result ≡ 1) →
+        (text : List ℕ)
+        × IsAnswered (F.told files.old) (map string_bytes words.now) result text
+        × Gains (O.got out.old) (O.got out.new) text }
     ensures answered_quietly { (result ≡ 0) ⊎ (result ≡ 1) → E.got err.new ≡ E.got err.old }
 
     // Each other status has its cause, and its line is all that is printed.
-    ensures arguments { result ≡ 2 → IsUnasked (map string_bytes words.now) × Gains (E.got err.old) (E.got err.new) arguments_line }
-    ensures refused { result ≡ 3 → (line : List ℕ) × IsRefusedBy (F.told files.old) (map string_bytes words.now) line × Gains (E.got err.old) (E.got err.new) line }
-    ensures failed { result ≡ 5 → (line : List ℕ) × IsFailedBy (F.told files.old) (map string_bytes words.now) (F.blame files.new) line × Gains (E.got err.old) (E.got err.new) line }
-    ensures fault { result ≡ 5 → Rose (F.faults files.old) (F.faults files.new) × (F.act files.new ≡ Act.Fetch) }
-    ensures sink_failed { result ≡ 7 → Rose (O.faults out.old) (O.faults out.new) ⊎ Rose (E.faults err.old) (E.faults err.new) }
-    ensures nothing_out { (result ≡ 2) ⊎ ((result ≡ 3) ⊎ (result ≡ 5)) → O.got out.new ≡ O.got out.old }
-    ensures in_part { (result ≡ 7) ⊎ (result ≡ 8) → IsPrintedInPart (F.told files.old) (map string_bytes words.now) (F.blame files.new) (O.got out.old) (O.got out.new) (E.got err.old) (E.got err.new) }
+    ensures arguments { result ≡ 2 →
+        IsUnasked (map string_bytes words.now)
+        × Gains (E.got err.old) (E.got err.new) arguments_line }
+    ensures refused { result ≡ 3 →
+        (line : List ℕ)
+        × IsRefusedBy (F.told files.old) (map string_bytes words.now) line
+        × Gains (E.got err.old) (E.got err.new) line }
+    ensures failed { result ≡ 5 →
+        (line : List ℕ)
+        × IsFailedBy (F.told files.old) (map string_bytes words.now) (F.blame files.new) line
+        × Gains (E.got err.old) (E.got err.new) line }
+    ensures fault { result ≡ 5 →
+        Rose (F.faults files.old) (F.faults files.new) × (F.act files.new ≡ Act.Fetch) }
+    ensures sink_failed { result ≡ 7 →
+        Rose (O.faults out.old) (O.faults out.new) ⊎ Rose (E.faults err.old) (E.faults err.new) }
+    ensures nothing_out { (result ≡ 2) ⊎ ((result ≡ 3) ⊎ (result ≡ 5)) →
+        O.got out.new ≡ O.got out.old }
+    ensures in_part { (result ≡ 7) ⊎ (result ≡ 8) →
+        IsPrintedInPart
+        (F.told files.old) (map string_bytes words.now) (F.blame files.new)
+        (O.got out.old) (O.got out.new) (E.got err.old) (E.got err.new) }
 
     // Where contents are told, what the files hold decides how the call ends, but for faults and want of memory.
-    ensures unasked { IsUnasked (map string_bytes words.now) → (result ≡ 2) ⊎ ((result ≡ 7) ⊎ (result ≡ 8)) }
-    ensures takes { (contents : List ℕ → Option (List ℕ)) (asked : Validate) (i : Inputs) → F.told files.old ≡ Some contents → IsAsked (map string_bytes words.now) asked → IsTaken (F.told files.old) asked i → (result ≡ 0) ⊎ ((result ≡ 1) ⊎ IsInterrupted result) }
-    ensures refuses { (contents : List ℕ → Option (List ℕ)) (asked : Validate) (refusal : Refusal) → F.told files.old ≡ Some contents → IsAsked (map string_bytes words.now) asked → IsRefused (F.told files.old) asked refusal → (result ≡ 3) ⊎ IsInterrupted result }
-    ensures misses { (contents : List ℕ → Option (List ℕ)) (asked : Validate) (file : File) → F.told files.old ≡ Some contents → IsAsked (map string_bytes words.now) asked → IsAbsent (F.told files.old) asked file → IsInterrupted result }
-    ensures ends { (contents : List ℕ → Option (List ℕ)) (asked : Validate) (i : Inputs) → F.told files.old ≡ Some contents → IsAsked (map string_bytes words.now) asked → IsTaken (F.told files.old) asked i
-        → ¬ Rose (F.faults files.old) (F.faults files.new) → ¬ Rose (O.faults out.old) (O.faults out.new) → ¬ Rose (E.faults err.old) (E.faults err.new) → (result ≡ 0) ⊎ ((result ≡ 1) ⊎ (result ≡ 8)) }
+    ensures unasked { IsUnasked (map string_bytes words.now) →
+        (result ≡ 2) ⊎ ((result ≡ 7) ⊎ (result ≡ 8)) }
+    ensures takes { (contents : List ℕ → Option (List ℕ)) (asked : Validate) (i : Inputs) →
+        F.told files.old ≡ Some contents → IsAsked (map string_bytes words.now) asked →
+        IsTaken (F.told files.old) asked i → (result ≡ 0) ⊎ ((result ≡ 1) ⊎ IsInterrupted result) }
+    ensures refuses { (contents : List ℕ → Option (List ℕ)) (asked : Validate) (refusal : Refusal) →
+        F.told files.old ≡ Some contents → IsAsked (map string_bytes words.now) asked →
+        IsRefused (F.told files.old) asked refusal → (result ≡ 3) ⊎ IsInterrupted result }
+    ensures misses { (contents : List ℕ → Option (List ℕ)) (asked : Validate) (file : File) →
+        F.told files.old ≡ Some contents → IsAsked (map string_bytes words.now) asked →
+        IsAbsent (F.told files.old) asked file → IsInterrupted result }
+    ensures ends { (contents : List ℕ → Option (List ℕ)) (asked : Validate) (i : Inputs) →
+        F.told files.old ≡ Some contents → IsAsked (map string_bytes words.now) asked →
+        IsTaken (F.told files.old) asked i → ¬ Rose (F.faults files.old) (F.faults files.new) →
+        ¬ Rose (O.faults out.old) (O.faults out.new) → ¬ Rose (E.faults err.old) (E.faults err.new) →
+        (result ≡ 0) ⊎ ((result ≡ 1) ⊎ (result ≡ 8)) }
 
     // Faults that came are said, and the files stay.
     ensures files_fault { F.faults files.old < F.faults files.new → IsInterrupted result }
-    ensures sink_fault { (O.faults out.old < O.faults out.new) ⊎ (E.faults err.old < E.faults err.new) → result ≡ 7 }
+    ensures sink_fault { (O.faults out.old < O.faults out.new) ⊎ (E.faults err.old < E.faults err.new) →
+        result ≡ 7 }
     ensures told_stays { F.told files.new ≡ F.told files.old }
 {
     end(alloc, words, files, out, err)
