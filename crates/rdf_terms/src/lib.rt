@@ -4,4 +4,6 @@
 pub mod items;
 pub mod table;
 pub mod terms;
+#[cfg(test)]
+mod tests;
 pub mod text;

@@ -1,0 +1,84 @@
+use crate::items::Items;
+use crate::table::TermTable;
+use crate::terms::{Literal, Name, Term, TermId};
+use crate::text::Text;
+use std::process::Abort;
+use std::test::Fail;
+
+/// The term of an IRI.
+fn iri(rt: &(impl Abort + AllocGlobal), text: &str) -> Result<Term, Fail> {
+    Ok(Term::Iri(Text::from_str(rt.alloc(), text)?))
+}
+
+/// The term of a plain literal.
+fn plain(rt: &(impl Abort + AllocGlobal), text: &str) -> Result<Term, Fail> {
+    let lex = Text::from_str(rt.alloc(), text)?;
+    Ok(Term::Lit(Literal::plain(rt.alloc(), lex)?))
+}
+
+/// The term of a labelled blank node.
+fn blank(rt: &(impl Abort + AllocGlobal), label: &str) -> Result<Term, Fail> {
+    Ok(Term::Blank(Name::Label(Text::from_str(rt.alloc(), label)?)))
+}
+
+#[test]
+fn texts_are_compared_by_their_characters(rt: HostRuntime) -> Result<(), Fail> {
+    for (one, other, same) in [
+        ("", "", true),
+        ("a\u{e9}\u{1f600}", "a\u{e9}\u{1f600}", true),
+        ("a", "", false),
+        ("a", "ab", false),
+        ("e\u{301}", "\u{e9}", false),
+    ] {
+        let text = Text::from_str(rt.alloc(), one)?;
+        let second = Text::from_string(String::from_str(rt.alloc(), other)?);
+        assert_eq!(rt; text.as_str(), one);
+        assert_eq!(rt; second.as_str(), other);
+        assert_eq!(rt; text == second, same, "{one:?} and {other:?}");
+    }
+    Ok(())
+}
+
+#[test]
+fn a_table_numbers_each_term_once(rt: HostRuntime) -> Result<(), Fail> {
+    let mut table = TermTable::new(rt.alloc());
+    assert!(rt; table.is_empty());
+    let terms = [
+        (iri(&rt, "http://a.example/")?, 0),
+        (plain(&rt, "http://a.example/")?, 1),
+        (blank(&rt, "http://a.example/")?, 2),
+        (iri(&rt, "http://a.example/")?, 0),
+        (Term::Blank(Name::Fresh(1)), 3),
+        (blank(&rt, "1")?, 4),
+        (Term::Blank(Name::Fresh(1)), 3),
+        (plain(&rt, "http://a.example/")?, 1),
+        (plain(&rt, "")?, 5),
+    ];
+    for (term, number) in terms {
+        let id = table.put(term)?;
+        assert_eq!(rt; id, TermId(number));
+    }
+    assert_eq!(rt; table.len(), 6);
+    for (term, found) in [
+        (iri(&rt, "http://a.example/")?, Some(TermId(0))),
+        (Term::Blank(Name::Fresh(1)), Some(TermId(3))),
+        (plain(&rt, "")?, Some(TermId(5))),
+        (iri(&rt, "")?, None),
+        (Term::Blank(Name::Fresh(2)), None),
+    ] {
+        assert_eq!(rt; table.find(&term), found);
+        if let Some(id) = found {
+            assert!(rt; (id.0 as usize) < table.len());
+            assert!(rt; *table.get(id) == term);
+        }
+    }
+    Ok(())
+}
+
+#[test]
+fn items_keep_their_order(rt: HostRuntime) -> Result<(), Fail> {
+    let items = Items::of(vec![in rt.alloc(); 3, 1, 3]?);
+    assert_eq!(rt; items.as_slice(), [3, 1, 3].as_slice());
+    assert_eq!(rt; items.into_vec().as_slice(), [3, 1, 3].as_slice());
+    Ok(())
+}
