@@ -6,3 +6,13 @@ pub mod Shapes
 pub mod Edges
 pub mod Typings
 pub mod Loaded
+pub mod Order
+pub mod Relevant
+pub mod Width
+pub mod Sure
+pub mod Places
+pub mod States
+pub mod Dealt
+pub mod Needs
+pub mod Removal
+pub mod Cycles

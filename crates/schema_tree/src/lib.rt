@@ -3,3 +3,4 @@
 
 pub mod labels;
 pub mod schema;
+pub mod verdicts;
