@@ -16,3 +16,4 @@ pub mod Dealt
 pub mod Needs
 pub mod Removal
 pub mod Cycles
+pub mod Laws

@@ -2,5 +2,6 @@
 #![tactic(auto)]
 
 pub mod labels;
+pub mod laws;
 pub mod schema;
 pub mod verdicts;
