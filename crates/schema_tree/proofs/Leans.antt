@@ -1,6 +1,6 @@
 -- What is sure under a view is true of every typing that agrees with it, and so are placements.
-use Rattle.std.proofs.Common.{ℕ, zero, suc, List, [], ◌∷◌, Bool, true, false, filter}
-use Rattle.std.specs.Prelude.{Option, Some, None, slice_get}
+use Rattle.std.proofs.Common.{◌≡◌, refl, ℕ, zero, suc, List, [], ◌∷◌, Bool, true, false, filter}
+use Rattle.std.specs.Prelude.{Contains, Option, Some, None, slice_get}
 use Rattle.std.specs.List.{list_any}
 use Rattle.std.specs.List.Sorted.{IsPermutation}
 use Rattle.rdf_terms.specs.declared.terms.TermId.{TermId}
@@ -21,14 +21,15 @@ use Rattle.schema_tree.specs.declared.verdicts.Place.{Place}
 use Rattle.schema_tree.specs.declared.verdicts.Place.TheVariants.{At, Rest}
 use Rattle.schema_tree.specs.Entries.{entry}
 use Rattle.schema_tree.specs.Satisfies.{Sat, SatWithin, SatEntry}
-use Rattle.schema_tree.specs.Matches.{SatValue, other_end}
+use Rattle.schema_tree.specs.Matches.{SatValue, fits, other_end}
 use Rattle.schema_tree.specs.Shapes.{ShapeHolds}
 use Rattle.schema_tree.specs.Sure.{Known, SureWithin, SureEntry, Agrees}
 use Rattle.schema_tree.specs.Places.{MayHold, MayFail, MayTake, MayStay, MayStayOut, IsAllowed, AreAllowed, HasPlaces}
 use Rattle.schema_tree.proofs.ToPlaces.{to_places}
 use Rattle.schema_tree.proofs.FromPlaces.{from_places}
 use Rattle.schema_tree.proofs.Made.{IsWellMade}
-use Rattle.schema_tree.proofs.Lists.{all_weaker, some_weaker, some_against}
+use Rattle.schema_tree.proofs.Lists.{all_weaker, got_in, in_filter, some_weaker, some_against}
+use Rattle.schema_tree.proofs.Members.{is_first, is_later}
 use Rattle.schema_tree.specs.Relevant.{is_relevant, is_forward}
 
 module _ (s : Schema) (terms : List Term) (view : Known) (T : List Pair) (agrees : Agrees T view) (n : TermId) where
@@ -58,32 +59,40 @@ module _ (s : Schema) (terms : List Term) (view : Known) (T : List Pair) (agrees
     no_entry (SureWithin k s terms view n) (SatWithin k s terms T n) (λ d. (sure_sound k d).0) (λ d. (sure_sound k d).1) (entry s e),
   )
 
-module _ (hold fail hold' fail' : TermId → Option ExprId → Type 0) (sh : Shape) (n : TermId)
-    (h : (m : TermId) (v : Option ExprId) → hold m v → hold' m v) (f : (m : TermId) (v : Option ExprId) → fail m v → fail' m v) where
-  allowed_weaker : (t : Triple) (p : Place) → IsAllowed hold fail sh n t p → IsAllowed hold' fail' sh n t p
-  allowed_weaker t (At i) a = take (slice_get sh.occs i) a
+-- what may hold and fail of the values may do so of more, at the ends of the triples that base holds of
+module _ (hold fail hold' fail' : TermId → Option ExprId → Type 0) (sh : Shape) (n : TermId) (base : Triple → Type 0)
+    (h : (t : Triple) (o : Occurrence) → base t → Contains sh.occs o → fits o n t ≡ true → hold (other_end o.inverse t) o.value → hold' (other_end o.inverse t) o.value)
+    (f : (t : Triple) (o : Occurrence) → base t → Contains sh.occs o → is_forward n t o ≡ true → fail t.o o.value → fail' t.o o.value) where
+  allowed_weaker : (t : Triple) (p : Place) → base t → IsAllowed hold fail sh n t p → IsAllowed hold' fail' sh n t p
+  allowed_weaker t (At i) in_base a = take (slice_get sh.occs i) refl a
     where
-      take : (x : Option Occurrence) → MayTake hold fail sh n t x → MayTake hold' fail' sh n t x
-      take None b = b
-      take (Some o) b = (b.0, h (other_end o.inverse t) o.value b.1)
-  allowed_weaker t Rest a = stay (same_id t.s n) a
+      take : (x : Option Occurrence) → slice_get sh.occs i ≡ x → MayTake hold fail sh n t x → MayTake hold' fail' sh n t x
+      take None is b = b
+      take (Some o) is b = (b.0, h t o in_base (got_in sh.occs i o is) b.0 b.1)
+  allowed_weaker t Rest in_base a = stay (same_id t.s n) a
     where
       out : (b : Bool) → MayStayOut hold fail sh n t b → MayStayOut hold' fail' sh n t b
-      out true c = (c.0, all_weaker (λ o. fail t.o o.value) (λ o. fail' t.o o.value) (filter (is_forward n t) sh.occs) (λ o i. f t.o o.value) c.1)
+      out true c = (
+        c.0,
+        all_weaker (λ o. fail t.o o.value) (λ o. fail' t.o o.value) (filter (is_forward n t) sh.occs)
+            (λ o i. let m = in_filter (is_forward n t) sh.occs o i in f t o in_base m.0 m.1) c.1,
+      )
       out false c = c
 
       stay : (b : Bool) → MayStay hold fail sh n t b → MayStay hold' fail' sh n t b
       stay true c = out (list_any (is_forward n t) sh.occs) c
       stay false c = c
 
-  all_weaker_allowed : (ts : List Triple) (ps : List Place) → AreAllowed hold fail sh n ts ps → AreAllowed hold' fail' sh n ts ps
-  all_weaker_allowed [] [] a = a
-  all_weaker_allowed [] (p ∷ ps) a = a
-  all_weaker_allowed (t ∷ ts) [] a = a
-  all_weaker_allowed (t ∷ ts) (p ∷ ps) a = (allowed_weaker t p a.0, all_weaker_allowed ts ps a.1)
+  all_weaker_allowed : (ts : List Triple) (ps : List Place) → ((t : Triple) → Contains ts t → base t) → AreAllowed hold fail sh n ts ps → AreAllowed hold' fail' sh n ts ps
+  all_weaker_allowed [] [] inside a = a
+  all_weaker_allowed [] (p ∷ ps) inside a = a
+  all_weaker_allowed (t ∷ ts) [] inside a = a
+  all_weaker_allowed (t ∷ ts) (p ∷ ps) inside a =
+      (allowed_weaker t p (inside t (is_first t ts)) a.0, all_weaker_allowed ts ps (λ u c. inside u (is_later t ts u c)) a.1)
 
-  pub places_weaker : (g ts : List Triple) → HasPlaces hold fail g sh n ts → HasPlaces hold' fail' g sh n ts
-  places_weaker g ts r = record { open_to = r.open_to; places = r.places; allowed = all_weaker_allowed ts r.places r.allowed; spelled = r.spelled }
+  pub places_weaker : (g ts : List Triple) → ((t : Triple) → Contains ts t → base t) → HasPlaces hold fail g sh n ts → HasPlaces hold' fail' g sh n ts
+  places_weaker g ts inside r =
+      record { open_to = r.open_to; places = r.places; allowed = all_weaker_allowed ts r.places inside r.allowed; spelled = r.spelled }
 
 module _ (s : Schema) (terms : List Term) (g : List Triple) (view : Known) (T : List Pair) (agrees : Agrees T view) (sh : Shape) (made : IsWellMade sh) (n : TermId)
     (order : List Triple) (ordered : IsPermutation (neigh g n) order) where
@@ -106,9 +115,12 @@ module _ (s : Schema) (terms : List Term) (g : List Triple) (view : Known) (T : 
   -- a placement for which Unknown is impossible holds under every typing that agrees with the view
   pub placed_true :
       HasPlaces (MayHold s terms view Impossible) (MayFail s terms view Impossible) g sh n (filter (is_relevant sh.occs n) order) → ShapeHolds (Sat s terms T) g n (Some sh)
-  placed_true h = from_places (Sat s terms T) g sh n made order ordered (places_weaker _ _ _ _ sh n yes_value no_value g _ h)
+  placed_true h = from_places (Sat s terms T) g sh n made order ordered
+      (places_weaker _ _ _ _ sh n (λ t. Unit {0}) (λ t o b of fit. yes_value _ o.value) (λ t o b of fit. no_value _ o.value) g _ (λ t c. tt) h)
 
   -- where there is none for which Unknown is possible, none is had under any such typing
   pub never_true :
       ¬ HasPlaces (MayHold s terms view Possible) (MayFail s terms view Possible) g sh n (filter (is_relevant sh.occs n) order) → ¬ ShapeHolds (Sat s terms T) g n (Some sh)
-  never_true none h = none (places_weaker _ _ _ _ sh n may_hold may_fail g _ (to_places (Sat s terms T) g sh n (λ c e. (made c e).0) order ordered h))
+  never_true none h =
+      none (places_weaker _ _ _ _ sh n (λ t. Unit {0}) (λ t o b of fit. may_hold _ o.value) (λ t o b of fit. may_fail _ o.value) g _ (λ t c. tt)
+      (to_places (Sat s terms T) g sh n (λ c e. (made c e).0) order ordered h))

@@ -23,5 +23,6 @@ pub mod Leans
 pub mod Decide
 pub mod Exists
 pub mod Whole
+pub mod ExactViews
 pub mod Closed
 pub mod Truth

@@ -1,4 +1,4 @@
--- On a stratum the pairs that refinement keeps are in the complete typing, and those that went are not.
+-- The pairs that refinement keeps are in the complete typing, and those that went are not: on a stratum, and on all.
 use Rattle.std.proofs.Common.{◌≡◌, ℕ, zero, suc, ◌<◌, ◌≤◌, inl, inr, List, [], ◌∷◌, ◌++◌, refl, arith, sym, subst, ap, ◌∙◌, length, take, get_or}
 use Rattle.std.proofs.Math.Seq.{take-suc}
 use Rattle.std.proofs.lemmas.Option.{slice_get-get_or}
@@ -15,7 +15,7 @@ use Rattle.schema_tree.specs.Entries.{shape_at}
 use Rattle.schema_tree.specs.Shapes.{ShapeOk, ShapeHolds}
 use Rattle.schema_tree.specs.Satisfies.{Sat}
 use Rattle.schema_tree.specs.Edges.{level}
-use Rattle.schema_tree.specs.Typings.{IsPartOf, IsGreatestAt, IsRival, below}
+use Rattle.schema_tree.specs.Typings.{IsComplete, IsGreatestAt, IsPartOf, IsRival, IsTheTyping, below, top_of}
 use Rattle.schema_tree.specs.Sure.{Known, Agrees}
 use Rattle.schema_tree.proofs.Members.{not_in_none, in_one}
 use Rattle.schema_tree.proofs.Made.{well_made}
@@ -26,7 +26,7 @@ use Rattle.std.proofs.lemmas.Option.{slice_get_within}
 use Rattle.schema_tree.specs.declared.verdicts.Lean.{Lean}
 use Rattle.schema_tree.specs.Loaded.{IsLoaded}
 use Rattle.schema_tree.specs.Order.{neighbourhood}
-use Rattle.schema_tree.specs.Removal.{IsRefinedAt}
+use Rattle.schema_tree.specs.Removal.{AreRefinedBelow, IsRefined, IsRefinedAt}
 use Rattle.schema_tree.proofs.Ordered.{ordered_same}
 use Rattle.std.proofs.Math.Seq.{take-length}
 use Rattle.schema_tree.proofs.Below.{in_below, out_below}
@@ -57,6 +57,12 @@ module _ (s : Schema) (terms : List Term) (g : List Triple) (loaded : IsLoaded s
       go : (x : Option Shape) → shape_at s p.shape ≡ x → CanMatch s terms g view lean p.node x → p.shape.0 < length s.shapes
       go None e h = absurd h
       go (Some sh) e h = slice_get_within s.shapes p.shape.0 sh e
+
+  -- the pairs that went on a stratum are of it
+  on_stratum :
+      (f : List ℕ) (k : ℕ) (pairs : List Pair) (budget : ℕ) (lower : Known) (gone kept : List Pair) → IsRefinedAt s terms g f pairs budget lower k gone kept →
+      (p : Pair) → Contains gone p → level f p.shape ≡ k
+  on_stratum f k pairs budget lower gone kept r p (i, within, at) = (r.in_turn i p (slice_get-get_or gone i p within ∙ ap (λ q. Some q) at)).0.0.1
 
   module _ (f : List ℕ) (U : List TermId) (K : List Pair) (k : ℕ) (complete : IsGreatestAt s terms g f U K k) (lower : Known)
       (yes_below : (p : Pair) → Contains lower.yes p → Contains K p × (level f p.shape < k)) (no_below : (p : Pair) → Contains lower.no p → ¬ Contains K p) where
@@ -159,4 +165,46 @@ module _ (s : Schema) (terms : List Term) (g : List Triple) (loaded : IsLoaded s
     )
       where
         on : (p : Pair) → Contains gone p → level f p.shape ≡ k
-        on p (i, within, at) = (r.in_turn i p (slice_get-get_or gone i p within ∙ ap (λ q. Some q) at)).0.0.1
+        on = on_stratum f k pairs budget lower gone kept r
+
+  module _ (f : List ℕ) (U : List TermId) (pairs : List Pair) (budget : ℕ) (nodes : (p : Pair) → Contains pairs p → Contains U p.node) where
+    -- what the verdicts up to a stratum say of a typing: the Yes pairs are in it and the No pairs are not, all up to there
+    record AreTrueTo (T : List Pair) (k : ℕ) (known : Known) : Type 0 where
+      pub ins : (p : Pair) → Contains known.yes p → Contains T p × (level f p.shape ≤ k)
+      pub outs : (p : Pair) → Contains known.no p → (¬ Contains T p) × (level f p.shape ≤ k)
+
+    -- on one stratum more
+    one_more :
+        (T : List Pair) (k : ℕ) → IsGreatestAt s terms g f U T k → (lower : Known) →
+        ((p : Pair) → Contains lower.yes p → Contains T p × (level f p.shape < k)) → ((p : Pair) → Contains lower.no p → (¬ Contains T p) × (level f p.shape < k)) →
+        (gone kept : List Pair) → IsRefinedAt s terms g f pairs budget lower k gone kept →
+        (known : Known) → known.yes ≡ lower.yes ++ kept → known.no ≡ lower.no ++ gone → AreTrueTo T k known
+    one_more T k complete lower plus minus gone kept r known yes_is no_is = record {
+      ins = λ p c. elim (Contains-append_cases lower.yes kept p (subst (λ ps. Contains ps p) yes_is c)) [
+        | inl l ↦ (let t = plus p l in let lt = t.1 in (t.0, omega arith))
+        | inr m ↦ (let at = (r.confirmed p m).0.1 in (both.0 p m, omega arith))
+      ];
+      outs = λ p c. elim (Contains-append_cases lower.no gone p (subst (λ ps. Contains ps p) no_is c)) [
+        | inl l ↦ (let t = minus p l in let lt = t.1 in (t.0, omega arith))
+        | inr m ↦ (let at = on_stratum f k pairs budget lower gone kept r p m in (both.1 p m, omega arith))
+      ];
+    }
+      where
+        both : IsPartOf kept T × ((p : Pair) → Contains gone p → ¬ Contains T p)
+        both = refined_true f U T k complete lower plus (λ p c. (minus p c).0) pairs budget nodes gone kept r
+
+    refined_to : (k : ℕ) (T : List Pair) → IsComplete s terms g f U T k → (known : Known) → AreRefinedBelow s terms g f pairs budget (suc k) known → AreTrueTo T k known
+    refined_to zero T complete known (lower, gone, kept, (no_yes, no_no), r, yes_is, no_is) =
+        one_more T zero complete lower
+        (λ p c. absurd (not_in_none p (subst (λ ps. Contains ps p) no_yes c))) (λ p c. absurd (not_in_none p (subst (λ ps. Contains ps p) no_no c)))
+        gone kept r known yes_is no_is
+    refined_to (suc k) T complete known (lower, gone, kept, before, r, yes_is, no_is) =
+        let t = refined_to k (below f (suc k) T) complete.1 lower before in
+        one_more T (suc k) complete.0 lower (λ p c. out_below f (suc k) T p (t.ins p c).0)
+        (λ p c. let out = t.outs p c in let le = out.1 in ((λ held. out.0 (in_below f (suc k) T p held (omega arith))), omega arith))
+        gone kept r known yes_is no_is
+
+    -- the verdicts of refinement on all strata are true of the complete typing
+    pub all_true : (T : List Pair) → IsTheTyping s terms g f U T → (known : Known) → IsRefined s terms g f pairs budget known → Agrees T known
+    all_true T complete known refined =
+        let t = refined_to (top_of f) T complete known refined in ((λ p c. (t.ins p c).0), (λ p (not_yes, c). (t.outs p c).0))

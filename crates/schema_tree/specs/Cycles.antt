@@ -16,7 +16,8 @@ AreLinked s i (j ∷ js) end = Edge s i j × AreLinked s j js end
 -- the same, and one of the edges is negative
 abbrev pub AreLinkedBadly : Schema → ShapeId → List ShapeId → ShapeId → Type 0
 AreLinkedBadly s i [] end = (e : Edge s i end) × IsNegative e
-AreLinkedBadly s i (j ∷ js) end = (((e : Edge s i j) × IsNegative e) × AreLinked s j js end) ⊎ (Edge s i j × AreLinkedBadly s j js end)
+AreLinkedBadly s i (j ∷ js) end =
+    (((e : Edge s i j) × IsNegative e) × AreLinked s j js end) ⊎ (Edge s i j × AreLinkedBadly s j js end)
 
 -- the Shapes of a cycle that has a negative edge, from one of them round to it
 abbrev pub IsNegatedCycle : Schema → List ShapeId → Type 0

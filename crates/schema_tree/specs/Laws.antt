@@ -29,11 +29,12 @@ use Rattle.schema_tree.specs.Typings.{HaveSame, HoldsEnds, IsGreatestAt, IsPartO
 use Rattle.schema_tree.specs.Loaded.{IsLoaded}
 use Rattle.schema_tree.specs.Order.{neighbourhood}
 use Rattle.schema_tree.specs.Relevant.{is_relevant, relevant_in_order}
-use Rattle.schema_tree.specs.Sure.{Agrees, IsSure, Known, SureEntry, SureWithin}
+use Rattle.schema_tree.specs.Sure.{Agrees, IsSure, Known, PairIs, SureEntry, SureWithin}
 use Rattle.schema_tree.specs.Places.{AreAllowed, CanMatch, HasPlaces, HaveCounts, MayFail, MayHold, PairCanMatch, times}
 use Rattle.schema_tree.specs.States.{AreClosed, IsCovered, opening}
 use Rattle.schema_tree.specs.Dealt.{AreDealt, ArePlaced}
-use Rattle.schema_tree.specs.Removal.{IsRefinedAt}
+use Rattle.schema_tree.specs.Needs.{Needs}
+use Rattle.schema_tree.specs.Removal.{IsRefined, IsRefinedAt}
 use Rattle.schema_tree.specs.Cycles.{HasNegatedCycle, IsNegatedCycle}
 
 -- two complete typings over one list of terms have the same pairs
@@ -57,7 +58,14 @@ StrataAlike =
     IsTheTyping s terms g f U T → IsTheTyping s terms g h V W →
     (p : Pair) → Contains U p.node → Contains V p.node → Contains T p ↔ Contains W p
 
--- and they give the same answers for it
+-- so those over one list have the same pairs
+abbrev pub StrataGiveOneTyping : Type 0
+StrataGiveOneTyping =
+    (s : Schema) (terms : List Term) (g : List Triple) (f h : List ℕ) (U : List TermId) (T W : List Pair) →
+    IsStratified s f → IsStratified s h → HoldsEnds U g →
+    IsTheTyping s terms g f U T → IsTheTyping s terms g h U W → HaveSame T W
+
+-- and those over two lists give the same answers for a node that stands in both
 abbrev pub AnswersAlike : Type 0
 AnswersAlike =
     (s : Schema) (terms : List Term) (g : List Triple) (f h : List ℕ) (U V : List TermId) (T W : List Pair) →
@@ -105,7 +113,8 @@ SatIsItsLayer =
 -- and any two bounds on the members of members that are above its number ask the same
 abbrev pub SatKnowsNoBound : Type 0
 SatKnowsNoBound =
-    (s : Schema) (terms : List Term) (T : List Pair) (n : TermId) (e : ExprId) (k m : ℕ) → IsLoaded s → e.0 < k → e.0 < m →
+    (s : Schema) (terms : List Term) (T : List Pair) (n : TermId) (e : ExprId) (k m : ℕ) →
+    IsLoaded s → e.0 < k → e.0 < m →
     SatWithin k s terms T n e ↔ SatWithin m s terms T n e
 
 -- the same of verdicts: that on an expression is its own layer's over those on its members
@@ -117,7 +126,8 @@ SureIsItsLayer =
 -- whatever the bound
 abbrev pub SureKnowsNoBound : Type 0
 SureKnowsNoBound =
-    (s : Schema) (terms : List Term) (view : Known) (n : TermId) (e : ExprId) (v : Verdict) (k m : ℕ) → IsLoaded s → e.0 < k → e.0 < m →
+    (s : Schema) (terms : List Term) (view : Known) (n : TermId) (e : ExprId) (v : Verdict) (k m : ℕ) →
+    IsLoaded s → e.0 < k → e.0 < m →
     SureWithin k s terms view n e v ↔ SureWithin m s terms view n e v
 
 -- an expression stays satisfied where the pairs of the node with the Shapes that stand in it stay, and none with a Shape
@@ -135,36 +145,41 @@ abbrev pub ShapesFollowEdges : Type 0
 ShapesFollowEdges =
     (s : Schema) (terms : List Term) (g : List Triple) (U : List TermId) (T W : List Pair) (i : ShapeId) → HoldsEnds U g →
     ((j : ShapeId) → Edge s i j → (m : TermId) → Contains U m → Contains T (pair_of m j) → Contains W (pair_of m j)) →
-    ((j : ShapeId) (e : Edge s i j) → IsNegative e → (m : TermId) → Contains U m → Contains W (pair_of m j) → Contains T (pair_of m j)) →
+    ((j : ShapeId) (e : Edge s i j) → IsNegative e →
+    (m : TermId) → Contains U m → Contains W (pair_of m j) → Contains T (pair_of m j)) →
     (n : TermId) → ShapeOk s terms g T n i → ShapeOk s terms g W n i
 
 -- a node keeps a Shape of the stratum k where pairs of that stratum come to a typing and those below it stay as they are
 abbrev pub ShapesGrow : Type 0
 ShapesGrow =
     (s : Schema) (terms : List Term) (g : List Triple) (f : List ℕ) (k : ℕ) (T W : List Pair) → IsStratified s f →
-    ((p : Pair) → level f p.shape ≤ k → Contains T p → Contains W p) → ((p : Pair) → level f p.shape < k → Contains W p → Contains T p) →
+    ((p : Pair) → level f p.shape ≤ k → Contains T p → Contains W p) →
+    ((p : Pair) → level f p.shape < k → Contains W p → Contains T p) →
     (n : TermId) (i : ShapeId) → level f i ≡ k → ShapeOk s terms g T n i → ShapeOk s terms g W n i
 
 -- triples deal into k parts that each match an expression only where places for them spell k copies of it
 abbrev pub PartsSpellCopies : Type 0
 PartsSpellCopies =
-    (s : Schema) (terms : List Term) (T : List Pair) (occs : List Occurrence) (n : TermId) (c : Plan) (k : ℕ) (ts : List Triple) → IsDistinct c →
+    (s : Schema) (terms : List Term) (T : List Pair) (occs : List Occurrence) (n : TermId) (c : Plan) (k : ℕ) (ts : List Triple) →
+    IsDistinct c →
     AreDealt (Sat s terms T) occs n c k ts → ArePlaced (Sat s terms T) occs n c k ts
 
 -- and wherever they do
 abbrev pub CopiesGiveParts : Type 0
 CopiesGiveParts =
-    (s : Schema) (terms : List Term) (T : List Pair) (occs : List Occurrence) (n : TermId) (c : Plan) (k : ℕ) (ts : List Triple) → IsDistinct c → IsSound c →
+    (s : Schema) (terms : List Term) (T : List Pair) (occs : List Occurrence) (n : TermId) (c : Plan) (k : ℕ) (ts : List Triple) →
+    IsDistinct c → IsSound c →
     ArePlaced (Sat s terms T) occs n c k ts → AreDealt (Sat s terms T) occs n c k ts
 
 -- a node has a Shape exactly where the pair is not shut and some allowed places, one for each relevant triple, have
 -- matching counts, in whatever order the neighbourhood is read
 abbrev pub ShapesArePlaces : Type 0
 ShapesArePlaces =
-    (s : Schema) (terms : List Term) (g order : List Triple) (T : List Pair) (n : TermId) (i : ShapeId) (sh : Shape) → IsLoaded s → shape_at s i ≡ Some sh →
-    IsPermutation (neigh g n) order →
+    (s : Schema) (terms : List Term) (g order : List Triple) (T : List Pair) (n : TermId) (i : ShapeId) (sh : Shape) →
+    IsLoaded s → shape_at s i ≡ Some sh → IsPermutation (neigh g n) order →
     ShapeOk s terms g T n i
-    ↔ HasPlaces (λ m v. SatValue (Sat s terms T m) v) (λ m v. ¬ SatValue (Sat s terms T m) v) g sh n (filter (is_relevant sh.occs n) order)
+    ↔ HasPlaces (λ m v. SatValue (Sat s terms T m) v) (λ m v. ¬ SatValue (Sat s terms T m) v) g sh n
+    (filter (is_relevant sh.occs n) order)
 
 -- the order of a neighbourhood has its triples, each as often
 abbrev pub OrderIsWhole : Type 0
@@ -181,6 +196,11 @@ abbrev pub OneVerdict : Type 0
 OneVerdict =
     (s : Schema) (terms : List Term) (view : Known) (n : TermId) (e : ExprId) (v w : Verdict) →
     IsSure s terms view n e v → IsSure s terms view n e w → v ≡ w
+
+-- and one is
+abbrev pub SomeVerdict : Type 0
+SomeVerdict =
+    (s : Schema) (terms : List Term) (view : Known) (n : TermId) (e : ExprId) → (v : Verdict) × IsSure s terms view n e v
 
 -- a pair that matches where Unknown is impossible has its Shape in every typing that agrees
 abbrev pub MatchIsTrue : Type 0
@@ -210,12 +230,30 @@ StatesRefute =
     AreClosed (MayHold s terms view lean) (MayFail s terms view lean) sh n (relevant_in_order terms g sh n) states →
     IsCovered sh n (relevant_in_order terms g sh n) states (opening sh) → ¬ CanMatch s terms g view lean n (Some sh)
 
+-- where the view answers Yes or No, as the typing does, for each pair that a pair needs, it can match exactly where it has
+-- its Shape, however Unknown counts
+abbrev pub MatchIsExact : Type 0
+MatchIsExact =
+    (s : Schema) (terms : List Term) (g : List Triple) (view : Known) (T : List Pair) (p : Pair) (lean : Lean) → IsLoaded s →
+    ((q : Pair) → Needs s g p q → (Contains T q → PairIs view q Yes) × (¬ Contains T q → PairIs view q No)) →
+    PairCanMatch s terms g view lean p ↔ ShapeOk s terms g T p.node p.shape
+
 -- the pairs that refinement keeps on a stratum are in the complete typing, and those that went are not, where that is so
 -- of the verdicts below the stratum
-abbrev pub RefinementIsTrue : Type 0
-RefinementIsTrue =
-    (s : Schema) (terms : List Term) (g : List Triple) (f : List ℕ) (U : List TermId) (T : List Pair) (k : ℕ) → IsLoaded s → IsGreatestAt s terms g f U T k →
-    (lower : Known) → ((p : Pair) → Contains lower.yes p → Contains T p × (level f p.shape < k)) → ((p : Pair) → Contains lower.no p → ¬ Contains T p) →
+abbrev pub StratumIsTrue : Type 0
+StratumIsTrue =
+    (s : Schema) (terms : List Term) (g : List Triple) (f : List ℕ) (U : List TermId) (T : List Pair) (k : ℕ) →
+    IsLoaded s → IsGreatestAt s terms g f U T k →
+    (lower : Known) → ((p : Pair) → Contains lower.yes p → Contains T p × (level f p.shape < k)) →
+    ((p : Pair) → Contains lower.no p → ¬ Contains T p) →
     (pairs : List Pair) (budget : ℕ) → ((p : Pair) → Contains pairs p → Contains U p.node) →
     (gone kept : List Pair) → IsRefinedAt s terms g f pairs budget lower k gone kept →
     IsPartOf kept T × ((p : Pair) → Contains gone p → ¬ Contains T p)
+
+-- so the complete typing agrees with the verdicts of refinement on all strata
+abbrev pub RefinementIsTrue : Type 0
+RefinementIsTrue =
+    (s : Schema) (terms : List Term) (g : List Triple) (f : List ℕ) (U : List TermId) (T : List Pair) →
+    IsLoaded s → IsTheTyping s terms g f U T →
+    (pairs : List Pair) (budget : ℕ) → ((p : Pair) → Contains pairs p → Contains U p.node) →
+    (known : Known) → IsRefined s terms g f pairs budget known → Agrees T known

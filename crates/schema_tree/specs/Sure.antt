@@ -36,10 +36,12 @@ abbrev pub SureEntry : Known → List Term → TermId → (ExprId → Verdict �
 SureEntry view terms n member None v = IsNo v
 SureEntry view terms n member (Some (And es)) Yes = AllByRecursion (λ e. member e Yes) es
 SureEntry view terms n member (Some (And es)) No = SomeByRecursion (λ e. member e No) es
-SureEntry view terms n member (Some (And es)) Unknown = (¬ SomeByRecursion (λ e. member e No) es) × SomeByRecursion (λ e. member e Unknown) es
+SureEntry view terms n member (Some (And es)) Unknown =
+    (¬ SomeByRecursion (λ e. member e No) es) × SomeByRecursion (λ e. member e Unknown) es
 SureEntry view terms n member (Some (Or es)) Yes = SomeByRecursion (λ e. member e Yes) es
 SureEntry view terms n member (Some (Or es)) No = AllByRecursion (λ e. member e No) es
-SureEntry view terms n member (Some (Or es)) Unknown = (¬ SomeByRecursion (λ e. member e Yes) es) × SomeByRecursion (λ e. member e Unknown) es
+SureEntry view terms n member (Some (Or es)) Unknown =
+    (¬ SomeByRecursion (λ e. member e Yes) es) × SomeByRecursion (λ e. member e Unknown) es
 SureEntry view terms n member (Some (Not e)) Yes = member e No
 SureEntry view terms n member (Some (Not e)) No = member e Yes
 SureEntry view terms n member (Some (Not e)) Unknown = member e Unknown

@@ -1,6 +1,6 @@
 //! The laws of satisfaction and typings. Each function claims some of them by its contract, and does nothing when called.
 
-ghost use Rattle.schema_tree.specs.Laws.{AnswersAlike, CopiesGiveParts, CyclesAreLists, MatchIsTrue, NoMatchIsTrue, OneTyping, OneVerdict, OrderIsWhole, PartsSpellCopies, PathsAreShort, RefinementIsTrue, SatFollowsPairs, SatIsDecided, SatIsItsLayer, SatKnowsNoBound, ShapesAreDecided, ShapesArePlaces, ShapesFollowEdges, ShapesGrow, StatesLeadNowhere, StatesRefute, StrataAlike, StrataAreLeast, StrataAreStratified, StratifiedHasNoCycle, SureIsItsLayer, SureIsTrue, SureKnowsNoBound, TypingExists};
+ghost use Rattle.schema_tree.specs.Laws.{AnswersAlike, CopiesGiveParts, CyclesAreLists, MatchIsExact, MatchIsTrue, NoMatchIsTrue, OneTyping, OneVerdict, OrderIsWhole, PartsSpellCopies, PathsAreShort, RefinementIsTrue, SatFollowsPairs, SatIsDecided, SatIsItsLayer, SatKnowsNoBound, ShapesAreDecided, ShapesArePlaces, ShapesFollowEdges, ShapesGrow, SomeVerdict, StatesLeadNowhere, StatesRefute, StrataAlike, StrataAreLeast, StrataAreStratified, StrataGiveOneTyping, StratifiedHasNoCycle, StratumIsTrue, SureIsItsLayer, SureIsTrue, SureKnowsNoBound, TypingExists};
 
 use node_constraint::nodes_are_decided;
 
@@ -51,6 +51,7 @@ pub fn typing_is_one()
 /// Claims that neither the stratification nor the list of terms changes what a complete typing says of a node.
 pub fn strata_are_alike()
     ensures pairs { StrataAlike }
+    ensures typings { StrataGiveOneTyping }
     ensures answers { AnswersAlike }
 {}
 
@@ -68,13 +69,24 @@ pub fn shapes_are_places()
     ensures order { OrderIsWhole }
 {}
 
-/// Claims that what is sure under a view is true of every typing that agrees with it, matches included.
+/// Claims that under a view exactly one verdict is sure of a node with an expression.
+pub fn verdict_is_one()
+    ensures some { SomeVerdict }
+    ensures one { OneVerdict }
+{
+    nodes_are_decided();
+}
+
+/// Claims that what is sure under a view is true of every typing that agrees with it, matches included, and that a view
+/// which answers for all that a pair needs decides its match.
 pub fn sure_is_true()
     ensures sure { SureIsTrue }
-    ensures once { OneVerdict }
     ensures matching { MatchIsTrue }
     ensures not_matching { NoMatchIsTrue }
-{}
+    ensures exact { MatchIsExact }
+{
+    nodes_are_decided();
+}
 
 /// Claims that a list of states that is closed under allowed places, with no living state at the end, leaves no match.
 pub fn closed_states_refute()
@@ -82,7 +94,8 @@ pub fn closed_states_refute()
     ensures refuted { StatesRefute }
 {}
 
-/// Claims that the verdicts of refinement on a stratum are true of the complete typing.
+/// Claims that the verdicts of refinement are true of the complete typing: on a stratum, where those below are, and on all.
 pub fn refinement_is_true()
-    ensures { RefinementIsTrue }
+    ensures stratum { StratumIsTrue }
+    ensures whole { RefinementIsTrue }
 {}
