@@ -15,7 +15,7 @@ use Rattle.schema_tree.specs.declared.schema.ExprId.{ExprId}
 use Rattle.schema_tree.specs.declared.schema.Occurrence.{Occurrence}
 use Rattle.schema_tree.specs.declared.verdicts.Place.{Place}
 use Rattle.schema_tree.specs.declared.verdicts.Place.TheVariants.{At, Rest}
-use Rattle.schema_tree.specs.Dealt.{AreDealt, ArePlaced, AreTaken}
+use Rattle.schema_tree.specs.Copied.{AreDealt, ArePlaced, AreTaken}
 use Rattle.schema_tree.specs.Matches.{Takes}
 use Rattle.schema_tree.specs.Places.{add_place, times}
 use Rattle.schema_tree.proofs.Lifted.{lift}

@@ -32,7 +32,7 @@ use Rattle.schema_tree.specs.Relevant.{is_relevant, relevant_in_order}
 use Rattle.schema_tree.specs.Sure.{Agrees, IsSure, Known, PairIs, SureEntry, SureWithin}
 use Rattle.schema_tree.specs.Places.{AreAllowed, CanMatch, HasPlaces, HaveCounts, MayFail, MayHold, PairCanMatch, times}
 use Rattle.schema_tree.specs.States.{AreClosed, IsCovered, opening}
-use Rattle.schema_tree.specs.Dealt.{AreDealt, ArePlaced}
+use Rattle.schema_tree.specs.Copied.{AreDealt, ArePlaced}
 use Rattle.schema_tree.specs.Needs.{Needs}
 use Rattle.schema_tree.specs.Removal.{IsRefined, IsRefinedAt}
 use Rattle.schema_tree.specs.Cycles.{HasNegatedCycle, IsNegatedCycle}

@@ -12,7 +12,7 @@ pub mod Width
 pub mod Sure
 pub mod Places
 pub mod States
-pub mod Dealt
+pub mod Copied
 pub mod Needs
 pub mod Removal
 pub mod Cycles
