@@ -1,5 +1,7 @@
-pub mod SameLabels
+pub mod Dealt
+pub mod Groups
 pub mod Members
+pub mod SameLabels
 pub mod Lists
 pub mod Tests
 pub mod Below
@@ -26,3 +28,4 @@ pub mod Whole
 pub mod ExactViews
 pub mod Closed
 pub mod Truth
+pub mod Sharing

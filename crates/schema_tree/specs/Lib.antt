@@ -17,3 +17,5 @@ pub mod Needs
 pub mod Removal
 pub mod Cycles
 pub mod Laws
+pub mod Samples
+pub mod WorkedShapes

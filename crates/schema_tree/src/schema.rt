@@ -101,3 +101,14 @@ pub struct Pair {
     /// The Shape.
     pub shape: ShapeId,
 }
+
+/// Whether a node satisfies the expression of a target.
+#[derive(Debug, Drop, PartialEq, Eq)]
+pub struct Answer {
+    /// The node.
+    pub node: TermId,
+    /// What was asked.
+    pub target: Target,
+    /// Whether the node satisfies it.
+    pub holds: bool,
+}

@@ -1,0 +1,4 @@
+pub mod Objects
+pub mod Forms
+pub mod Texts
+pub mod Laws

@@ -1,0 +1,6 @@
+//! The reader of a small form of N-Triples: full IRIs, plain labels and plain strings, a statement a line.
+#![tactic(auto)]
+
+pub mod graph;
+pub mod reader;
+mod words;

@@ -1,0 +1,63 @@
+-- Triples that a Shape deals out: where they come from and how many there are.
+use Rattle.std.proofs.Common.{◌≡◌, ◌+◌, ◌≤◌, Bool, true, false, List, [], ◌∷◌, ◌++◌, arith, length, subst, filter, cond, Contains, inl, inr, length-append}
+use Rattle.std.specs.List.{AllByRecursion, flat_map}
+use Rattle.std.specs.List.Sorted.{IsPermutation}
+use Rattle.std.specs.Prelude.{slice_get}
+use Rattle.std.proofs.lemmas.List.Elements.{Contains-append_left, Contains-append_right}
+use Rattle.std.proofs.lemmas.List.Sorted.{IsPermutation-sym, length_permutation, Contains-permutation}
+use Rattle.rdf_terms.specs.declared.terms.TermId.{TermId}
+use Rattle.rdf_terms.specs.declared.terms.Triple.{Triple}
+use Rattle.tally.specs.Plan.{Plan}
+use Rattle.schema_tree.specs.declared.schema.ExprId.{ExprId}
+use Rattle.schema_tree.specs.declared.schema.Occurrence.{Occurrence}
+use Rattle.schema_tree.specs.Matches.{Deals, Matches, Takes}
+use Rattle.schema_tree.specs.Samples.{both}
+use Rattle.schema_tree.proofs.Members.{in_rest, is_first, is_later}
+
+-- what passes a filter was there
+pub from_filter : {X : Type 0} (test : X → Bool) (xs : List X) (x : X) → Contains (filter test xs) x → Contains xs x
+from_filter test [] x h = h
+from_filter test (y ∷ ys) x h = go (test y) h (from_filter test ys x)
+  where
+    go : (b : Bool) → Contains (cond b (y ∷ filter test ys) (filter test ys)) x → (Contains (filter test ys) x → Contains ys x) → Contains (y ∷ ys) x
+    go false later deeper = is_later y ys x (deeper later)
+    go true there deeper = elim (in_rest y (filter test ys) x there) [
+      | inl same ↦ subst (λ z. Contains (y ∷ ys) z) same (is_first y ys)
+      | inr later ↦ is_later y ys x (deeper later)
+    ]
+
+-- what is dealt to the matched part is one of the triples dealt
+pub from_matched : (ts matched rest : List Triple) (t : Triple) → Deals ts (matched ∷ rest ∷ []) → Contains matched t → Contains ts t
+from_matched ts matched rest t deals held =
+    Contains-permutation _ _ t (IsPermutation-sym _ _ deals) (Contains-append_left matched (rest ++ []) t held)
+
+-- and so is what is dealt to the remainder
+pub from_remainder : (ts matched rest : List Triple) (t : Triple) → Deals ts (matched ∷ rest ∷ []) → Contains rest t → Contains ts t
+from_remainder ts matched rest t deals held =
+    Contains-permutation _ _ t (IsPermutation-sym _ _ deals) (Contains-append_right matched (rest ++ []) t (Contains-append_left rest [] t held))
+
+-- matched part and remainder have as many triples as were dealt
+pub counted : (ts matched rest : List Triple) → Deals ts (matched ∷ rest ∷ []) → length matched + length rest ≡ length ts
+counted ts matched rest deals =
+    let whole : length (matched ++ (rest ++ [])) ≡ length ts = length_permutation _ _ deals in
+    omega (arith, whole, length-append matched (rest ++ []), length-append rest [])
+
+module _ (sat : TermId → ExprId → Type 0) (occs : List Occurrence) (n : TermId) where
+  -- an EachOf of two constraints is matched by two triples, one that each takes
+  pub two_singles :
+      (ts : List Triple) → Matches sat occs n both ts →
+      (a b : Triple) × IsPermutation ts (a ∷ b ∷ []) × Takes sat n (slice_get occs 0) a × Takes sat n (slice_get occs 1) b
+  unfolding Matches
+  two_singles ts ([], dealt, h) = absurd h
+  two_singles ts (x ∷ [], dealt, h) = absurd h.1
+  two_singles ts (x ∷ y ∷ [], dealt, ((a, ea, ta), ((b, eb, tb), u))) =
+      (a, b, subst (λ z. Deals ts ((a ∷ []) ∷ z ∷ [])) eb (subst (λ z. Deals ts (z ∷ y ∷ [])) ea dealt), ta, tb)
+  two_singles ts (x ∷ y ∷ z ∷ more, dealt, h) = absurd h.1.1
+
+  -- where each part has a triple, the parts hold as many triples as there are parts at least
+  pub one_a_part :
+      (c : Plan) → ((ts : List Triple) → Matches sat occs n c ts → 1 ≤ length ts) →
+      (parts : List (List Triple)) → AllByRecursion (λ part. Matches sat occs n c part) parts → length parts ≤ length (flat_map (λ part. part) parts)
+  one_a_part c some [] h = omega arith
+  one_a_part c some (ts ∷ parts) (h, later) =
+      omega (arith, some ts h, one_a_part c some parts later, length-append ts (flat_map (λ part. part) parts))
