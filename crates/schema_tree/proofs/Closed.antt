@@ -22,7 +22,9 @@ use Rattle.schema_tree.proofs.Decide.{Decided, decide_not, decide_span}
 use Rattle.schema_tree.proofs.ToPlaces.{counts_agree}
 use Rattle.schema_tree.specs.States.{AreClosed, IsCovered, IsDead, opening, no_counts, after, count_fits, fitting, IsDeadBody}
 
-pub next_of : (d : ℕ) (ts : List Triple) (t : Triple) (rest : List Triple) → drop d ts ≡ t ∷ rest → (slice_get ts d ≡ Some t) × (drop (suc d) ts ≡ rest)
+pub next_of :
+    (d : ℕ) (ts : List Triple) (t : Triple) (rest : List Triple) → drop d ts ≡ t ∷ rest →
+    (slice_get ts d ≡ Some t) × (drop (suc d) ts ≡ rest)
 next_of zero [] t rest e = absurd (let bad : ⊥ = cc in bad)
 next_of zero (u ∷ us) t rest e = (let same : u ≡ t = cc in ap (λ x. Some x) same, (let tails : us ≡ rest = cc in tails))
 next_of (suc d) [] t rest e = absurd (let bad : ⊥ = cc in bad)
@@ -42,7 +44,9 @@ zeros (o ∷ os) (suc i) = zeros os i
 
 module _ (hold fail : TermId → Option ExprId → Type 0) (sh : Shape) (n : TermId) (ts : List Triple) where
   -- no occurrence gets more triples than it fits
-  times_fit : (later : List Triple) (ps : List Place) → AreAllowed hold fail sh n later ps → (i : ℕ) → times ps i ≤ fitting n later (slice_get sh.occs i)
+  times_fit :
+      (later : List Triple) (ps : List Place) → AreAllowed hold fail sh n later ps → (i : ℕ) →
+      times ps i ≤ fitting n later (slice_get sh.occs i)
   times_fit [] [] a i = omega arith
   times_fit [] (p ∷ ps) a i = absurd a
   times_fit (t ∷ later) [] a i = absurd a
@@ -61,7 +65,8 @@ module _ (hold fail : TermId → Option ExprId → Type 0) (sh : Shape) (n : Ter
       bump true k m h = omega arith
       bump false k m h = h
 
-      same : (x : Option Occurrence) → MayTake hold fail sh n t x → times ps i ≤ fitting n later x → suc (times ps i) ≤ fitting n (t ∷ later) x
+      same :
+          (x : Option Occurrence) → MayTake hold fail sh n t x → times ps i ≤ fitting n later x → suc (times ps i) ≤ fitting n (t ∷ later) x
       same None take h = absurd take
       same (Some o) take h = rw take.0 (omega arith)
 
@@ -69,7 +74,9 @@ module _ (hold fail : TermId → Option ExprId → Type 0) (sh : Shape) (n : Ter
       other None h = h
       other (Some o) h = bump (fits o n t) (times ps i) (count_fits o n later) h
 
-      go : times ps i ≤ fitting n later (slice_get sh.occs i) → (b : Bool) → nat_eq i j ≡ b → cond b (suc (times ps i)) (times ps i) ≤ fitting n (t ∷ later) (slice_get sh.occs i)
+      go :
+          times ps i ≤ fitting n later (slice_get sh.occs i) → (b : Bool) → nat_eq i j ≡ b →
+          cond b (suc (times ps i)) (times ps i) ≤ fitting n (t ∷ later) (slice_get sh.occs i)
       go below true e = same (slice_get sh.occs i) (subst (λ k. MayTake hold fail sh n t (slice_get sh.occs k)) (sym (eqb-true i j e)) a.0) below
       go below false e = other (slice_get sh.occs i) below
 
@@ -89,7 +96,8 @@ module _ (hold fail : TermId → Option ExprId → Type 0) (sh : Shape) (n : Ter
       decide_not (decide_span (span (plan_of c) (slice_index x.counts) (λ i. slice_index x.counts i + fitting n (drop x.done ts) (slice_get sh.occs i))) 1)
 
   -- the counts after a place
-  count_after : (x : State) → length x.counts ≡ length sh.occs → (t : Triple) (p : Place) → IsAllowed hold fail sh n t p → (ps : List Place) (i : ℕ) →
+  count_after :
+      (x : State) → length x.counts ≡ length sh.occs → (t : Triple) (p : Place) → IsAllowed hold fail sh n t p → (ps : List Place) (i : ℕ) →
       slice_index x.counts i + times (p ∷ ps) i ≡ slice_index ((after p x).counts) i + times ps i
   count_after x size t Rest a ps i = refl
   count_after x size t (At j) a ps i = go (nat_eq i j) refl
@@ -114,7 +122,8 @@ module _ (hold fail : TermId → Option ExprId → Type 0) (sh : Shape) (n : Ter
 
   -- from a state that is listed or dead no allowed places for the triples that are left have matching counts
   pub leads_nowhere :
-      (states : List State) → AreClosed hold fail sh n ts states → (rest : List Triple) (x : State) → IsCovered sh n ts states x → drop x.done ts ≡ rest →
+      (states : List State) → AreClosed hold fail sh n ts states → (rest : List Triple) (x : State) → IsCovered sh n ts states x →
+      drop x.done ts ≡ rest →
       (ps : List Place) → AreAllowed hold fail sh n rest ps → ¬ HaveCounts sh.body (λ i. slice_index x.counts i + times ps i)
   leads_nowhere states closed rest x (inr dead) at ps a spelled = dead_ends x sh.body dead ps (subst (λ us. AreAllowed hold fail sh n us ps) (sym at) a) spelled
   leads_nowhere states closed [] x (inl held) at ps a spelled = go (decide_dead x sh.body)

@@ -101,7 +101,9 @@ decide_node nodes c None = inr (λ h. h)
 decide_node nodes c (Some term) = nodes c term
 
 module _ (s : Schema) (terms : List Term) (node : (c : NodeConstraint) (t : Option Term) → Decided (SatNodeAt c t)) where
-  decide_entry : (T : List Pair) (n : TermId) (member : ExprId → Type 0) → ((e : ExprId) → Decided (member e)) → (x : Option Expr) → Decided (SatEntry T terms n member x)
+  decide_entry :
+      (T : List Pair) (n : TermId) (member : ExprId → Type 0) → ((e : ExprId) → Decided (member e)) → (x : Option Expr) →
+      Decided (SatEntry T terms n member x)
   decide_entry T n member d None = inr (λ h. h)
   decide_entry T n member d (Some (Exprs.And es)) = decide_all member d es
   decide_entry T n member d (Some (Exprs.Or es)) = decide_some member d es
@@ -206,7 +208,8 @@ decide_idle (At j ∷ ps) = inr (λ h.
     let e : cond true (suc (times ps j)) (times ps j) ≡ 0 = subst (λ b. cond b (suc (times ps j)) (times ps j) ≡ 0) (eq-eqb j j refl) (h j) in
     absurd (omega arith))
 
-pub decide_counts : (body : Option Count) → ((c : Count) → body ≡ Some c → IsSound (plan_of c)) → (ps : List Place) → Decided (HaveCounts body (times ps))
+pub decide_counts :
+    (body : Option Count) → ((c : Count) → body ≡ Some c → IsSound (plan_of c)) → (ps : List Place) → Decided (HaveCounts body (times ps))
 decide_counts None sound ps = decide_idle ps
 decide_counts (Some c) sound ps = decide_copies (plan_of c) (sound c refl) (times ps) 1
 
@@ -233,7 +236,10 @@ module _ (s : Schema) (terms : List Term) (node : (c : NodeConstraint) (t : Opti
           ts : List Triple
           ts = filter (is_relevant sh.occs n) (neigh g n)
 
-          join : Decided (IsShut g sh n) → Decided (Found hold fail sh n (λ m v. decide_value T m v) (λ m v. decide_not (decide_value T m v)) (λ ps. HaveCounts sh.body (times ps)) ts) → Decided (ShapeHolds (Sat s terms T) g n (Some sh))
+          join :
+              Decided (IsShut g sh n) →
+              Decided (Found hold fail sh n (λ m v. decide_value T m v) (λ m v. decide_not (decide_value T m v)) (λ ps. HaveCounts sh.body (times ps)) ts) →
+              Decided (ShapeHolds (Sat s terms T) g n (Some sh))
           join (inl shut) f = inr (λ h. (to_places (Sat s terms T) g sh n (λ c e. (made c e).0) (neigh g n) (IsPermutation-refl (neigh g n)) h).open_to shut)
           join (inr opened) (inl (ps, all, counts)) =
               inl (from_places (Sat s terms T) g sh n made (neigh g n) (IsPermutation-refl (neigh g n)) (record { open_to = opened; places = ps; allowed = all; spelled = counts }))

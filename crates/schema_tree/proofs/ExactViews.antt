@@ -41,7 +41,8 @@ use Rattle.schema_tree.proofs.SureOnce.{within_apart}
 use Rattle.schema_tree.proofs.ToPlaces.{forward_parts, to_places}
 
 -- where not all have P, some has not
-some_fails : {X : Type 0} (P : X → Type 0) → ((x : X) → Decided (P x)) → (xs : List X) → ¬ AllByRecursion P xs → SomeByRecursion (λ x. ¬ P x) xs
+some_fails :
+    {X : Type 0} (P : X → Type 0) → ((x : X) → Decided (P x)) → (xs : List X) → ¬ AllByRecursion P xs → SomeByRecursion (λ x. ¬ P x) xs
 some_fails P d [] none = absurd (none tt)
 some_fails P d (x ∷ xs) none = go (d x) (λ later. some_fails P d xs later)
   where
@@ -99,7 +100,8 @@ module _ (s : Schema) (terms : List Term) (nodes : NodesAreDecided) (view : Know
       (λ d. exact_within k d) known (entry s e) refl
 
   -- what is Yes is satisfied, and what is No is not
-  exact_back : (e : ExprId) → AreKnown e → (IsSure s terms view n e Yes → Sat s terms T n e) × (IsSure s terms view n e No → ¬ Sat s terms T n e)
+  exact_back :
+      (e : ExprId) → AreKnown e → (IsSure s terms view n e Yes → Sat s terms T n e) × (IsSure s terms view n e No → ¬ Sat s terms T n e)
   exact_back e known = (back (decide_sat s terms (decide_node nodes) (suc e.0) T n e), (λ sure h. apart (m.0 h) sure))
     where
       m : IsExact (Sat s terms T n) (IsSure s terms view n) e
@@ -125,7 +127,9 @@ module _ (s : Schema) (terms : List Term) (nodes : NodesAreDecided) (view : Know
         ((λ h yes_. h (b.0 yes_)), (λ not_yes h. not_yes (m.0 h))),
       )
     where
-      holds : Decided (Sat s terms T n e) → (¬ Sat s terms T n e → IsSure s terms view n e No) → ¬ IsSure s terms view n e No → Sat s terms T n e
+      holds :
+          Decided (Sat s terms T n e) → (¬ Sat s terms T n e → IsSure s terms view n e No) → ¬ IsSure s terms view n e No →
+          Sat s terms T n e
       holds (inl h) out not_no = h
       holds (inr h) out not_no = absurd (not_no (out h))
   value_exact Impossible (Some e) known =
@@ -140,7 +144,8 @@ module _ (s : Schema) (terms : List Term) (nodes : NodesAreDecided) (g : List Tr
         (SatValue (Sat s terms T m) v ↔ MayHold s terms view lean m v) × ((¬ SatValue (Sat s terms T m) v) ↔ MayFail s terms view lean m v)
 
     -- the view answers for all that the value of an occurrence asks of the other end of a triple that it fits
-    exact_at : (t : Triple) → Contains g t → (o : Occurrence) → Contains sh.occs o → fits o p.node t ≡ true → Exact (other_end o.inverse t) o.value
+    exact_at :
+        (t : Triple) → Contains g t → (o : Occurrence) → Contains sh.occs o → fits o p.node t ≡ true → Exact (other_end o.inverse t) o.value
     exact_at t held o of fit =
         value_exact s terms nodes view T (other_end o.inverse t) lean o.value
         (λ e value i sign st. needed (pair_of (other_end o.inverse t) i) (record {
@@ -166,13 +171,17 @@ module _ (s : Schema) (terms : List Term) (nodes : NodesAreDecided) (g : List Tr
         let near = (in_filter (is_relevant sh.occs p.node) (neighbourhood terms g p.node) t c).0 in
         (in_filter _ g t (Contains-permutation _ _ t (IsPermutation-sym _ _ (ordered_same terms g p.node)) near)).0
 
-    matches : HasPlaces (MayHold s terms view lean) (MayFail s terms view lean) g sh p.node (relevant_in_order terms g sh p.node) → ShapeHolds (Sat s terms T) g p.node (Some sh)
+    matches :
+        HasPlaces (MayHold s terms view lean) (MayFail s terms view lean) g sh p.node (relevant_in_order terms g sh p.node) →
+        ShapeHolds (Sat s terms T) g p.node (Some sh)
     matches h =
         from_places (Sat s terms T) g sh p.node (well_made s loaded p.shape sh is) (neighbourhood terms g p.node) (ordered_same terms g p.node)
         (places_weaker _ _ _ _ sh p.node (λ t. Contains g t)
         (λ t o held of fit. (exact_at t held o of fit).0.1) (λ t o held of forward. (exact_out t held o of forward).1.1) g _ in_graph h)
 
-    matched : ShapeHolds (Sat s terms T) g p.node (Some sh) → HasPlaces (MayHold s terms view lean) (MayFail s terms view lean) g sh p.node (relevant_in_order terms g sh p.node)
+    matched :
+        ShapeHolds (Sat s terms T) g p.node (Some sh) →
+        HasPlaces (MayHold s terms view lean) (MayFail s terms view lean) g sh p.node (relevant_in_order terms g sh p.node)
     matched h =
         places_weaker _ _ _ _ sh p.node (λ t. Contains g t)
         (λ t o held of fit. (exact_at t held o of fit).0.0) (λ t o held of forward. (exact_out t held o of forward).1.0) g _ in_graph

@@ -101,12 +101,15 @@ module _ (sat : TermId → ExprId → Type 0) (g : List Triple) (sh : Shape) (n 
   in_range None i t e h = absurd h
   in_range (Some o) i t e h = slice_get_within sh.occs i o e
 
-  all_within : (has : ℕ → Bool) → ((i : ℕ) → i < length sh.occs → has i ≡ true) → (ps : List Placed) → IsPlaced sat sh.occs n ps → AllByRecursion (λ q. has q.1 ≡ true) ps
+  all_within :
+      (has : ℕ → Bool) → ((i : ℕ) → i < length sh.occs → has i ≡ true) → (ps : List Placed) → IsPlaced sat sh.occs n ps →
+      AllByRecursion (λ q. has q.1 ≡ true) ps
   all_within has stands [] h = tt
   all_within has stands (q ∷ ps) h = (stands q.1 (in_range (slice_get sh.occs q.1) q.1 q.0 refl h.0), all_within has stands ps h.1)
 
   -- what an arc out that stays meets
-  stays_out : (t : Triple) → t.s ≡ n → good (t, Rest) → MayStayOut (holds sat g sh n) (fails sat g sh n) sh n t (list_any (is_forward n t) sh.occs)
+  stays_out :
+      (t : Triple) → t.s ≡ n → good (t, Rest) → MayStayOut (holds sat g sh n) (fails sat g sh n) sh n t (list_any (is_forward n t) sh.occs)
   stays_out t out h = subst (λ b. MayStay (holds sat g sh n) (fails sat g sh n) sh n t b) (same_true sat g sh n t.s n out) h
 
   stays_mentioned : (t : Triple) → IsMatchable sh.occs n t → good (t, Rest) → MayStayOut (holds sat g sh n) (fails sat g sh n) sh n t true
@@ -116,7 +119,9 @@ module _ (sat : TermId → ExprId → Type 0) (g : List Triple) (sh : Shape) (n 
   closed_mentioned : (t : Triple) → t.s ≡ n → sh.closed ≡ true → good (t, Rest) → IsMentioned sh.occs t.p
   closed_mentioned t out closed h = go (list_any (is_forward n t) sh.occs) refl (stays_out t out h)
     where
-      go : (b : Bool) → list_any (is_forward n t) sh.occs ≡ b → MayStayOut (holds sat g sh n) (fails sat g sh n) sh n t b → IsMentioned sh.occs t.p
+      go :
+          (b : Bool) → list_any (is_forward n t) sh.occs ≡ b → MayStayOut (holds sat g sh n) (fails sat g sh n) sh n t b →
+          IsMentioned sh.occs t.p
       go true e m = mentioned sat g sh n t e
       go false e m = absurd (true≢false (sym closed ∙ m))
 
@@ -164,13 +169,16 @@ module _ (sat : TermId → ExprId → Type 0) (g : List Triple) (sh : Shape) (n 
   one_part : (fit : List Triple → Type 0) (ts : List Triple) → Parts fit 1 ts → (part : List Triple) × IsPermutation ts part × fit part
   one_part fit ts r = go r.parts r.many r.deals r.all
     where
-      go : (parts : List (List Triple)) → length parts ≡ 1 → IsPermutation ts (flat_map (λ p. p) parts) → AllByRecursion fit parts → (part : List Triple) × IsPermutation ts part × fit part
+      go :
+          (parts : List (List Triple)) → length parts ≡ 1 → IsPermutation ts (flat_map (λ p. p) parts) → AllByRecursion fit parts →
+          (part : List Triple) × IsPermutation ts part × fit part
       go [] e d a = absurd (omega arith)
       go (p ∷ []) e d a = (p, subst (λ us. IsPermutation ts us) (append-nil p) d, a.0)
       go (p ∷ q ∷ ps) e d a = absurd (omega arith)
 
   matched_of :
-      (body : Option Count) → ((c : Count) → body ≡ Some c → IsDistinct (plan_of c) × IsSound (plan_of c) × ((i : ℕ) → i < length sh.occs → has_symbol i (plan_of c) ≡ true)) →
+      (body : Option Count) →
+      ((c : Count) → body ≡ Some c → IsDistinct (plan_of c) × IsSound (plan_of c) × ((i : ℕ) → i < length sh.occs → has_symbol i (plan_of c) ≡ true)) →
       (xs : List Spot) → AllByRecursion good xs → HaveCounts body (times (map (λ x. x.1) xs)) → Matched body (placed_in xs)
   matched_of None loaded xs all counts =
       record { matched = []; deals = subst (λ ps. IsPermutation (triples ps) []) (sym (none_placed xs counts)) (IsPermutation-refl []); body_ok = refl }

@@ -32,7 +32,8 @@ entry_same s terms T n i a b same (Some (Exprs.Shape j)) ok = ((λ h. h), λ h. 
 
 module _ (s : Schema) (terms : List Term) (loaded : IsLoaded s) where
   -- any two numbers of entries above e ask the same
-  pub sat_fuel : (T : List Pair) (n : TermId) (k m : ℕ) (e : ExprId) → e.0 < k → e.0 < m → SatWithin k s terms T n e ↔ SatWithin m s terms T n e
+  pub sat_fuel :
+      (T : List Pair) (n : TermId) (k m : ℕ) (e : ExprId) → e.0 < k → e.0 < m → SatWithin k s terms T n e ↔ SatWithin m s terms T n e
   unfolding SatWithin
   sat_fuel T n zero m e h l = absurd (omega arith)
   sat_fuel T n (suc k) zero e h l = absurd (omega arith)
@@ -49,17 +50,20 @@ module _ (s : Schema) (terms : List Term) (loaded : IsLoaded s) where
 pub not_same : {A B : Type 0} → (A ↔ B) → (¬ A) ↔ (¬ B)
 not_same h = ((λ n b. n (h.1 b)), λ n a. n (h.0 a))
 
-pub all_same : {X : Type 0} (P Q : X → Type 0) (xs : List X) → ((x : X) → Contains xs x → P x ↔ Q x) → AllByRecursion P xs ↔ AllByRecursion Q xs
+pub all_same :
+    {X : Type 0} (P Q : X → Type 0) (xs : List X) → ((x : X) → Contains xs x → P x ↔ Q x) → AllByRecursion P xs ↔ AllByRecursion Q xs
 all_same P Q xs h = (all_weaker P Q xs (λ x c. (h x c).0), all_weaker Q P xs (λ x c. (h x c).1))
 
-pub some_same : {X : Type 0} (P Q : X → Type 0) (xs : List X) → ((x : X) → Contains xs x → P x ↔ Q x) → SomeByRecursion P xs ↔ SomeByRecursion Q xs
+pub some_same :
+    {X : Type 0} (P Q : X → Type 0) (xs : List X) → ((x : X) → Contains xs x → P x ↔ Q x) → SomeByRecursion P xs ↔ SomeByRecursion Q xs
 some_same P Q xs h = (some_weaker P Q xs (λ x c. (h x c).0), some_weaker Q P xs (λ x c. (h x c).1))
 
 pub two_same : {A B C D : Type 0} → (A ↔ B) → (C ↔ D) → (A × C) ↔ (B × D)
 two_same h k = ((λ p. (h.0 p.0, k.0 p.1)), λ p. (h.1 p.0, k.1 p.1))
 
 pub sure_entry_same :
-    (s : Schema) (terms : List Term) (view : Known) (n : TermId) (i : ℕ) (a b : ExprId → Verdict → Type 0) → ((d : ExprId) → d.0 < i → (v : Verdict) → a d v ↔ b d v) →
+    (s : Schema) (terms : List Term) (view : Known) (n : TermId) (i : ℕ) (a b : ExprId → Verdict → Type 0) →
+    ((d : ExprId) → d.0 < i → (v : Verdict) → a d v ↔ b d v) →
     (x : Option Expr) → ((y : Expr) → x ≡ Some y → RefersBelow s i y) → (v : Verdict) → SureEntry view terms n a x v ↔ SureEntry view terms n b x v
 sure_entry_same s terms view n i a b same None ok v = ((λ h. h), λ h. h)
 sure_entry_same s terms view n i a b same (Some (Exprs.And es)) ok Yes =
@@ -85,7 +89,9 @@ sure_entry_same s terms view n i a b same (Some (Exprs.Node c)) ok Unknown = ((�
 sure_entry_same s terms view n i a b same (Some (Exprs.Shape j)) ok v = ((λ h. h), λ h. h)
 
 module _ (s : Schema) (terms : List Term) (loaded : IsLoaded s) where
-  pub sure_fuel : (view : Known) (n : TermId) (k m : ℕ) (e : ExprId) → e.0 < k → e.0 < m → (v : Verdict) → SureWithin k s terms view n e v ↔ SureWithin m s terms view n e v
+  pub sure_fuel :
+      (view : Known) (n : TermId) (k m : ℕ) (e : ExprId) → e.0 < k → e.0 < m → (v : Verdict) →
+      SureWithin k s terms view n e v ↔ SureWithin m s terms view n e v
   unfolding SureWithin
   sure_fuel view n zero m e h l v = absurd (omega arith)
   sure_fuel view n (suc k) zero e h l v = absurd (omega arith)
@@ -93,7 +99,9 @@ module _ (s : Schema) (terms : List Term) (loaded : IsLoaded s) where
       sure_entry_same s terms view n e.0 (SureWithin k s terms view n) (SureWithin m s terms view n)
       (λ d lt w. sure_fuel view n k m d (omega arith) (omega arith) w) (entry s e) (λ y is. loaded.refers e y is) v
 
-  pub sure_layer : (view : Known) (n : TermId) (e : ExprId) (v : Verdict) → IsSure s terms view n e v ↔ SureEntry view terms n (IsSure s terms view n) (entry s e) v
+  pub sure_layer :
+      (view : Known) (n : TermId) (e : ExprId) (v : Verdict) →
+      IsSure s terms view n e v ↔ SureEntry view terms n (IsSure s terms view n) (entry s e) v
   unfolding SureWithin
   sure_layer view n e v =
       sure_entry_same s terms view n e.0 (SureWithin e.0 s terms view n) (IsSure s terms view n)

@@ -30,7 +30,9 @@ module _ (s : Schema) (terms : List Term) (g : List Triple) where
   pub record IsLevel (f : List ℕ) (U : List TermId) (T : List Pair) (b : ℕ) : Type 0 where
     pub over : (q : Pair) → Contains T q → level f q.shape ≡ b → Contains U q.node × (q.shape.0 < length s.shapes)
     pub ok : (q : Pair) → Contains T q → level f q.shape ≡ b → ShapeOk s terms g T q.node q.shape
-    pub greatest : (W : List Pair) → IsOver s f U b W → ((q : Pair) → level f q.shape < b → (Contains W q → Contains T q) × (Contains T q → Contains W q)) →
+    pub greatest :
+        (W : List Pair) → IsOver s f U b W →
+        ((q : Pair) → level f q.shape < b → (Contains W q → Contains T q) × (Contains T q → Contains W q)) →
         IsCorrectAt s terms g f W b → (q : Pair) → Contains W q → Contains T q
 
   level_here : (f : List ℕ) (U : List TermId) (T : List Pair) (b : ℕ) → IsGreatestAt s terms g f U T b → IsLevel f U T b
@@ -47,7 +49,8 @@ module _ (s : Schema) (terms : List Term) (g : List Triple) where
     }) q c;
   }
 
-  level_above : (f : List ℕ) → IsStratified s f → (U : List TermId) (T : List Pair) (b k : ℕ) → b < k → IsLevel f U (below f k T) b → IsLevel f U T b
+  level_above :
+      (f : List ℕ) → IsStratified s f → (U : List TermId) (T : List Pair) (b k : ℕ) → b < k → IsLevel f U (below f k T) b → IsLevel f U T b
   level_above f strat U T b k lt at = record {
     over = λ q c e. at.over q (in_below f k T q c (omega arith)) e;
     ok = λ q c e. shape_mono s terms g f strat b (below f k T) T (λ u le d. (out_below f k T u d).0) (λ u less d. in_below f k T u d (omega arith)) q.node q.shape e
@@ -56,7 +59,9 @@ module _ (s : Schema) (terms : List Term) (g : List Triple) where
         (λ u less. ((λ d. in_below f k T u ((agree u less).0 d) (omega arith)), λ d. (agree u less).1 (out_below f k T u d).0)) correct q c)).0;
   }
 
-  pub level_of : (f : List ℕ) → IsStratified s f → (U : List TermId) (k : ℕ) (T : List Pair) → IsComplete s terms g f U T k → (b : ℕ) → b ≤ k → IsLevel f U T b
+  pub level_of :
+      (f : List ℕ) → IsStratified s f → (U : List TermId) (k : ℕ) (T : List Pair) → IsComplete s terms g f U T k → (b : ℕ) → b ≤ k →
+      IsLevel f U T b
   level_of f strat U zero T at b le = level_here f U T b (subst (λ z. IsGreatestAt s terms g f U T z) (let e : 0 ≡ b = omega arith in e) at)
   level_of f strat U (suc k) T at b le = elim (cases_lt b (suc k)) [
     | inl lt ↦ level_above f strat U T b (suc k) lt (level_of f strat U k (below f (suc k) T) at.1 b (omega arith))
@@ -137,7 +142,9 @@ module _ (s : Schema) (terms : List Term) (g : List Triple) where
           shape_moves s terms g (λ m. Contains U m × Contains V m) (λ t c. (((eu t c).0, (ev t c).0), ((eu t c).1, (ev t c).1))) T X q.shape up down q.node
           ((lt q.shape.0).ok q new.held refl)
         where
-          up : (j : ShapeId) → Edge s q.shape j → (m : TermId) → Contains U m × Contains V m → Contains T (pair_of m j) → Contains X (pair_of m j)
+          up :
+              (j : ShapeId) → Edge s q.shape j → (m : TermId) → Contains U m × Contains V m → Contains T (pair_of m j) →
+              Contains X (pair_of m j)
           up j e m near c =
               let fall_f : level f j ≤ level f q.shape = sf.never_rises q.shape j e in
               let fall_h : level h j ≤ level h q.shape = sh.never_rises q.shape j e in
@@ -148,7 +155,9 @@ module _ (s : Schema) (terms : List Term) (g : List Triple) where
                 | inr ge ↦ Contains-append_right low D (pair_of m j) (in_new (pair_of m j) c near.1 (omega arith) (omega arith))
               ]
 
-          down : (j : ShapeId) (e : Edge s q.shape j) → IsNegative e → (m : TermId) → Contains U m × Contains V m → Contains X (pair_of m j) → Contains T (pair_of m j)
+          down :
+              (j : ShapeId) (e : Edge s q.shape j) → IsNegative e → (m : TermId) → Contains U m × Contains V m → Contains X (pair_of m j) →
+              Contains T (pair_of m j)
           down j e negative m near c =
               let fall_f : level f j < level f q.shape = sf.falls q.shape j e negative in
               let fall_h : level h j < level h q.shape = sh.falls q.shape j e negative in
@@ -178,7 +187,9 @@ module _ (s : Schema) (terms : List Term) (g : List Triple) where
     lw_ : (b : ℕ) → IsLevel h V W (level h (record { 0 = b }))
     lw_ b = level_of h sh V (top_of h) W tw (get_or h b 0) (level_top h b)
 
-    same_below : (k : ℕ) (q : Pair) → Contains U q.node → Contains V q.node → level f q.shape + level h q.shape < k → (Contains T q → Contains W q) × (Contains W q → Contains T q)
+    same_below :
+        (k : ℕ) (q : Pair) → Contains U q.node → Contains V q.node → level f q.shape + level h q.shape < k →
+        (Contains T q → Contains W q) × (Contains W q → Contains T q)
     same_below zero q u v less = absurd (omega arith)
     same_below (suc k) q u v less = elim (cases_lt (level f q.shape + level h q.shape) k) [
       | inl lt ↦ same_below k q u v lt
@@ -193,7 +204,9 @@ module _ (s : Schema) (terms : List Term) (g : List Triple) where
     same_pairs q u v = same_below (suc (level f q.shape + level h q.shape)) q u v (omega arith)
 
     -- and give the same answers for it
-    pub same_answers : (n : TermId) (e : ExprId) → Contains U n → Contains V n → (Sat s terms T n e → Sat s terms W n e) × (Sat s terms W n e → Sat s terms T n e)
+    pub same_answers :
+        (n : TermId) (e : ExprId) → Contains U n → Contains V n →
+        (Sat s terms T n e → Sat s terms W n e) × (Sat s terms W n e → Sat s terms T n e)
     same_answers n e u v = (
       (λ a. sat_mono s terms n (suc e.0) T W e (λ i sign st c. (same_pairs (pair_of n i) u v).0 c) (λ i st c. (same_pairs (pair_of n i) u v).1 c) a),
       (λ a. sat_mono s terms n (suc e.0) W T e (λ i sign st c. (same_pairs (pair_of n i) u v).1 c) (λ i st c. (same_pairs (pair_of n i) u v).0 c) a),
@@ -201,7 +214,8 @@ module _ (s : Schema) (terms : List Term) (g : List Triple) where
 
 -- by any two stratifications the complete typings over one list of terms have the same pairs
 pub strata_alike :
-    (s : Schema) (terms : List Term) (g : List Triple) (f h : List ℕ) → IsStratified s f → IsStratified s h → (U : List TermId) → HoldsEnds U g → (T W : List Pair) →
+    (s : Schema) (terms : List Term) (g : List Triple) (f h : List ℕ) → IsStratified s f → IsStratified s h → (U : List TermId) →
+    HoldsEnds U g → (T W : List Pair) →
     IsTheTyping s terms g f U T → IsTheTyping s terms g h U W → HaveSame T W
 strata_alike s terms g f h sf sh U ends T W a b = (
   (λ q c. let u = ((level_of s terms g f sf U (top_of f) T a (level f q.shape) (level_top f q.shape.0)).over q c refl).0 in

@@ -33,7 +33,9 @@ use Rattle.schema_tree.proofs.Members.{is_first, is_later}
 use Rattle.schema_tree.specs.Relevant.{is_relevant, is_forward}
 
 module _ (s : Schema) (terms : List Term) (view : Known) (T : List Pair) (agrees : Agrees T view) (n : TermId) where
-  yes_entry : (member : ExprId → Verdict → Type 0) (sat : ExprId → Type 0) → ((e : ExprId) → member e Yes → sat e) → ((e : ExprId) → member e No → ¬ sat e) →
+  yes_entry :
+      (member : ExprId → Verdict → Type 0) (sat : ExprId → Type 0) → ((e : ExprId) → member e Yes → sat e) →
+      ((e : ExprId) → member e No → ¬ sat e) →
       (x : Option Expr) → SureEntry view terms n member x Yes → SatEntry T terms n sat x
   yes_entry member sat y d None h = h
   yes_entry member sat y d (Some (Exprs.And es)) h = all_weaker (λ e. member e Yes) sat es (λ e c. y e) h
@@ -42,7 +44,9 @@ module _ (s : Schema) (terms : List Term) (view : Known) (T : List Pair) (agrees
   yes_entry member sat y d (Some (Exprs.Node c)) h = h
   yes_entry member sat y d (Some (Exprs.Shape i)) h = agrees.0 _ h
 
-  no_entry : (member : ExprId → Verdict → Type 0) (sat : ExprId → Type 0) → ((e : ExprId) → member e Yes → sat e) → ((e : ExprId) → member e No → ¬ sat e) →
+  no_entry :
+      (member : ExprId → Verdict → Type 0) (sat : ExprId → Type 0) → ((e : ExprId) → member e Yes → sat e) →
+      ((e : ExprId) → member e No → ¬ sat e) →
       (x : Option Expr) → SureEntry view terms n member x No → ¬ SatEntry T terms n sat x
   no_entry member sat y d None h t = t
   no_entry member sat y d (Some (Exprs.And es)) h t = some_against (λ e. member e No) sat d es h t
@@ -51,7 +55,9 @@ module _ (s : Schema) (terms : List Term) (view : Known) (T : List Pair) (agrees
   no_entry member sat y d (Some (Exprs.Node c)) h t = h t
   no_entry member sat y d (Some (Exprs.Shape i)) h t = agrees.1 _ h t
 
-  pub sure_sound : (k : ℕ) (e : ExprId) → (SureWithin k s terms view n e Yes → SatWithin k s terms T n e) × (SureWithin k s terms view n e No → ¬ SatWithin k s terms T n e)
+  pub sure_sound :
+      (k : ℕ) (e : ExprId) →
+      (SureWithin k s terms view n e Yes → SatWithin k s terms T n e) × (SureWithin k s terms view n e No → ¬ SatWithin k s terms T n e)
   unfolding SureWithin SatWithin
   sure_sound zero e = ((λ h. h), λ h t. t)
   sure_sound (suc k) e = (
@@ -83,14 +89,17 @@ module _ (hold fail hold' fail' : TermId → Option ExprId → Type 0) (sh : Sha
       stay true c = out (list_any (is_forward n t) sh.occs) c
       stay false c = c
 
-  all_weaker_allowed : (ts : List Triple) (ps : List Place) → ((t : Triple) → Contains ts t → base t) → AreAllowed hold fail sh n ts ps → AreAllowed hold' fail' sh n ts ps
+  all_weaker_allowed :
+      (ts : List Triple) (ps : List Place) → ((t : Triple) → Contains ts t → base t) → AreAllowed hold fail sh n ts ps →
+      AreAllowed hold' fail' sh n ts ps
   all_weaker_allowed [] [] inside a = a
   all_weaker_allowed [] (p ∷ ps) inside a = a
   all_weaker_allowed (t ∷ ts) [] inside a = a
   all_weaker_allowed (t ∷ ts) (p ∷ ps) inside a =
       (allowed_weaker t p (inside t (is_first t ts)) a.0, all_weaker_allowed ts ps (λ u c. inside u (is_later t ts u c)) a.1)
 
-  pub places_weaker : (g ts : List Triple) → ((t : Triple) → Contains ts t → base t) → HasPlaces hold fail g sh n ts → HasPlaces hold' fail' g sh n ts
+  pub places_weaker :
+      (g ts : List Triple) → ((t : Triple) → Contains ts t → base t) → HasPlaces hold fail g sh n ts → HasPlaces hold' fail' g sh n ts
   places_weaker g ts inside r =
       record { open_to = r.open_to; places = r.places; allowed = all_weaker_allowed ts r.places inside r.allowed; spelled = r.spelled }
 

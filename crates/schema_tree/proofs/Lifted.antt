@@ -5,7 +5,8 @@ use Rattle.std.proofs.lemmas.List.Sorted.{IsPermutation-refl, IsPermutation-tran
 use Rattle.std.specs.Prelude.{swap}
 use Rattle.std.specs.List.Sorted.{IsPermutation}
 
-pub map_swap : {A B : Type 0} (f : A → B) (xs : List A) (i j : ℕ) → i < length xs → j < length xs → map f (swap xs i j) ≡ swap (map f xs) i j
+pub map_swap :
+    {A B : Type 0} (f : A → B) (xs : List A) (i j : ℕ) → i < length xs → j < length xs → map f (swap xs i j) ≡ swap (map f xs) i j
 map_swap f [] i j li lj = refl
 map_swap f (d ∷ ys) i j li lj =
     let a = get_or-map f (d ∷ ys) j d (f d) lj in

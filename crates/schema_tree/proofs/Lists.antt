@@ -12,12 +12,14 @@ use Rattle.std.proofs.lemmas.List.Concat.{flat_map-append}
 use Rattle.std.proofs.lemmas.List.Elements.{recursion_from_All, All-from_recursion, Contains-append_left, Contains-append_right, Contains-append_cases}
 
 -- what follows at each element follows of all
-pub all_weaker : {X : Type 0} (P Q : X → Type 0) (xs : List X) → ((x : X) → Contains xs x → P x → Q x) → AllByRecursion P xs → AllByRecursion Q xs
+pub all_weaker :
+    {X : Type 0} (P Q : X → Type 0) (xs : List X) → ((x : X) → Contains xs x → P x → Q x) → AllByRecursion P xs → AllByRecursion Q xs
 all_weaker P Q [] step h = tt
 all_weaker P Q (x ∷ xs) step h = (step x (is_first x xs) h.0, all_weaker P Q xs (λ y c. step y (is_later x xs y c)) h.1)
 
 -- what follows at each element follows of some
-pub some_weaker : {X : Type 0} (P Q : X → Type 0) (xs : List X) → ((x : X) → Contains xs x → P x → Q x) → SomeByRecursion P xs → SomeByRecursion Q xs
+pub some_weaker :
+    {X : Type 0} (P Q : X → Type 0) (xs : List X) → ((x : X) → Contains xs x → P x → Q x) → SomeByRecursion P xs → SomeByRecursion Q xs
 some_weaker P Q [] step h = absurd h
 some_weaker P Q (x ∷ xs) step (inl h) = inl (step x (is_first x xs) h)
 some_weaker P Q (x ∷ xs) step (inr h) = inr (some_weaker P Q xs (λ y c. step y (is_later x xs y c)) h)
@@ -70,7 +72,9 @@ all_filter P test (x ∷ xs) h = go (test x) (all_filter P test xs h.1)
     go false r = r
 
 -- what passes the test and had P has Q
-pub all_passing : {X : Type 0} (P Q : X → Type 0) (test : X → Bool) → ((x : X) → test x ≡ true → P x → Q x) → (xs : List X) → AllByRecursion P xs → AllByRecursion Q (filter test xs)
+pub all_passing :
+    {X : Type 0} (P Q : X → Type 0) (test : X → Bool) → ((x : X) → test x ≡ true → P x → Q x) → (xs : List X) → AllByRecursion P xs →
+    AllByRecursion Q (filter test xs)
 all_passing P Q test step [] h = tt
 all_passing P Q test step (x ∷ xs) h = go (test x) refl (all_passing P Q test step xs h.1)
   where
@@ -161,7 +165,8 @@ in_map f (y ∷ ys) x h = elim (in_rest y ys x h) [
 ]
 
 -- what an item gives is among what all give
-pub in_flat_map : {A B : Type 0} (f : A → List B) (xs : List A) (x : A) (y : B) → Contains xs x → Contains (f x) y → Contains (flat_map f xs) y
+pub in_flat_map :
+    {A B : Type 0} (f : A → List B) (xs : List A) (x : A) (y : B) → Contains xs x → Contains (f x) y → Contains (flat_map f xs) y
 in_flat_map f [] x y h c = absurd (not_in_none x h)
 in_flat_map f (z ∷ zs) x y h c = elim (in_rest z zs x h) [
   | inl e ↦ Contains-append_left (f z) (flat_map f zs) y (subst (λ u. Contains (f u) y) (sym e) c)
@@ -177,11 +182,14 @@ from_upto (suc k) i h = elim (in_rest k (upto k) i h) [
 ]
 
 -- what all give is given by an item
-pub from_flat_map : {A B : Type 0} (f : A → List B) (xs : List A) (y : B) → Contains (flat_map f xs) y → (x : A) × Contains xs x × Contains (f x) y
+pub from_flat_map :
+    {A B : Type 0} (f : A → List B) (xs : List A) (y : B) → Contains (flat_map f xs) y → (x : A) × Contains xs x × Contains (f x) y
 from_flat_map f [] y h = absurd (not_in_none y h)
 from_flat_map f (x ∷ xs) y h = go (Contains-append_cases (f x) (flat_map f xs) y h) (λ later. from_flat_map f xs y later)
   where
-    go : Contains (f x) y ⊎ Contains (flat_map f xs) y → (Contains (flat_map f xs) y → (z : _) × Contains xs z × Contains (f z) y) → (z : _) × Contains (x ∷ xs) z × Contains (f z) y
+    go :
+        Contains (f x) y ⊎ Contains (flat_map f xs) y → (Contains (flat_map f xs) y → (z : _) × Contains xs z × Contains (f z) y) →
+        (z : _) × Contains (x ∷ xs) z × Contains (f z) y
     go (inl here) deeper = (x, is_first x xs, here)
     go (inr later) deeper = let (z, c, d) = deeper later in (z, is_later x xs z c, d)
 
@@ -196,11 +204,14 @@ filter_none p [] h = refl
 filter_none p (x ∷ xs) h = rw (h x (is_first x xs), filter_none p xs (λ y c. h y (is_later x xs y c))) refl
 
 -- what follows for images from what holds of the items
-pub all_map : {X Y : Type 0} (P : X → Type 0) (Q : Y → Type 0) (f : X → Y) → ((x : X) → P x → Q (f x)) → (xs : List X) → AllByRecursion P xs → AllByRecursion Q (map f xs)
+pub all_map :
+    {X Y : Type 0} (P : X → Type 0) (Q : Y → Type 0) (f : X → Y) → ((x : X) → P x → Q (f x)) → (xs : List X) → AllByRecursion P xs →
+    AllByRecursion Q (map f xs)
 all_map P Q f step [] h = tt
 all_map P Q f step (x ∷ xs) h = (step x h.0, all_map P Q f step xs h.1)
 
 -- two facts of all are both of all
-pub all_both : {X : Type 0} (P Q : X → Type 0) (xs : List X) → AllByRecursion P xs → AllByRecursion Q xs → AllByRecursion (λ x. P x × Q x) xs
+pub all_both :
+    {X : Type 0} (P Q : X → Type 0) (xs : List X) → AllByRecursion P xs → AllByRecursion Q xs → AllByRecursion (λ x. P x × Q x) xs
 all_both P Q [] h t = tt
 all_both P Q (x ∷ xs) h t = ((h.0, t.0), all_both P Q xs h.1 t.1)

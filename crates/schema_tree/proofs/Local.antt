@@ -25,7 +25,9 @@ use Rattle.schema_tree.proofs.Lists.{all_weaker, got_in, in_filter, in_flat_map}
 use Rattle.schema_tree.proofs.Tests.{same_is, both_true}
 
 -- what a part holds is among what was dealt
-pub deal_in : (ts : List Triple) (parts : List (List Triple)) → Deals ts parts → (part : List Triple) → Contains parts part → (t : Triple) → Contains part t → Contains ts t
+pub deal_in :
+    (ts : List Triple) (parts : List (List Triple)) → Deals ts parts → (part : List Triple) → Contains parts part → (t : Triple) →
+    Contains part t → Contains ts t
 deal_in ts parts deals part c t h = Contains-permutation _ _ t (IsPermutation-sym _ _ deals) (in_flat_map (λ part. part) parts part t c h)
 
 module _ (sat sat' : TermId → ExprId → Type 0) (occs : List Occurrence) (n : TermId) (base : Triple → Type 0)
@@ -33,14 +35,17 @@ module _ (sat sat' : TermId → ExprId → Type 0) (occs : List Occurrence) (n :
   mutual
     unfolding Matches
 
-    pub matches_among : (c : Plan) (ts : List Triple) → ((t : Triple) → Contains ts t → base t) → Matches sat occs n c ts → Matches sat' occs n c ts
+    pub matches_among :
+        (c : Plan) (ts : List Triple) → ((t : Triple) → Contains ts t → base t) → Matches sat occs n c ts → Matches sat' occs n c ts
     matches_among (symbol i) ts inside (t, is, h) = (t, is, step i t (inside t (subst (λ us. Contains us t) (sym is) (is_first t []))) h)
     matches_among (each members) ts inside (parts, deals, h) = (parts, deals, each_among members parts (λ part c t d. inside t (deal_in ts parts deals part c t d)) h)
     matches_among (one members) ts inside h = one_among members ts inside h
     matches_among (many min bound c) ts inside (parts, low, high, deals, h) =
         (parts, low, high, deals, all_weaker (Matches sat occs n c) (Matches sat' occs n c) parts (λ part d m. matches_among c part (λ t u. inside t (deal_in ts parts deals part d t u)) m) h)
 
-    each_among : (members : Plans) (parts : List (List Triple)) → ((part : List Triple) → Contains parts part → (t : Triple) → Contains part t → base t) →
+    each_among :
+        (members : Plans) (parts : List (List Triple)) →
+        ((part : List Triple) → Contains parts part → (t : Triple) → Contains part t → base t) →
         MatchesEach sat occs n members parts → MatchesEach sat' occs n members parts
     each_among no_plans [] inside h = h
     each_among no_plans (part ∷ parts) inside h = h
@@ -48,7 +53,9 @@ module _ (sat sat' : TermId → ExprId → Type 0) (occs : List Occurrence) (n :
     each_among (more_plans c rest) (part ∷ parts) inside (h, more) =
         (matches_among c part (inside part (is_first part parts)) h, each_among rest parts (λ u d. inside u (is_later part parts u d)) more)
 
-    one_among : (members : Plans) (ts : List Triple) → ((t : Triple) → Contains ts t → base t) → MatchesOne sat occs n members ts → MatchesOne sat' occs n members ts
+    one_among :
+        (members : Plans) (ts : List Triple) → ((t : Triple) → Contains ts t → base t) → MatchesOne sat occs n members ts →
+        MatchesOne sat' occs n members ts
     one_among no_plans ts inside h = h
     one_among (more_plans c rest) ts inside (inl h) = inl (matches_among c ts inside h)
     one_among (more_plans c rest) ts inside (inr h) = inr (one_among rest ts inside h)
@@ -85,16 +92,20 @@ module _ (s : Schema) (terms : List Term) (g : List Triple) (Near : TermId → T
   pub shape_moves : (n : TermId) → ShapeOk s terms g T n i → ShapeOk s terms g W n i
   shape_moves n h = go (shape_at s i) refl h
     where
-      held : (matched rest : List Triple) → Deals (neigh g n) (matched ∷ rest ∷ []) → (part : List Triple) → Contains (matched ∷ rest ∷ []) part → (t : Triple) → Contains part t → Contains g t
+      held :
+          (matched rest : List Triple) → Deals (neigh g n) (matched ∷ rest ∷ []) → (part : List Triple) →
+          Contains (matched ∷ rest ∷ []) part → (t : Triple) → Contains part t → Contains g t
       held matched rest deals part c t d = (in_filter _ g t (deal_in (neigh g n) (matched ∷ rest ∷ []) deals part c t d)).0
 
       take_up :
-          (sh : Shape) → shape_at s i ≡ Some sh → (x : Option Occurrence) (t : Triple) → ((o : Occurrence) → x ≡ Some o → Contains sh.occs o) → Contains g t →
+          (sh : Shape) → shape_at s i ≡ Some sh → (x : Option Occurrence) (t : Triple) →
+          ((o : Occurrence) → x ≡ Some o → Contains sh.occs o) → Contains g t →
           Takes (Sat s terms T) n x t → Takes (Sat s terms W) n x t
       take_up sh is None t of c h = h
       take_up sh is (Some o) t of c h = (h.0, value_up sh is o (of o refl) (other_end o.inverse t) (near_end o.inverse t c) o.value refl h.1)
 
-      body_up : (sh : Shape) → shape_at s i ≡ Some sh → (b : Option Count) (ts : List Triple) → ((t : Triple) → Contains ts t → Contains g t) →
+      body_up :
+          (sh : Shape) → shape_at s i ≡ Some sh → (b : Option Count) (ts : List Triple) → ((t : Triple) → Contains ts t → Contains g t) →
           MatchesBody (Sat s terms T) sh.occs n b ts → MatchesBody (Sat s terms W) sh.occs n b ts
       body_up sh is None ts inside h = h
       body_up sh is (Some c) ts inside h =

@@ -67,7 +67,8 @@ module _ (sat sat' : TermId → ExprId → Type 0) (occs : List Occurrence) (n :
     matches_mono (many min bound c) ts (parts, low, high, deals, h) =
         (parts, low, high, deals, all_weaker (Matches sat occs n c) (Matches sat' occs n c) parts (λ part m. matches_mono c part) h)
 
-    each_mono : (members : Plans) (parts : List (List Triple)) → MatchesEach sat occs n members parts → MatchesEach sat' occs n members parts
+    each_mono :
+        (members : Plans) (parts : List (List Triple)) → MatchesEach sat occs n members parts → MatchesEach sat' occs n members parts
     each_mono no_plans [] h = h
     each_mono no_plans (part ∷ parts) h = h
     each_mono (more_plans c rest) [] h = h
@@ -116,12 +117,15 @@ module _ (s : Schema) (terms : List Term) (g : List Triple) (f : List ℕ) (stra
   shape_mono n i at h = go (shape_at s i) refl h
     where
       take_up :
-          (sh : Shape) → shape_at s i ≡ Some sh → (x : Option Occurrence) (t : Triple) → ((o : Occurrence) → x ≡ Some o → Contains sh.occs o) →
+          (sh : Shape) → shape_at s i ≡ Some sh → (x : Option Occurrence) (t : Triple) →
+          ((o : Occurrence) → x ≡ Some o → Contains sh.occs o) →
           Takes (Sat s terms T) n x t → Takes (Sat s terms W) n x t
       take_up sh is None t of h = h
       take_up sh is (Some o) t of h = (h.0, value_up i sh is at o (of o refl) (other_end o.inverse t) o.value refl h.1)
 
-      body_up : (sh : Shape) → shape_at s i ≡ Some sh → (b : Option Count) (ts : List Triple) → MatchesBody (Sat s terms T) sh.occs n b ts → MatchesBody (Sat s terms W) sh.occs n b ts
+      body_up :
+          (sh : Shape) → shape_at s i ≡ Some sh → (b : Option Count) (ts : List Triple) → MatchesBody (Sat s terms T) sh.occs n b ts →
+          MatchesBody (Sat s terms W) sh.occs n b ts
       body_up sh is None ts h = h
       body_up sh is (Some c) ts h =
           matches_mono (Sat s terms T) (Sat s terms W) sh.occs n (λ j t. take_up sh is (slice_get sh.occs j) t (λ o e. got_in sh.occs j o e)) (plan_of c) ts h

@@ -62,7 +62,9 @@ one_more low bound k xs size short least most r = record {
 }
 
 -- a list is put into k groups wherever its length allows k groups
-pub group_in : {X : Type 0} (low : ℕ) (bound : Bound) → IsOrdered low bound → (k : ℕ) (xs : List X) → Fills low bound k (length xs) → Groups low bound k xs
+pub group_in :
+    {X : Type 0} (low : ℕ) (bound : Bound) → IsOrdered low bound → (k : ℕ) (xs : List X) → Fills low bound k (length xs) →
+    Groups low bound k xs
 group_in low Free ord zero xs h = record { groups = []; many = refl; is = sym (nothing_left xs (h.1 refl)); sizes = tt }
 group_in low (Upto m) ord zero xs h = record { groups = []; many = refl; is = sym (nothing_left xs (omega arith)); sizes = tt }
 group_in low Free ord (suc k) xs h =
@@ -102,7 +104,9 @@ module _ (sat : TermId → ExprId → Type 0) (occs : List Occurrence) (n : Term
     pub own_count : (i : ℕ) → has i ≡ true → count_of ps i ≡ count_of own i
     pub rest_count : (i : ℕ) → has i ≡ false → count_of ps i ≡ count_of rest i
 
-  divide : (has others : ℕ → Bool) (ps : List Placed) → IsPlaced sat occs n ps → AllByRecursion (λ q. has q.1 || others q.1 ≡ true) ps → Divided has others ps
+  divide :
+      (has others : ℕ → Bool) (ps : List Placed) → IsPlaced sat occs n ps → AllByRecursion (λ q. has q.1 || others q.1 ≡ true) ps →
+      Divided has others ps
   divide has others ps h w = record {
     own = filter (λ q. has q.1) ps;
     rest = filter (λ q. not (has q.1)) ps;

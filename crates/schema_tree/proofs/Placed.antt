@@ -41,7 +41,8 @@ count_append (q ∷ ps) qs i = go (nat_eq i q.1) (count_append ps qs i)
     go false e = omega arith
 
 -- a symbol that no place has is counted 0 times
-pub count_absent : (has : ℕ → Bool) (ps : List Placed) → AllByRecursion (λ q. has q.1 ≡ true) ps → (i : ℕ) → has i ≡ false → count_of ps i ≡ 0
+pub count_absent :
+    (has : ℕ → Bool) (ps : List Placed) → AllByRecursion (λ q. has q.1 ≡ true) ps → (i : ℕ) → has i ≡ false → count_of ps i ≡ 0
 count_absent has [] h i none = refl
 count_absent has (q ∷ ps) h i none = go (nat_eq i q.1) refl (count_absent has ps h.1 i none)
   where
@@ -61,11 +62,15 @@ module _ (sat : TermId → ExprId → Type 0) (occs : List Occurrence) (n : Term
     pub within : AllByRecursion (λ q. has q.1 ≡ true) placed
     pub spelled : spells (count_of placed)
 
-  some_within : (has more : ℕ → Bool) → ((i : ℕ) → has i ≡ true → more i ≡ true) → (ps : List Placed) → AllByRecursion (λ q. has q.1 ≡ true) ps → AllByRecursion (λ q. more q.1 ≡ true) ps
+  some_within :
+      (has more : ℕ → Bool) → ((i : ℕ) → has i ≡ true → more i ≡ true) → (ps : List Placed) → AllByRecursion (λ q. has q.1 ≡ true) ps →
+      AllByRecursion (λ q. more q.1 ≡ true) ps
   some_within has more go ps h = all_weaker (λ q. has q.1 ≡ true) (λ q. more q.1 ≡ true) ps (λ q c e. go q.1 e) h
 
   -- no two of the two sets are one
-  pub other_absent : (p : Plan) (ps : Plans) → ((i : ℕ) → has_symbol i p ≡ true → some_has i ps ≡ false) → (i : ℕ) → some_has i ps ≡ true → has_symbol i p ≡ false
+  pub other_absent :
+      (p : Plan) (ps : Plans) → ((i : ℕ) → has_symbol i p ≡ true → some_has i ps ≡ false) → (i : ℕ) → some_has i ps ≡ true →
+      has_symbol i p ≡ false
   other_absent p ps apart i e = go (has_symbol i p) refl
     where
       go : (b : Bool) → has_symbol i p ≡ b → b ≡ false
@@ -99,7 +104,8 @@ module _ (sat : TermId → ExprId → Type 0) (occs : List Occurrence) (n : Term
   mutual
     unfolding Matches Copies IsDistinct
 
-    pub placing_of : (p : Plan) → IsDistinct p → (ts : List Triple) → Matches sat occs n p ts → Placing (λ i. has_symbol i p) (λ c. Copies p c 1) ts
+    pub placing_of :
+        (p : Plan) → IsDistinct p → (ts : List Triple) → Matches sat occs n p ts → Placing (λ i. has_symbol i p) (λ c. Copies p c 1) ts
     placing_of (symbol i) apart ts (t, is, takes) =
         record {
           placed = (t, i) ∷ [];
@@ -126,7 +132,9 @@ module _ (sat : TermId → ExprId → Type 0) (occs : List Occurrence) (n : Term
           spelled = (length parts, fills_one low bound (length parts) least most, r.spelled);
         })
 
-    pub each_placing : (ps : Plans) → AreDistinct ps → (parts : List (List Triple)) → MatchesEach sat occs n ps parts → Placing (λ i. some_has i ps) (λ c. CopiesEach ps c 1) (flat_map (λ part. part) parts)
+    pub each_placing :
+        (ps : Plans) → AreDistinct ps → (parts : List (List Triple)) → MatchesEach sat occs n ps parts →
+        Placing (λ i. some_has i ps) (λ c. CopiesEach ps c 1) (flat_map (λ part. part) parts)
     each_placing no_plans apart [] h = record { placed = []; deals = IsPermutation-refl []; taken = tt; within = tt; spelled = tt }
     each_placing no_plans apart (x ∷ xs) h = absurd h
     each_placing (more_plans p ps) apart [] h = absurd h
@@ -148,7 +156,9 @@ module _ (sat : TermId → ExprId → Type 0) (occs : List Occurrence) (n : Term
           );
         })
 
-    pub one_placing : (ps : Plans) → AreDistinct ps → (ts : List Triple) → MatchesOne sat occs n ps ts → Placing (λ i. some_has i ps) (λ c. CopiesOne ps c 1) ts
+    pub one_placing :
+        (ps : Plans) → AreDistinct ps → (ts : List Triple) → MatchesOne sat occs n ps ts →
+        Placing (λ i. some_has i ps) (λ c. CopiesOne ps c 1) ts
     one_placing no_plans apart ts h = absurd h
     one_placing (more_plans p ps) apart ts (inl h) =
         (let a = placing_of p apart.0 ts h in record {

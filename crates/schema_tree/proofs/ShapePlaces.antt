@@ -23,7 +23,8 @@ use Rattle.schema_tree.proofs.Made.{well_made}
 use Rattle.schema_tree.proofs.ToPlaces.{to_places}
 
 pub shape_places :
-    (s : Schema) (terms : List Term) (g order : List Triple) (T : List Pair) (n : TermId) (i : ShapeId) (sh : Shape) → IsLoaded s → shape_at s i ≡ Some sh →
+    (s : Schema) (terms : List Term) (g order : List Triple) (T : List Pair) (n : TermId) (i : ShapeId) (sh : Shape) → IsLoaded s →
+    shape_at s i ≡ Some sh →
     IsPermutation (neigh g n) order →
     ShapeOk s terms g T n i
     ↔ HasPlaces (λ m v. SatValue (Sat s terms T m) v) (λ m v. ¬ SatValue (Sat s terms T m) v) g sh n (filter (is_relevant sh.occs n) order)

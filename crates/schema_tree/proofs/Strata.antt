@@ -72,7 +72,8 @@ module _ (s : Schema) where
   ]
 
   -- a stratification whose numbers are all had by paths gives the strata
-  pub reached_stratum : (f : List ℕ) → IsStratified s f → ((i : ShapeId) → i.0 < length s.shapes → (t : ShapeId) × Path s i t (level f i)) → IsStratum s f
+  pub reached_stratum :
+      (f : List ℕ) → IsStratified s f → ((i : ShapeId) → i.0 < length s.shapes → (t : ShapeId) × Path s i t (level f i)) → IsStratum s f
   reached_stratum f strat reached =
       (strat.one_each, λ i lt. (reached i lt, λ t m path. (let h = path_falls f strat i t m path in omega arith)))
 

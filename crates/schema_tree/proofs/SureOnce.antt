@@ -25,7 +25,9 @@ pub record AreApart (holds : Verdict → Type 0) : Type 0 where
   pub no_unknown : holds No → ¬ holds Unknown
 
 module _ (view : Known) (terms : List Term) (n : TermId) where
-  pub entry_apart : (member : ExprId → Verdict → Type 0) → ((e : ExprId) → AreApart (member e)) → (x : Option Expr) → AreApart (SureEntry view terms n member x)
+  pub entry_apart :
+      (member : ExprId → Verdict → Type 0) → ((e : ExprId) → AreApart (member e)) → (x : Option Expr) →
+      AreApart (SureEntry view terms n member x)
   entry_apart member apart None = record { yes_no = λ h k. h; yes_unknown = λ h k. h; no_unknown = λ h k. k }
   entry_apart member apart (Some (Exprs.And es)) = record {
     yes_no = λ h k. some_against (λ e. member e No) (λ e. member e Yes) (λ e a b. (apart e).yes_no b a) es k h;
@@ -83,7 +85,9 @@ decide_verdict holds apart (Unknown, h) Unknown = inl h
 
 module _ (member : ExprId → Verdict → Type 0) (apart : (e : ExprId) → AreApart (member e)) (has : (e : ExprId) → HasOne (member e)) where
   -- where no member has either of two verdicts, all have the third
-  all_yes : (es : List ExprId) → ¬ SomeByRecursion (λ e. member e No) es → ¬ SomeByRecursion (λ e. member e Unknown) es → AllByRecursion (λ e. member e Yes) es
+  all_yes :
+      (es : List ExprId) → ¬ SomeByRecursion (λ e. member e No) es → ¬ SomeByRecursion (λ e. member e Unknown) es →
+      AllByRecursion (λ e. member e Yes) es
   all_yes [] no_no no_unknown = tt
   all_yes (e ∷ es) no_no no_unknown = (pick (has e), all_yes es (λ h. no_no (inr h)) (λ h. no_unknown (inr h)))
     where
@@ -92,7 +96,9 @@ module _ (member : ExprId → Verdict → Type 0) (apart : (e : ExprId) → AreA
       pick (No, h) = absurd (no_no (inl h))
       pick (Unknown, h) = absurd (no_unknown (inl h))
 
-  all_no : (es : List ExprId) → ¬ SomeByRecursion (λ e. member e Yes) es → ¬ SomeByRecursion (λ e. member e Unknown) es → AllByRecursion (λ e. member e No) es
+  all_no :
+      (es : List ExprId) → ¬ SomeByRecursion (λ e. member e Yes) es → ¬ SomeByRecursion (λ e. member e Unknown) es →
+      AllByRecursion (λ e. member e No) es
   all_no [] no_yes no_unknown = tt
   all_no (e ∷ es) no_yes no_unknown = (pick (has e), all_no es (λ h. no_yes (inr h)) (λ h. no_unknown (inr h)))
     where
@@ -104,10 +110,13 @@ module _ (member : ExprId → Verdict → Type 0) (apart : (e : ExprId) → AreA
   some_has : (es : List ExprId) (v : Verdict) → Decided (SomeByRecursion (λ e. member e v) es)
   some_has es v = decide_some (λ e. member e v) (λ e. decide_verdict (member e) (apart e) (has e) v) es
 
-  and_has : (view : Known) (terms : List Term) (n : TermId) (es : List ExprId) → HasOne (SureEntry view terms n member (Some (Exprs.And es)))
+  and_has :
+      (view : Known) (terms : List Term) (n : TermId) (es : List ExprId) → HasOne (SureEntry view terms n member (Some (Exprs.And es)))
   and_has view terms n es = go (some_has es No) (some_has es Unknown)
     where
-      go : Decided (SomeByRecursion (λ e. member e No) es) → Decided (SomeByRecursion (λ e. member e Unknown) es) → HasOne (SureEntry view terms n member (Some (Exprs.And es)))
+      go :
+          Decided (SomeByRecursion (λ e. member e No) es) → Decided (SomeByRecursion (λ e. member e Unknown) es) →
+          HasOne (SureEntry view terms n member (Some (Exprs.And es)))
       go (inl h) rest = (No, h)
       go (inr none) (inl h) = (Unknown, (none, h))
       go (inr none) (inr known) = (Yes, all_yes es none known)
@@ -115,7 +124,9 @@ module _ (member : ExprId → Verdict → Type 0) (apart : (e : ExprId) → AreA
   or_has : (view : Known) (terms : List Term) (n : TermId) (es : List ExprId) → HasOne (SureEntry view terms n member (Some (Exprs.Or es)))
   or_has view terms n es = go (some_has es Yes) (some_has es Unknown)
     where
-      go : Decided (SomeByRecursion (λ e. member e Yes) es) → Decided (SomeByRecursion (λ e. member e Unknown) es) → HasOne (SureEntry view terms n member (Some (Exprs.Or es)))
+      go :
+          Decided (SomeByRecursion (λ e. member e Yes) es) → Decided (SomeByRecursion (λ e. member e Unknown) es) →
+          HasOne (SureEntry view terms n member (Some (Exprs.Or es)))
       go (inl h) rest = (Yes, h)
       go (inr none) (inl h) = (Unknown, (none, h))
       go (inr none) (inr known) = (No, all_no es none known)

@@ -76,7 +76,9 @@ module _ (sat : TermId → ExprId → Type 0) (g : List Triple) (sh : Shape) (n 
   spots_of ps = map (λ q. (q.0, At q.1)) ps
 
   -- a triple that an occurrence takes is relevant
-  taken_relevant : (t : Triple) (x : Option Occurrence) → ((o : Occurrence) → x ≡ Some o → Contains sh.occs o) → MayTake holds fails sh n t x → is_relevant sh.occs n t ≡ true
+  taken_relevant :
+      (t : Triple) (x : Option Occurrence) → ((o : Occurrence) → x ≡ Some o → Contains sh.occs o) → MayTake holds fails sh n t x →
+      is_relevant sh.occs n t ≡ true
   taken_relevant t None of h = absurd h
   taken_relevant t (Some o) of h = any_true (λ u. fits u n t) sh.occs o (of o refl) h.0
 
@@ -137,7 +139,9 @@ module _ (sat : TermId → ExprId → Type 0) (g : List Triple) (sh : Shape) (n 
   allowed_of (x ∷ xs) h = (h.0, allowed_of xs h.1)
 
   -- leaving out irrelevant triples changes no count
-  times_relevant : (xs : List Spot) → AllByRecursion IsGood xs → (i : ℕ) → times (map (λ x. x.1) (filter (λ x. is_relevant sh.occs n x.0) xs)) i ≡ times (map (λ x. x.1) xs) i
+  times_relevant :
+      (xs : List Spot) → AllByRecursion IsGood xs → (i : ℕ) →
+      times (map (λ x. x.1) (filter (λ x. is_relevant sh.occs n x.0) xs)) i ≡ times (map (λ x. x.1) xs) i
   times_relevant [] h i = refl
   times_relevant (x ∷ xs) h i = go x.1 (λ j e. good_relevant x.0 j (subst (λ p. IsGood (x.0, p)) e h.0)) (is_relevant sh.occs n x.0) refl (times_relevant xs h.1 i)
     where
@@ -163,7 +167,9 @@ module _ (sat : TermId → ExprId → Type 0) (g : List Triple) (sh : Shape) (n 
     pub taken : IsPlaced sat sh.occs n placed
     pub spelled : HaveCounts body (count_of placed)
 
-  taken_of : (matched : List Triple) (body : Option Count) → ((c : Count) → body ≡ Some c → IsDistinct (plan_of c)) → MatchesBody sat sh.occs n body matched → Taken matched body
+  taken_of :
+      (matched : List Triple) (body : Option Count) → ((c : Count) → body ≡ Some c → IsDistinct (plan_of c)) →
+      MatchesBody sat sh.occs n body matched → Taken matched body
   taken_of matched None distinct h = record { placed = []; deals = subst (λ ts. IsPermutation ts []) (sym h) (IsPermutation-refl []); taken = tt; spelled = λ i. refl }
   taken_of matched (Some c) distinct h =
       let r = placing_of sat sh.occs n (plan_of c) (distinct c refl) matched h in
@@ -242,7 +248,8 @@ module _ (sat : TermId → ExprId → Type 0) (g : List Triple) (sh : Shape) (n 
       }
     where
       count_is :
-          (r : Taken matched sh.body) (rest : List Triple) (lifted : List Spot) → IsPermutation (spots_of r.placed ++ rests rest) lifted → AllByRecursion IsGood lifted → (i : ℕ) →
+          (r : Taken matched sh.body) (rest : List Triple) (lifted : List Spot) → IsPermutation (spots_of r.placed ++ rests rest) lifted →
+          AllByRecursion IsGood lifted → (i : ℕ) →
           times (map (λ x. x.1) (filter (λ x. is_relevant sh.occs n x.0) lifted)) i ≡ count_of r.placed i
       count_is r rest lifted moved good i =
           let a = times_relevant lifted good i in

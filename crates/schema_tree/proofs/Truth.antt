@@ -33,7 +33,9 @@ use Rattle.schema_tree.proofs.Below.{in_below, out_below}
 
 module _ (s : Schema) (terms : List Term) (g : List Triple) (loaded : IsLoaded s) where
   -- a pair that matches where Unknown is impossible has its Shape under each typing that agrees
-  pub match_true : (view : Known) (T : List Pair) → Agrees T view → (p : Pair) → PairCanMatch s terms g view Impossible p → ShapeOk s terms g T p.node p.shape
+  pub match_true :
+      (view : Known) (T : List Pair) → Agrees T view → (p : Pair) → PairCanMatch s terms g view Impossible p →
+      ShapeOk s terms g T p.node p.shape
   match_true view T agrees p h = go (shape_at s p.shape) refl h
     where
       go : (x : Option Shape) → shape_at s p.shape ≡ x → CanMatch s terms g view Impossible p.node x → ShapeHolds (Sat s terms T) g p.node x
@@ -42,10 +44,14 @@ module _ (s : Schema) (terms : List Term) (g : List Triple) (loaded : IsLoaded s
           placed_true s terms g view T agrees sh (well_made s loaded p.shape sh e) p.node (neighbourhood terms g p.node) (ordered_same terms g p.node) h
 
   -- one that cannot match where Unknown is possible has it under none
-  pub mismatch_true : (view : Known) (T : List Pair) → Agrees T view → (p : Pair) → ¬ PairCanMatch s terms g view Possible p → ¬ ShapeOk s terms g T p.node p.shape
+  pub mismatch_true :
+      (view : Known) (T : List Pair) → Agrees T view → (p : Pair) → ¬ PairCanMatch s terms g view Possible p →
+      ¬ ShapeOk s terms g T p.node p.shape
   mismatch_true view T agrees p h = go (shape_at s p.shape) refl h
     where
-      go : (x : Option Shape) → shape_at s p.shape ≡ x → ¬ CanMatch s terms g view Possible p.node x → ¬ ShapeHolds (Sat s terms T) g p.node x
+      go :
+          (x : Option Shape) → shape_at s p.shape ≡ x → ¬ CanMatch s terms g view Possible p.node x →
+          ¬ ShapeHolds (Sat s terms T) g p.node x
       go None e h = h
       go (Some sh) e h =
           never_true s terms g view T agrees sh (well_made s loaded p.shape sh e) p.node (neighbourhood terms g p.node) (ordered_same terms g p.node) h
@@ -60,7 +66,8 @@ module _ (s : Schema) (terms : List Term) (g : List Triple) (loaded : IsLoaded s
 
   -- the pairs that went on a stratum are of it
   on_stratum :
-      (f : List ℕ) (k : ℕ) (pairs : List Pair) (budget : ℕ) (lower : Known) (gone kept : List Pair) → IsRefinedAt s terms g f pairs budget lower k gone kept →
+      (f : List ℕ) (k : ℕ) (pairs : List Pair) (budget : ℕ) (lower : Known) (gone kept : List Pair) →
+      IsRefinedAt s terms g f pairs budget lower k gone kept →
       (p : Pair) → Contains gone p → level f p.shape ≡ k
   on_stratum f k pairs budget lower gone kept r p (i, within, at) = (r.in_turn i p (slice_get-get_or gone i p within ∙ ap (λ q. Some q) at)).0.0.1
 
@@ -68,7 +75,8 @@ module _ (s : Schema) (terms : List Term) (g : List Triple) (loaded : IsLoaded s
       (yes_below : (p : Pair) → Contains lower.yes p → Contains K p × (level f p.shape < k)) (no_below : (p : Pair) → Contains lower.no p → ¬ Contains K p) where
     -- pairs that match with one another, with what is known below and with gone out, are in the complete typing
     pub confirmed_in :
-        (gone kept : List Pair) → ((p : Pair) → Contains gone p → level f p.shape ≡ k) → ((p : Pair) → Contains kept p → Contains U p.node × (level f p.shape ≡ k)) →
+        (gone kept : List Pair) → ((p : Pair) → Contains gone p → level f p.shape ≡ k) →
+        ((p : Pair) → Contains kept p → Contains U p.node × (level f p.shape ≡ k)) →
         ((p : Pair) → Contains kept p → PairCanMatch s terms g (record { yes = lower.yes ++ kept; no = lower.no ++ gone }) Impossible p) →
         IsPartOf kept K
     confirmed_in gone kept left there can p h = complete.greatest W rival p (Contains-append_right (below f k K) kept p h)
@@ -176,7 +184,8 @@ module _ (s : Schema) (terms : List Term) (g : List Triple) (loaded : IsLoaded s
     -- on one stratum more
     one_more :
         (T : List Pair) (k : ℕ) → IsGreatestAt s terms g f U T k → (lower : Known) →
-        ((p : Pair) → Contains lower.yes p → Contains T p × (level f p.shape < k)) → ((p : Pair) → Contains lower.no p → (¬ Contains T p) × (level f p.shape < k)) →
+        ((p : Pair) → Contains lower.yes p → Contains T p × (level f p.shape < k)) →
+        ((p : Pair) → Contains lower.no p → (¬ Contains T p) × (level f p.shape < k)) →
         (gone kept : List Pair) → IsRefinedAt s terms g f pairs budget lower k gone kept →
         (known : Known) → known.yes ≡ lower.yes ++ kept → known.no ≡ lower.no ++ gone → AreTrueTo T k known
     one_more T k complete lower plus minus gone kept r known yes_is no_is = record {
@@ -193,7 +202,9 @@ module _ (s : Schema) (terms : List Term) (g : List Triple) (loaded : IsLoaded s
         both : IsPartOf kept T × ((p : Pair) → Contains gone p → ¬ Contains T p)
         both = refined_true f U T k complete lower plus (λ p c. (minus p c).0) pairs budget nodes gone kept r
 
-    refined_to : (k : ℕ) (T : List Pair) → IsComplete s terms g f U T k → (known : Known) → AreRefinedBelow s terms g f pairs budget (suc k) known → AreTrueTo T k known
+    refined_to :
+        (k : ℕ) (T : List Pair) → IsComplete s terms g f U T k → (known : Known) → AreRefinedBelow s terms g f pairs budget (suc k) known →
+        AreTrueTo T k known
     refined_to zero T complete known (lower, gone, kept, (no_yes, no_no), r, yes_is, no_is) =
         one_more T zero complete lower
         (λ p c. absurd (not_in_none p (subst (λ ps. Contains ps p) no_yes c))) (λ p c. absurd (not_in_none p (subst (λ ps. Contains ps p) no_no c)))
@@ -205,6 +216,7 @@ module _ (s : Schema) (terms : List Term) (g : List Triple) (loaded : IsLoaded s
         gone kept r known yes_is no_is
 
     -- the verdicts of refinement on all strata are true of the complete typing
-    pub all_true : (T : List Pair) → IsTheTyping s terms g f U T → (known : Known) → IsRefined s terms g f pairs budget known → Agrees T known
+    pub all_true :
+        (T : List Pair) → IsTheTyping s terms g f U T → (known : Known) → IsRefined s terms g f pairs budget known → Agrees T known
     all_true T complete known refined =
         let t = refined_to (top_of f) T complete known refined in ((λ p c. (t.ins p c).0), (λ p (not_yes, c). (t.outs p c).0))

@@ -13,7 +13,9 @@ use Rattle.schema_tree.proofs.Lists.{in_filter}
 
 module _ (s : Schema) (terms : List Term) (g : List Triple) (f : List ℕ) (U : List TermId) where
   -- one that is greatest holds another that agrees below
-  holds : (T W : List Pair) (k : ℕ) → IsGreatestAt s terms g f U T k → IsGreatestAt s terms g f U W k → HaveSame (below f k W) (below f k T) → IsPartOf W T
+  holds :
+      (T W : List Pair) (k : ℕ) → IsGreatestAt s terms g f U T k → IsGreatestAt s terms g f U W k → HaveSame (below f k W) (below f k T) →
+      IsPartOf W T
   holds T W k a b agree = a.greatest W (record { over = b.over; agrees = agree; correct = b.correct })
 
   none_below : (T W : List Pair) → IsPartOf (below f 0 T) W

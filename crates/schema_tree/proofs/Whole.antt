@@ -99,14 +99,17 @@ module _ (s : Schema) (terms : List Term) (g : List Triple) (f : List ℕ) (stra
       ];
     }
       where
-        agree : (W : List Pair) → IsRival s terms g f U (L ++ r.more) k W → (q : Pair) → level f q.shape < k → (Contains W q → Contains L q) × (Contains L q → Contains W q)
+        agree :
+            (W : List Pair) → IsRival s terms g f U (L ++ r.more) k W → (q : Pair) → level f q.shape < k →
+            (Contains W q → Contains L q) × (Contains L q → Contains W q)
         agree W rival q lt = (
           (λ c. subst (λ T. Contains T q) (below_grown r) (rival.agrees.0 q (in_below f k W q c lt))),
           (λ c. (out_below f k W q (rival.agrees.1 q (subst (λ T. Contains T q) (sym (below_grown r)) c))).0),
         )
 
   -- the complete typing of the strata up to k
-  pub complete_upto : (k : ℕ) → (T : List Pair) × ((p : Pair) → Contains T p → IsThere p × (level f p.shape ≤ k)) × IsComplete s terms g f U T k
+  pub complete_upto :
+      (k : ℕ) → (T : List Pair) × ((p : Pair) → Contains T p → IsThere p × (level f p.shape ≤ k)) × IsComplete s terms g f U T k
   complete_upto zero =
       let low : (p : Pair) → Contains [] p → IsThere p × (level f p.shape < 0) = λ p h. absurd (not_in_none p h) in
       let r = grown zero [] low in

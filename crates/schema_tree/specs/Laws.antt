@@ -1,4 +1,4 @@
--- Laws of satisfaction and typings, which functions with empty bodies claim.
+-- The laws of satisfaction and typings. A function that does nothing claims each of them by its contract.
 use Rattle.std.specs.Prelude.{ℕ, Bool, true, List, ◌+◌, ◌≡◌, ◌<◌, ◌≤◌, ◌⊎◌, ◌↔◌, length, drop, slice_index, filter, Some, Contains}
 use Rattle.std.specs.List.Sorted.{IsPermutation}
 use Rattle.rdf_terms.specs.declared.terms.Term.{Term}

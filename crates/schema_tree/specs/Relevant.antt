@@ -1,4 +1,5 @@
--- Which triples of a node an occurrence of a Shape can take, by their form alone (ShEx 2.1, section 5.5.2).
+-- Which triples of a node the occurrences of a Shape fit, by predicate and direction alone (own words for ShEx 2.1, section
+-- 5.5.2, where they are among those that match some TripleConstraint).
 use Rattle.std.specs.Prelude.{Bool, List, not, filter, ◌&&◌}
 use Rattle.std.specs.List.{list_any}
 use Rattle.rdf_terms.specs.declared.terms.TermId.{TermId}
