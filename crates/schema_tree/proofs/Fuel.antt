@@ -11,9 +11,9 @@ use Rattle.schema_tree.specs.declared.schema.Expr.TheVariants as Exprs
 use Rattle.schema_tree.specs.declared.verdicts.Verdict.{Verdict}
 use Rattle.schema_tree.specs.declared.verdicts.Verdict.TheVariants.{Yes, No, Unknown}
 use Rattle.schema_tree.specs.declared.schema.Pair.{Pair}
-use Rattle.schema_tree.specs.Entries.{entry}
+use Rattle.schema_tree.specs.Entries.{entry, pair_of}
 use Rattle.schema_tree.specs.Satisfies.{Sat, SatWithin, SatEntry, SomeByRecursion}
-use Rattle.schema_tree.specs.Sure.{Known, SureWithin, SureEntry, IsSure}
+use Rattle.schema_tree.specs.Sure.{Known, PairIs, SureWithin, SureEntry, IsSure}
 use Rattle.schema_tree.specs.Loaded.{IsLoaded, RefersBelow}
 use Rattle.schema_tree.proofs.Lists.{all_weaker, some_weaker}
 
@@ -61,48 +61,60 @@ some_same P Q xs h = (some_weaker P Q xs (λ x c. (h x c).0), some_weaker Q P xs
 pub two_same : {A B C D : Type 0} → (A ↔ B) → (C ↔ D) → (A × C) ↔ (B × D)
 two_same h k = ((λ p. (h.0 p.0, k.0 p.1)), λ p. (h.1 p.0, k.1 p.1))
 
+-- the same of verdicts, under two views that answer alike
 pub sure_entry_same :
-    (s : Schema) (terms : List Term) (view : Known) (n : TermId) (i : ℕ) (a b : ExprId → Verdict → Type 0) →
-    ((d : ExprId) → d.0 < i → (v : Verdict) → a d v ↔ b d v) →
-    (x : Option Expr) → ((y : Expr) → x ≡ Some y → RefersBelow s i y) → (v : Verdict) → SureEntry view terms n a x v ↔ SureEntry view terms n b x v
-sure_entry_same s terms view n i a b same None ok v = ((λ h. h), λ h. h)
-sure_entry_same s terms view n i a b same (Some (Exprs.And es)) ok Yes =
+    (s : Schema) (terms : List Term) (view view' : Known) → ((p : Pair) (v : Verdict) → PairIs view p v ↔ PairIs view' p v) →
+    (n : TermId) (i : ℕ) (a b : ExprId → Verdict → Type 0) → ((d : ExprId) → d.0 < i → (v : Verdict) → a d v ↔ b d v) →
+    (x : Option Expr) → ((y : Expr) → x ≡ Some y → RefersBelow s i y) → (v : Verdict) → SureEntry view terms n a x v ↔ SureEntry view' terms n b x v
+sure_entry_same s terms view view' pairs n i a b same None ok v = ((λ h. h), λ h. h)
+sure_entry_same s terms view view' pairs n i a b same (Some (Exprs.And es)) ok Yes =
     all_same (λ e. a e Yes) (λ e. b e Yes) es (λ d c. same d (ok (Exprs.And es) refl d c) Yes)
-sure_entry_same s terms view n i a b same (Some (Exprs.And es)) ok No =
+sure_entry_same s terms view view' pairs n i a b same (Some (Exprs.And es)) ok No =
     some_same (λ e. a e No) (λ e. b e No) es (λ d c. same d (ok (Exprs.And es) refl d c) No)
-sure_entry_same s terms view n i a b same (Some (Exprs.And es)) ok Unknown =
+sure_entry_same s terms view view' pairs n i a b same (Some (Exprs.And es)) ok Unknown =
     two_same (not_same (some_same (λ e. a e No) (λ e. b e No) es (λ d c. same d (ok (Exprs.And es) refl d c) No)))
     (some_same (λ e. a e Unknown) (λ e. b e Unknown) es (λ d c. same d (ok (Exprs.And es) refl d c) Unknown))
-sure_entry_same s terms view n i a b same (Some (Exprs.Or es)) ok Yes =
+sure_entry_same s terms view view' pairs n i a b same (Some (Exprs.Or es)) ok Yes =
     some_same (λ e. a e Yes) (λ e. b e Yes) es (λ d c. same d (ok (Exprs.Or es) refl d c) Yes)
-sure_entry_same s terms view n i a b same (Some (Exprs.Or es)) ok No =
+sure_entry_same s terms view view' pairs n i a b same (Some (Exprs.Or es)) ok No =
     all_same (λ e. a e No) (λ e. b e No) es (λ d c. same d (ok (Exprs.Or es) refl d c) No)
-sure_entry_same s terms view n i a b same (Some (Exprs.Or es)) ok Unknown =
+sure_entry_same s terms view view' pairs n i a b same (Some (Exprs.Or es)) ok Unknown =
     two_same (not_same (some_same (λ e. a e Yes) (λ e. b e Yes) es (λ d c. same d (ok (Exprs.Or es) refl d c) Yes)))
     (some_same (λ e. a e Unknown) (λ e. b e Unknown) es (λ d c. same d (ok (Exprs.Or es) refl d c) Unknown))
-sure_entry_same s terms view n i a b same (Some (Exprs.Not d)) ok Yes = same d (ok (Exprs.Not d) refl) No
-sure_entry_same s terms view n i a b same (Some (Exprs.Not d)) ok No = same d (ok (Exprs.Not d) refl) Yes
-sure_entry_same s terms view n i a b same (Some (Exprs.Not d)) ok Unknown = same d (ok (Exprs.Not d) refl) Unknown
-sure_entry_same s terms view n i a b same (Some (Exprs.Node c)) ok Yes = ((λ h. h), λ h. h)
-sure_entry_same s terms view n i a b same (Some (Exprs.Node c)) ok No = ((λ h. h), λ h. h)
-sure_entry_same s terms view n i a b same (Some (Exprs.Node c)) ok Unknown = ((λ h. h), λ h. h)
-sure_entry_same s terms view n i a b same (Some (Exprs.Shape j)) ok v = ((λ h. h), λ h. h)
+sure_entry_same s terms view view' pairs n i a b same (Some (Exprs.Not d)) ok Yes = same d (ok (Exprs.Not d) refl) No
+sure_entry_same s terms view view' pairs n i a b same (Some (Exprs.Not d)) ok No = same d (ok (Exprs.Not d) refl) Yes
+sure_entry_same s terms view view' pairs n i a b same (Some (Exprs.Not d)) ok Unknown = same d (ok (Exprs.Not d) refl) Unknown
+sure_entry_same s terms view view' pairs n i a b same (Some (Exprs.Node c)) ok Yes = ((λ h. h), λ h. h)
+sure_entry_same s terms view view' pairs n i a b same (Some (Exprs.Node c)) ok No = ((λ h. h), λ h. h)
+sure_entry_same s terms view view' pairs n i a b same (Some (Exprs.Node c)) ok Unknown = ((λ h. h), λ h. h)
+sure_entry_same s terms view view' pairs n i a b same (Some (Exprs.Shape j)) ok v = pairs (pair_of n j) v
 
 module _ (s : Schema) (terms : List Term) (loaded : IsLoaded s) where
+  -- any two numbers of entries above e, and any two views that answer alike, give the same verdict
+  pub sure_alike :
+      (view view' : Known) → ((p : Pair) (v : Verdict) → PairIs view p v ↔ PairIs view' p v) →
+      (n : TermId) (k m : ℕ) (e : ExprId) → e.0 < k → e.0 < m → (v : Verdict) →
+      SureWithin k s terms view n e v ↔ SureWithin m s terms view' n e v
+  unfolding SureWithin
+  sure_alike view view' pairs n zero m e h l v = absurd (omega arith)
+  sure_alike view view' pairs n (suc k) zero e h l v = absurd (omega arith)
+  sure_alike view view' pairs n (suc k) (suc m) e h l v =
+      sure_entry_same s terms view view' pairs n e.0 (SureWithin k s terms view n) (SureWithin m s terms view' n)
+      (λ d lt w. sure_alike view view' pairs n k m d (omega arith) (omega arith) w) (entry s e) (λ y is. loaded.refers e y is) v
+
+  -- a view answers as itself
+  itself : (view : Known) (p : Pair) (v : Verdict) → PairIs view p v ↔ PairIs view p v
+  itself view p v = ((λ h. h), λ h. h)
+
   pub sure_fuel :
       (view : Known) (n : TermId) (k m : ℕ) (e : ExprId) → e.0 < k → e.0 < m → (v : Verdict) →
       SureWithin k s terms view n e v ↔ SureWithin m s terms view n e v
-  unfolding SureWithin
-  sure_fuel view n zero m e h l v = absurd (omega arith)
-  sure_fuel view n (suc k) zero e h l v = absurd (omega arith)
-  sure_fuel view n (suc k) (suc m) e h l v =
-      sure_entry_same s terms view n e.0 (SureWithin k s terms view n) (SureWithin m s terms view n)
-      (λ d lt w. sure_fuel view n k m d (omega arith) (omega arith) w) (entry s e) (λ y is. loaded.refers e y is) v
+  sure_fuel view = sure_alike view view (itself view)
 
   pub sure_layer :
       (view : Known) (n : TermId) (e : ExprId) (v : Verdict) →
       IsSure s terms view n e v ↔ SureEntry view terms n (IsSure s terms view n) (entry s e) v
   unfolding SureWithin
   sure_layer view n e v =
-      sure_entry_same s terms view n e.0 (SureWithin e.0 s terms view n) (IsSure s terms view n)
+      sure_entry_same s terms view view (itself view) n e.0 (SureWithin e.0 s terms view n) (IsSure s terms view n)
       (λ d lt w. sure_fuel view n e.0 (suc d.0) d lt (omega arith) w) (entry s e) (λ y is. loaded.refers e y is) v

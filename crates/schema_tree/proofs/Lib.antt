@@ -27,5 +27,7 @@ pub mod Exists
 pub mod Whole
 pub mod ExactViews
 pub mod Closed
+pub mod PlainWidth
+pub mod OneRefinement
 pub mod Truth
 pub mod Sharing

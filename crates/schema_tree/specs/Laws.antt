@@ -29,6 +29,7 @@ use Rattle.schema_tree.specs.Typings.{HaveSame, HoldsEnds, IsGreatestAt, IsPartO
 use Rattle.schema_tree.specs.Loaded.{IsLoaded}
 use Rattle.schema_tree.specs.Order.{neighbourhood}
 use Rattle.schema_tree.specs.Relevant.{is_relevant, relevant_in_order}
+use Rattle.schema_tree.specs.Width.{IsPlain, width}
 use Rattle.schema_tree.specs.Sure.{Agrees, IsSure, Known, PairIs, SureEntry, SureWithin}
 use Rattle.schema_tree.specs.Places.{AreAllowed, CanMatch, HasPlaces, HaveCounts, MayFail, MayHold, PairCanMatch, times}
 use Rattle.schema_tree.specs.States.{AreClosed, IsCovered, opening}
@@ -257,3 +258,15 @@ RefinementIsTrue =
     IsLoaded s → IsTheTyping s terms g f U T →
     (pairs : List Pair) (budget : ℕ) → ((p : Pair) → Contains pairs p → Contains U p.node) →
     (known : Known) → IsRefined s terms g f pairs budget known → Agrees T known
+
+-- any two refinements of the same pairs have the same Yes pairs, and the same No pairs in the same order
+abbrev pub OneRefinement : Type 0
+OneRefinement =
+    (s : Schema) (terms : List Term) (g : List Triple) (f : List ℕ) (pairs : List Pair) (budget : ℕ) (known known' : Known) →
+    IsLoaded s → IsRefined s terms g f pairs budget known → IsRefined s terms g f pairs budget known' →
+    HaveSame known.yes known'.yes × (known.no ≡ known'.no)
+
+-- the Width of a pair is 1 where its Shape has no inverse occurrence, no EXTRA and one occurrence for each predicate
+abbrev pub PlainShapesAreNarrow : Type 0
+PlainShapesAreNarrow =
+    (s : Schema) (g : List Triple) (p : Pair) (sh : Shape) → shape_at s p.shape ≡ Some sh → IsPlain sh → width s g p ≡ 1

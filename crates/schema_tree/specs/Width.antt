@@ -1,10 +1,12 @@
 -- How many ways there are to give the triples of a node to a Shape's occurrences, at most (own: what the budget is held against).
-use Rattle.std.specs.Prelude.{ℕ, zero, suc, Bool, List, [], ◌∷◌, ◌+◌, ◌*◌, ◌&&◌, ◌||◌, not, if◌then◌else◌, filter, map, count_by, Option, Some, None}
+use Rattle.std.specs.Prelude.{ℕ, zero, suc, Bool, false, ◌≡◌, Contains, List, [], ◌∷◌, ◌+◌, ◌*◌, ◌&&◌, ◌||◌, not, if◌then◌else◌, filter, map, count_by, Option, Some, None}
 use Rattle.std.specs.Bool.{beq}
 use Rattle.std.specs.List.{list_any}
 use Rattle.rdf_terms.specs.declared.terms.TermId.{TermId}
 use Rattle.rdf_terms.specs.declared.terms.Triple.{Triple}
 use Rattle.rdf_terms.specs.Graphs.{same_id, is_loop}
+use Rattle.rdf_terms.specs.Lists.{AreDistinct}
+use Rattle.schema_tree.specs.declared.schema.Occurrence.{Occurrence}
 use Rattle.schema_tree.specs.declared.schema.Schema.{Schema}
 use Rattle.schema_tree.specs.declared.schema.Shape.{Shape}
 use Rattle.schema_tree.specs.declared.schema.Pair.{Pair}
@@ -59,3 +61,9 @@ width_of (Some sh) g n = width_over sh n (relevant sh.occs g n)
 -- the Width of a pair
 abbrev pub width : Schema → List Triple → Pair → ℕ
 width s g p = width_of (shape_at s p.shape) g p.node
+
+-- the Shape has no inverse occurrence, no EXTRA, and one occurrence for each predicate
+pub record IsPlain (sh : Shape) : Type 0 where
+  pub forward : (o : Occurrence) → Contains sh.occs o → o.inverse ≡ false
+  pub no_extra : sh.extra ≡ []
+  pub apart : AreDistinct (map (λ o. o.predicate) sh.occs)

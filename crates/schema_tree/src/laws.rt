@@ -1,6 +1,6 @@
 //! The laws of satisfaction and typings. Each function claims some of them by its contract, and does nothing when called.
 
-ghost use Rattle.schema_tree.specs.Laws.{AnswersAlike, CopiesGiveParts, CyclesAreLists, MatchIsExact, MatchIsTrue, NoMatchIsTrue, OneTyping, OneVerdict, OrderIsWhole, PartsSpellCopies, PathsAreShort, RefinementIsTrue, SatFollowsPairs, SatIsDecided, SatIsItsLayer, SatKnowsNoBound, ShapesAreDecided, ShapesArePlaces, ShapesFollowEdges, ShapesGrow, SomeVerdict, StatesLeadNowhere, StatesRefute, StrataAlike, StrataAreLeast, StrataAreStratified, StrataGiveOneTyping, StratifiedHasNoCycle, StratumIsTrue, SureIsItsLayer, SureIsTrue, SureKnowsNoBound, TypingExists};
+ghost use Rattle.schema_tree.specs.Laws.{AnswersAlike, CopiesGiveParts, CyclesAreLists, MatchIsExact, MatchIsTrue, NoMatchIsTrue, OneRefinement, OneTyping, OneVerdict, OrderIsWhole, PartsSpellCopies, PathsAreShort, PlainShapesAreNarrow, RefinementIsTrue, SatFollowsPairs, SatIsDecided, SatIsItsLayer, SatKnowsNoBound, ShapesAreDecided, ShapesArePlaces, ShapesFollowEdges, ShapesGrow, SomeVerdict, StatesLeadNowhere, StatesRefute, StrataAlike, StrataAreLeast, StrataAreStratified, StrataGiveOneTyping, StratifiedHasNoCycle, StratumIsTrue, SureIsItsLayer, SureIsTrue, SureKnowsNoBound, TypingExists};
 
 use node_constraint::nodes_are_decided;
 
@@ -94,8 +94,16 @@ pub fn closed_states_refute()
     ensures refuted { StatesRefute }
 {}
 
-/// Claims that the verdicts of refinement are true of the complete typing: on a stratum, where those below are, and on all.
+/// Claims that the usual Shapes have the least Width: those with no inverse occurrence, no EXTRA and one occurrence for
+/// each predicate.
+pub fn plain_shapes_are_narrow()
+    ensures { PlainShapesAreNarrow }
+{}
+
+/// Claims that the verdicts of refinement are true of the complete typing: on a stratum, where those below are, and on all;
+/// and that the pairs determine them.
 pub fn refinement_is_true()
     ensures stratum { StratumIsTrue }
     ensures whole { RefinementIsTrue }
+    ensures one { OneRefinement }
 {}
