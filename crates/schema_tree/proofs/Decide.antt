@@ -32,7 +32,7 @@ use Rattle.schema_tree.proofs.FromPlaces.{from_places}
 use Rattle.std.proofs.lemmas.List.Sorted.{IsPermutation-refl}
 use Rattle.schema_tree.specs.Satisfies.{Sat, SatWithin, SatEntry, SomeByRecursion}
 use Rattle.schema_tree.specs.Matches.{SatValue, fits, other_end}
-use Rattle.schema_tree.specs.Places.{MayTake, MayStay, MayStayOut, AreAllowed, times, HaveCounts, IsShut}
+use Rattle.schema_tree.specs.Places.{HasPlaces, MayTake, MayStay, MayStayOut, AreAllowed, times, HaveCounts, IsShut}
 use Rattle.schema_tree.proofs.Members.{not_in_none, in_rest, is_first, is_later}
 use Rattle.schema_tree.specs.Relevant.{is_relevant, is_forward}
 use Rattle.schema_tree.proofs.Made.{IsWellMade}
@@ -213,6 +213,19 @@ pub decide_counts :
 decide_counts None sound ps = decide_idle ps
 decide_counts (Some c) sound ps = decide_copies (plan_of c) (sound c refl) (times ps) 1
 
+-- there are allowed places with matching counts, or there are not
+pub decide_places :
+    (hold fail : TermId → Option ExprId → Type 0) → ((m : TermId) (v : Option ExprId) → Decided (hold m v)) → ((m : TermId) (v : Option ExprId) → Decided (fail m v)) →
+    (g : List Triple) (sh : Shape) → IsWellMade sh → (n : TermId) (ts : List Triple) → Decided (HasPlaces hold fail g sh n ts)
+decide_places hold fail dh df g sh made n ts =
+    join (decide_both (decide_true sh.closed) (decide_true (list_any (λ t. not (is_relevant sh.occs n t)) (outs g n))))
+    (decide_found hold fail sh n dh df ts (λ ps. HaveCounts sh.body (times ps)) (decide_counts sh.body (λ c e. (made c e).1)))
+  where
+    join : Decided (IsShut g sh n) → Decided (Found hold fail sh n dh df (λ ps. HaveCounts sh.body (times ps)) ts) → Decided (HasPlaces hold fail g sh n ts)
+    join (inl shut) f = inr (λ h. h.open_to shut)
+    join (inr opened) (inl (ps, all, counts)) = inl (record { open_to = opened; places = ps; allowed = all; spelled = counts })
+    join (inr opened) (inr none) = inr (λ h. none (h.places, h.allowed, h.spelled))
+
 module _ (s : Schema) (terms : List Term) (node : (c : NodeConstraint) (t : Option Term) → Decided (SatNodeAt c t)) (g : List Triple)
     (loaded : (i : ShapeId) (sh : Shape) → shape_at s i ≡ Some sh → IsWellMade sh) where
   decide_value : (T : List Pair) (m : TermId) (v : Option ExprId) → Decided (SatValue (Sat s terms T m) v)
@@ -224,27 +237,14 @@ module _ (s : Schema) (terms : List Term) (node : (c : NodeConstraint) (t : Opti
   decide_shape T n i = go (shape_at s i) refl
     where
       known : (sh : Shape) → IsWellMade sh → Decided (ShapeHolds (Sat s terms T) g n (Some sh))
-      known sh made = join (decide_both (decide_true sh.closed) (decide_true (list_any (λ t. not (is_relevant sh.occs n t)) (outs g n))))
-          (decide_found hold fail sh n (decide_value T) (λ m v. decide_not (decide_value T m v)) ts (λ ps. HaveCounts sh.body (times ps)) (decide_counts sh.body (λ c e. (made c e).1)))
+      known sh made = through (decide_places (λ m v. SatValue (Sat s terms T m) v) (λ m v. ¬ SatValue (Sat s terms T m) v)
+          (decide_value T) (λ m v. decide_not (decide_value T m v)) g sh made n (filter (is_relevant sh.occs n) (neigh g n)))
         where
-          hold : TermId → Option ExprId → Type 0
-          hold m v = SatValue (Sat s terms T m) v
-
-          fail : TermId → Option ExprId → Type 0
-          fail m v = ¬ SatValue (Sat s terms T m) v
-
-          ts : List Triple
-          ts = filter (is_relevant sh.occs n) (neigh g n)
-
-          join :
-              Decided (IsShut g sh n) →
-              Decided (Found hold fail sh n (λ m v. decide_value T m v) (λ m v. decide_not (decide_value T m v)) (λ ps. HaveCounts sh.body (times ps)) ts) →
+          through :
+              Decided (HasPlaces (λ m v. SatValue (Sat s terms T m) v) (λ m v. ¬ SatValue (Sat s terms T m) v) g sh n (filter (is_relevant sh.occs n) (neigh g n))) →
               Decided (ShapeHolds (Sat s terms T) g n (Some sh))
-          join (inl shut) f = inr (λ h. (to_places (Sat s terms T) g sh n (λ c e. (made c e).0) (neigh g n) (IsPermutation-refl (neigh g n)) h).open_to shut)
-          join (inr opened) (inl (ps, all, counts)) =
-              inl (from_places (Sat s terms T) g sh n made (neigh g n) (IsPermutation-refl (neigh g n)) (record { open_to = opened; places = ps; allowed = all; spelled = counts }))
-          join (inr opened) (inr none) = inr (λ h.
-              let r = to_places (Sat s terms T) g sh n (λ c e. (made c e).0) (neigh g n) (IsPermutation-refl (neigh g n)) h in none (r.places, r.allowed, r.spelled))
+          through (inl h) = inl (from_places (Sat s terms T) g sh n made (neigh g n) (IsPermutation-refl (neigh g n)) h)
+          through (inr none) = inr (λ h. none (to_places (Sat s terms T) g sh n (λ c e. (made c e).0) (neigh g n) (IsPermutation-refl (neigh g n)) h))
 
       go : (x : Option Shape) → shape_at s i ≡ x → Decided (ShapeHolds (Sat s terms T) g n x)
       go None e = inr (λ h. h)

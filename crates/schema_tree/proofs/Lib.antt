@@ -29,5 +29,7 @@ pub mod ExactViews
 pub mod Closed
 pub mod PlainWidth
 pub mod OneRefinement
+pub mod DecideMatch
+pub mod RefinementExists
 pub mod Truth
 pub mod Sharing

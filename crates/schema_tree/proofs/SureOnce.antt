@@ -68,11 +68,11 @@ module _ (view : Known) (terms : List Term) (n : TermId) where
       same Unknown Unknown apart a b = refl
 
 -- some verdict holds
-abbrev HasOne : (Verdict → Type 0) → Type 0
+abbrev pub HasOne : (Verdict → Type 0) → Type 0
 HasOne holds = (v : Verdict) × holds v
 
 -- of those that have exactly one, each verdict holds or it does not
-decide_verdict : (holds : Verdict → Type 0) → AreApart holds → HasOne holds → (w : Verdict) → Decided (holds w)
+pub decide_verdict : (holds : Verdict → Type 0) → AreApart holds → HasOne holds → (w : Verdict) → Decided (holds w)
 decide_verdict holds apart (Yes, h) Yes = inl h
 decide_verdict holds apart (Yes, h) No = inr (apart.yes_no h)
 decide_verdict holds apart (Yes, h) Unknown = inr (apart.yes_unknown h)

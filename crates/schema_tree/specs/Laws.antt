@@ -5,6 +5,7 @@ use Rattle.rdf_terms.specs.declared.terms.Term.{Term}
 use Rattle.rdf_terms.specs.declared.terms.TermId.{TermId}
 use Rattle.rdf_terms.specs.declared.terms.Triple.{Triple}
 use Rattle.rdf_terms.specs.Graphs.{neigh}
+use Rattle.rdf_terms.specs.Lists.{AreDistinct}
 use Rattle.tally.specs.Plan.{Plan}
 use Rattle.tally.specs.Span.{IsSound}
 use Rattle.tally.specs.Symbols.{IsDistinct}
@@ -258,6 +259,12 @@ RefinementIsTrue =
     IsLoaded s → IsTheTyping s terms g f U T →
     (pairs : List Pair) (budget : ℕ) → ((p : Pair) → Contains pairs p → Contains U p.node) →
     (known : Known) → IsRefined s terms g f pairs budget known → Agrees T known
+
+-- distinct pairs have a refinement
+abbrev pub RefinementExists : Type 0
+RefinementExists =
+    (s : Schema) (terms : List Term) (g : List Triple) (f : List ℕ) (pairs : List Pair) (budget : ℕ) → IsLoaded s → AreDistinct pairs →
+    (known : Known) × IsRefined s terms g f pairs budget known
 
 -- any two refinements of the same pairs have the same Yes pairs, and the same No pairs in the same order
 abbrev pub OneRefinement : Type 0

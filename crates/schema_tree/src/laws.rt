@@ -1,6 +1,6 @@
 //! The laws of satisfaction and typings. Each function claims some of them by its contract, and does nothing when called.
 
-ghost use Rattle.schema_tree.specs.Laws.{AnswersAlike, CopiesGiveParts, CyclesAreLists, MatchIsExact, MatchIsTrue, NoMatchIsTrue, OneRefinement, OneTyping, OneVerdict, OrderIsWhole, PartsSpellCopies, PathsAreShort, PlainShapesAreNarrow, RefinementIsTrue, SatFollowsPairs, SatIsDecided, SatIsItsLayer, SatKnowsNoBound, ShapesAreDecided, ShapesArePlaces, ShapesFollowEdges, ShapesGrow, SomeVerdict, StatesLeadNowhere, StatesRefute, StrataAlike, StrataAreLeast, StrataAreStratified, StrataGiveOneTyping, StratifiedHasNoCycle, StratumIsTrue, SureIsItsLayer, SureIsTrue, SureKnowsNoBound, TypingExists};
+ghost use Rattle.schema_tree.specs.Laws.{AnswersAlike, CopiesGiveParts, CyclesAreLists, MatchIsExact, MatchIsTrue, NoMatchIsTrue, OneRefinement, OneTyping, OneVerdict, OrderIsWhole, PartsSpellCopies, PathsAreShort, PlainShapesAreNarrow, RefinementExists, RefinementIsTrue, SatFollowsPairs, SatIsDecided, SatIsItsLayer, SatKnowsNoBound, ShapesAreDecided, ShapesArePlaces, ShapesFollowEdges, ShapesGrow, SomeVerdict, StatesLeadNowhere, StatesRefute, StrataAlike, StrataAreLeast, StrataAreStratified, StrataGiveOneTyping, StratifiedHasNoCycle, StratumIsTrue, SureIsItsLayer, SureIsTrue, SureKnowsNoBound, TypingExists};
 
 use node_constraint::nodes_are_decided;
 
@@ -100,10 +100,16 @@ pub fn plain_shapes_are_narrow()
     ensures { PlainShapesAreNarrow }
 {}
 
-/// Claims that the verdicts of refinement are true of the complete typing: on a stratum, where those below are, and on all;
-/// and that the pairs determine them.
+/// Claims that distinct pairs have a refinement, and that any two say the same.
+pub fn refinement_is_one()
+    ensures exists { RefinementExists }
+    ensures one { OneRefinement }
+{
+    nodes_are_decided();
+}
+
+/// Claims that the verdicts of refinement are true of the complete typing: on a stratum, where those below are, and on all.
 pub fn refinement_is_true()
     ensures stratum { StratumIsTrue }
     ensures whole { RefinementIsTrue }
-    ensures one { OneRefinement }
 {}
