@@ -215,13 +215,16 @@ decide_counts (Some c) sound ps = decide_copies (plan_of c) (sound c refl) (time
 
 -- there are allowed places with matching counts, or there are not
 pub decide_places :
-    (hold fail : TermId → Option ExprId → Type 0) → ((m : TermId) (v : Option ExprId) → Decided (hold m v)) → ((m : TermId) (v : Option ExprId) → Decided (fail m v)) →
+    (hold fail : TermId → Option ExprId → Type 0) → ((m : TermId) (v : Option ExprId) → Decided (hold m v)) →
+    ((m : TermId) (v : Option ExprId) → Decided (fail m v)) →
     (g : List Triple) (sh : Shape) → IsWellMade sh → (n : TermId) (ts : List Triple) → Decided (HasPlaces hold fail g sh n ts)
 decide_places hold fail dh df g sh made n ts =
     join (decide_both (decide_true sh.closed) (decide_true (list_any (λ t. not (is_relevant sh.occs n t)) (outs g n))))
     (decide_found hold fail sh n dh df ts (λ ps. HaveCounts sh.body (times ps)) (decide_counts sh.body (λ c e. (made c e).1)))
   where
-    join : Decided (IsShut g sh n) → Decided (Found hold fail sh n dh df (λ ps. HaveCounts sh.body (times ps)) ts) → Decided (HasPlaces hold fail g sh n ts)
+    join :
+        Decided (IsShut g sh n) → Decided (Found hold fail sh n dh df (λ ps. HaveCounts sh.body (times ps)) ts) →
+        Decided (HasPlaces hold fail g sh n ts)
     join (inl shut) f = inr (λ h. h.open_to shut)
     join (inr opened) (inl (ps, all, counts)) = inl (record { open_to = opened; places = ps; allowed = all; spelled = counts })
     join (inr opened) (inr none) = inr (λ h. none (h.places, h.allowed, h.spelled))

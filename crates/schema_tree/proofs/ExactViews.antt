@@ -65,7 +65,7 @@ module _ (s : Schema) (terms : List Term) (nodes : NodesAreDecided) (view : Know
   AreKnown e = (i : ShapeId) (sign : Bool) → StandsIn s i e sign → IsKnown i
 
   -- what is satisfied is Yes, and what is not is No
-  abbrev IsExact : (ExprId → Type 0) → (ExprId → Verdict → Type 0) → ExprId → Type 0
+  abbrev pub IsExact : (ExprId → Type 0) → (ExprId → Verdict → Type 0) → ExprId → Type 0
   IsExact sat sure d = (sat d → sure d Yes) × (¬ sat d → sure d No)
 
   exact_entry :
@@ -92,7 +92,7 @@ module _ (s : Schema) (terms : List Term) (nodes : NodesAreDecided) (view : Know
   exact_entry sat sure decided e exact known (Some (Exprs.Node c)) is = ((λ h. h), λ h. h)
   exact_entry sat sure decided e exact known (Some (Exprs.Shape i)) is = known i false (itself is)
 
-  exact_within : (k : ℕ) (e : ExprId) → AreKnown e → IsExact (SatWithin k s terms T n) (SureWithin k s terms view n) e
+  pub exact_within : (k : ℕ) (e : ExprId) → AreKnown e → IsExact (SatWithin k s terms T n) (SureWithin k s terms view n) e
   unfolding SatWithin SureWithin
   exact_within zero e known = ((λ h. absurd h), λ h. tt)
   exact_within (suc k) e known =
@@ -100,7 +100,7 @@ module _ (s : Schema) (terms : List Term) (nodes : NodesAreDecided) (view : Know
       (λ d. exact_within k d) known (entry s e) refl
 
   -- what is Yes is satisfied, and what is No is not
-  exact_back :
+  pub exact_back :
       (e : ExprId) → AreKnown e → (IsSure s terms view n e Yes → Sat s terms T n e) × (IsSure s terms view n e No → ¬ Sat s terms T n e)
   exact_back e known = (back (decide_sat s terms (decide_node nodes) (suc e.0) T n e), (λ sure h. apart (m.0 h) sure))
     where
@@ -177,14 +177,14 @@ module _ (s : Schema) (terms : List Term) (nodes : NodesAreDecided) (g : List Tr
     matches h =
         from_places (Sat s terms T) g sh p.node (well_made s loaded p.shape sh is) (neighbourhood terms g p.node) (ordered_same terms g p.node)
         (places_weaker _ _ _ _ sh p.node (λ t. Contains g t)
-        (λ t o held of fit. (exact_at t held o of fit).0.1) (λ t o held of forward. (exact_out t held o of forward).1.1) g _ in_graph h)
+        (λ t o held of fit. (exact_at t held o of fit).0.1) (λ t o held extra of forward. (exact_out t held o of forward).1.1) g _ in_graph h)
 
     matched :
         ShapeHolds (Sat s terms T) g p.node (Some sh) →
         HasPlaces (MayHold s terms view lean) (MayFail s terms view lean) g sh p.node (relevant_in_order terms g sh p.node)
     matched h =
         places_weaker _ _ _ _ sh p.node (λ t. Contains g t)
-        (λ t o held of fit. (exact_at t held o of fit).0.0) (λ t o held of forward. (exact_out t held o of forward).1.0) g _ in_graph
+        (λ t o held of fit. (exact_at t held o of fit).0.0) (λ t o held extra of forward. (exact_out t held o of forward).1.0) g _ in_graph
         (to_places (Sat s terms T) g sh p.node (λ c e. (well_made s loaded p.shape sh is c e).0) (neighbourhood terms g p.node) (ordered_same terms g p.node) h)
 
   pub exact_match : PairCanMatch s terms g view lean p ↔ ShapeOk s terms g T p.node p.shape

@@ -68,7 +68,7 @@ module _ (s : Schema) (terms : List Term) (view : Known) (T : List Pair) (agrees
 -- what may hold and fail of the values may do so of more, at the ends of the triples that base holds of
 module _ (hold fail hold' fail' : TermId → Option ExprId → Type 0) (sh : Shape) (n : TermId) (base : Triple → Type 0)
     (h : (t : Triple) (o : Occurrence) → base t → Contains sh.occs o → fits o n t ≡ true → hold (other_end o.inverse t) o.value → hold' (other_end o.inverse t) o.value)
-    (f : (t : Triple) (o : Occurrence) → base t → Contains sh.occs o → is_forward n t o ≡ true → fail t.o o.value → fail' t.o o.value) where
+    (f : (t : Triple) (o : Occurrence) → base t → Contains sh.extra t.p → Contains sh.occs o → is_forward n t o ≡ true → fail t.o o.value → fail' t.o o.value) where
   allowed_weaker : (t : Triple) (p : Place) → base t → IsAllowed hold fail sh n t p → IsAllowed hold' fail' sh n t p
   allowed_weaker t (At i) in_base a = take (slice_get sh.occs i) refl a
     where
@@ -81,7 +81,7 @@ module _ (hold fail hold' fail' : TermId → Option ExprId → Type 0) (sh : Sha
       out true c = (
         c.0,
         all_weaker (λ o. fail t.o o.value) (λ o. fail' t.o o.value) (filter (is_forward n t) sh.occs)
-            (λ o i. let m = in_filter (is_forward n t) sh.occs o i in f t o in_base m.0 m.1) c.1,
+            (λ o i. let m = in_filter (is_forward n t) sh.occs o i in f t o in_base c.0 m.0 m.1) c.1,
       )
       out false c = c
 
@@ -125,11 +125,11 @@ module _ (s : Schema) (terms : List Term) (g : List Triple) (view : Known) (T : 
   pub placed_true :
       HasPlaces (MayHold s terms view Impossible) (MayFail s terms view Impossible) g sh n (filter (is_relevant sh.occs n) order) → ShapeHolds (Sat s terms T) g n (Some sh)
   placed_true h = from_places (Sat s terms T) g sh n made order ordered
-      (places_weaker _ _ _ _ sh n (λ t. Unit {0}) (λ t o b of fit. yes_value _ o.value) (λ t o b of fit. no_value _ o.value) g _ (λ t c. tt) h)
+      (places_weaker _ _ _ _ sh n (λ t. Unit {0}) (λ t o b of fit. yes_value _ o.value) (λ t o b extra of fit. no_value _ o.value) g _ (λ t c. tt) h)
 
   -- where there is none for which Unknown is possible, none is had under any such typing
   pub never_true :
       ¬ HasPlaces (MayHold s terms view Possible) (MayFail s terms view Possible) g sh n (filter (is_relevant sh.occs n) order) → ¬ ShapeHolds (Sat s terms T) g n (Some sh)
   never_true none h =
-      none (places_weaker _ _ _ _ sh n (λ t. Unit {0}) (λ t o b of fit. may_hold _ o.value) (λ t o b of fit. may_fail _ o.value) g _ (λ t c. tt)
+      none (places_weaker _ _ _ _ sh n (λ t. Unit {0}) (λ t o b of fit. may_hold _ o.value) (λ t o b extra of fit. may_fail _ o.value) g _ (λ t c. tt)
       (to_places (Sat s terms T) g sh n (λ c e. (made c e).0) order ordered h))

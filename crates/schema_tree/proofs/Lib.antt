@@ -31,5 +31,6 @@ pub mod PlainWidth
 pub mod OneRefinement
 pub mod DecideMatch
 pub mod RefinementExists
+pub mod CompleteRefinement
 pub mod Truth
 pub mod Sharing

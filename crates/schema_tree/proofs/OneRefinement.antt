@@ -59,13 +59,17 @@ module _ (s : Schema) (terms : List Term) (g : List Triple) (loaded : IsLoaded s
   sure_same a b h n e v =
       sure_alike s terms loaded a b (λ p w. (pair_alike a b h p w, pair_alike b a (know_turned a b h) p w)) n (suc e.0) (suc e.0) e (omega arith) (omega arith) v
 
-  hold_same : (a b : Known) → KnowSame a b → (lean : Lean) (n : TermId) (x : Option ExprId) → MayHold s terms a lean n x → MayHold s terms b lean n x
+  hold_same :
+      (a b : Known) → KnowSame a b → (lean : Lean) (n : TermId) (x : Option ExprId) → MayHold s terms a lean n x →
+      MayHold s terms b lean n x
   hold_same a b h Possible n None m = m
   hold_same a b h Impossible n None m = m
   hold_same a b h Possible n (Some e) m = (not_same (sure_same a b h n e No)).0 m
   hold_same a b h Impossible n (Some e) m = (sure_same a b h n e Yes).0 m
 
-  fail_same : (a b : Known) → KnowSame a b → (lean : Lean) (n : TermId) (x : Option ExprId) → MayFail s terms a lean n x → MayFail s terms b lean n x
+  fail_same :
+      (a b : Known) → KnowSame a b → (lean : Lean) (n : TermId) (x : Option ExprId) → MayFail s terms a lean n x →
+      MayFail s terms b lean n x
   fail_same a b h Possible n None m = m
   fail_same a b h Impossible n None m = m
   fail_same a b h Possible n (Some e) m = (not_same (sure_same a b h n e Yes)).0 m
@@ -79,7 +83,7 @@ module _ (s : Schema) (terms : List Term) (g : List Triple) (loaded : IsLoaded s
       go None m = m
       go (Some sh) m =
           places_weaker _ _ _ _ sh p.node (λ t. Unit {0}) (λ t o base of fit. hold_same a b h lean _ o.value)
-          (λ t o base of fit. fail_same a b h lean _ o.value) g _ (λ t c. tt) m
+          (λ t o base extra of fit. fail_same a b h lean _ o.value) g _ (λ t c. tt) m
 
   module _ (f : List ℕ) (pairs : List Pair) (budget : ℕ) (k : ℕ) where
     can_go_same :

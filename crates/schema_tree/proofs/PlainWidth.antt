@@ -109,7 +109,9 @@ module _ (sh : Shape) (plain : IsPlain sh) (n : TermId) where
   first_in [] t c = c
   first_in (u ∷ us) t c = go (in_rest u (filter (λ v. not (same_class n u v)) (firsts (same_class n) us)) t c) (first_in us t)
     where
-      go : (u ≡ t) ⊎ Contains (filter (λ v. not (same_class n u v)) (firsts (same_class n) us)) t → (Contains (firsts (same_class n) us) t → Contains us t) → Contains (u ∷ us) t
+      go :
+          (u ≡ t) ⊎ Contains (filter (λ v. not (same_class n u v)) (firsts (same_class n) us)) t →
+          (Contains (firsts (same_class n) us) t → Contains us t) → Contains (u ∷ us) t
       go (inl same) deeper = subst (λ v. Contains (u ∷ us) v) same (is_first u us)
       go (inr later) deeper = is_later u us t (deeper (in_filter (λ v. not (same_class n u v)) (firsts (same_class n) us) t later).0)
 

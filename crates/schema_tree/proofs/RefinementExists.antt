@@ -74,32 +74,46 @@ first_that P d (x ∷ xs) = go (d x) (first_that P d xs)
     ])
 
 -- the items with P
-record Sifted {X : Type 0} (P : X → Type 0) (xs : List X) : Type 0 where
+pub record Sifted {X : Type 0} (P : X → Type 0) (xs : List X) : Type 0 where
   pub items : List X
-  pub only : (x : X) → Contains items x → P x
+  pub only : (x : X) → Contains items x → Contains xs x × P x
   pub whole : (x : X) → Contains xs x → P x → Contains items x
 
-sift : {X : Type 0} (P : X → Type 0) → ((x : X) → Decided (P x)) → (xs : List X) → Sifted P xs
-sift P d [] = record { items = []; only = λ x c. absurd (not_in_none x c); whole = λ x c h. c }
-sift P d (x ∷ xs) = go (d x) (sift P d xs)
-  where
-    go : Decided (P x) → Sifted P xs → Sifted P (x ∷ xs)
-    go (inl h) r = record {
-      items = x ∷ r.items;
-      only = λ y c. elim (in_rest x r.items y c) [ inl e ↦ subst P e h | inr later ↦ r.only y later ];
-      whole = λ y c holds. elim (in_rest x xs y c) [
-        | inl e ↦ subst (λ z. Contains (x ∷ r.items) z) e (is_first x r.items)
-        | inr later ↦ is_later x r.items y (r.whole y later holds)
-      ];
-    }
-    go (inr fails) r = record {
-      items = r.items;
-      only = r.only;
-      whole = λ y c holds. elim (in_rest x xs y c) [
-        | inl e ↦ absurd (subst (λ z. ¬ P z) e fails holds)
-        | inr later ↦ r.whole y later holds
-      ];
-    }
+-- with one more item that has P
+pub sift_in : {X : Type 0} (P : X → Type 0) (x : X) (xs : List X) → P x → Sifted P xs → Sifted P (x ∷ xs)
+sift_in P x xs h r = record {
+  items = x ∷ r.items;
+  only = λ y c. elim (in_rest x r.items y c) [
+    | inl e ↦ (subst (λ z. Contains (x ∷ xs) z) e (is_first x xs), subst P e h)
+    | inr later ↦ (let t = r.only y later in (is_later x xs y t.0, t.1))
+  ];
+  whole = λ y c holds. elim (in_rest x xs y c) [
+    | inl e ↦ subst (λ z. Contains (x ∷ r.items) z) e (is_first x r.items)
+    | inr later ↦ is_later x r.items y (r.whole y later holds)
+  ];
+}
+
+-- with one more that has it not
+pub sift_out : {X : Type 0} (P : X → Type 0) (x : X) (xs : List X) → ¬ P x → Sifted P xs → Sifted P (x ∷ xs)
+sift_out P x xs fails r = record {
+  items = r.items;
+  only = λ y c. (let t = r.only y c in (is_later x xs y t.0, t.1));
+  whole = λ y c holds. elim (in_rest x xs y c) [
+    | inl e ↦ absurd (subst (λ z. ¬ P z) e fails holds)
+    | inr later ↦ r.whole y later holds
+  ];
+}
+
+-- of no items none has it
+pub sift_none : {X : Type 0} (P : X → Type 0) → Sifted P []
+sift_none P = record { items = []; only = λ x c. absurd (not_in_none x c); whole = λ x c h. c }
+
+pub sift : {X : Type 0} (P : X → Type 0) → ((x : X) → Decided (P x)) → (xs : List X) → Sifted P xs
+sift P d [] = sift_none P
+sift P d (x ∷ xs) = elim (d x) [
+  | inl h ↦ sift_in P x xs h (sift P d xs)
+  | inr fails ↦ sift_out P x xs fails (sift P d xs)
+]
 
 -- a list without the item at a place
 without : {X : Type 0} (xs : List X) (i : ℕ) (x : X) → slice_get xs i ≡ Some x → IsPermutation xs (x ∷ remove xs i)
@@ -108,7 +122,8 @@ without xs i x is = IsPermutation-remove xs i x (slice_get_within xs i x is) (sy
 -- what is Yes and No under a view is so under one that knows more
 module _ (s : Schema) (terms : List Term) (a b : Known) (up : (p : Pair) → PairIs a p Yes → PairIs b p Yes) (down : (p : Pair) → PairIs a p No → PairIs b p No) where
   entry_more :
-      (n : TermId) (sure sure' : ExprId → Verdict → Type 0) → ((d : ExprId) → sure d Yes → sure' d Yes) → ((d : ExprId) → sure d No → sure' d No) → (x : Option Expr) →
+      (n : TermId) (sure sure' : ExprId → Verdict → Type 0) → ((d : ExprId) → sure d Yes → sure' d Yes) →
+      ((d : ExprId) → sure d No → sure' d No) → (x : Option Expr) →
       (SureEntry a terms n sure x Yes → SureEntry b terms n sure' x Yes) × (SureEntry a terms n sure x No → SureEntry b terms n sure' x No)
   entry_more n sure sure' y m None = ((λ h. h), λ h. h)
   entry_more n sure sure' y m (Some (Exprs.And es)) =
@@ -141,7 +156,7 @@ module _ (s : Schema) (terms : List Term) (a b : Known) (up : (p : Pair) → Pai
       go : (x : Option Shape) → CanMatch s terms g a Impossible p.node x → CanMatch s terms g b Impossible p.node x
       go None h = h
       go (Some sh) h =
-          places_weaker _ _ _ _ sh p.node (λ t. Unit {0}) (λ t o base of fit. hold_more _ o.value) (λ t o base of fit. fail_more _ o.value) g _ (λ t c. tt) h
+          places_weaker _ _ _ _ sh p.node (λ t. Unit {0}) (λ t o base of fit. hold_more _ o.value) (λ t o base extra of fit. fail_more _ o.value) g _ (λ t c. tt) h
 
 module _ (s : Schema) (terms : List Term) (nodes : NodesAreDecided) (g : List Triple) (loaded : IsLoaded s) (f : List ℕ) (pairs : List Pair) (budget : ℕ)
     (distinct : AreDistinct pairs) where
@@ -290,7 +305,9 @@ module _ (s : Schema) (terms : List Term) (nodes : NodesAreDecided) (g : List Tr
           step (first_that (λ p. ¬ PairCanMatch s terms g (view cand) Impossible p) (λ p. decide_not (decide_match s terms nodes g loaded (view cand) Impossible p)) cand)
           (λ cand'. prune fuel cand')
         where
-          sure : (p : Pair) → Contains cand p → ¬ (¬ PairCanMatch s terms g (view cand) Impossible p) → PairCanMatch s terms g (view cand) Impossible p
+          sure :
+              (p : Pair) → Contains cand p → ¬ (¬ PairCanMatch s terms g (view cand) Impossible p) →
+              PairCanMatch s terms g (view cand) Impossible p
           sure p held twice = elim (decide_match s terms nodes g loaded (view cand) Impossible p) [
             | inl h ↦ h
             | inr fails ↦ absurd (twice fails)
@@ -317,7 +334,7 @@ module _ (s : Schema) (terms : List Term) (nodes : NodesAreDecided) (g : List Tr
       all_kept : Kept
       all_kept =
           let c = sift Stays decide_stays pairs in
-          prune (length c.items) c.items (omega arith) c.only (λ more all p held. (let t = all p held in c.whole p t.0.0 (t.0, t.1)))
+          prune (length c.items) c.items (omega arith) (λ p held. (c.only p held).1) (λ more all p held. (let t = all p held in c.whole p t.0.0 (t.0, t.1)))
 
   -- the verdicts on the strata below k
   record Refined (k : ℕ) : Type 0 where

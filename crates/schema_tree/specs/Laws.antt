@@ -35,7 +35,7 @@ use Rattle.schema_tree.specs.Sure.{Agrees, IsSure, Known, PairIs, SureEntry, Sur
 use Rattle.schema_tree.specs.Places.{AreAllowed, CanMatch, HasPlaces, HaveCounts, MayFail, MayHold, PairCanMatch, times}
 use Rattle.schema_tree.specs.States.{AreClosed, IsCovered, opening}
 use Rattle.schema_tree.specs.Copied.{AreDealt, ArePlaced}
-use Rattle.schema_tree.specs.Needs.{Needs}
+use Rattle.schema_tree.specs.Needs.{HoldNeeds, HoldRoots, IsDecided, LeadsToNarrow, Needs}
 use Rattle.schema_tree.specs.Removal.{IsRefined, IsRefinedAt}
 use Rattle.schema_tree.specs.Cycles.{HasNegatedCycle, IsNegatedCycle}
 
@@ -272,6 +272,30 @@ OneRefinement =
     (s : Schema) (terms : List Term) (g : List Triple) (f : List ℕ) (pairs : List Pair) (budget : ℕ) (known known' : Known) →
     IsLoaded s → IsRefined s terms g f pairs budget known → IsRefined s terms g f pairs budget known' →
     HaveSame known.yes known'.yes × (known.no ≡ known'.no)
+
+-- refinement has a verdict on each pair from which no needs lead to a pair whose Width is above the budget
+abbrev pub NarrowIsKnown : Type 0
+NarrowIsKnown =
+    (s : Schema) (terms : List Term) (g : List Triple) (f : List ℕ) (pairs : List Pair) (budget : ℕ) (known : Known) →
+    IsLoaded s → IsStratified s f → HoldNeeds s g pairs → IsRefined s terms g f pairs budget known →
+    (p : Pair) → Contains pairs p → LeadsToNarrow s g budget p → Contains known.yes p ⊎ Contains known.no p
+
+-- so it answers each node with an expression that reaches no such pair
+abbrev pub DecidedIsSure : Type 0
+DecidedIsSure =
+    (s : Schema) (terms : List Term) (g : List Triple) (f : List ℕ) (pairs : List Pair) (budget : ℕ) (known : Known) →
+    IsLoaded s → IsStratified s f → HoldNeeds s g pairs → IsRefined s terms g f pairs budget known →
+    (n : TermId) (e : ExprId) → HoldRoots s pairs n e → IsDecided s g budget n e →
+    IsSure s terms known n e Yes ⊎ IsSure s terms known n e No
+
+-- and the answer is that of the complete typing
+abbrev pub DecidedIsAnswered : Type 0
+DecidedIsAnswered =
+    (s : Schema) (terms : List Term) (g : List Triple) (f : List ℕ) (pairs : List Pair) (budget : ℕ) (known : Known) →
+    IsLoaded s → IsStratified s f → HoldNeeds s g pairs → IsRefined s terms g f pairs budget known →
+    (U : List TermId) → ((p : Pair) → Contains pairs p → Contains U p.node) → (T : List Pair) → IsTheTyping s terms g f U T →
+    (n : TermId) (e : ExprId) → HoldRoots s pairs n e → IsDecided s g budget n e →
+    (IsSure s terms known n e Yes ↔ Sat s terms T n e) × (IsSure s terms known n e No ↔ (¬ Sat s terms T n e))
 
 -- the Width of a pair is 1 where its Shape has no inverse occurrence, no EXTRA and one occurrence for each predicate
 abbrev pub PlainShapesAreNarrow : Type 0

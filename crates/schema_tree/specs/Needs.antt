@@ -8,7 +8,7 @@ use Rattle.schema_tree.specs.declared.schema.Shape.{Shape}
 use Rattle.schema_tree.specs.declared.schema.ShapeId.{ShapeId}
 use Rattle.schema_tree.specs.declared.schema.ExprId.{ExprId}
 use Rattle.schema_tree.specs.declared.schema.Pair.{Pair}
-use Rattle.schema_tree.specs.Entries.{shape_at}
+use Rattle.schema_tree.specs.Entries.{pair_of, shape_at}
 use Rattle.schema_tree.specs.Matches.{fits, other_end}
 use Rattle.schema_tree.specs.Edges.{StandsIn, StandsInValue}
 use Rattle.schema_tree.specs.Width.{width}
@@ -39,3 +39,15 @@ Reaches s g n e q = (i : ShapeId) × (sign : Bool) × StandsIn s i e sign × Lea
 -- no pair that the node with the expression reaches has a Width above the budget
 abbrev pub IsDecided : Schema → List Triple → ℕ → TermId → ExprId → Type 0
 IsDecided s g budget n e = (q : Pair) → Reaches s g n e q → width s g q ≤ budget
+
+-- the pairs have each pair that one of them needs
+abbrev pub HoldNeeds : Schema → List Triple → List Pair → Type 0
+HoldNeeds s g pairs = (p q : Pair) → Contains pairs p → Needs s g p q → Contains pairs q
+
+-- the pairs have the node with each Shape that stands in the expression
+abbrev pub HoldRoots : Schema → List Pair → TermId → ExprId → Type 0
+HoldRoots s pairs n e = (i : ShapeId) (sign : Bool) → StandsIn s i e sign → Contains pairs (pair_of n i)
+
+-- no pair that needs lead to from the pair has a Width above the budget
+abbrev pub LeadsToNarrow : Schema → List Triple → ℕ → Pair → Type 0
+LeadsToNarrow s g budget p = (q : Pair) → Leads s g p q → width s g q ≤ budget

@@ -1,6 +1,6 @@
 //! The laws of satisfaction and typings. Each function claims some of them by its contract, and does nothing when called.
 
-ghost use Rattle.schema_tree.specs.Laws.{AnswersAlike, CopiesGiveParts, CyclesAreLists, MatchIsExact, MatchIsTrue, NoMatchIsTrue, OneRefinement, OneTyping, OneVerdict, OrderIsWhole, PartsSpellCopies, PathsAreShort, PlainShapesAreNarrow, RefinementExists, RefinementIsTrue, SatFollowsPairs, SatIsDecided, SatIsItsLayer, SatKnowsNoBound, ShapesAreDecided, ShapesArePlaces, ShapesFollowEdges, ShapesGrow, SomeVerdict, StatesLeadNowhere, StatesRefute, StrataAlike, StrataAreLeast, StrataAreStratified, StrataGiveOneTyping, StratifiedHasNoCycle, StratumIsTrue, SureIsItsLayer, SureIsTrue, SureKnowsNoBound, TypingExists};
+ghost use Rattle.schema_tree.specs.Laws.{AnswersAlike, CopiesGiveParts, CyclesAreLists, DecidedIsAnswered, DecidedIsSure, MatchIsExact, MatchIsTrue, NarrowIsKnown, NoMatchIsTrue, OneRefinement, OneTyping, OneVerdict, OrderIsWhole, PartsSpellCopies, PathsAreShort, PlainShapesAreNarrow, RefinementExists, RefinementIsTrue, SatFollowsPairs, SatIsDecided, SatIsItsLayer, SatKnowsNoBound, ShapesAreDecided, ShapesArePlaces, ShapesFollowEdges, ShapesGrow, SomeVerdict, StatesLeadNowhere, StatesRefute, StrataAlike, StrataAreLeast, StrataAreStratified, StrataGiveOneTyping, StratifiedHasNoCycle, StratumIsTrue, SureIsItsLayer, SureIsTrue, SureKnowsNoBound, TypingExists};
 
 use node_constraint::nodes_are_decided;
 
@@ -113,3 +113,13 @@ pub fn refinement_is_true()
     ensures stratum { StratumIsTrue }
     ensures whole { RefinementIsTrue }
 {}
+
+/// Claims that refinement leaves nothing Unknown but what reaches a pair whose Width is above the budget, and that its
+/// answers are those of the complete typing.
+pub fn refinement_is_complete()
+    ensures pairs { NarrowIsKnown }
+    ensures expressions { DecidedIsSure }
+    ensures answers { DecidedIsAnswered }
+{
+    nodes_are_decided();
+}
