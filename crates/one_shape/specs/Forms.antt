@@ -27,7 +27,8 @@ IsValueForm None None = ⊤
 IsValueForm (Some kind) (Some d) = IsKindForm kind d
 IsValueForm _ _ = ⊥
 
--- the value is the triple constraint: its predicate, and the kind of its values if one is asked for (ShEx 2.1, section 5.5)
+-- the value is the triple constraint: its predicate, and the kind of its values if one is asked for (ShEx 2.1,
+-- section 5.5)
 pub record IsConstraintForm (c : Constraint) (d : Data) : Type 0 where
   pub object : IsObject (codes "TripleConstraint") (codes "predicate" ∷ codes "type" ∷ codes "valueExpr" ∷ []) d
   pub predicate : IsTextAt (codes "predicate") c.predicate d
@@ -39,7 +40,8 @@ IsExpressionForm None None = ⊤
 IsExpressionForm (Some c) (Some d) = IsConstraintForm c d
 IsExpressionForm _ _ = ⊥
 
--- the value is the Shape: its label, which is no blank node's, and its triple constraint if it has one (ShEx 2.1, section 5.5)
+-- the value is the Shape: its label, which is no blank node's, and its triple constraint if it has one (ShEx 2.1,
+-- section 5.5)
 pub record IsShapeForm (s : OneShape) (d : Data) : Type 0 where
   pub object : IsObject (codes "Shape") (codes "expression" ∷ codes "id" ∷ codes "type" ∷ []) d
   pub label : IsTextAt (codes "id") s.label d

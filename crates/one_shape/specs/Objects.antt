@@ -15,12 +15,13 @@ abbrev pub has_only : List (List ℕ) → Data → Bool
 has_only keys (object ms) = members_within keys ms
 has_only keys _ = false
 
--- the value is an object of this type and has no keys but these (ShEx 2.1, appendix A: each object of ShExJ names its type)
+-- the value is an object of this type and has no keys but these; each object of ShExJ names its type (ShEx 2.1,
+-- appendix A)
 pub record IsObject (type : List ℕ) (keys : List (List ℕ)) (d : Data) : Type 0 where
   pub only : has_only keys d ≡ true
   pub typed : get (codes "type") d ≡ Some (string type)
 
--- under the key stands the text of these characters, which are Unicode scalar values; a JSON text is UTF-8 (RFC 8259, section 8.1)
+-- under the key stands the text of these characters, which are Unicode scalar values; a value has its texts in UTF-8
 pub record IsTextAt (key : List ℕ) (text : List ℕ) (d : Data) : Type 0 where
   pub scalars : all_scalars text ≡ true
   pub spelled : get key d ≡ Some (string (encode_utf8_all text))

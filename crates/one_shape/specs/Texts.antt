@@ -5,7 +5,7 @@ use Rattle.serde_json.specs.Read.{read}
 use Rattle.one_shape.specs.declared.OneShape.{OneShape}
 use Rattle.one_shape.specs.Forms.{IsSchemaForm}
 
--- the bytes are UTF-8, they are JSON (RFC 8259), and their value is the schema of the Shape
+-- the bytes are UTF-8 (RFC 8259, section 8.1), they are JSON, and their value is the schema of the Shape
 pub record IsSchemaText (s : OneShape) (bytes : List ℕ) : Type 0 where
   pub utf8 : IsUtf8 bytes
   pub value : Data

@@ -1,7 +1,7 @@
 //! A reader of those schemas in ShExJ that have one Shape with at most one triple constraint (ShEx 2.1, appendix A).
 #![tactic(auto)]
 
-ghost use Rattle.std.specs.Prelude.{ℕ, List, [], ◌∷◌, Option, Some, None, Ok, Err, ◌≡◌, ◌↔◌, ◌⊎◌, IsTrue, IfOk, IfErr, IfSome, MatchResult, option_map, option_and_then, codes, encode_utf8_all, map, nat_eq, true};
+ghost use Rattle.std.specs.Prelude.{ℕ, List, Option, ◌≡◌, ◌↔◌, ◌⊎◌, IsTrue, IfOk, IfSome, MatchResult, option_map, option_and_then, codes, encode_utf8_all, map, nat_eq, true};
 ghost use Rattle.std.specs.List.{list_any, starts_with};
 ghost use Rattle.std.specs.Str.{all_scalars, bytes_eq};
 ghost use Rattle.serde_json.specs.Data.{Data, string, array, item, no_items};

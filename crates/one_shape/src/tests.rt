@@ -1,7 +1,5 @@
 //! Sources that are schemas of one Shape, and sources that are not.
 
-ghost use Rattle.std.specs.Prelude.{None, Some};
-
 use super::*;
 use std::test::Fail;
 

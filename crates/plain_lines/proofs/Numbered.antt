@@ -1,9 +1,8 @@
 -- The table and the graph as lines are read.
-use Rattle.std.proofs.Common.{◌≡◌, ℕ, ◌+◌, ◌*◌, ◌<◌, ◌≤◌, List, [], ◌∷◌, ◌++◌, refl, ap, sym, ◌∙◌, subst, length, Some, zero, suc, arith, All, Contains, ◌⊎◌, inl, inr, ◌↔◌, ◌==◌, Bool, true, false}
+use Rattle.std.proofs.Common.{◌≡◌, ℕ, ◌+◌, ◌*◌, ◌≤◌, List, [], ◌∷◌, ◌++◌, refl, ap, sym, ◌∙◌, subst, length, Some, zero, suc, arith, All, Contains, ◌⊎◌, inl, inr, ◌==◌, Bool, true, false}
 use Rattle.std.proofs.lemmas.List.{append-nil, append_assoc, length-append, append_cancel_left, nil_from_length, flat_map_more}
 use Rattle.std.proofs.lemmas.Bool.{eqb-true, eqb-false}
 use Rattle.std.proofs.lemmas.List.Elements.{All-nil, All-cons, All-push, All-append, All-weaker, Contains-append_left, Contains-push, Contains-push_cases}
-use Rattle.std.proofs.lemmas.Option.{same_Some}
 use Rattle.std.specs.List.{slice_get, flat_map}
 use Rattle.rdf_terms.specs.Lists.{AreDistinct, Adds}
 use Rattle.rdf_terms.specs.Tables.{max_terms}

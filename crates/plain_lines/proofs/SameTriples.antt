@@ -1,9 +1,8 @@
 -- The derived test of triples decides equality.
-use Rattle.std.proofs.Common.{◌≡◌, ℕ, Bool, true, ◌&&◌, refl, ap, sym, eqb, eq-eqb}
+use Rattle.std.proofs.Common.{◌≡◌, Bool, true, ◌&&◌, ap, eqb, eq-eqb}
 use borrow.Author.Tests.{eqb-true}
 use Rattle.std.proofs.lemmas.Bool.{and_parts, and_from}
 use Rattle.std.specs.Bool.{Decides}
-use Rattle.rdf_terms.specs.declared.terms.TermId.{TermId}
 use Rattle.rdf_terms.specs.declared.terms.Triple.{Triple}
 use Rattle.rdf_terms.specs.contracts.terms.TriplePartialEq.TheImpl.{ghosts}
 

@@ -1,18 +1,17 @@
 -- A term of this form is spelled in one way, and so is a line.
-use Rattle.std.proofs.Common.{◌≡◌, ℕ, ◌<◌, ◌==◌, Bool, true, false, not, ◌&&◌, ◌||◌, cond, if◌then◌else◌, List, [], ◌∷◌, ◌++◌, refl, ap, sym, ◌∙◌, subst, None, arith, encode_utf8_all, nat_eq, codes, true≢false, All, lit<}
+use Rattle.std.proofs.Common.{◌≡◌, ℕ, ◌==◌, Bool, true, false, not, List, [], ◌∷◌, ◌++◌, refl, ap, sym, ◌∙◌, subst, None, encode_utf8_all, nat_eq, codes, true≢false, All, lit<}
 use Rattle.std.proofs.Math.Utf8.{encode}
 use Rattle.std.proofs.lemmas.Bool.{and_parts, and_from, or_parts, not-true, not_from_false, ne_eqb, eq-eqb, cond-true, cond-false}
 use Rattle.std.proofs.lemmas.List.{append_assoc}
 use Rattle.std.specs.Char.{is_ascii_alphanumeric}
 use Rattle.std.specs.List.{list_all, starts_with, flat_map}
-use Rattle.std.specs.Str.{all_scalars, chars}
-use Rattle.rdf_terms.specs.Literals.{LiteralParts, xsd_string}
+use Rattle.rdf_terms.specs.Literals.{xsd_string}
 use Rattle.rdf_terms.specs.Written.{term_text, escaped, suffix_text}
 use Rattle.rdf_terms.specs.declared.terms.Name.TheVariants.{Label, Fresh}
 use Rattle.rdf_terms.specs.declared.terms.Term.{Term}
 use Rattle.rdf_terms.specs.declared.terms.Term.TheVariants.{Iri, Blank, Lit}
 use Rattle.plain_lines.specs.Lent.{lacks, plain, labelled, BeginsWith}
-use Rattle.plain_lines.specs.Lines.{IsTextOf, IsIri, IsLabel, IsPlain, IsIriTerm, IsObject, IsLine, IsData, Line, line_text, is_iri_char, is_string_char}
+use Rattle.plain_lines.specs.Lines.{IsTextOf, IsIri, IsLabel, IsIriTerm, IsObject, IsLine, IsData, Line, line_text, is_iri_char, is_string_char}
 use Rattle.rdf_terms.specs.Sameness.{text_decides}
 use Rattle.std.proofs.lemmas.List.Elements.{All-head, All-tail}
 use Rattle.plain_lines.proofs.Texts.{same_read, lacks_encodes}

@@ -1,5 +1,5 @@
 -- The tests of texts.
-use Rattle.std.proofs.Common.{◌≡◌, ℕ, ◌<◌, ◌↔◌, Bool, true, false, not, ◌&&◌, cond, List, [], ◌∷◌, ◌++◌, refl, ap, sym, ◌∙◌, subst, Some, None, encode_utf8_all, true≢false, length, get_or, IsTrue, nat_eq, codes, arith, zero, suc, ◌⊎◌, inl, inr, ◌==◌, lit<, Option, ◌≤◌, nat_le, ◌||◌}
+use Rattle.std.proofs.Common.{◌≡◌, ℕ, ◌<◌, true, false, not, List, [], ◌∷◌, ◌++◌, refl, ap, sym, ◌∙◌, subst, Some, true≢false, length, nat_eq, codes, arith, zero, suc, ◌⊎◌, inl, inr, ◌==◌, lit<, Option, ◌≤◌, nat_le, ◌||◌}
 use Rattle.std.proofs.lemmas.Bool.{and_parts, and_from, or_cases, or_left, or_right, cond-true, cond-false, not_from_true, not_from_false, leb-true, eqb-false, ne_eqb, cases_Bool}
 use Rattle.std.proofs.lemmas.Str.{encodes-chars, encodes-IsAscii, scalars-chars}
 use Rattle.std.specs.Char.{is_ascii_alphabetic, is_ascii_alphanumeric}
@@ -7,7 +7,7 @@ use Rattle.std.specs.Int.{is_in_range}
 use Rattle.std.specs.List.{list_all, find, starts_with}
 use Rattle.std.specs.Str.{chars, IsUtf8, IsAscii}
 use Rattle.plain_lines.specs.Lent.{begins_with_letter}
-use Rattle.plain_lines.specs.Lines.{IsTextOf, HasScheme, IsLabel, is_scheme_char}
+use Rattle.plain_lines.specs.Lines.{HasScheme, IsLabel, is_scheme_char}
 
 -- the first character that no scheme has
 abbrev pub scheme_end : List ℕ → Option ℕ

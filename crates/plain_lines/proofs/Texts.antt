@@ -1,13 +1,12 @@
 -- Bytes up to the first of a kind.
-use Rattle.std.proofs.Common.{◌≡◌, ℕ, ◌+◌, ◌-◌, ◌<◌, ◌≤◌, ◌==◌, Bool, true, false, not, ◌&&◌, cond, List, [], ◌∷◌, ◌++◌, refl, ap, sym, ◌∙◌, length, get_or, take, drop, Some, None, true≢false, arith, subst, encode_utf8_all, nat_lt, suc, ltb, lt-ltb}
+use Rattle.std.proofs.Common.{◌≡◌, ℕ, ◌+◌, ◌<◌, ◌==◌, Bool, true, false, not, List, [], ◌∷◌, ◌++◌, refl, ap, sym, ◌∙◌, length, take, drop, Some, None, true≢false, arith, subst, encode_utf8_all, nat_lt, suc, lt-ltb}
 use Rattle.std.proofs.Math.Utf8.{encode}
-use Rattle.std.proofs.lemmas.Bool.{and_parts, and_from, eqb-true, eq-eqb, not-true, not_from_false, not_from_true, ne_eqb, cond-true, cond-false, cond_both}
+use Rattle.std.proofs.lemmas.Bool.{and_parts, and_from, eqb-true, eq-eqb, not_from_false, not_from_true, ne_eqb, cond-true, cond-false, cond_both}
 use Rattle.std.proofs.lemmas.List.{append-nil, length-take, get_or-take, drop_more, take-append-drop}
 use Rattle.std.proofs.lemmas.List.Quantifiers.{position-Some}
 use Rattle.std.proofs.lemmas.List.Recursion.{and_from_places}
 use Rattle.std.proofs.lemmas.Str.{inside_one, encodes_same}
-use Rattle.std.specs.List.{list_all, position, position_or_len, prefix_len}
-use Rattle.std.specs.Str.{all_scalars, chars, IsUtf8}
+use Rattle.std.specs.List.{position, position_or_len, prefix_len}
 use Rattle.plain_lines.specs.Lent.{lacks, IsLent}
 
 lacks_itself : (n : ℕ) → not (n == n) ≡ true → ⊥

@@ -3,7 +3,7 @@ use Rattle.std.specs.Prelude.{ℕ, Bool, List, [], false, ◌∷◌, ◌++◌, �
 use Rattle.std.specs.Char.{is_ascii_alphabetic}
 use Rattle.std.specs.List.{list_all}
 use Rattle.std.specs.Str.{chars, all_scalars}
-use Rattle.rdf_terms.specs.Literals.{LiteralParts, xsd_string}
+use Rattle.rdf_terms.specs.Literals.{xsd_string}
 use Rattle.rdf_terms.specs.Written.{term_text}
 use Rattle.std.specs.Prelude.{None}
 use Rattle.rdf_terms.specs.declared.terms.Name.TheVariants.{Label}

@@ -1,5 +1,5 @@
 -- A small form of N-Triples: statements of full IRIs, plain labels and plain strings, each on a line of its own.
-use Rattle.std.specs.Prelude.{ℕ, Bool, true, false, List, [], ◌∷◌, ◌++◌, ◌≡◌, ◌<◌, ◌==◌, ◌&&◌, ◌||◌, not, nat_eq, nat_le, nat_lt, length, None, codes, All}
+use Rattle.std.specs.Prelude.{ℕ, Bool, true, false, List, ◌∷◌, ◌++◌, ◌≡◌, ◌<◌, ◌==◌, ◌&&◌, ◌||◌, not, nat_eq, nat_lt, length, None, codes, All}
 use Rattle.std.specs.Char.{is_ascii_alphabetic, is_ascii_alphanumeric}
 use Rattle.std.specs.List.{list_all, starts_with, flat_map}
 use Rattle.std.specs.Str.{all_scalars}

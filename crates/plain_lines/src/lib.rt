@@ -4,3 +4,5 @@
 pub mod graph;
 pub mod reader;
 mod words;
+
+pub use words::{has_iri_chars, is_iri};

@@ -113,7 +113,7 @@ fn has_scheme(text: &str) -> bool
 }
 
 /// Whether each character may stand in an IRI.
-fn has_iri_chars(text: &str) -> bool
+pub fn has_iri_chars(text: &str) -> bool
     ensures { result ≡ list_all is_iri_char (chars text.now) }
 {
     text.chars().all(|c| is_iri_char(c))
@@ -134,7 +134,7 @@ fn is_alphanumeric(text: &str) -> bool
 }
 
 /// Whether the text is an IRI without escapes.
-fn is_iri(text: &str) -> bool
+pub fn is_iri(text: &str) -> bool
     ensures { IsTrue result ↔ IsIri (chars text.now) }
 {
     has_iri_chars(text) && has_scheme(text)

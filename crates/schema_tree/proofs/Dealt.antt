@@ -1,18 +1,21 @@
 -- Triples that a Shape deals out: where they come from and how many there are.
-use Rattle.std.proofs.Common.{◌≡◌, ◌+◌, ◌≤◌, Bool, true, false, List, [], ◌∷◌, ◌++◌, arith, length, subst, filter, cond, Contains, inl, inr, length-append}
+use Rattle.std.proofs.Common.{ap, ◌≡◌, ◌∙◌, ◌+◌, ◌≤◌, Bool, true, false, List, [], ◌∷◌, ◌++◌, arith, length, subst, filter, cond, Contains, inl, inr, length-append}
 use Rattle.std.specs.List.{AllByRecursion, flat_map}
 use Rattle.std.specs.List.Sorted.{IsPermutation}
-use Rattle.std.specs.Prelude.{slice_get}
+use Rattle.std.specs.Prelude.{◌||◌, slice_get}
 use Rattle.std.proofs.lemmas.List.Elements.{Contains-append_left, Contains-append_right}
 use Rattle.std.proofs.lemmas.List.Sorted.{IsPermutation-sym, length_permutation, Contains-permutation}
 use Rattle.rdf_terms.specs.declared.terms.TermId.{TermId}
 use Rattle.rdf_terms.specs.declared.terms.Triple.{Triple}
+use Rattle.rdf_terms.specs.Graphs.{neigh, same_id}
 use Rattle.tally.specs.Plan.{Plan}
 use Rattle.schema_tree.specs.declared.schema.ExprId.{ExprId}
 use Rattle.schema_tree.specs.declared.schema.Occurrence.{Occurrence}
 use Rattle.schema_tree.specs.Matches.{Deals, Matches, Takes}
+use Rattle.schema_tree.specs.declared.schema.Shape.{Shape}
+use Rattle.schema_tree.specs.Shapes.{RestOk}
 use Rattle.schema_tree.specs.Samples.{both}
-use Rattle.schema_tree.proofs.Members.{in_rest, is_first, is_later}
+use Rattle.schema_tree.proofs.Members.{in_one, not_in_none, in_rest, is_first, is_later}
 
 -- what passes a filter was there
 pub from_filter : {X : Type 0} (test : X → Bool) (xs : List X) (x : X) → Contains (filter test xs) x → Contains xs x
@@ -26,12 +29,13 @@ from_filter test (y ∷ ys) x h = go (test y) h (from_filter test ys x)
       | inr later ↦ is_later y ys x (deeper later)
     ]
 
--- what is dealt to the matched part is one of the triples dealt
-pub from_matched : (ts matched rest : List Triple) (t : Triple) → Deals ts (matched ∷ rest ∷ []) → Contains matched t → Contains ts t
-from_matched ts matched rest t deals held =
-    Contains-permutation _ _ t (IsPermutation-sym _ _ deals) (Contains-append_left matched (rest ++ []) t held)
+-- what is matched is a triple of the graph
+pub from_matched : (g : List Triple) (n : TermId) (matched rest : List Triple) (t : Triple) → Deals (neigh g n) (matched ∷ rest ∷ []) → Contains matched t → Contains g t
+from_matched g n matched rest t deals held =
+    from_filter (λ u. same_id u.s n || same_id u.o n) g t
+    (Contains-permutation _ _ t (IsPermutation-sym _ _ deals) (Contains-append_left matched (rest ++ []) t held))
 
--- and so is what is dealt to the remainder
+-- what is left over is one of the triples dealt
 pub from_remainder : (ts matched rest : List Triple) (t : Triple) → Deals ts (matched ∷ rest ∷ []) → Contains rest t → Contains ts t
 from_remainder ts matched rest t deals held =
     Contains-permutation _ _ t (IsPermutation-sym _ _ deals) (Contains-append_right matched (rest ++ []) t (Contains-append_left rest [] t held))
@@ -41,6 +45,22 @@ pub counted : (ts matched rest : List Triple) → Deals ts (matched ∷ rest ∷
 counted ts matched rest deals =
     let whole : length (matched ++ (rest ++ [])) ≡ length ts = length_permutation _ _ deals in
     omega (arith, whole, length-append matched (rest ++ []), length-append rest [])
+
+-- an empty remainder meets all that is asked of one
+pub nothing_left : (sat : TermId → ExprId → Type 0) (sh : Shape) (n : TermId) → RestOk sat sh n []
+nothing_left sat sh n = record {
+  unmatched = λ t o h. absurd (not_in_none t h);
+  in_extra = λ t h. absurd (not_in_none t h);
+  in_closed = λ e t h. absurd (not_in_none t h);
+}
+
+-- and so does one arc in
+pub arc_in_left : (sat : TermId → ExprId → Type 0) (sh : Shape) (n : TermId) (t : Triple) → ¬ (t.s ≡ n) → RestOk sat sh n (t ∷ [])
+arc_in_left sat sh n t apart = record {
+  unmatched = λ u o h m. absurd (apart (ap (λ x. x.s) (in_one t u h) ∙ m.0));
+  in_extra = λ u h m. absurd (apart (ap (λ x. x.s) (in_one t u h) ∙ m.0));
+  in_closed = λ e u h out. absurd (apart (ap (λ x. x.s) (in_one t u h) ∙ out));
+}
 
 module _ (sat : TermId → ExprId → Type 0) (occs : List Occurrence) (n : TermId) where
   -- an EachOf of two constraints is matched by two triples, one that each takes

@@ -14,17 +14,8 @@ use Rattle.schema_tree.specs.Matches.{Matches}
 use Rattle.schema_tree.specs.Samples.{terms, ann, bob, knows, name, text_a, text_b, arc, shape_id, out_arc, in_arc, open_shape, either}
 use Rattle.schema_tree.specs.Shapes.{ShapeOk, RestOk}
 use Rattle.schema_tree.specs.WorkedShapes.{LoopServesInverse, GroupIsRepeated, GroupWantsEachCopy, OneOfTakesOne, closed_inverse, repeated, either_one}
-use Rattle.schema_tree.specs.declared.schema.Shape.{Shape}
-use Rattle.schema_tree.proofs.Members.{not_in_none, in_one, in_rest, is_first, is_later}
-use Rattle.schema_tree.proofs.Dealt.{one_a_part, counted, from_remainder}
-
--- an empty remainder meets all that is asked of one
-nothing_left : (sat : TermId → ExprId → Type 0) (sh : Shape) (n : TermId) → RestOk sat sh n []
-nothing_left sat sh n = record {
-  unmatched = λ t o h. absurd (not_in_none t h);
-  in_extra = λ t h. absurd (not_in_none t h);
-  in_closed = λ e t h. absurd (not_in_none t h);
-}
+use Rattle.schema_tree.proofs.Members.{in_one, in_rest, is_first, is_later}
+use Rattle.schema_tree.proofs.Dealt.{one_a_part, counted, from_remainder, nothing_left}
 
 abbrev loop : Triple
 loop = arc ann knows ann

@@ -1,6 +1,9 @@
 pub mod Dealt
+pub mod FewEdges
 pub mod Groups
+pub mod Knowing
 pub mod Members
+pub mod Nameless
 pub mod SameLabels
 pub mod Lists
 pub mod Tests

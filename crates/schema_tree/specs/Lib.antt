@@ -19,3 +19,4 @@ pub mod Cycles
 pub mod Laws
 pub mod Samples
 pub mod WorkedShapes
+pub mod WorkedTypings

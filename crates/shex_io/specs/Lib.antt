@@ -1,4 +1,9 @@
+pub mod Bytes
+pub mod Calls
+pub mod Contents
 pub mod Faults
 pub mod Files
-pub mod Sinks
+pub mod Host
 pub mod Memory
+pub mod Sinks
+pub mod Sure

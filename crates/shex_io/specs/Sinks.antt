@@ -1,15 +1,12 @@
 -- What sinks get.
 use Rattle.std.specs.Prelude.{ℕ, List, ◌≡◌, ◌++◌, Option, Some, None, ⊤}
+use Rattle.shex_io.specs.Bytes.{IsPrefix}
 
 -- what the sink got grew at its end by the bytes, if it is told
 abbrev pub Gains : Option (List ℕ) → Option (List ℕ) → List ℕ → Type 0
 Gains None None bytes = ⊤
 Gains (Some old) (Some new) bytes = new ≡ old ++ bytes
 Gains old new bytes = ⊥
-
--- the bytes begin the whole
-abbrev pub IsPrefix : List ℕ → List ℕ → Type 0
-IsPrefix bytes whole = (rest : List ℕ) × (whole ≡ bytes ++ rest)
 
 -- what the sink got grew at its end by a prefix of the bytes, if it is told
 abbrev pub GainsPrefix : Option (List ℕ) → Option (List ℕ) → List ℕ → Type 0

@@ -27,7 +27,9 @@ impl Faults {
         }
     }
 
-    /// Notes that a call of this kind with this name failed. The count stands still at its last value.
+    /// Notes that a call of this kind with this name failed.
+    ///
+    /// The count stands still at its last value.
     pub(crate) fn note(&mut self, name: String, act: Act)
         ensures rose { Rose self.old.count self.new.count }
         ensures never_falls { self.old.count ≤ self.new.count }

@@ -1,9 +1,11 @@
 //! Files and streams of the machine: the trusted edge, which tells no contents.
 
-ghost use Rattle.std.specs.Prelude.{None, string_bytes};
+ghost use Rattle.std.specs.Prelude.{[], None, ◌≡◌, ◌≢◌, ◌≤◌, ◌<◌, length, take, IfOk, OnErr, string_bytes};
+ghost use Rattle.std.specs.Io.KnownBytes.{Appends, Consumes, IsAtEnd, Keeps};
+ghost use Rattle.shex_io.specs.Faults.{Rose};
 
 use crate::faults::Faults;
-use crate::files::{Act, FetchError, Files};
+use crate::files::{Act, FetchError, Files, StoreError};
 use crate::sinks::{Sink, SinkError};
 use std::alloc::Global;
 use std::fs;
@@ -16,15 +18,22 @@ const PIECE: usize = 65536;
 /// Files of the machine.
 #[derive(Drop)]
 pub struct DiskFiles<'a, R> {
+    alloc: Global,
     rt: &'a R,
     taken: u64,
     faults: Faults,
 }
 
 impl<'a, R> DiskFiles<'a, R> {
+    ghost use Rattle.shex_io.specs.Host.{disk_faults, disk_blame};
+
     /// The files that the runtime reaches; no call has failed.
-    pub fn new(alloc: Global, rt: &'a R) -> Self {
+    pub fn new(alloc: Global, rt: &'a R) -> Self
+        ensures faults { disk_faults result ≡ 0 }
+        ensures blame { disk_blame result ≡ [] }
+    {
         DiskFiles {
+            alloc,
             rt,
             taken: 0,
             faults: Faults::new(alloc),
@@ -33,13 +42,15 @@ impl<'a, R> DiskFiles<'a, R> {
 }
 
 impl<'a, R: HostFiles> Files for DiskFiles<'a, R> {
+    ghost use Rattle.shex_io.specs.Host.{disk_faults, disk_blame};
+
     ghost told = { λ files. None };
 
     ghost taken = { λ files. files.taken };
 
-    ghost faults = { λ files. files.faults.count };
+    ghost faults = { disk_faults };
 
-    ghost blame = { λ files. string_bytes files.faults.blame };
+    ghost blame = { disk_blame };
 
     ghost act = { λ files. files.faults.act };
 
@@ -48,7 +59,7 @@ impl<'a, R: HostFiles> Files for DiskFiles<'a, R> {
         let Ok(blamed) = String::from_str(alloc, name) else {
             return Err(FetchError::Memory);
         };
-        match read_within(self.rt, alloc, name, limit) {
+        match read_file(self.rt, alloc, name, limit) {
             Ok(bytes) => {
                 self.taken = bytes.len() as u64;
                 if self.taken > limit {
@@ -63,6 +74,17 @@ impl<'a, R: HostFiles> Files for DiskFiles<'a, R> {
             }
         }
     }
+
+    fn store(&mut self, name: &str, bytes: &[u8]) -> Result<(), StoreError> {
+        let Ok(blamed) = String::from_str(self.alloc, name) else {
+            return Err(StoreError::Memory);
+        };
+        if fs::write(self.rt, name, bytes).is_err() {
+            self.faults.note(blamed, Act::Store);
+            return Err(StoreError::Failed);
+        }
+        Ok(())
+    }
 }
 
 /// Why the reading of a file stopped.
@@ -71,30 +93,36 @@ enum ReadError {
     Memory,
 }
 
-/// Reads a file until it ends or more than `limit` bytes have come.
-fn read_within<R: HostFiles>(
+/// Reads the file of this name to its end, or until more than `limit` bytes have come.
+fn read_file<R: HostFiles>(
     rt: &R,
     alloc: Global,
     name: &str,
     limit: u64,
 ) -> Result<Vec<u8>, ReadError> {
-    let Ok(mut file) = fs::open(rt, name) else {
-        return Err(ReadError::Failed);
-    };
+    let mut file = fs::open(rt, name).map_err(|_| ReadError::Failed)?;
+    read_within(alloc, &mut file, limit)
+}
+
+/// Reads to the end, or until more than `limit` bytes have come.
+fn read_within<S: Read>(alloc: Global, source: &mut S, limit: u64) -> Result<Vec<u8>, ReadError>
+    ensures in_order { IfOk result
+        (λ bytes. Consumes (S.remaining source.old) (S.remaining source.new) bytes.items) }
+    ensures to_the_end { IfOk result
+        (λ bytes. length bytes.items ≤ limit → IsAtEnd (S.remaining source.new)) }
+{
     let mut bytes = Vec::new(alloc);
     let mut piece = [0u8; PIECE];
-    for _ in 0..u64::MAX {
-        match file.read(&mut piece) {
-            Ok(0) => break,
-            Ok(count) => {
-                if bytes.extend_from_slice(&piece[..count]).is_err() {
-                    return Err(ReadError::Memory);
-                }
-                if bytes.len() as u64 > limit {
-                    break;
-                }
-            }
-            Err(_) => return Err(ReadError::Failed),
+    // Each turn but the last adds a byte, and there is no memory for so many.
+    for _turn in 0..u64::MAX {
+        let count = source.read(&mut piece).map_err(|_| ReadError::Failed)?;
+        if count == 0 {
+            break;
+        }
+        let more = bytes.extend_from_slice(&piece[..count]);
+        more.map_err(|_| ReadError::Memory)?;
+        if bytes.len() as u64 > limit {
+            break;
         }
     }
     Ok(bytes)
@@ -108,18 +136,42 @@ pub struct StdSink<W> {
 }
 
 impl<W> StdSink<W> {
+    ghost use Rattle.shex_io.specs.Host.{stream_of, stream_faults};
+
     /// Writes to this stream; no call has failed.
-    pub fn new(stream: W) -> Self {
+    pub fn new(stream: W) -> Self
+        ensures stream { stream_of result ≡ stream }
+        ensures faults { stream_faults result ≡ 0 }
+    {
         StdSink { stream, faults: 0 }
     }
 }
 
 impl<W: Write> Sink for StdSink<W> {
+    ghost use Rattle.shex_io.specs.Host.{stream_of, stream_faults};
+
     ghost got = { λ sink. None };
 
-    ghost faults = { λ sink. sink.faults };
+    ghost faults = { stream_faults };
 
-    fn put(&mut self, piece: &[u8]) -> Result<u64, SinkError> {
+    fn put(&mut self, piece: &[u8]) -> Result<u64, SinkError>
+        requires { 0 < length piece.now }
+
+        // Where it is known what the stream holds, it has got the bytes that count as taken.
+        ensures writes { IfOk result (λ count. Appends (W.contents (stream_of self.old))
+            (W.contents (stream_of self.new)) (take count piece.now)) }
+        ensures keeps { OnErr result
+            (Keeps (W.contents (stream_of self.old)) (W.contents (stream_of self.new))) }
+
+        // What each sink ensures of its counts; it does not tell what it got.
+        ensures some { IfOk result (λ count. 0 < count) }
+        ensures within { IfOk result (λ count. count ≤ length piece.now) }
+        ensures failed { result ≡ Err SinkError.Failed
+            → Rose (stream_faults self.old) (stream_faults self.new) }
+        ensures never_falls { stream_faults self.old ≤ stream_faults self.new }
+        ensures faults_stay { result ≢ Err SinkError.Failed
+            → stream_faults self.new ≡ stream_faults self.old }
+    {
         match self.stream.write(piece) {
             Ok(count) if count > 0 => Ok(count as u64),
             _ => {

@@ -1,13 +1,20 @@
 //! The outside of the program: named files and sinks of bytes, with counts of their faults.
 #![tactic(auto)]
 
+mod calls;
+mod contents;
 mod faults;
 pub mod files;
 pub mod host;
 pub mod memory;
 pub mod sinks;
+pub mod sure;
 
-pub use files::{Act, FetchError, Files};
+pub use files::{Act, FetchError, Files, StoreError};
 pub use host::{DiskFiles, StdSink};
 pub use memory::{MemFiles, MemSink};
 pub use sinks::{Sink, SinkError, put_all};
+pub use sure::{SureFiles, SureSink};
+
+#[cfg(test)]
+mod tests;

@@ -30,7 +30,8 @@ pub trait Sink {
         requires { 0 < length piece.now }
         ensures some { IfOk result (λ count. 0 < count) }
         ensures within { IfOk result (λ count. count ≤ length piece.now) }
-        ensures gains { IfOk result (λ count. Gains (got self.old) (got self.new) (take count piece.now)) }
+        ensures gains { IfOk result
+            (λ count. Gains (got self.old) (got self.new) (take count piece.now)) }
         ensures refused { OnErr result (got self.new ≡ got self.old) }
 
         // `Failed` comes only where a fault rose, and alone changes the count.
@@ -39,7 +40,9 @@ pub trait Sink {
         ensures faults_stay { result ≢ Err SinkError.Failed → faults self.new ≡ faults self.old };
 }
 
-/// Puts all bytes, piece by piece. A refusal is that of the piece that the sink refused, which has got what came before.
+/// Puts all bytes, piece by piece.
+///
+/// A refusal is that of a `put`; the sink has got the pieces before.
 pub fn put_all<S: Sink>(sink: &mut S, bytes: &[u8]) -> Result<(), SinkError>
     ensures all { OnOk result (Gains (S.got sink.old) (S.got sink.new) bytes.now) }
     ensures part { OnErr result (GainsPrefix (S.got sink.old) (S.got sink.new) bytes.now) }

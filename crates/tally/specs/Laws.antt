@@ -1,14 +1,21 @@
 -- The laws of copies and intervals.
-use Rattle.std.specs.Prelude.{ℕ, ◌+◌, ◌≡◌, ◌↔◌, true}
+use Rattle.std.specs.Prelude.{ℕ, ◌+◌, ◌≡◌, ◌↔◌, true, List}
 use Rattle.tally.specs.Copies.{Copies}
+use Rattle.tally.specs.Deals.{DealsInto, HaveCounts, Matches}
 use Rattle.tally.specs.Plan.{Plan}
 use Rattle.tally.specs.Span.{HasSpan, IsSound, span}
-use Rattle.tally.specs.Symbols.{IsUnder, has_symbol}
+use Rattle.tally.specs.Symbols.{IsDistinct, IsUnder, has_symbol}
 
 -- the interval of counts has exactly the numbers of copies that they spell
 abbrev pub IntervalHasCopies : Type 0
 IntervalHasCopies =
     (p : Plan) (counts : ℕ → ℕ) (k : ℕ) → IsSound p → HasSpan (span p counts counts) k ↔ Copies p counts k
+
+-- counts spell k copies exactly where symbols with these counts, in whatever order, divide into k parts that match
+abbrev pub CopiesAreDeals : Type 0
+CopiesAreDeals =
+    (p : Plan) (symbols : List ℕ) (counts : ℕ → ℕ) (k : ℕ) → IsDistinct p → IsSound p →
+    HaveCounts p symbols counts → Copies p counts k ↔ DealsInto (Matches p) k symbols
 
 -- the interval of a box has the numbers of copies of all counts in it
 abbrev pub BoxHoldsCopies : Type 0

@@ -1,12 +1,12 @@
 -- An expression over counts as a plain tree, with lists of children.
-use Rattle.std.specs.Prelude.{ℕ, List, [], ◌∷◌}
+use Rattle.std.specs.Prelude.{ℕ, List, [], ◌∷◌, map}
 use Rattle.tally.specs.declared.Bound.{Bound}
 use Rattle.tally.specs.declared.Count.{Count}
 use Rattle.tally.specs.declared.Count.TheOpen.{Count-F, Sym, Each, One, Many}
 use Rattle.tally.specs.declared.Count.TheFolds.{fold-Count}
 
 mutual
-  -- a triple expression as counting sees it (ShEx 2.1 section 5.5): a triple constraint, an EachOf, a OneOf, a cardinality
+  -- a triple expression (ShEx 2.1 section 5.5): a triple constraint, an EachOf, a OneOf, or one with a cardinality
   pub data Plan : Type 0 where
     sym : ℕ → Plan
     each : Plans → Plan
@@ -33,3 +33,7 @@ plan_step (Many min bound c) = many min bound c.value
 -- the expression as a plain tree
 abbrev pub plan_of : Count → Plan
 plan_of = fold-Count Plan plan_step
+
+-- a list of expressions as members
+abbrev pub plans_of : List Count → Plans
+plans_of cs = row (map plan_of cs)

@@ -1,5 +1,6 @@
 -- The interval of the numbers of copies, by a table with one row for each form of expression.
-use Rattle.std.specs.Prelude.{ℕ, Bool, false, ◌+◌, ◌-◌, ◌/◌, ◌≤◌, ⊤, min, max, if◌then◌else◌, nat_le, nat_eq, Option, Some, None}
+use Rattle.std.specs.Prelude.{ℕ, Bool, false, ◌+◌, ◌/◌, ◌≤◌, ⊤, min, max, if◌then◌else◌, nat_le, nat_eq, Option, Some, None}
+use Rattle.std.specs.Int.{div_ceil}
 use Rattle.tally.specs.declared.Bound.{Bound}
 use Rattle.tally.specs.declared.Bound.TheVariants.{Upto, Free}
 use Rattle.tally.specs.declared.Interval.{Interval}
@@ -49,12 +50,12 @@ plus None b = None
 plus (Some a) None = None
 plus (Some a) (Some b) = Some (record { lo = a.lo + b.lo; hi = add_ends a.hi b.hi })
 
--- the least number of repetitions, each of at most the bound, that take lo: lo / m rounded up
+-- the least number of repetitions, each of at most the bound, that hold lo copies
 abbrev pub least : Bound → ℕ → ℕ
 least Free lo = if nat_eq lo 0 then 0 else 1
-least (Upto m) lo = (lo + (m - 1)) / m
+least (Upto m) lo = div_ceil lo m
 
--- the greatest number of repetitions, each of at least n, that hi gives: hi / n rounded down, and without end for n = 0
+-- the greatest number of repetitions, each of at least n, that hi copies fill, if there is one
 abbrev pub most : ℕ → Option ℕ → Option ℕ
 most n None = None
 most n (Some h) = if nat_eq n 0 then None else Some (h / n)
@@ -68,11 +69,13 @@ is_nothing (Upto m) = nat_eq m 0
 abbrev pub all : Interval
 all = record { lo = 0; hi = None }
 
--- the numbers of repetitions, each of at least n and at most the bound, that take a number of an interval
+-- the numbers of repetitions, each of at least n and at most the bound, that some number of an interval makes
 abbrev pub repeated : ℕ → Bound → Option Interval → Option Interval
 repeated n bound None = None
 repeated n bound (Some a) =
-    if is_nothing bound then (if nat_eq a.lo 0 then Some all else None) else proper (least bound a.lo) (most n a.hi)
+    if is_nothing bound
+    then (if nat_eq a.lo 0 then Some all else None)
+    else proper (least bound a.lo) (most n a.hi)
 
 unfoldable mutual
   -- the interval of the expression where the count of each symbol is from low to high

@@ -26,11 +26,12 @@ unfoldable mutual
   -- each symbol stands at most once in all members together
   pub AreDistinct : Plans → Type 0
   AreDistinct no_plans = ⊤
-  AreDistinct (more_plans p ps) = IsDistinct p × AreDistinct ps × ((i : ℕ) → has_symbol i p ≡ true → some_has i ps ≡ false)
+  AreDistinct (more_plans p ps) =
+      IsDistinct p × AreDistinct ps × ((i : ℕ) → has_symbol i p ≡ true → some_has i ps ≡ false)
 
--- every symbol of the expression is below n
-abbrev pub IsBelowAll : ℕ → Plan → Type 0
-IsBelowAll n p = (i : ℕ) → has_symbol i p ≡ true → i < n
+-- n counts cover every symbol of the expression
+abbrev pub Covers : ℕ → Plan → Type 0
+Covers n p = (i : ℕ) → has_symbol i p ≡ true → i < n
 
 -- at every symbol of the expression the count of the first is at most that of the second
 abbrev pub IsUnder : Plan → (ℕ → ℕ) → (ℕ → ℕ) → Type 0

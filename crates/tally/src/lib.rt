@@ -1,12 +1,25 @@
-//! Expressions over counts of symbols, and the numbers of copies of an expression that counts spell.
+//! Expressions over counts, the intervals of the numbers of copies that counts spell, and a counter of steps.
 #![tactic(auto)]
 
-ghost use Rattle.tally.specs.Laws.{CopiesAdd, BoxHoldsCopies, IntervalHasCopies, OwnSymbolsDecide, NothingSpellsZero};
+mod counter;
+pub mod counting;
+pub mod laws;
 
-/// The upper end of a cardinality: a greatest number of repetitions, or none (ShEx 2.1 section 5.5, where `max` is -1).
+ghost use Rattle.std.specs.Prelude.{◌≡◌, ◌↔◌, ◌<◌, ◌+◌, ◌^◌, IsTrue, IfSome};
+ghost use Rattle.tally.specs.Span.{HasSpan, add_ends, meet, plus, proper, repeated};
+
+pub use counter::Steps;
+
+#[cfg(test)]
+#[tactic(auto, unfolding(crate::specs::Symbols::IsDistinct, crate::specs::Span::IsSound))]
+mod tests;
+
+/// The maximum of a cardinality (ShEx 2.1 section 5.5, where -1 stands for any number).
 #[derive(Clone, Copy, Debug, PartialEq, Eq)]
 pub enum Bound {
+    /// At most so many repetitions.
     Upto(u32),
+    /// Any number of repetitions.
     Free,
 }
 
@@ -23,34 +36,78 @@ pub enum Count {
     Many(u32, Bound, Box<Count>),
 }
 
-/// The numbers from `lo` up to `hi`, or without end. It is never empty where `lo` is at most `hi`.
+/// The numbers from `lo` up to `hi`, or from `lo` without end.
 #[derive(Clone, Copy, Debug, PartialEq, Eq)]
 pub struct Interval {
+    /// The least number.
     pub lo: u64,
+    /// The greatest number, if there is one.
     pub hi: Option<u64>,
 }
 
-/// The law that the interval of counts has exactly the numbers of copies that they spell. It does nothing when called.
-pub fn interval_has_copies()
-    ensures { IntervalHasCopies }
-{}
+impl Interval {
+    /// All numbers from 0.
+    pub(crate) const ALL: Interval = Interval { lo: 0, hi: None };
 
-/// The law that the interval of a box has the numbers of copies of all counts in it. It does nothing when called.
-pub fn box_holds_copies()
-    ensures { BoxHoldsCopies }
-{}
+    /// Whether the number is in the interval.
+    pub fn contains(&self, k: u64) -> bool
+        ensures { IsTrue result ↔ HasSpan (Some self.now) k }
+    {
+        match self.hi {
+            Some(hi) => self.lo <= k && k <= hi,
+            None => self.lo <= k,
+        }
+    }
 
-/// The law that only the counts of an expression's own symbols matter. It does nothing when called.
-pub fn own_symbols_decide()
-    ensures { OwnSymbolsDecide }
-{}
+    /// The numbers from `lo` up to `hi`, or none where `lo` is above `hi`.
+    pub(crate) fn proper(lo: u64, hi: Option<u64>) -> Option<Interval>
+        ensures { result ≡ proper lo hi }
+    {
+        match hi {
+            Some(end) if end < lo => None,
+            _ => Some(Interval { lo, hi }),
+        }
+    }
 
-/// The law that no triples spell no copies. It does nothing when called.
-pub fn nothing_spells_zero()
-    ensures { NothingSpellsZero }
-{}
+    /// The numbers that are in both intervals.
+    pub(crate) fn meet(self, other: Interval) -> Option<Interval>
+        ensures { result ≡ meet (Some self) (Some other) }
+    {
+        let hi = match (self.hi, other.hi) {
+            (Some(a), Some(b)) => Some(a.min(b)),
+            (Some(end), None) => Some(end),
+            (None, end) => end,
+        };
+        Interval::proper(self.lo.max(other.lo), hi)
+    }
 
-/// The law that copies add up as their counts do. It does nothing when called.
-pub fn copies_add_up()
-    ensures { CopiesAdd }
-{}
+    /// The sums of one number from each interval.
+    pub(crate) fn plus(self, other: Interval) -> Interval
+        requires lower { self.lo + other.lo < 2 ^ 64 }
+        requires upper { IfSome (add_ends self.hi other.hi) (λ end. end < 2 ^ 64) }
+        ensures { Some result ≡ plus (Some self) (Some other) }
+    {
+        let hi = match (self.hi, other.hi) {
+            (Some(a), Some(b)) => Some(a + b),
+            _ => None,
+        };
+        Interval {
+            lo: self.lo + other.lo,
+            hi,
+        }
+    }
+
+    /// The numbers of repetitions, from `min` to `max` copies each, that some number of the interval makes.
+    pub(crate) fn repeated(self, min: u32, max: Bound) -> Option<Interval>
+        ensures { result ≡ repeated min max (Some self) }
+    {
+        let lo = match max {
+            Bound::Upto(0) if self.lo == 0 => return Some(Interval::ALL),
+            Bound::Upto(0) => return None,
+            Bound::Upto(most) => self.lo.div_ceil(u64::from(most)),
+            Bound::Free => self.lo.min(1),
+        };
+        let hi = self.hi.and_then(|end| end.checked_div(u64::from(min)));
+        Interval::proper(lo, hi)
+    }
+}

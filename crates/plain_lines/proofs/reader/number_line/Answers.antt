@@ -1,6 +1,5 @@
-use Rattle.std.proofs.Common.{◌≡◌, inl, inr, lit≤, refl}
+use Rattle.std.proofs.Common.{◌≡◌, inl, inr, lit≤}
 use Rattle.std.specs.Str.{chars}
-use Rattle.rdf_terms.specs.declared.terms.Term.{Term}
 use Rattle.rdf_terms.specs.declared.terms.Term.TheVariants.{Iri}
 use Rattle.plain_lines.specs.Graphs.{IsPartOf}
 use Rattle.plain_lines.specs.Lent.{line_of, object_of}

@@ -1,6 +1,6 @@
-use Rattle.std.proofs.Common.{◌≡◌, sym, subst, refl}
+use Rattle.std.proofs.Common.{sym, subst, refl}
 use Rattle.plain_lines.specs.Lent.{line_of}
-use Rattle.plain_lines.proofs.Numbered.{IsReading, begins, advances, all_read, drawn_from, used_by, none_spelled, grown_by, is_nil, room_for_line, rest_shorter}
+use Rattle.plain_lines.proofs.Numbered.{IsReading, begins, advances, drawn_from, used_by, none_spelled, grown_by, is_nil}
 use Rattle.plain_lines.proofs.reader.read.Goals as goal
 
 pub loop-rest-init : goal.loop-rest-init

@@ -1,4 +1,4 @@
-use Rattle.std.proofs.Common.{◌≡◌, ◌∙◌, sym, ap, Some, refl, true≢false}
+use Rattle.std.proofs.Common.{◌∙◌, sym, ap, Some, true≢false}
 use Rattle.std.proofs.lemmas.Bool.{eqb-true}
 use Rattle.std.proofs.lemmas.Option.{same_Some, none-some}
 use Rattle.plain_lines.proofs.Tests.{scheme_from, scheme_found, scheme_begins}

@@ -1,4 +1,4 @@
-use Rattle.std.proofs.Common.{◌≡◌, ℕ, List, false, ◌∙◌, sym, ap, refl, true≢false, codes, nat_eq}
+use Rattle.std.proofs.Common.{◌∙◌, sym, true≢false, codes}
 use Rattle.std.proofs.lemmas.Str.Pattern.{starts_text}
 use Rattle.plain_lines.proofs.Tests.{label_from, label_filled, label_other}
 use Rattle.plain_lines.proofs.words.is_label.Goals as goal

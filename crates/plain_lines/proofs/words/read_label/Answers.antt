@@ -1,4 +1,4 @@
-use Rattle.std.proofs.Common.{◌≡◌, List, ℕ, ◌∙◌, ◌∷◌, ◌++◌, sym, refl, true≢false, subst, lit<, encode_utf8_all, ap}
+use Rattle.std.proofs.Common.{◌≡◌, List, ℕ, ◌∙◌, ◌∷◌, ◌++◌, sym, refl, true≢false, subst, lit<, encode_utf8_all}
 use Rattle.plain_lines.specs.Lines.{IsLabel}
 use Rattle.plain_lines.proofs.Spelled.{label_spelled, label_lacks}
 use Rattle.plain_lines.proofs.Texts.{same_read}

@@ -1,7 +1,5 @@
-use Rattle.std.proofs.Common.{◌≡◌, List, ℕ, ◌∙◌, ◌∷◌, ◌++◌, sym, refl}
-use Rattle.rdf_terms.specs.declared.terms.Term.TheVariants.{Iri}
-use Rattle.plain_lines.specs.Lines.{Line, IsLine}
-use Rattle.plain_lines.proofs.Spelled.{term_once, no_iri_term, object_from_iri_term, line_spelled, after_subject, after_predicate, after_object, subject_once, predicate_once, object_once, line_read}
+use Rattle.std.proofs.Common.{◌≡◌, List, ℕ, ◌∙◌, ◌∷◌, refl}
+use Rattle.plain_lines.proofs.Spelled.{no_iri_term, line_spelled, after_subject, after_predicate, after_object, subject_once, predicate_once, object_once, line_read}
 use Rattle.plain_lines.proofs.words.read_line.Goals as goal
 
 pub returns-in_err-subject-clause-missed : goal.returns-in_err-subject-clause-missed

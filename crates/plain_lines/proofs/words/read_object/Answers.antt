@@ -1,6 +1,4 @@
-use Rattle.std.proofs.Common.{List, ℕ, refl}
-use Rattle.rdf_terms.specs.declared.terms.Term.{Term}
-use Rattle.plain_lines.specs.Lent.{plain, labelled, BeginsWith}
+use Rattle.std.proofs.Common.{refl}
 use Rattle.plain_lines.proofs.Spelled.{no_object}
 use Rattle.plain_lines.proofs.words.read_object.Goals as goal
 

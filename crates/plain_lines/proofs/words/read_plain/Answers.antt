@@ -1,4 +1,4 @@
-use Rattle.std.proofs.Common.{◌≡◌, true, ◌∙◌, ◌∷◌, sym, refl, true≢false, subst, lit<, ap}
+use Rattle.std.proofs.Common.{◌≡◌, true, ◌∙◌, ◌∷◌, sym, refl, true≢false, lit<, ap}
 use Rattle.std.specs.List.{list_all}
 use Rattle.plain_lines.specs.Lines.{is_string_char}
 use Rattle.plain_lines.proofs.Spelled.{plain_spelled, string_lacks}

@@ -1,5 +1,5 @@
 use Rattle.std.proofs.Common.{◌≡◌, ◌∙◌, sym, Bool, not, List, IsTrue, subst, Contains}
-use Rattle.rdf_terms.specs.Lists.{AreDistinct, Adds}
+use Rattle.rdf_terms.specs.Lists.{Adds}
 use Rattle.rdf_terms.proofs.Distinct.{adds_item, distinct_items, missed_item}
 use Rattle.indexmap.proofs.CallerLemmas.{Contains-list_any}
 use Rattle.rdf_terms.specs.declared.terms.Triple.{Triple}

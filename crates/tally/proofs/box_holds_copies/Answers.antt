@@ -1,5 +1,0 @@
-use Rattle.tally.proofs.Exact.{copies_under}
-use Rattle.tally.proofs.box_holds_copies.Goals as goal
-
-pub returns : goal.returns
-returns c = copies_under

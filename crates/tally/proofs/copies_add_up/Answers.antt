@@ -1,5 +1,0 @@
-use Rattle.tally.proofs.CopyLaws.{copies_add}
-use Rattle.tally.proofs.copies_add_up.Goals as goal
-
-pub returns : goal.returns
-returns c = copies_add

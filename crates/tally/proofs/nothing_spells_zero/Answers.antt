@@ -1,5 +1,0 @@
-use Rattle.tally.proofs.CopyLaws.{copies_zero}
-use Rattle.tally.proofs.nothing_spells_zero.Goals as goal
-
-pub returns : goal.returns
-returns c = copies_zero

@@ -1,0 +1,14 @@
+pub mod Splits
+pub mod Value
+pub mod Order
+pub mod Zeros
+pub mod Signs
+pub mod Texts
+pub mod Integers
+pub mod Names
+pub mod Forms
+pub mod Cycle
+pub mod OrderLaws
+pub mod CountLaws
+pub mod Grammar
+pub mod DateTimeGrammar
