@@ -94,8 +94,8 @@ pub fn closed_states_refute()
     ensures refuted { StatesRefute }
 {}
 
-/// Claims that the usual Shapes have the least Width: those with no inverse occurrence, no EXTRA and one occurrence for
-/// each predicate.
+/// Claims that the Width of a pair is 1 where its Shape has no inverse occurrence, no EXTRA and one occurrence for each
+/// predicate.
 pub fn plain_shapes_are_narrow()
     ensures { PlainShapesAreNarrow }
 {}
