@@ -1,6 +1,7 @@
 -- The entries of a loaded schema.
 use Rattle.std.specs.Prelude.{slice_get, Option, Some, None}
 use Rattle.rdf_terms.specs.declared.terms.Term.{Term}
+use Rattle.rdf_terms.specs.declared.terms.TermId.{TermId}
 use Rattle.node_constraint.specs.declared.NodeConstraint.{NodeConstraint}
 use Rattle.node_constraint.specs.SatNode.{SatNode}
 use Rattle.schema_tree.specs.declared.schema.Schema.{Schema}
@@ -8,6 +9,7 @@ use Rattle.schema_tree.specs.declared.schema.Shape.{Shape}
 use Rattle.schema_tree.specs.declared.schema.ShapeId.{ShapeId}
 use Rattle.schema_tree.specs.declared.schema.ExprId.{ExprId}
 use Rattle.schema_tree.specs.declared.schema.Expr.{Expr}
+use Rattle.schema_tree.specs.declared.schema.Pair.{Pair}
 
 -- the expression of a number, if there is one
 abbrev pub entry : Schema → ExprId → Option Expr
@@ -21,3 +23,7 @@ shape_at s i = slice_get s.shapes i.0
 abbrev pub SatNodeAt : NodeConstraint → Option Term → Type 0
 SatNodeAt c None = ⊥
 SatNodeAt c (Some term) = SatNode c term
+
+-- the pair of a node and a Shape
+abbrev pub pair_of : TermId → ShapeId → Pair
+pair_of n i = record { node = n; shape = i }

@@ -6,6 +6,17 @@ pub mod Shapes
 pub mod Edges
 pub mod Typings
 pub mod Loaded
+pub mod Order
+pub mod Relevant
+pub mod Width
+pub mod Sure
+pub mod Places
+pub mod States
+pub mod Copied
+pub mod Needs
+pub mod Removal
+pub mod Cycles
+pub mod Laws
 pub mod Samples
 pub mod WorkedShapes
 pub mod WorkedTypings

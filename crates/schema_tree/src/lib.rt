@@ -3,4 +3,6 @@
 
 pub mod examples;
 pub mod labels;
+pub mod laws;
 pub mod schema;
+pub mod verdicts;
