@@ -1,4 +1,4 @@
--- Node kind constraints (ShEx 2.1, section 5.4.1).
+-- Node kind constraints (ShEx 2.1, section 5.4, Node Kind Constraints).
 use Rattle.std.specs.Prelude.{⊤, Option, Some, None}
 use Rattle.rdf_terms.specs.declared.terms.Term.{Term}
 use Rattle.rdf_terms.specs.declared.terms.Term.TheVariants as Terms

@@ -7,7 +7,7 @@ ghost use Rattle.node_constraint.specs.SatNode.{SatNode};
 
 use rdf_terms::terms::Term;
 
-/// The kinds of terms that a constraint can ask for (ShEx 2.1, section 5.4.1).
+/// The kinds of terms that a constraint can ask for (ShEx 2.1, section 5.4, Node Kind Constraints).
 #[derive(Clone, Copy, Debug, PartialEq, Eq)]
 pub enum Kind4 {
     /// An IRI.

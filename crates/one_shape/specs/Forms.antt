@@ -9,7 +9,7 @@ use Rattle.one_shape.specs.declared.OneShape.{OneShape}
 use Rattle.one_shape.specs.declared.Constraint.{Constraint}
 use Rattle.one_shape.specs.Objects.{IsObject, IsTextAt}
 
--- the word for a node kind (ShEx 2.1, section 5.4.1)
+-- the word for a node kind (ShEx 2.1, section 5.4, Node Kind Constraints)
 abbrev pub kind_word : Kind4 → List ℕ
 kind_word Iri = codes "iri"
 kind_word Bnode = codes "bnode"

@@ -1,5 +1,5 @@
 -- Triples that a Shape deals out: where they come from and how many there are.
-use Rattle.std.proofs.Common.{ap, ◌≡◌, ◌∙◌, ◌+◌, ◌≤◌, Bool, true, false, List, [], ◌∷◌, ◌++◌, arith, length, subst, filter, cond, Contains, inl, inr, length-append}
+use Rattle.std.proofs.Common.{ap, ◌≡◌, ◌∙◌, ◌+◌, ◌≤◌, List, [], ◌∷◌, ◌++◌, arith, length, subst, Contains, length-append}
 use Rattle.std.specs.List.{AllByRecursion, flat_map}
 use Rattle.std.specs.List.Sorted.{IsPermutation}
 use Rattle.std.specs.Prelude.{◌||◌, slice_get}
@@ -15,25 +15,14 @@ use Rattle.schema_tree.specs.Matches.{Deals, Matches, Takes}
 use Rattle.schema_tree.specs.declared.schema.Shape.{Shape}
 use Rattle.schema_tree.specs.Shapes.{RestOk}
 use Rattle.schema_tree.specs.Samples.{both}
-use Rattle.schema_tree.proofs.Members.{in_one, not_in_none, in_rest, is_first, is_later}
-
--- what passes a filter was there
-pub from_filter : {X : Type 0} (test : X → Bool) (xs : List X) (x : X) → Contains (filter test xs) x → Contains xs x
-from_filter test [] x h = h
-from_filter test (y ∷ ys) x h = go (test y) h (from_filter test ys x)
-  where
-    go : (b : Bool) → Contains (cond b (y ∷ filter test ys) (filter test ys)) x → (Contains (filter test ys) x → Contains ys x) → Contains (y ∷ ys) x
-    go false later deeper = is_later y ys x (deeper later)
-    go true there deeper = elim (in_rest y (filter test ys) x there) [
-      | inl same ↦ subst (λ z. Contains (y ∷ ys) z) same (is_first y ys)
-      | inr later ↦ is_later y ys x (deeper later)
-    ]
+use Rattle.schema_tree.proofs.Lists.{in_filter}
+use Rattle.schema_tree.proofs.Members.{in_one, not_in_none}
 
 -- what is matched is a triple of the graph
 pub from_matched : (g : List Triple) (n : TermId) (matched rest : List Triple) (t : Triple) → Deals (neigh g n) (matched ∷ rest ∷ []) → Contains matched t → Contains g t
 from_matched g n matched rest t deals held =
-    from_filter (λ u. same_id u.s n || same_id u.o n) g t
-    (Contains-permutation _ _ t (IsPermutation-sym _ _ deals) (Contains-append_left matched (rest ++ []) t held))
+    (in_filter (λ u. same_id u.s n || same_id u.o n) g t
+    (Contains-permutation _ _ t (IsPermutation-sym _ _ deals) (Contains-append_left matched (rest ++ []) t held))).0
 
 -- what is left over is one of the triples dealt
 pub from_remainder : (ts matched rest : List Triple) (t : Triple) → Deals ts (matched ∷ rest ∷ []) → Contains rest t → Contains ts t

@@ -22,7 +22,8 @@ use Rattle.schema_tree.specs.Satisfies.{Sat, SatWithin}
 use Rattle.schema_tree.specs.Shapes.{ShapeOk}
 use Rattle.schema_tree.specs.Typings.{IsOver, IsGreatestAt, HaveSame, below}
 use Rattle.schema_tree.specs.WorkedTypings.{NegationLooksBelow, pair_of, knows_nameless, one_is_named}
-use Rattle.schema_tree.proofs.Dealt.{arc_in_left, from_filter, from_matched, nothing_left}
+use Rattle.schema_tree.proofs.Dealt.{arc_in_left, from_matched, nothing_left}
+use Rattle.schema_tree.proofs.Lists.{in_filter}
 use Rattle.schema_tree.proofs.FewEdges.{in_shape}
 use Rattle.schema_tree.proofs.Knowing.{same_pair}
 use Rattle.schema_tree.proofs.Members.{filter_has, in_one, in_rest, is_first, is_later}
@@ -207,7 +208,7 @@ module _ (c d : Count) where
               let there : ShapeOk schema terms one_is_named W p.node p.shape = rival.correct p h at in
               elim (s_is_ann is W p.node (subst (λ i. ShapeOk schema terms one_is_named W p.node i) (ap (λ k. shape_id k) (sym is_s)) there)) [
                 | inl is_ann ↦ subst (λ q. Contains typed q) (same_pair p ann 0 (sym is_ann) is_s) (is_first (pair_of ann 0) typed_below)
-                | inr without ↦ absurd (without (from_filter _ W (pair_of dan 1) (same.1 (pair_of dan 1) (is_first (pair_of dan 1) []))))
+                | inr without ↦ absurd (without (in_filter _ W (pair_of dan 1) (same.1 (pair_of dan 1) (is_first (pair_of dan 1) []))).0)
               ]
         ];
   }
