@@ -21,6 +21,7 @@ use Rattle.schema_tree.specs.declared.schema.Pair.{Pair}
 use Rattle.schema_tree.specs.declared.schema.Schema.{Schema}
 use Rattle.schema_tree.specs.declared.schema.Shape.{Shape}
 use Rattle.schema_tree.specs.Satisfies.{Sat}
+use Rattle.schema_tree.specs.Laws.{TypingExists}
 use Rattle.schema_tree.specs.Shapes.{ShapeHolds}
 use Rattle.schema_tree.proofs.Members.{in_one, is_first, not_in_none, all_at}
 use Rattle.shex_run.specs.declared.load.Arc.{Arc}
@@ -29,7 +30,7 @@ use Rattle.shex_run.specs.Inputs.{Inputs, IsBodyOf, IsInputs, IsPredicateOf, IsT
 use Rattle.shex_run.specs.Loading.{GainsOnly, IsArcOf}
 use Rattle.shex_run.specs.Simple.{IsNodeValue, IsSimple, IsSimpleBody}
 use Rattle.shex_run.proofs.Simples.{Both}
-use Rattle.shex_run.proofs.Truths.{truth}
+use Rattle.shex_run.proofs.Truths.{has_typing, truth}
 
 -- each term keeps its number
 abbrev Keeps : List Term → List Term → Type 0
@@ -129,14 +130,17 @@ module _ (doc : OneShape) (node : List ℕ) (arc : Option Arc) (n : TermId) (s :
     used = all_used;
   }
 
-  pub decided : (source : List ℕ) → IsData lines source → (holds : Bool) (shape : Shape) (shown : List Triple) → shown ≡ g → stands.shape ≡ shape →
+  pub decided : TypingExists → (source : List ℕ) → IsData lines source → (holds : Bool) (shape : Shape) (shown : List Triple) → shown ≡ g → stands.shape ≡ shape →
       ((T : List Pair) → Both (IsTrue holds) (ShapeHolds (Sat s last T) shown n (Some shape))) → Decides doc source node holds
-  decided source spelled holds shape shown same own exact = record {
+  decided exists source spelled holds shape shown same own exact = record {
     lines = lines;
     spelled = spelled;
     inputs = inputs;
     read = read;
-    truth = λ f U T stratum ends asked complete. truth last doc s stands g n holds (λ W. there W) stands.expr read.target f U T stratum asked complete;
+    truth = record {
+      exists = λ U. let (f, T, strata, complete) = has_typing last doc s stands exists g U in (f, T, record { strata = strata; complete = complete });
+      exact = λ f U T ends asked typing. truth last doc s stands g n holds (λ W. there W) stands.expr read.target f U T typing.strata asked typing.complete;
+    };
   }
     where
       there : (W : List Pair) → Both (IsTrue holds) (ShapeHolds (Sat s last W) g n (slice_get s.shapes 0))

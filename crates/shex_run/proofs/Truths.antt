@@ -21,8 +21,9 @@ use Rattle.schema_tree.specs.declared.schema.Schema.{Schema}
 use Rattle.schema_tree.specs.declared.schema.Shape.{Shape}
 use Rattle.schema_tree.specs.declared.schema.ShapeId.{ShapeId}
 use Rattle.schema_tree.specs.declared.schema.Target.TheVariants as Targets
-use Rattle.schema_tree.specs.Edges.{Edge, IsStratum, IsStratumOf, Path, StandsIn, StandsInValue, level, itself, in_and, in_or, in_not, stay, by_any, by_negative}
+use Rattle.schema_tree.specs.Edges.{Edge, IsStratified, IsStratum, IsStratumOf, Path, StandsIn, StandsInValue, level, itself, in_and, in_or, in_not, stay, by_any, by_negative}
 use Rattle.schema_tree.specs.Entries.{entry, shape_at}
+use Rattle.schema_tree.specs.Laws.{TypingExists}
 use Rattle.schema_tree.specs.Loaded.{IsTarget}
 use Rattle.schema_tree.specs.Satisfies.{Sat, SatWithin, SatEntry}
 use Rattle.schema_tree.specs.Shapes.{ShapeOk}
@@ -84,6 +85,32 @@ module _ (terms : List Term) (doc : OneShape) (s : Schema) (stands : StandsFor t
       topped [] l z = absurd (omega arith)
       topped (k ∷ []) l z = ap (λ m. max m 0) z
       topped (k ∷ m ∷ h) l z = absurd (omega arith)
+
+  -- the strata are one 0
+  zero_stratum : IsStratum s (0 ∷ [])
+  zero_stratum = (one_number, λ i here. ((i, subst (λ k. Path s i i k) (sym (zeroth i.0)) stay), λ t m way. least i m (no_way i t m way)))
+    where
+      one_number : length {A = ℕ} (0 ∷ []) ≡ length s.shapes
+      one_number = sym (ap length stands.shapes)
+
+      zeroth : (k : ℕ) → slice_index (0 ∷ []) k ≡ 0
+      zeroth zero = refl
+      zeroth (suc k) = refl
+
+      least : (i : ShapeId) (m : ℕ) → m ≡ 0 → m ≤ level (0 ∷ []) i
+      least i m none = omega (arith, none)
+
+  -- and a stratification
+  zero_stratified : IsStratified s (0 ∷ [])
+  zero_stratified = record {
+    one_each = zero_stratum.0;
+    never_rises = λ i t edge. absurd (no_edge i t edge);
+    falls = λ i t edge negative. absurd (no_edge i t edge);
+  }
+
+  -- so there is a complete typing over every list of terms
+  pub has_typing : TypingExists → (g : List Triple) (U : List TermId) → (f : List ℕ) × (T : List Pair) × IsStratum s f × IsTheTyping s terms g f U T
+  has_typing exists g U = let (T, complete) = exists s terms g (0 ∷ []) U stands.loaded zero_stratified in (0 ∷ [], T, zero_stratum, complete)
 
   -- nothing is below the stratum 0
   none_below : (f : List ℕ) (T : List Pair) (p : Pair) → Contains (below f 0 T) p → ⊥

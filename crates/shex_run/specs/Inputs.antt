@@ -124,12 +124,17 @@ pub record IsTaken (told : Told) (asked : Validate) (i : Inputs) : Type 0 where
   pub holds_data : HoldsData told asked lines
   pub inputs : IsInputs doc lines asked.node i
 
--- whether the complete typing satisfies what is asked: over every list of terms that holds the ends of the graph and the
--- node, by the strata of the schema (ShEx 2.1, section 5.2)
-abbrev pub IsTruth : Inputs → Bool → Type 0
-IsTruth i holds =
-    (f : List ℕ) (U : List TermId) (T : List Pair) → IsStratum i.schema f → HoldsEnds U i.graph → Contains U i.node → IsTheTyping i.schema i.terms i.graph f U T →
-    (IsTrue holds → Sat i.schema i.terms T i.node i.expr) × (Sat i.schema i.terms T i.node i.expr → IsTrue holds)
+-- T is the complete typing over U, by the strata of the schema (ShEx 2.1, section 5.2)
+pub record IsTypingOf (i : Inputs) (f : List ℕ) (U : List TermId) (T : List Pair) : Type 0 where
+  pub strata : IsStratum i.schema f
+  pub complete : IsTheTyping i.schema i.terms i.graph f U T
+
+-- whether the complete typing satisfies what is asked: there is one over every list of terms, and over each list that holds
+-- the ends of the graph and the node it does exactly where the answer is true
+pub record IsTruth (i : Inputs) (holds : Bool) : Type 0 where
+  pub exists : (U : List TermId) → (f : List ℕ) × (T : List Pair) × IsTypingOf i f U T
+  pub exact : (f : List ℕ) (U : List TermId) (T : List Pair) → HoldsEnds U i.graph → Contains U i.node → IsTypingOf i f U T →
+      (IsTrue holds → Sat i.schema i.terms T i.node i.expr) × (Sat i.schema i.terms T i.node i.expr → IsTrue holds)
 
 -- the answer is the truth of what the files hold for the words
 pub record IsAnswer (told : Told) (asked : Validate) (holds : Bool) : Type 0 where

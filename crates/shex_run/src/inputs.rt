@@ -16,6 +16,7 @@ use one_shape::{OneShape, SchemaError};
 use plain_lines::reader::DataError;
 use rdf_terms::table::TermTable;
 use rdf_terms::text::Text;
+use schema_tree::laws::typing_is_one;
 use shex_io::{FetchError, Files};
 use std::alloc::{AllocError, Global};
 
@@ -69,6 +70,8 @@ pub fn decide(alloc: Global, doc: OneShape, source: &[u8], node: Text) -> Result
     let schema = schema_of(alloc, label, arc)?;
     let graph = plain_lines::reader::read(alloc, source, &mut terms)?;
     let shape = &schema.shapes.as_slice()[0];
+    // The law that there is a complete typing, for the answer to speak of.
+    typing_is_one();
     Ok(has_shape(&schema, shape, &terms, graph.triples(), node))
 }
 

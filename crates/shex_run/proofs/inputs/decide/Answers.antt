@@ -43,4 +43,4 @@ returns-clause-decided c =
     c.new-terms.result c.arc_of.new.terms c.number_of.new.terms c.read.new.terms more c.new-terms.ensures c.in_ok-arc.ensures.gains c.in_ok-arc.ensures.arc
     c.in_ok-node.ensures.gains c.in_ok-node.ensures.number grown used
     c.in_ok-graph.ensures.distinct (λ terms arcs. c.in_ok-schema.ensures terms c.args.doc refl arcs) graph
-    c.args.source.now spelled c.has_shape.result c.index-as_slice-0.result c.triples.result.now c.triples.ensures.items own c.has_shape.ensures
+    c.typing_is_one.ensures.exists c.args.source.now spelled c.has_shape.result c.index-as_slice-0.result c.triples.result.now c.triples.ensures.items own c.has_shape.ensures
