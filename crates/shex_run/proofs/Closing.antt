@@ -1,12 +1,12 @@
 -- What the ways to end say of the status.
-use Rattle.std.proofs.Common.{◌≡◌, ◌∙◌, ap, sym, subst, refl, List, ℕ, ◌⊎◌, inl, inr, Bool, true, false, ◌<◌, arith}
+use Rattle.std.proofs.Common.{◌≡◌, ◌∙◌, subst, refl, List, ℕ, ◌⊎◌, inl, inr, Bool, true, false, ◌<◌, arith}
 use Rattle.std.specs.Prelude.{Option, Some}
 use Rattle.shex_io.specs.Faults.{Rose}
 use Rattle.shex_io.specs.Sinks.{GainsPrefix}
 use Rattle.shex_run.specs.Texts.{arguments_line}
 use Rattle.shex_run.specs.declared.stop.File.{File}
 use Rattle.shex_run.specs.declared.stop.Refusal.{Refusal}
-use Rattle.shex_run.specs.Endings.{Ends, FilesSeen, IsInterrupted, IsPrintedInPart, IsQuiet, PrintsTo, SinkSeen, answer_in_part, answered, failed, line_in_part, not_at_all, refused, status_of, unasked, wanting}
+use Rattle.shex_run.specs.Endings.{Ends, FilesSeen, IsInterrupted, IsPrintedInPart, PrintsTo, SinkSeen, answer_in_part, answered, failed, line_in_part, not_at_all, refused, status_of, unasked, wanting}
 use Rattle.shex_run.specs.Inputs.{Inputs, IsTaken}
 use Rattle.shex_run.specs.Outcomes.{IsAbsent, IsRefused}
 use Rattle.shex_run.specs.Words.{IsAsked, Validate}

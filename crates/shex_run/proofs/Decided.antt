@@ -1,6 +1,6 @@
 -- What is put into one table in turn is the inputs, and the Shape's answer is their truth.
-use Rattle.std.proofs.Common.{◌≡◌, ℕ, zero, suc, ◌<◌, ◌≤◌, ◌+◌, List, [], ◌∷◌, ◌++◌, refl, sym, ◌∙◌, ap, subst, arith, length, Bool, inl, inr, ◌⊎◌, get_or}
-use Rattle.std.specs.Prelude.{All, Contains, Option, Some, None, slice_get, IsTrue}
+use Rattle.std.proofs.Common.{◌≡◌, ℕ, zero, suc, ◌<◌, List, [], ◌∷◌, ◌++◌, sym, ◌∙◌, ap, subst, length, Bool, inl, inr, ◌⊎◌, get_or}
+use Rattle.std.specs.Prelude.{Contains, Option, Some, None, slice_get, IsTrue}
 use Rattle.std.proofs.lemmas.List.Elements.{Contains-append_cases}
 use Rattle.std.proofs.lemmas.Option.{slice_get_within}
 use Rattle.rdf_terms.specs.declared.terms.Term.{Term}
@@ -23,10 +23,10 @@ use Rattle.schema_tree.specs.declared.schema.Shape.{Shape}
 use Rattle.schema_tree.specs.Satisfies.{Sat}
 use Rattle.schema_tree.specs.Laws.{TypingExists}
 use Rattle.schema_tree.specs.Shapes.{ShapeHolds}
-use Rattle.schema_tree.proofs.Members.{in_one, is_first, not_in_none, all_at}
+use Rattle.schema_tree.proofs.Members.{in_one, is_first, not_in_none}
 use Rattle.shex_run.specs.declared.load.Arc.{Arc}
 use Rattle.shex_run.specs.Decisions.{Decides}
-use Rattle.shex_run.specs.Inputs.{Inputs, IsBodyOf, IsInputs, IsPredicateOf, IsTruth, IsValueOf, StandsFor}
+use Rattle.shex_run.specs.Inputs.{Inputs, IsBodyOf, IsInputs, IsPredicateOf, IsValueOf, StandsFor}
 use Rattle.shex_run.specs.Loading.{GainsOnly, IsArcOf}
 use Rattle.shex_run.specs.Simple.{IsNodeValue, IsSimple, IsSimpleBody}
 use Rattle.shex_run.proofs.Simples.{Both}

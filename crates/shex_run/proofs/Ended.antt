@@ -1,17 +1,16 @@
 -- How a call ends, from what it found.
-use Rattle.std.proofs.Common.{◌≡◌, ◌≤◌, ◌∙◌, ap, sym, subst, refl, List, ℕ, [], ◌∷◌, ◌++◌, Bool, true, false, codes}
-use Rattle.std.specs.Prelude.{Option, Some, slice_get}
+use Rattle.std.proofs.Common.{◌≡◌, ◌∙◌, ap, sym, refl, List, ℕ, [], ◌∷◌, ◌++◌, Bool, codes}
+use Rattle.std.specs.Prelude.{Some, slice_get}
 use Rattle.rdf_terms.specs.declared.terms.Term.{Term}
 use Rattle.rdf_terms.specs.declared.terms.Term.TheVariants as Terms
-use Rattle.rdf_terms.specs.Written.{iri_text, term_text}
+use Rattle.rdf_terms.specs.Written.{iri_text}
 use Rattle.std.proofs.Common.{append_assoc}
-use Rattle.shex_io.specs.declared.files.Act.{Act}
 use Rattle.schema_tree.specs.declared.labels.Label.TheVariants as Labels
 use Rattle.schema_tree.specs.declared.schema.Target.TheVariants as Targets
 use Rattle.shex_run.specs.declared.stop.File.{File}
 use Rattle.shex_run.specs.declared.stop.Refusal.{Refusal}
 use Rattle.shex_run.specs.declared.stop.Stop.TheVariants as Stops
-use Rattle.shex_run.specs.Endings.{Ends, FilesSeen, IsAnswered, IsFailedBy, IsQuiet, IsRefusedBy, PrintsTo, SinkSeen, answered, failed, refused, status_of}
+use Rattle.shex_run.specs.Endings.{Ends, FilesSeen, IsQuiet, PrintsTo, SinkSeen, answered, failed, refused, status_of}
 use Rattle.shex_run.specs.Inputs.{IsAnswer}
 use Rattle.shex_run.specs.Outcomes.{Explains, FaultsAs, name_of}
 use Rattle.shex_run.specs.Results.{mark, result_text, text_of_term}

@@ -1,17 +1,17 @@
 -- Where contents are told, what the files hold for the words is taken, refused or absent, and not two of these.
-use Rattle.std.proofs.Common.{◌≡◌, ◌≤◌, ◌<◌, ◌∙◌, ap, sym, subst, refl, List, ℕ, [], ◌∷◌, arith, length, get_or, codes, encode_utf8_all}
+use Rattle.std.proofs.Common.{◌≡◌, ◌≤◌, ◌<◌, ◌∙◌, ap, sym, subst, List, ℕ, [], arith, length, get_or}
 use Rattle.std.specs.Prelude.{Option, Some, None}
 use Rattle.std.proofs.lemmas.Str.{encodes_same}
 use Rattle.shex_io.specs.Files.{Holds, Lacks, Told}
 use Rattle.one_shape.specs.declared.OneShape.{OneShape}
 use Rattle.one_shape.proofs.Readings.{one_reading}
 use Rattle.one_shape.specs.Texts.{IsNoSchemaText, IsSchemaText}
-use Rattle.plain_lines.specs.Lines.{IsData, Line}
+use Rattle.plain_lines.specs.Lines.{IsData}
 use Rattle.shex_run.specs.declared.stop.File.{File}
 use Rattle.shex_run.specs.declared.stop.File.TheVariants as Files
 use Rattle.shex_run.specs.declared.stop.Refusal.{Refusal}
 use Rattle.shex_run.specs.declared.stop.Refusal.TheVariants as Refusals
-use Rattle.shex_run.specs.Inputs.{HasLabel, HoldsSchema, Inputs, IsFile, IsTaken, IsTooLong, max_file}
+use Rattle.shex_run.specs.Inputs.{HoldsSchema, Inputs, IsFile, IsTaken, IsTooLong, max_file}
 use Rattle.shex_run.specs.Outcomes.{IsAbsent, IsRefused}
 use Rattle.shex_run.specs.Words.{IsAsked, Validate}
 

@@ -1,5 +1,5 @@
 -- What a fetch that was cut says of the file.
-use Rattle.std.proofs.Common.{◌≡◌, ℕ, ◌+◌, ◌<◌, List, arith, length, min, refl}
+use Rattle.std.proofs.Common.{◌≡◌, ℕ, ◌<◌, List, arith, length, refl}
 use Rattle.std.proofs.lemmas.List.{length-replicate}
 use Rattle.std.specs.Prelude.{Option, Some, None, replicate}
 use Rattle.shex_io.specs.Files.{IsTakenOf, IsTakenOfHeld, Told}

@@ -1,23 +1,20 @@
 -- A node has an open Shape of one occurrence exactly where one arc out fits it, and its end satisfies the value.
-use Rattle.std.proofs.Common.{◌≡◌, ℕ, ◌+◌, ◌≤◌, inl, inr, ◌⊎◌, List, [], ◌∷◌, ◌++◌, refl, sym, ◌∙◌, ap, subst, arith, length, filter, Bool, true, false, ◌&&◌, ◌||◌, not, cond, true≢false, append-nil, nat_eq}
-use Rattle.std.specs.Prelude.{Contains, Option, Some, None, slice_get, suc, zero}
-use Rattle.std.specs.List.{sum_by}
+use Rattle.std.proofs.Common.{◌≡◌, inl, inr, List, [], ◌∷◌, ◌++◌, refl, sym, ◌∙◌, ap, subst, arith, length, filter, Bool, true, false, ◌&&◌, ◌||◌, not, cond, true≢false, append-nil}
+use Rattle.std.specs.Prelude.{Contains, Some, None}
 use Rattle.std.specs.List.Sorted.{IsPermutation}
 use Rattle.std.proofs.lemmas.Bool.{eqb-true, eq-eqb}
-use Rattle.std.proofs.lemmas.List.Elements.{Contains-append_cases, Contains-append_left}
 use Rattle.std.proofs.lemmas.List.Sums.{length-filter}
-use Rattle.std.proofs.lemmas.List.Elements.{filter-append}
-use Rattle.std.proofs.lemmas.List.Sorted.{IsPermutation-refl, IsPermutation-sym, Contains-permutation, length_permutation, IsPermutation-filter_both, sum_by-IsPermutation}
+use Rattle.std.proofs.lemmas.List.Sorted.{IsPermutation-refl, IsPermutation-sym, Contains-permutation, IsPermutation-filter_both, sum_by-IsPermutation}
 use Rattle.rdf_terms.specs.declared.terms.TermId.{TermId}
 use Rattle.rdf_terms.specs.declared.terms.Triple.{Triple}
 use Rattle.rdf_terms.specs.Graphs.{same_id, neigh}
 use Rattle.tally.specs.declared.Count.{Count}
-use Rattle.tally.specs.Plan.{Plan, plan_of, sym as symbol}
+use Rattle.tally.specs.Plan.{plan_of, sym as symbol}
 use Rattle.schema_tree.specs.declared.schema.ExprId.{ExprId}
 use Rattle.schema_tree.specs.declared.schema.Occurrence.{Occurrence}
 use Rattle.schema_tree.specs.declared.schema.Shape.{Shape}
-use Rattle.schema_tree.specs.Matches.{Deals, Matches, Takes, SatValue, fits, near_end, other_end}
-use Rattle.schema_tree.specs.Shapes.{IsMatchable, IsMentioned, MatchesBody, RestOk, ShapeHolds}
+use Rattle.schema_tree.specs.Matches.{Deals, Matches, SatValue, fits, near_end, other_end}
+use Rattle.schema_tree.specs.Shapes.{IsMentioned, RestOk, ShapeHolds}
 use Rattle.schema_tree.proofs.Members.{not_in_none, in_one, in_rest, is_first, is_later, filter_has}
 
 pub same_id_equal : (a b : TermId) → same_id a b ≡ true → a ≡ b

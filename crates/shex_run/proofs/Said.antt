@@ -1,5 +1,5 @@
 -- What is printed where nothing is.
-use Rattle.std.proofs.Common.{◌≡◌, List, ℕ, [], ◌++◌, refl, sym, append-nil, ◌∙◌}
+use Rattle.std.proofs.Common.{◌≡◌, List, ℕ, [], refl, sym, append-nil, ◌∙◌}
 use Rattle.std.specs.Prelude.{Option, Some, None, Result, Ok, Err, IfOk}
 use Rattle.shex_io.specs.Sinks.{Gains, GainsPrefix}
 

@@ -1,5 +1,5 @@
 -- Printed lines as they are formatted.
-use Rattle.std.proofs.Common.{◌≡◌, ◌∙◌, ap, sym, refl, List, ℕ, ◌++◌, codes, append_assoc, encode_utf8_all, true, false, Bool}
+use Rattle.std.proofs.Common.{◌≡◌, ◌∙◌, ap, sym, List, ℕ, ◌++◌, codes, append_assoc, encode_utf8_all, Bool}
 use Rattle.std.specs.Str.{IsUtf8, chars}
 use Rattle.std.proofs.lemmas.Str.{encodes-chars}
 use Rattle.shex_run.specs.Texts.{answer_line, label_line}

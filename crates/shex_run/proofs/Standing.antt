@@ -1,17 +1,16 @@
 -- The schema that is made of an arc stands for its document.
-use Rattle.std.proofs.Common.{◌≡◌, ℕ, zero, suc, ◌<◌, ◌≤◌, List, [], ◌∷◌, refl, sym, ◌∙◌, ap, subst, arith, length, true, nat_eq}
+use Rattle.std.proofs.Common.{◌≡◌, ℕ, zero, suc, ◌<◌, ◌≤◌, List, [], ◌∷◌, refl, sym, ap, subst, arith, length, true}
 use Rattle.std.specs.Prelude.{Contains, Option, Some, None, slice_get}
 use Rattle.std.proofs.lemmas.Bool.{eqb-true, eq-eqb}
 use Rattle.rdf_terms.specs.declared.terms.Term.{Term}
 use Rattle.rdf_terms.specs.Lists.{AreDistinct}
 use Rattle.tally.specs.declared.Count.{Count}
-use Rattle.tally.specs.Plan.{Plan, plan_of, sym as symbol}
+use Rattle.tally.specs.Plan.{Plan, sym as symbol}
 use Rattle.tally.specs.Symbols.{IsDistinct, has_symbol}
 use Rattle.tally.specs.Span.{IsSound}
 use Rattle.node_constraint.specs.declared.Kind4.{Kind4}
 use Rattle.one_shape.specs.declared.Constraint.{Constraint}
 use Rattle.one_shape.specs.declared.OneShape.{OneShape}
-use Rattle.schema_tree.specs.declared.labels.Label.{Label}
 use Rattle.schema_tree.specs.declared.labels.Label.TheVariants as Labels
 use Rattle.schema_tree.specs.declared.schema.Expr.{Expr}
 use Rattle.schema_tree.specs.declared.schema.Expr.TheVariants as Exprs
@@ -19,10 +18,9 @@ use Rattle.schema_tree.specs.declared.schema.ExprId.{ExprId}
 use Rattle.schema_tree.specs.declared.schema.Occurrence.{Occurrence}
 use Rattle.schema_tree.specs.declared.schema.Schema.{Schema}
 use Rattle.schema_tree.specs.declared.schema.Shape.{Shape}
-use Rattle.schema_tree.specs.declared.schema.ShapeId.{ShapeId}
-use Rattle.schema_tree.specs.Entries.{entry, shape_at}
+use Rattle.schema_tree.specs.Entries.{entry}
 use Rattle.schema_tree.specs.Loaded.{BodyOk, IsEntryIfAny, IsLoaded, IsShapeLoaded, RefersBelow}
-use Rattle.schema_tree.proofs.Members.{in_one, is_first, not_in_none}
+use Rattle.schema_tree.proofs.Members.{in_one, not_in_none}
 use Rattle.shex_run.specs.declared.load.Arc.{Arc}
 use Rattle.shex_run.specs.Inputs.{IsBodyOf, IsValueOf, StandsFor}
 use Rattle.shex_run.specs.Loading.{IsArcBody, IsArcOf, IsShapeOf, entries_of, kind_of, occurrence_of, place_of, value_of}

@@ -1,5 +1,5 @@
 -- What the complete typing says of the only Shape of a schema: that a node has it, whatever the typing.
-use Rattle.std.proofs.Common.{◌≡◌, ℕ, suc, zero, ◌<◌, ◌≤◌, List, [], ◌∷◌, refl, sym, ◌∙◌, ap, subst, arith, length, filter, Bool, true, false, true≢false, max}
+use Rattle.std.proofs.Common.{◌≡◌, ℕ, suc, zero, ◌<◌, ◌≤◌, List, [], ◌∷◌, refl, sym, ◌∙◌, ap, subst, arith, length, Bool, true, max}
 use Rattle.std.specs.Prelude.{Contains, Option, Some, None, slice_get, slice_index, IsTrue, nat_lt}
 use Rattle.std.proofs.lemmas.Bool.{ltb-true}
 use Rattle.rdf_terms.specs.declared.terms.Term.{Term}
@@ -10,7 +10,6 @@ use Rattle.node_constraint.specs.declared.NodeConstraint.{NodeConstraint}
 use Rattle.node_constraint.specs.declared.Kind4.{Kind4}
 use Rattle.one_shape.specs.declared.Constraint.{Constraint}
 use Rattle.one_shape.specs.declared.OneShape.{OneShape}
-use Rattle.schema_tree.specs.declared.labels.Label.{Label}
 use Rattle.schema_tree.specs.declared.labels.Label.TheVariants as Labels
 use Rattle.schema_tree.specs.declared.schema.Expr.{Expr}
 use Rattle.schema_tree.specs.declared.schema.Expr.TheVariants as Exprs
@@ -21,15 +20,15 @@ use Rattle.schema_tree.specs.declared.schema.Schema.{Schema}
 use Rattle.schema_tree.specs.declared.schema.Shape.{Shape}
 use Rattle.schema_tree.specs.declared.schema.ShapeId.{ShapeId}
 use Rattle.schema_tree.specs.declared.schema.Target.TheVariants as Targets
-use Rattle.schema_tree.specs.Edges.{Edge, IsStratified, IsStratum, IsStratumOf, Path, StandsIn, StandsInValue, level, itself, in_and, in_or, in_not, stay, by_any, by_negative}
+use Rattle.schema_tree.specs.Edges.{Edge, IsStratified, IsStratum, Path, StandsIn, StandsInValue, level, itself, in_and, in_or, in_not, stay, by_any, by_negative}
 use Rattle.schema_tree.specs.Entries.{entry, shape_at}
 use Rattle.schema_tree.specs.Laws.{TypingExists}
 use Rattle.schema_tree.specs.Loaded.{IsTarget}
 use Rattle.schema_tree.specs.Satisfies.{Sat, SatWithin, SatEntry}
 use Rattle.schema_tree.specs.Shapes.{ShapeOk}
-use Rattle.schema_tree.specs.Typings.{below, HoldsEnds, IsComplete, IsGreatestAt, IsTheTyping, IsPartOf, HaveSame, top_of}
+use Rattle.schema_tree.specs.Typings.{below, IsComplete, IsGreatestAt, IsTheTyping, top_of}
 use Rattle.schema_tree.proofs.Members.{not_in_none, in_one, is_first}
-use Rattle.shex_run.specs.Inputs.{IsBodyOf, IsOccurrenceOf, IsValueOf, StandsFor}
+use Rattle.shex_run.specs.Inputs.{IsBodyOf, IsValueOf, StandsFor}
 use Rattle.shex_run.proofs.OneArc.{in_filter}
 
 abbrev the_shape : ShapeId

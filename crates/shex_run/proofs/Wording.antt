@@ -1,5 +1,5 @@
 -- Five words that ask, and five that do not.
-use Rattle.std.proofs.Common.{◌≡◌, ◌≤◌, ◌<◌, ℕ, List, [], ◌∷◌, length, map, get_or, ap, sym, ◌∙◌, subst, true, refl, arith, codes, encode_utf8_all}
+use Rattle.std.proofs.Common.{◌≡◌, ◌≤◌, ◌<◌, ℕ, List, [], ◌∷◌, length, get_or, ap, sym, ◌∙◌, subst, true, arith, codes, encode_utf8_all}
 use Rattle.std.specs.List.{list_all}
 use Rattle.std.specs.Str.{IsUtf8, chars}
 use Rattle.std.proofs.lemmas.Str.{chars-encodes, encodes-chars, scalars-chars}

@@ -2,7 +2,7 @@
 use Rattle.std.specs.Prelude.{ℕ, Bool, List, [], ◌∷◌, ◌≡◌, ◌≤◌, ◌⊎◌, Option, if◌then◌else◌}
 use Rattle.shex_io.specs.Faults.{Rose}
 use Rattle.shex_io.specs.Files.{Told}
-use Rattle.shex_io.specs.Sinks.{Gains, GainsPrefix}
+use Rattle.shex_io.specs.Sinks.{GainsPrefix}
 use Rattle.shex_io.specs.declared.files.Act.{Act}
 use Rattle.shex_io.specs.declared.files.Act.TheVariants as Acts
 use Rattle.schema_tree.specs.declared.labels.Label.TheVariants as Labels

@@ -1,5 +1,5 @@
 -- What the files hold, read with the words: a schema, a graph, and what is asked, in the numbers of one table of terms.
-use Rattle.std.specs.Prelude.{ℕ, true, false, List, [], ◌∷◌, ◌≡◌, ◌≢◌, ◌≤◌, ◌<◌, ◌⊎◌, Option, Some, None, length, slice_get, Contains, IsTrue, Bool}
+use Rattle.std.specs.Prelude.{ℕ, false, List, [], ◌∷◌, ◌≡◌, ◌≤◌, ◌<◌, ◌⊎◌, Option, Some, None, length, slice_get, Contains, IsTrue, Bool}
 use Rattle.shex_io.specs.Files.{Told, Holds}
 use Rattle.rdf_terms.specs.Lists.{AreDistinct}
 use Rattle.rdf_terms.specs.declared.terms.Term.{Term}
@@ -11,12 +11,11 @@ use Rattle.tally.specs.Plan.{plan_of, sym}
 use Rattle.node_constraint.specs.declared.Kind4.{Kind4}
 use Rattle.one_shape.specs.declared.OneShape.{OneShape}
 use Rattle.one_shape.specs.declared.Constraint.{Constraint}
-use Rattle.one_shape.specs.Texts.{IsSchemaText, IsNoSchemaText}
+use Rattle.one_shape.specs.Texts.{IsSchemaText}
 use Rattle.plain_lines.specs.Lines.{Line, IsData}
 use Rattle.plain_lines.specs.Graphs.{IsGraphOf, IsUsed}
 use Rattle.schema_tree.specs.declared.schema.Schema.{Schema}
 use Rattle.schema_tree.specs.declared.schema.Shape.{Shape}
-use Rattle.schema_tree.specs.declared.schema.ShapeId.{ShapeId}
 use Rattle.schema_tree.specs.declared.schema.ExprId.{ExprId}
 use Rattle.schema_tree.specs.declared.schema.Expr.TheVariants as Exprs
 use Rattle.schema_tree.specs.declared.schema.Occurrence.{Occurrence}

@@ -6,14 +6,12 @@ use Rattle.tally.specs.declared.Count.{Count}
 use Rattle.tally.specs.Plan.{plan_of, sym}
 use Rattle.node_constraint.specs.declared.Kind4.{Kind4}
 use Rattle.one_shape.specs.declared.Constraint.{Constraint}
-use Rattle.one_shape.specs.declared.OneShape.{OneShape}
 use Rattle.schema_tree.specs.declared.schema.Expr.{Expr}
 use Rattle.schema_tree.specs.declared.schema.Expr.TheVariants as Exprs
 use Rattle.schema_tree.specs.declared.schema.ExprId.{ExprId}
 use Rattle.schema_tree.specs.declared.schema.Occurrence.{Occurrence}
 use Rattle.schema_tree.specs.declared.schema.Shape.{Shape}
 use Rattle.shex_run.specs.declared.load.Arc.{Arc}
-use Rattle.shex_run.specs.Inputs.{IsPredicateOf}
 
 -- the kind of the value, if there is an arc and it has one
 abbrev pub kind_of : Option Arc → Option Kind4

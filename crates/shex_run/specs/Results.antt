@@ -1,5 +1,5 @@
 -- The text of answers: a result shape map (ShapeMap Structure and Language, section 4).
-use Rattle.std.specs.Prelude.{ℕ, true, false, Bool, List, [], ◌∷◌, ◌++◌, Option, Some, None, slice_get, codes, encode_utf8_all, if◌then◌else◌}
+use Rattle.std.specs.Prelude.{ℕ, Bool, List, [], ◌∷◌, ◌++◌, Option, Some, None, slice_get, codes, encode_utf8_all, if◌then◌else◌}
 use Rattle.rdf_terms.specs.declared.terms.Term.{Term}
 use Rattle.rdf_terms.specs.Written.{iri_text, term_text}
 use Rattle.schema_tree.specs.declared.labels.Label.TheVariants as Labels

@@ -1,5 +1,5 @@
 -- Shapes of at most one occurrence, whose value is a node constraint.
-use Rattle.std.specs.Prelude.{false, List, [], ◌∷◌, ◌≡◌, ◌⊎◌, Option, Some, None, ⊤}
+use Rattle.std.specs.Prelude.{false, List, [], ◌∷◌, ◌≡◌, Option, Some, None, ⊤}
 use Rattle.tally.specs.declared.Count.{Count}
 use Rattle.tally.specs.Plan.{plan_of, sym}
 use Rattle.node_constraint.specs.declared.NodeConstraint.{NodeConstraint}

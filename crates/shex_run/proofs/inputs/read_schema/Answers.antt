@@ -1,4 +1,4 @@
-use Rattle.std.proofs.Common.{refl, ◌≡◌, ◌∙◌, ap, sym, subst, true≢false, Err}
+use Rattle.std.proofs.Common.{◌∙◌, ap, sym, subst, true≢false, Err}
 use Rattle.one_shape.specs.Texts.{IsNoSchemaText, IsSchemaText}
 use Rattle.shex_run.proofs.inputs.read_schema.Goals as goal
 

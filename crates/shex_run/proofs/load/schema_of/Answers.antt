@@ -1,4 +1,4 @@
-use Rattle.std.proofs.Common.{◌≡◌, ◌∙◌, ap, sym, subst, List, [], ◌∷◌, ◌++◌, Bool, true, false, refl, None, arith}
+use Rattle.std.proofs.Common.{◌≡◌, ◌∙◌, ap, sym, subst, List, [], ◌∷◌, ◌++◌, Bool, true, false, None, arith}
 use Rattle.schema_tree.specs.Labels.{DeclaresNext, IsDeclared}
 use Rattle.schema_tree.specs.declared.labels.Label.{Label}
 use Rattle.schema_tree.specs.declared.labels.Label.TheVariants as Labels

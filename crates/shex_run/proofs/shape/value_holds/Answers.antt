@@ -1,4 +1,4 @@
-use Rattle.std.proofs.Common.{◌≡◌, ◌∙◌, ap, sym, subst, IsTrue, Option, Some, refl}
+use Rattle.std.proofs.Common.{◌≡◌, sym, subst, IsTrue}
 use Rattle.node_constraint.specs.declared.NodeConstraint.{NodeConstraint}
 use Rattle.node_constraint.specs.SatNode.{SatNode}
 use Rattle.schema_tree.specs.Matches.{SatValue}
