@@ -1,6 +1,8 @@
 pub mod Graphs
+pub mod Laws
 pub mod Lists
 pub mod Literals
+pub mod Names
 pub mod Sameness
 pub mod Tables
 pub mod Texts

@@ -2,8 +2,10 @@
 #![tactic(auto)]
 
 pub mod items;
+pub mod laws;
 pub mod table;
 pub mod terms;
 #[cfg(test)]
 mod tests;
 pub mod text;
+pub mod written;

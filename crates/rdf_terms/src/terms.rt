@@ -1,12 +1,15 @@
 //! Terms and triples of their numbers.
 
-ghost use Rattle.std.specs.Prelude.{List, ℕ, ◌≡◌, IfOk, string_bytes, length, encode_utf8_all, ◌&&◌, None, Some, codes, ◌↔◌, IsSome, ◌++◌, is_some};
+ghost use Rattle.std.specs.Prelude.{List, ℕ, ◌≡◌, IfOk, string_bytes, length, encode_utf8_all, ◌&&◌, None, Some, codes, ◌↔◌, IsSome, IfSome, IsNone, ◌++◌, is_some, map};
+ghost use Rattle.std.specs.Option.{option_copied};
+ghost use Rattle.std.specs.Str.{chars};
+ghost use Rattle.std.specs.Char.{to_ascii_lowercase};
 ghost use Rattle.std.specs.Cmp.{on_equiv, on_per, partial_equiv_from_equiv};
 ghost use Rattle.std.specs.Cmp.Lexicographic.{nat_list_eq_equiv};
 ghost use Rattle.std.specs.Hash as fed;
 ghost use Rattle.std.specs.Cmp.Rules.{comparing, hashing};
 ghost use Rattle.std.proofs.Common.{rules};
-ghost use Rattle.rdf_terms.specs.Literals.{LiteralParts, IsLiteral, same_literal, xsd_string, literal_fed};
+ghost use Rattle.rdf_terms.specs.Literals.{LiteralParts, IsLiteral, same_literal, xsd_string, rdf_lang_string, literal_fed};
 ghost use Rattle.rdf_terms.specs.Sameness.{decided_equiv, literal_decides, literal_alike};
 ghost use Rattle.rdf_terms.specs.Texts.{same_text};
 
@@ -58,7 +61,9 @@ impl Model for Literal {
     ghost invariant = { λ l. IsLiteral (record { lex = l.lex; datatype = l.datatype; lang = l.lang }) };
 }
 
-const XSD_STRING: &str = "http://www.w3.org/2001/XMLSchema#string";
+const RDF_LANG_STRING: &str = "http://www.w3.org/1999/02/22-rdf-syntax-ns#langString";
+
+pub(crate) const XSD_STRING: &str = "http://www.w3.org/2001/XMLSchema#string";
 
 impl Literal {
     /// A plain string, whose datatype is xsd:string.
@@ -71,6 +76,57 @@ impl Literal {
             datatype,
             lang: None,
         })
+    }
+
+    /// A literal of a datatype, and `None` exactly where the datatype is rdf:langString, which wants a tag.
+    pub fn typed(lex: Text, datatype: Text) -> Option<Literal>
+        ensures literal { IfSome result (λ l. l ≡ record { lex = lex; datatype = datatype; lang = None }) }
+        ensures none { IsNone result ↔ (datatype ≡ rdf_lang_string) }
+    {
+        if datatype.as_str() == RDF_LANG_STRING {
+            None
+        } else {
+            Some(Literal {
+                lex,
+                datatype,
+                lang: None,
+            })
+        }
+    }
+
+    /// A string with a language tag, whose letters A to Z become a to z.
+    pub fn tagged(alloc: Global, lex: Text, tag: &str) -> Result<Literal, AllocError>
+        ensures { IfOk result (λ l. l ≡ record { lex = lex; datatype = rdf_lang_string; lang = Some (map to_ascii_lowercase (chars tag.now)) }) }
+    {
+        let mut lowered = String::from_str(alloc, tag)?;
+        lowered.make_ascii_lowercase();
+        let datatype = Text::from_str(alloc, RDF_LANG_STRING)?;
+        Ok(Literal {
+            lex,
+            datatype,
+            lang: Some(Text::from_string(lowered)),
+        })
+    }
+
+    /// The lexical form.
+    pub fn lex(&self) -> &Text
+        ensures { result.now ≡ self.now.lex }
+    {
+        &self.lex
+    }
+
+    /// The IRI of the datatype.
+    pub fn datatype(&self) -> &Text
+        ensures { result.now ≡ self.now.datatype }
+    {
+        &self.datatype
+    }
+
+    /// The language tag, where there is one.
+    pub fn lang(&self) -> Option<&Text>
+        ensures { option_copied result ≡ self.now.lang }
+    {
+        self.lang.as_ref()
     }
 }
 

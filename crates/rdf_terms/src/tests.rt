@@ -2,6 +2,7 @@ use crate::items::Items;
 use crate::table::TermTable;
 use crate::terms::{Literal, Name, Term, TermId};
 use crate::text::Text;
+use crate::written::{name_from, write_term};
 use std::process::Abort;
 use std::test::Fail;
 
@@ -80,5 +81,80 @@ fn items_keep_their_order(rt: HostRuntime) -> Result<(), Fail> {
     let items = Items::of(vec![in rt.alloc(); 3, 1, 3]?);
     assert_eq!(rt; items.as_slice(), [3, 1, 3].as_slice());
     assert_eq!(rt; items.into_vec().as_slice(), [3, 1, 3].as_slice());
+    Ok(())
+}
+
+#[test]
+fn a_term_is_written_as_in_n_triples(rt: HostRuntime) -> Result<(), Fail> {
+    let alloc = rt.alloc();
+    let text = |written: &str| Text::from_str(alloc, written);
+    let integer = "http://www.w3.org/2001/XMLSchema#integer";
+    for (term, wanted) in [
+        (
+            iri(&rt, "http://a.example/\u{e9} \n")?,
+            "<http://a.example/\u{e9} \n>",
+        ),
+        (blank(&rt, "b.1")?, "_:b.1"),
+        (blank(&rt, "anon1")?, "_:anon_anon1"),
+        (blank(&rt, "anon")?, "_:anon_anon"),
+        (Term::Blank(Name::Fresh(4_294_967_295)), "_:anon4294967295"),
+        (
+            plain(&rt, "a\tb\n\"c\\\r\u{1f600}")?,
+            "\"a\tb\\n\\\"c\\\\\\r\u{1f600}\"",
+        ),
+        (
+            Term::Lit(Literal::tagged(alloc, text("chat")?, "fr-BE")?),
+            "\"chat\"@fr-be",
+        ),
+        (
+            Term::Lit(Literal::typed(text("01")?, text(integer)?).expect(&rt, "a typed literal")),
+            "\"01\"^^<http://www.w3.org/2001/XMLSchema#integer>",
+        ),
+    ] {
+        let mut out = Vec::from_slice(alloc, b"? ")?;
+        write_term(alloc, &term, &mut out)?;
+        let whole = format!(in alloc; "? {wanted}")?;
+        assert_eq!(rt; out.as_slice(), whole.as_bytes());
+    }
+    Ok(())
+}
+
+#[test]
+fn a_language_string_wants_a_tag(rt: HostRuntime) -> Result<(), Fail> {
+    let lex = Text::from_str(rt.alloc(), "chat")?;
+    let datatype = Text::from_str(
+        rt.alloc(),
+        "http://www.w3.org/1999/02/22-rdf-syntax-ns#langString",
+    )?;
+    assert!(rt; Literal::typed(lex, datatype).is_none());
+    Ok(())
+}
+
+#[test]
+fn a_name_is_read_from_its_text(rt: HostRuntime) -> Result<(), Fail> {
+    for (text, number) in [
+        ("anon2", 2),
+        ("anon1", 1),
+        ("anon4294967295", 4_294_967_295),
+    ] {
+        assert!(rt;
+            name_from(rt.alloc(), text)? == Name::Fresh(number),
+            "{text}"
+        );
+    }
+    for (text, label) in [
+        ("anon_anon2", "anon2"),
+        ("anon02", "anon02"),
+        ("anon0", "anon0"),
+        ("anon", "anon"),
+        ("anon+2", "anon+2"),
+        ("anon4294967296", "anon4294967296"),
+        ("anon_b", "anon_b"),
+        ("anon_anon", "anon"),
+        ("b", "b"),
+    ] {
+        let name = Name::Label(Text::from_str(rt.alloc(), label)?);
+        assert!(rt; name_from(rt.alloc(), text)? == name, "{text}");
+    }
     Ok(())
 }

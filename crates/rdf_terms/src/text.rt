@@ -1,7 +1,7 @@
 //! Texts as characters.
 
 ghost use Rattle.std.specs.Prelude.{List, ℕ, ◌≡◌, IfOk, string_bytes, string_len, length, encode_utf8_all};
-ghost use Rattle.std.specs.Str.{chars, all_scalars};
+ghost use Rattle.std.specs.Str.{chars, all_scalars, IsUtf8};
 ghost use Rattle.std.specs.Prelude.{true};
 ghost use Rattle.std.specs.Cmp.{on_equiv, on_per, partial_equiv_from_equiv};
 ghost use Rattle.std.specs.Cmp.Lexicographic.{nat_list_eq_equiv};
@@ -45,11 +45,19 @@ impl Text {
         Ok(Text { inner })
     }
 
+    /// A copy of the text.
+    pub fn try_clone(&self, alloc: Global) -> Result<Text, AllocError>
+        ensures { IfOk result (λ t. t ≡ self.now) }
+    {
+        Text::from_str(alloc, self.as_str())
+    }
+
     /// The text as Rust lends it, in UTF-8.
     pub fn as_str(&self) -> &str
         ensures characters { chars result.now ≡ self.now }
         ensures bytes { result.now ≡ encode_utf8_all self.now }
         ensures scalars { all_scalars self.now ≡ true }
+        ensures utf8 { IsUtf8 result.now }
     {
         self.inner.as_str()
     }
