@@ -15,6 +15,7 @@ pub mod Local
 pub mod Independent
 pub mod Strata
 pub mod SureOnce
+pub mod Joining
 pub mod Lifted
 pub mod Ordered
 pub mod Made

@@ -10,6 +10,7 @@ pub mod Order
 pub mod Relevant
 pub mod Width
 pub mod Sure
+pub mod Joined
 pub mod Places
 pub mod States
 pub mod Copied

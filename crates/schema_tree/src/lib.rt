@@ -5,4 +5,5 @@ pub mod examples;
 pub mod labels;
 pub mod laws;
 pub mod schema;
+pub mod sure;
 pub mod verdicts;

@@ -9,7 +9,7 @@ use rdf_terms::terms::TermId;
 use tally::Count;
 
 /// The number of a shape expression: its place among the schema's expressions.
-#[derive(Clone, Copy, Debug, PartialEq, Eq)]
+#[derive(Clone, Copy, Debug, PartialEq, Eq, Hash)]
 pub struct ExprId(pub u32);
 
 /// The number of a Shape: its place among the schema's Shapes.
