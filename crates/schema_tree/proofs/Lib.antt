@@ -16,6 +16,7 @@ pub mod Independent
 pub mod Strata
 pub mod SureOnce
 pub mod Joining
+pub mod Checked
 pub mod Lifted
 pub mod Ordered
 pub mod Made

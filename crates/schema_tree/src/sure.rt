@@ -74,10 +74,10 @@ impl<V: View> Question<'_, V> {
         match self.schema.exprs.as_slice().get(expr.0 as usize) {
             Some(Expr::And(members)) => {
                 self.kept_or_joined(expr, members.as_slice(), Verdict::No, kept)
-            },
+            }
             Some(Expr::Or(members)) => {
                 self.kept_or_joined(expr, members.as_slice(), Verdict::Yes, kept)
-            },
+            }
             Some(Expr::Not(member)) => Ok(negated(self.verdict(*member, kept)?)),
             Some(Expr::Node(constraint)) => {
                 if satisfies(self.terms, self.node, constraint) {
@@ -86,12 +86,11 @@ impl<V: View> Question<'_, V> {
                     Ok(Verdict::No)
                 }
             }
-            Some(Expr::Shape(shape)) => Ok(
-                self.view.pair(Pair {
-                    node: self.node,
-                    shape: *shape,
-                }),
-            ),
+            Some(Expr::Shape(shape)) => {
+                let node = self.node;
+                let shape = *shape;
+                Ok(self.view.pair(Pair { node, shape }))
+            }
             None => Ok(Verdict::No),
         }
     }
@@ -222,3 +221,6 @@ pub fn may_fail<V: View>(
         Lean::Impossible => verdict == Verdict::No,
     })
 }
+
+#[cfg(test)]
+mod tests;
