@@ -1,4 +1,4 @@
-use Rattle.std.proofs.Common.{◌≡◌, ◌<◌, sym, ◌∙◌, ◌+◌, subst, arith, get_or, take, true≢false}
+use Rattle.std.proofs.Common.{◌<◌, sym, ◌∙◌, ◌+◌, subst, arith, get_or, take, true≢false}
 use Rattle.std.proofs.lemmas.List.Elements.{Contains-get_or}
 use Rattle.std.specs.HashMap.{get}
 use Rattle.schema_tree.specs.Joined.{same_expr}

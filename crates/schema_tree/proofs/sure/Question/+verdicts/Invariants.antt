@@ -1,4 +1,4 @@
-use Rattle.std.proofs.Common.{ℕ, ◌+◌, ◌*◌, take}
+use Rattle.std.proofs.Common.{◌+◌, ◌*◌, take}
 use Rattle.std.specs.HashMap.{get}
 use Rattle.schema_tree.specs.Joined.{AreKept, same_expr}
 use Rattle.schema_tree.specs.Sure.{IsSure}
