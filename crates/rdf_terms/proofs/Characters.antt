@@ -15,7 +15,7 @@ use Rattle.rdf_terms.specs.Literals.{is_lowered}
 cons_same : {x y : ℕ} {xs ys : List ℕ} → x ≡ y → xs ≡ ys → x ∷ xs ≡ y ∷ ys
 cons_same p q = cc
 
-low_or_high : (c : ℕ) → (c < 128) ⊎ (128 ≤ c)
+pub low_or_high : (c : ℕ) → (c < 128) ⊎ (128 ≤ c)
 low_or_high c = grind arith
 
 -- each byte of a character beyond ASCII is beyond ASCII

@@ -5,5 +5,6 @@ pub mod Literals
 pub mod Names
 pub mod Sameness
 pub mod Tables
+pub mod TextBytes
 pub mod Texts
 pub mod Written

@@ -3,6 +3,7 @@
 
 pub mod items;
 pub mod laws;
+pub mod order;
 pub mod table;
 pub mod terms;
 #[cfg(test)]

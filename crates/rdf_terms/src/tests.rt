@@ -1,8 +1,10 @@
 use crate::items::Items;
+use crate::order::compare_texts;
 use crate::table::TermTable;
 use crate::terms::{Literal, Name, Term, TermId};
 use crate::text::Text;
 use crate::written::{name_from, write_term};
+use std::cmp::Ordering;
 use std::process::Abort;
 use std::test::Fail;
 
@@ -155,6 +157,101 @@ fn a_name_is_read_from_its_text(rt: HostRuntime) -> Result<(), Fail> {
     ] {
         let name = Name::Label(Text::from_str(rt.alloc(), label)?);
         assert!(rt; name_from(rt.alloc(), text)? == name, "{text}");
+    }
+    Ok(())
+}
+
+/// How the texts of two IRIs compare.
+fn iris(rt: &(impl Abort + AllocGlobal), one: &str, other: &str) -> Result<Ordering, Fail> {
+    Ok(compare_texts(&iri(rt, one)?, &iri(rt, other)?))
+}
+
+#[test]
+fn iris_stand_in_the_order_of_their_texts(rt: HostRuntime) -> Result<(), Fail> {
+    for (one, other, wanted) in [
+        ("http://a.example/", "http://a.example/", Ordering::Equal),
+        ("http://a.example/a", "http://a.example/b", Ordering::Less),
+        (
+            "http://a.example/b",
+            "http://a.example/aa",
+            Ordering::Greater,
+        ),
+        // `>` closes the shorter one, and `#`, `=` and `/` are below it.
+        (
+            "http://a.example/a",
+            "http://a.example/a#",
+            Ordering::Greater,
+        ),
+        ("http://a.example/a=", "http://a.example/a", Ordering::Less),
+        ("http://a.example/a", "http://a.example/aa", Ordering::Less),
+        (
+            "http://a.example/a\u{e9}",
+            "http://a.example/a",
+            Ordering::Greater,
+        ),
+        (
+            "http://a.example/\u{ffff}",
+            "http://a.example/\u{10000}",
+            Ordering::Less,
+        ),
+        ("", ">", Ordering::Less),
+    ] {
+        assert_eq!(rt; iris(&rt, one, other)?, wanted, "{one} and {other}");
+    }
+    Ok(())
+}
+
+/// How the texts of two plain literals compare.
+fn strings(rt: &(impl Abort + AllocGlobal), one: &str, other: &str) -> Result<Ordering, Fail> {
+    Ok(compare_texts(&plain(rt, one)?, &plain(rt, other)?))
+}
+
+#[test]
+fn literals_stand_in_the_order_of_their_texts(rt: HostRuntime) -> Result<(), Fail> {
+    for (one, other, wanted) in [
+        ("", "", Ordering::Equal),
+        ("a", "b", Ordering::Less),
+        // `"` closes the shorter one: a space and `!` are below it.
+        ("a", "a b", Ordering::Greater),
+        ("a", "a!", Ordering::Greater),
+        ("a", "ab", Ordering::Less),
+        // Escapes begin with a backslash, between `[` and `]`.
+        ("\n", "A", Ordering::Greater),
+        ("\n", "a", Ordering::Less),
+        ("\"", "[", Ordering::Greater),
+        ("\"", "]", Ordering::Less),
+        ("\n", "\r", Ordering::Less),
+        ("\\", "\r", Ordering::Less),
+        ("\t", "\n", Ordering::Less),
+        ("\u{e9}", "z", Ordering::Greater),
+    ] {
+        assert_eq!(rt; strings(&rt, one, other)?, wanted, "{one} and {other}");
+    }
+    Ok(())
+}
+
+#[test]
+fn terms_of_all_kinds_stand_in_the_order_of_their_texts(rt: HostRuntime) -> Result<(), Fail> {
+    let alloc = rt.alloc();
+    let text = |written: &str| Text::from_str(alloc, written);
+    let datatype = text("http://www.w3.org/2001/XMLSchema#integer")?;
+    let rising = [
+        plain(&rt, "1")?,
+        Term::Lit(Literal::tagged(alloc, text("1")?, "DE")?),
+        Term::Lit(Literal::tagged(alloc, text("1")?, "en")?),
+        Term::Lit(Literal::typed(text("1")?, datatype).expect(&rt, "a typed literal")),
+        iri(&rt, "http://a.example/")?,
+        blank(&rt, "1")?,
+        Term::Blank(Name::Fresh(10)),
+        Term::Blank(Name::Fresh(2)),
+        Term::Blank(Name::Fresh(20)),
+        blank(&rt, "anon")?,
+        blank(&rt, "b")?,
+    ];
+    for (place, one) in rising.iter().enumerate() {
+        for (other_place, other) in rising.iter().enumerate() {
+            assert_eq!(rt; compare_texts(one, other), place.cmp(&other_place));
+        }
     }
     Ok(())
 }

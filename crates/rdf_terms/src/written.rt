@@ -55,11 +55,18 @@ fn push_blank(alloc: Global, name: &Name, out: &mut String) -> Result<(), AllocE
 fn mark(label: &Text) -> &'static str
     ensures { result.now ≡ codes "_:" ++ (if starts_with nat_eq label.now (codes "anon") then codes "anon_" else []) }
 {
-    if label.as_str().starts_with("anon") {
+    if begins_with_anon(label) {
         "_:anon_"
     } else {
         "_:"
     }
+}
+
+/// Whether a label begins as the printed name of an anonymous node does.
+pub(crate) fn begins_with_anon(label: &Text) -> bool
+    ensures { result ≡ starts_with nat_eq label.now (codes "anon") }
+{
+    label.as_str().starts_with("anon")
 }
 
 /// Appends a literal: its lexical form in quotes, and its tag, or its datatype unless that is xsd:string.
