@@ -132,6 +132,13 @@ SureKnowsNoBound =
     IsLoaded s → e.0 < k → e.0 < m →
     SureWithin k s terms view n e v ↔ SureWithin m s terms view n e v
 
+-- two views that answer alike on each pair make the same sure
+abbrev pub SureFollowsAnswers : Type 0
+SureFollowsAnswers =
+    (s : Schema) (terms : List Term) (view other : Known) → IsLoaded s →
+    ((p : Pair) (v : Verdict) → PairIs view p v ↔ PairIs other p v) →
+    (n : TermId) (e : ExprId) (v : Verdict) → IsSure s terms view n e v ↔ IsSure s terms other n e v
+
 -- an expression stays satisfied where the pairs of the node with the Shapes that stand in it stay, and none with a Shape
 -- behind a ShapeNot is new
 abbrev pub SatFollowsPairs : Type 0

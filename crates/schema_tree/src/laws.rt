@@ -1,6 +1,6 @@
 //! The laws of satisfaction and typings. Each function claims some of them by its contract, and does nothing when called.
 
-ghost use Rattle.schema_tree.specs.Laws.{AnswersAlike, CopiesGiveParts, CyclesAreLists, DecidedIsAnswered, DecidedIsSure, MatchIsExact, MatchIsTrue, NarrowIsKnown, NoMatchIsTrue, OneRefinement, OneTyping, OneVerdict, OrderIsWhole, PartsSpellCopies, PathsAreShort, PlainShapesAreNarrow, RefinementExists, RefinementIsTrue, SatFollowsPairs, SatIsDecided, SatIsItsLayer, SatKnowsNoBound, ShapesAreDecided, ShapesArePlaces, ShapesFollowEdges, ShapesGrow, SomeVerdict, StatesLeadNowhere, StatesRefute, StrataAlike, StrataAreLeast, StrataAreStratified, StrataGiveOneTyping, StratifiedHasNoCycle, StratumIsTrue, SureIsItsLayer, SureIsTrue, SureKnowsNoBound, TypingExists};
+ghost use Rattle.schema_tree.specs.Laws.{AnswersAlike, CopiesGiveParts, CyclesAreLists, DecidedIsAnswered, DecidedIsSure, MatchIsExact, MatchIsTrue, NarrowIsKnown, NoMatchIsTrue, OneRefinement, OneTyping, OneVerdict, OrderIsWhole, PartsSpellCopies, PathsAreShort, PlainShapesAreNarrow, RefinementExists, RefinementIsTrue, SatFollowsPairs, SatIsDecided, SatIsItsLayer, SatKnowsNoBound, ShapesAreDecided, ShapesArePlaces, ShapesFollowEdges, ShapesGrow, SomeVerdict, StatesLeadNowhere, StatesRefute, StrataAlike, StrataAreLeast, StrataAreStratified, StrataGiveOneTyping, StratifiedHasNoCycle, StratumIsTrue, SureFollowsAnswers, SureIsItsLayer, SureIsTrue, SureKnowsNoBound, TypingExists};
 
 use node_constraint::nodes_are_decided;
 
@@ -11,6 +11,7 @@ pub fn layers_are_meanings()
     ensures bound { SatKnowsNoBound }
     ensures sure_layer { SureIsItsLayer }
     ensures sure_bound { SureKnowsNoBound }
+    ensures sure_answers { SureFollowsAnswers }
 {}
 
 /// Claims on which pairs of a typing satisfaction depends, and that it grows with those of its stratum (ShEx 2.1,

@@ -5,7 +5,7 @@ ghost use Rattle.std.specs.Prelude.{◌≡◌, ◌↔◌, IfSome, IsNone};
 use crate::labels::{Label, Labels};
 use node_constraint::NodeConstraint;
 use rdf_terms::items::Items;
-use rdf_terms::terms::TermId;
+use rdf_terms::terms::{TermId, Triple};
 use tally::Count;
 
 /// The number of a shape expression: its place among the schema's expressions.
@@ -13,7 +13,7 @@ use tally::Count;
 pub struct ExprId(pub u32);
 
 /// The number of a Shape: its place among the schema's Shapes.
-#[derive(Clone, Copy, Debug, PartialEq, Eq)]
+#[derive(Clone, Copy, Debug, PartialEq, Eq, Hash)]
 pub struct ShapeId(pub u32);
 
 /// A shape expression (ShEx 2.1, section 5.3) whose parts are numbers of expressions and Shapes. A reference is the
@@ -41,6 +41,34 @@ pub struct Occurrence {
     pub predicate: TermId,
     /// What the other end has to satisfy, if anything.
     pub value: Option<ExprId>,
+}
+
+impl Occurrence {
+    ghost use Rattle.std.specs.Prelude.{◌&&◌, not};
+    ghost use Rattle.schema_tree.specs.Matches.{fits, other_end};
+    ghost use Rattle.schema_tree.specs.Relevant.{is_forward};
+
+    /// Whether its predicate and direction agree with the triple at the node (ShEx 2.1, section 5.5.2).
+    pub fn fits(self, node: TermId, triple: Triple) -> bool
+        ensures { result ≡ fits self node triple }
+    {
+        let near = if self.inverse { triple.o } else { triple.s };
+        self.predicate == triple.p && near == node
+    }
+
+    /// Whether it takes arcs out and fits the triple at the node.
+    pub fn fits_forward(self, node: TermId, triple: Triple) -> bool
+        ensures { result ≡ is_forward node triple self }
+    {
+        !self.inverse && self.fits(node, triple)
+    }
+
+    /// The end of a triple that has to satisfy its value: the object, or the subject of an arc in.
+    pub fn other_end(self, triple: Triple) -> TermId
+        ensures { result ≡ other_end self.inverse triple }
+    {
+        if self.inverse { triple.s } else { triple.o }
+    }
 }
 
 /// A Shape (ShEx 2.1, section 5.5).
@@ -94,7 +122,7 @@ impl Schema {
 }
 
 /// A node with a Shape.
-#[derive(Clone, Copy, Debug, PartialEq, Eq)]
+#[derive(Clone, Copy, Debug, PartialEq, Eq, Hash)]
 pub struct Pair {
     /// The node.
     pub node: TermId,
