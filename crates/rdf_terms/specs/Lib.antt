@@ -3,6 +3,7 @@ pub mod Laws
 pub mod Lists
 pub mod Literals
 pub mod Names
+pub mod Order
 pub mod Sameness
 pub mod Tables
 pub mod TextBytes
