@@ -1,5 +1,5 @@
 -- The triples that a set holds.
-use Rattle.std.proofs.Common.{◌≡◌, ℕ, ◌<◌, ◌-◌, Bool, true, false, List, [], ◌∷◌, ap, eq-eqb, refl, sym, ◌∙◌, ◌&&◌, ◌↔◌, IsTrue, true≢false, Contains, length, get_or, set, take, arith, Option, Some, None, subst}
+use Rattle.std.proofs.Common.{◌≡◌, ℕ, ◌-◌, Bool, true, List, [], ◌∷◌, ap, eq-eqb, refl, sym, ◌∙◌, ◌&&◌, ◌↔◌, IsTrue, true≢false, Contains, length, get_or, set, take, arith, Option, Some, None, subst}
 use Rattle.std.proofs.lemmas.List.{get_or_default}
 use borrow.Author.Tests.{eqb-true}
 use Rattle.std.proofs.lemmas.List.Quantifiers.{position-Some}

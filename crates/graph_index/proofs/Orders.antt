@@ -1,7 +1,6 @@
 -- The orders of rows are total, and agree with those of triples on the rows of a node.
-use Rattle.std.proofs.Common.{◌≡◌, ℕ, ◌<◌, ◌≤◌, List, [], ◌∷◌, refl, ap, sym, ◌∙◌, length, get_or, arith, Bool, true, false, true≢false, cond, nat_lt, nat_eq, not, ◌&&◌, filter, ltb-true, ltb-false, ◌⊎◌, inl, inr}
+use Rattle.std.proofs.Common.{◌≡◌, ℕ, ◌≤◌, List, refl, ap, sym, ◌∙◌, get_or, arith, Bool, true, false, true≢false, cond, nat_lt, nat_eq, ltb-false}
 use Rattle.std.proofs.lemmas.Bool.{eqb-true, cond-true}
-use Rattle.std.proofs.lemmas.Bool.Decides.{nat_tests}
 use Rattle.std.proofs.lemmas.Cmp.{then_total, nat_cmp_total}
 use Rattle.std.proofs.lemmas.List.Sorted.{sorted_far}
 use Rattle.std.specs.Cmp.{IsTotalOrder, on_total, tied_itself}

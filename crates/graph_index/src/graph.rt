@@ -1,6 +1,6 @@
 //! Graphs of triples.
 
-ghost use Rattle.std.specs.Prelude.{List, ◌≡◌, ◌≤◌, ◌↔◌, [], ◌∷◌, length, IsTrue, IfOk, OnOk, OnErr, None, Contains, true, false};
+ghost use Rattle.std.specs.Prelude.{List, ◌≡◌, ◌≤◌, ◌↔◌, [], ◌∷◌, length, IsTrue, IfOk, OnOk, OnErr, None, Contains};
 ghost use Rattle.std.specs.Bool.{OnTrue, OnFalse};
 ghost use Rattle.std.specs.List.Sorted.{IsPermutation};
 ghost use Rattle.rdf_terms.specs.declared.terms.Term.{Term};

@@ -2,6 +2,7 @@
 #![tactic(auto)]
 
 pub mod graph;
+pub mod laws;
 mod order;
 pub mod read_error;
 mod rows;

@@ -1,6 +1,6 @@
 //! The triples of a sealed graph in two orders.
 
-ghost use Rattle.std.specs.Prelude.{◌≡◌, List, IfOk, filter, position};
+ghost use Rattle.std.specs.Prelude.{◌≡◌, IfOk, filter, position};
 ghost use Rattle.rdf_terms.specs.declared.terms.TermId.{TermId};
 ghost use Rattle.rdf_terms.specs.Graphs.{outs, ins, same_id};
 ghost use Rattle.rdf_terms.specs.Order.{sorted_by, by_object, by_subject};

@@ -1,6 +1,5 @@
 use Rattle.std.proofs.Common.{◌≡◌, ap, sym, ◌∙◌}
 use Rattle.rdf_terms.specs.Order.{compare_at}
-use Rattle.rdf_terms.specs.declared.terms.TermId.{TermId}
 use Rattle.graph_index.proofs.Orders.{id_itself}
 use Rattle.graph_index.proofs.order.compare_ids.Goals as goal
 

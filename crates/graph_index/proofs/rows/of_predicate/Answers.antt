@@ -1,4 +1,4 @@
-use Rattle.std.proofs.Common.{◌≡◌, nat_eq, rules, sym, ◌∙◌}
+use Rattle.std.proofs.Common.{nat_eq, rules, sym, ◌∙◌}
 use Rattle.std.proofs.lemmas.List.Sorted.{IsPartitionPoint-from_clause}
 use Rattle.rdf_terms.specs.Graphs.{same_id}
 use Rattle.rdf_terms.specs.declared.terms.Triple.{Triple}

@@ -1,4 +1,4 @@
-use Rattle.std.proofs.Common.{◌≡◌, List, ap, ◌∙◌, rules, filter}
+use Rattle.std.proofs.Common.{List, ap, ◌∙◌, rules, filter}
 use Rattle.rdf_terms.specs.Graphs.{same_id}
 use Rattle.rdf_terms.specs.Order.{sorted_by, by_subject}
 use Rattle.rdf_terms.specs.declared.terms.Triple.{Triple}

@@ -1,4 +1,4 @@
-use Rattle.std.proofs.Common.{◌≡◌, subst, ap, sym, ◌∙◌, refl, true≢false, inl, Contains}
+use Rattle.std.proofs.Common.{subst, ap, sym, ◌∙◌, refl, true≢false, inl, Contains}
 use Rattle.rdf_terms.specs.Lists.{AreDistinct}
 use Rattle.rdf_terms.proofs.Distinct.{distinct_items}
 use Rattle.graph_index.proofs.Held.{same_triple, triple_decides, held}

@@ -1,4 +1,4 @@
-use Rattle.std.proofs.Common.{◌≡◌, subst, ap, sym, ◌∙◌, filter}
+use Rattle.std.proofs.Common.{subst, ap, sym, ◌∙◌, filter}
 use Rattle.rdf_terms.specs.Graphs.{ins, same_id}
 use Rattle.rdf_terms.specs.Order.{by_subject}
 use Rattle.graph_index.specs.Rows.{IsTogether}
