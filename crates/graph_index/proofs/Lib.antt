@@ -1,0 +1,5 @@
+pub mod Blocks
+pub mod Growth
+pub mod Held
+pub mod Orders
+pub mod Sorting

@@ -1,0 +1,8 @@
+use Rattle.std.proofs.Common.{subst, ap}
+use Rattle.rdf_terms.specs.Lists.{AreDistinct}
+use Rattle.rdf_terms.proofs.Distinct.{distinct_items}
+use Rattle.graph_index.proofs.Held.{same_triple, triple_decides}
+use Rattle.graph_index.proofs.graph.Graph.len.Goals as goal
+
+pub returns-clause-distinct : goal.returns-clause-distinct
+returns-clause-distinct c = subst AreDistinct (ap (λ g. g.triples) c.self.view_is) (distinct_items same_triple triple_decides _ c.len.ensures.unique)

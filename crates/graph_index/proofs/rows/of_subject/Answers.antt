@@ -1,0 +1,12 @@
+use Rattle.std.proofs.Common.{ltb, leb, rules}
+use Rattle.std.proofs.lemmas.List.Sorted.{IsPartitionPoint-from_clause, IsPartitionedBy-leb, IsPartitionedBy-ltb, IsNonDecreasingBy-drop, IsNonDecreasingBy-take}
+use Rattle.rdf_terms.specs.declared.terms.Triple.{Triple}
+use Rattle.graph_index.proofs.Blocks.{rows_of_number, rest_is}
+use Rattle.graph_index.proofs.rows.of_subject.Goals as goal
+
+pub returns : goal.returns
+returns c =
+    let below = IsPartitionPoint-from_clause (λ t. ltb t.s.0 c.args.n.0) _ _ c.partition_point-first.ensures.partitioned (IsPartitionedBy-ltb (λ (t : Triple). t.s.0) _ c.args.n.0 c.requires) (λ a r q k. search rules) in
+    let upto = IsPartitionPoint-from_clause (λ t. leb t.s.0 c.args.n.0) _ _ c.partition_point-count.ensures.partitioned
+    (IsPartitionedBy-leb (λ (t : Triple). t.s.0) _ c.args.n.0 (IsNonDecreasingBy-take (λ (t : Triple). t.s.0) _ _ (IsNonDecreasingBy-drop (λ (t : Triple). t.s.0) _ _ c.requires))) (λ a r q k. search rules) in
+    rows_of_number (λ (t : Triple). t.s.0) c.args.n.0 c.args.rows.now c.partition_point-first.result c.partition_point-count.result _ (rest_is c.args.rows.now c.partition_point-first.result) below c.partition_point-count.ensures.bound upto

@@ -1,0 +1,194 @@
+//! Graphs of triples.
+
+ghost use Rattle.std.specs.Prelude.{List, ◌≡◌, ◌≤◌, ◌↔◌, [], ◌∷◌, length, IsTrue, IfOk, OnOk, OnErr, None, Contains};
+ghost use Rattle.std.specs.Bool.{OnTrue, OnFalse};
+ghost use Rattle.std.specs.List.Sorted.{IsPermutation};
+ghost use Rattle.rdf_terms.specs.declared.terms.Term.{Term};
+ghost use Rattle.rdf_terms.specs.Graphs.{outs, ins};
+ghost use Rattle.rdf_terms.specs.Lists.{AreDistinct, Adds};
+ghost use Rattle.rdf_terms.specs.Order.{sorted_by, by_object, by_subject};
+ghost use Rattle.graph_index.specs.Contents.{max_triples, outs_by, ins_by, IsSealed, IsSealedWith};
+
+use crate::rows::{Rows, of_predicate};
+use indexmap::IndexSet;
+use rdf_terms::table::TermTable;
+use rdf_terms::terms::{TermId, Triple};
+use std::alloc::{AllocError, Global};
+use std::marker::Model;
+use thiserror::Error;
+
+/// Why a triple was not added to a graph.
+#[derive(Debug, Drop, Error)]
+pub enum AddError {
+    /// The triple is new, and the graph holds 4,000,000 triples.
+    #[error("Full")]
+    Full,
+    /// Memory ran out.
+    #[error("Memory")]
+    Memory,
+}
+
+/// The number of triples that a graph holds at most.
+pub const MAX_TRIPLES: usize = 4_000_000;
+
+/// A set of triples, at most 4,000,000 of them (RDF 1.1 Concepts, section 3). Once it is sealed with a table of terms, it
+/// lends the triples of a node in the order of the texts of that table, until a triple is added or removed.
+#[derive(Drop)]
+pub struct Graph {
+    alloc: Global,
+    held: IndexSet<Triple>,
+    rows: Option<Rows>,
+}
+
+impl Model for Graph {
+    ghost use Rattle.std.specs.Prelude.{length, ◌≤◌};
+    ghost use Rattle.graph_index.specs.Contents.{Contents, max_triples};
+
+    ghost Value = { Contents };
+
+    ghost view = { λ g. record { triples = g.held.keys; lent = g.rows } };
+
+    ghost invariant = { λ g. length g.held.keys ≤ max_triples };
+}
+
+impl Graph {
+    /// The empty graph, which is not sealed.
+    pub fn new(alloc: Global) -> Graph
+        ensures { result ≡ record { triples = []; lent = None } }
+    {
+        Graph {
+            alloc,
+            held: IndexSet::new(alloc),
+            rows: None,
+        }
+    }
+
+    /// How many triples the graph holds.
+    pub fn len(&self) -> u64
+        ensures count { result ≡ length self.now.triples }
+        ensures few { result ≤ max_triples }
+        ensures distinct { AreDistinct self.now.triples }
+    {
+        self.held.len() as u64
+    }
+
+    /// Whether the graph holds no triple.
+    pub fn is_empty(&self) -> bool
+        ensures { IsTrue result ↔ (self.now.triples ≡ []) }
+    {
+        self.held.is_empty()
+    }
+
+    /// Whether the graph holds the triple.
+    pub fn holds(&self, t: Triple) -> bool
+        ensures { IsTrue result ↔ Contains self.now.triples t }
+    {
+        self.held.contains(&t)
+    }
+
+    /// Adds a triple, and answers whether it is new; then the graph is no longer sealed. It fails as `Full` where the
+    /// triple is new and the graph holds 4,000,000; a refusal changes nothing.
+    pub fn add(&mut self, t: Triple) -> Result<bool, AddError>
+        ensures new { IfOk result (λ new. IsTrue new ↔ (¬ Contains self.old.triples t)) }
+        ensures added { OnOk result (Adds self.old.triples t self.new.triples) }
+        ensures unsealed { IfOk result (λ new. OnTrue new (¬ IsSealed self.new)) }
+        ensures kept { IfOk result (λ new. OnFalse new (self.new ≡ self.old)) }
+        ensures full { (result ≡ Err AddError.Full) ↔ ((¬ Contains self.old.triples t) × (length self.old.triples ≡ max_triples)) }
+        ensures err { OnErr result (self.new ≡ self.old) }
+        ensures distinct { AreDistinct self.new.triples }
+    {
+        let count = self.held.len();
+        if self.held.contains(&t) {
+            return Ok(false);
+        }
+        if count >= MAX_TRIPLES {
+            return Err(AddError::Full);
+        }
+        match self.held.insert(t) {
+            Ok(_) => {
+                self.rows = None;
+                Ok(true)
+            }
+            Err(_) => Err(AddError::Memory),
+        }
+    }
+
+    /// Removes a triple, and answers whether it was held; then the graph is no longer sealed.
+    pub fn remove(&mut self, t: Triple) -> bool
+        ensures held { IsTrue result ↔ Contains self.old.triples t }
+        ensures removed { OnTrue result (IsPermutation self.old.triples (t ∷ self.new.triples)) }
+        ensures unsealed { OnTrue result (¬ IsSealed self.new) }
+        ensures kept { OnFalse result (self.new ≡ self.old) }
+        ensures distinct { AreDistinct self.new.triples }
+    {
+        let held = self.held.swap_remove(&t);
+        if held {
+            self.rows = None;
+        }
+        held
+    }
+
+    /// Whether the graph is sealed.
+    pub fn is_sealed(&self) -> bool
+        ensures { IsTrue result ↔ IsSealed self.now }
+    {
+        self.rows.is_some()
+    }
+
+    /// The triples, each once.
+    pub fn triples(&self) -> &[Triple]
+        ensures { result.now ≡ self.now.triples }
+    {
+        self.held.as_slice()
+    }
+
+    /// Seals the graph with a table, by whose texts it lends its triples; their numbers are to be of the table. A refusal
+    /// changes nothing.
+    pub fn seal(&mut self, terms: &TermTable) -> Result<(), AllocError>
+        ensures same { self.new.triples ≡ self.old.triples }
+        ensures sealed { OnOk result (IsSealedWith terms.now self.new) }
+        ensures err { OnErr result (self.new ≡ self.old) }
+    {
+        let rows = Rows::arranged(self.alloc, self.held.as_slice(), terms)?;
+        self.rows = Some(rows);
+        Ok(())
+    }
+
+    /// The triples of a subject, by the texts of their predicates and then of their objects.
+    pub fn outs(&self, n: TermId) -> &[Triple]
+        requires { IsSealed self.now }
+        ensures { (terms : List Term) → IsSealedWith terms self.now → result.now ≡ sorted_by (by_object terms) (outs self.now.triples n) }
+    {
+        match &self.rows {
+            Some(rows) => rows.outs(n),
+            None => unreachable!(),
+        }
+    }
+
+    /// The triples of an object, by the texts of their predicates and then of their subjects.
+    pub fn ins(&self, n: TermId) -> &[Triple]
+        requires { IsSealed self.now }
+        ensures { (terms : List Term) → IsSealedWith terms self.now → result.now ≡ sorted_by (by_subject terms) (ins self.now.triples n) }
+    {
+        match &self.rows {
+            Some(rows) => rows.ins(n),
+            None => unreachable!(),
+        }
+    }
+
+    /// The triples of a subject and a predicate, by the texts of their objects.
+    pub fn outs_by(&self, n: TermId, p: TermId) -> &[Triple]
+        requires { IsSealed self.now }
+        ensures { (terms : List Term) → IsSealedWith terms self.now → result.now ≡ sorted_by (by_object terms) (outs_by self.now.triples n p) }
+    {
+        of_predicate(self.outs(n), p)
+    }
+
+    /// The triples of an object and a predicate, by the texts of their subjects.
+    pub fn ins_by(&self, n: TermId, p: TermId) -> &[Triple]
+        requires { IsSealed self.now }
+        ensures { (terms : List Term) → IsSealedWith terms self.now → result.now ≡ sorted_by (by_subject terms) (ins_by self.now.triples n p) }
+    {
+        of_predicate(self.ins(n), p)
+    }
+}
