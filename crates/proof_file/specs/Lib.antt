@@ -1,3 +1,4 @@
 pub mod Views
 pub mod Accepts
 pub mod Laws
+pub mod Text

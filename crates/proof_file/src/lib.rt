@@ -3,6 +3,9 @@
 
 ghost use Rattle.proof_file.specs.Laws.{OneRejection, Soundness};
 
+pub mod line;
+pub mod write;
+
 use rdf_terms::items::Items;
 use rdf_terms::terms::Term;
 use schema_tree::schema::Target;
