@@ -7,7 +7,6 @@ use Rattle.std.specs.List.{AllByRecursion, flat_map, join_with_byte}
 use Rattle.proof_file.specs.Text.{ended, line_text, lines_text, section_lines, lines_of, first_line, last_line, text_of, IsUnicode, IsTextTerm, IsTextTarget}
 use Rattle.proof_file.specs.declared.Record.{Record}
 use Rattle.proof_file.specs.declared.Section.{Section}
-use Rattle.proof_file.specs.declared.Claim.{Claim}
 use Rattle.proof_file.specs.declared.Proof.{Proof}
 use Rattle.proof_file.specs.declared.line.Line.{Line}
 use Rattle.proof_file.specs.declared.line.Line.TheVariants as Lines

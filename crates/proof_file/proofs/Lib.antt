@@ -1,3 +1,8 @@
 pub mod Sound
 pub mod Rejected
 pub mod Joined
+pub mod Numbers
+pub mod Gathered
+pub mod Parts
+pub mod Clean
+pub mod Apart

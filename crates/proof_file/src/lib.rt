@@ -3,6 +3,8 @@
 
 ghost use Rattle.proof_file.specs.Laws.{OneRejection, Soundness};
 
+pub(crate) mod fields;
+pub mod laws;
 pub mod line;
 pub mod write;
 

@@ -1,9 +1,8 @@
-use Rattle.std.proofs.Common.{◌≡◌, ◌++◌, ◌∷◌, [], ap, sym, append_assoc, ◌∙◌, rules, codes, map, take, drop, length, arith}
+use Rattle.std.proofs.Common.{◌≡◌, ◌++◌, ◌∷◌, [], ap, sym, append_assoc, ◌∙◌}
 use Rattle.std.proofs.lemmas.List.Folds.{flat_map-map}
 use Rattle.std.specs.Fmt.{decimal}
-use Rattle.std.specs.List.{flat_map, join_with_byte}
-use Rattle.proof_file.specs.Text.{kind_mark, kind_fields, place_text, state_text}
-use Rattle.proof_file.proofs.Joined.{joined_map}
+use Rattle.std.specs.List.{flat_map}
+use Rattle.proof_file.specs.Text.{kind_fields, place_text, state_text}
 use Rattle.proof_file.proofs.write.push_kind.Goals as goal
 
 pub returns-in_ok-push_places-in-Plus : goal.returns-in_ok-push_places-in-Plus

@@ -1,8 +1,6 @@
-use Rattle.std.proofs.Common.{◌≡◌, ◌++◌, ◌∷◌, [], ap, sym, ◌∙◌, rules, codes, map, take, drop, append_assoc, get_or, ◌-◌, length, arith}
-use Rattle.std.proofs.lemmas.List.Folds.{flat_map-map}
+use Rattle.std.proofs.Common.{◌++◌, ◌∷◌, ap, ◌∙◌, take, drop, append_assoc, get_or, ◌-◌, length}
 use Rattle.std.specs.Fmt.{decimal}
-use Rattle.std.specs.List.{flat_map, join_with_byte}
-use Rattle.proof_file.specs.Text.{kind_mark, kind_fields, place_text, state_text}
+use Rattle.std.specs.List.{flat_map}
 use Rattle.proof_file.proofs.Joined.{numbers_written}
 use Rattle.proof_file.proofs.write.push_numbers.Goals as goal
 

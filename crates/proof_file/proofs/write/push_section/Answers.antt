@@ -1,9 +1,9 @@
-use Rattle.std.proofs.Common.{◌≡◌, ◌++◌, ◌∷◌, [], ap, sym, ◌∙◌, rules, codes, map}
+use Rattle.std.proofs.Common.{◌++◌, ◌∷◌, [], ap, ◌∙◌, codes}
 use Rattle.std.specs.Fmt.{decimal}
-use Rattle.std.specs.List.{flat_map, join_with_byte}
-use Rattle.proof_file.specs.Text.{ended, line_text, lines_text, section_lines, kind_mark, kind_fields, place_text, state_text, first_line, last_line, text_of}
+use Rattle.std.specs.List.{flat_map}
+use Rattle.proof_file.specs.Text.{ended, line_text}
 use Rattle.proof_file.specs.declared.line.Line.TheVariants as Lines
-use Rattle.proof_file.proofs.Joined.{joined_map, chained, record_written, section_written, proof_written, proof_unicode}
+use Rattle.proof_file.proofs.Joined.{chained, section_written}
 use Rattle.proof_file.proofs.write.push_section.Goals as goal
 
 pub returns : goal.returns
