@@ -22,6 +22,7 @@ use Rattle.proof_file.specs.declared.Proof.{Proof}
 use Rattle.proof_file.specs.declared.line.Line.{Line}
 use Rattle.proof_file.specs.declared.line.Line.TheVariants as Lines
 use Rattle.proof_file.specs.Text.{place_text, kind_fields, kind_mark, claim_mark, record_fields, target_text, line_text, ended, lines_text, lines_of, section_lines, first_line, last_line, IsNumber, IsPlace, IsKind, IsLine, IsUnicode, HasNoFeed, ProofText}
+use Rattle.proof_file.specs.Reader.{IsGood}
 use Rattle.proof_file.specs.Reading.{fields}
 use Rattle.proof_file.proofs.Gathered.{cons_head, cons_tail, same_number}
 use Rattle.proof_file.proofs.Joined.{all_append, all_back}
@@ -34,10 +35,6 @@ use Rattle.proof_file.proofs.Clean.{IsClean, clean_number, clean_record, record_
 pub not_held : (c : ℕ) (xs : List ℕ) → ¬ Contains xs c → IsClean c xs
 not_held c [] none = tt
 not_held c (x ∷ xs) none = (ne_eqb x c (λ e. none (0, (omega arith), e)), not_held c xs (λ (k, lt, e). none (suc k, (omega arith), e)))
-
--- what the lines of a proof text are
-abbrev pub IsGood : Line → Type 0
-IsGood l = IsLine l × (IsUnicode l × HasNoFeed l)
 
 clean_mark : (k : RecordKind) (xs : List ℕ) → IsClean 10 xs → IsClean 10 (kind_mark k ++ xs)
 clean_mark (Plus ps) xs h = (refl, (refl, h))

@@ -6,3 +6,7 @@ pub mod Gathered
 pub mod Parts
 pub mod Clean
 pub mod Apart
+pub mod Grown
+pub mod Faults
+pub mod Steps
+pub mod Drafted

@@ -1,5 +1,5 @@
 -- Laws of acceptance, which functions with empty bodies claim.
-use Rattle.std.specs.Prelude.{ℕ, Bool, true, false, List, ◌≡◌, Some, Contains, slice_get}
+use Rattle.std.specs.Prelude.{ℕ, Bool, true, false, List, length, ◌≡◌, ◌≤◌, Some, Contains, slice_get}
 use Rattle.rdf_terms.specs.declared.terms.TermId.{TermId}
 use Rattle.rdf_terms.specs.declared.terms.Term.{Term}
 use Rattle.rdf_terms.specs.declared.terms.Triple.{Triple}
@@ -61,3 +61,7 @@ ProofsHaveTexts =
 -- no two proofs have the same text
 abbrev pub ProofTextsAreDistinct : Type 0
 ProofTextsAreDistinct = (p q : Proof) (bytes : List ℕ) → ProofText p bytes → ProofText q bytes → p ≡ q
+
+-- a proof has at most as many lines as its text has bytes
+abbrev pub LinesAreFew : Type 0
+LinesAreFew = (p : Proof) (bytes : List ℕ) → ProofText p bytes → length (lines_of p) ≤ length bytes

@@ -3,3 +3,6 @@ pub mod Accepts
 pub mod Laws
 pub mod Text
 pub mod Reading
+pub mod Reader
+pub mod Faults
+pub mod Drafts

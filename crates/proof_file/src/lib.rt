@@ -6,6 +6,8 @@ ghost use Rattle.proof_file.specs.Laws.{OneRejection, Soundness};
 pub(crate) mod fields;
 pub mod laws;
 pub mod line;
+pub mod lines;
+pub mod read;
 pub mod write;
 
 use rdf_terms::items::Items;
