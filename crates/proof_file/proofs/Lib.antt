@@ -1,2 +1,12 @@
 pub mod Sound
 pub mod Rejected
+pub mod Joined
+pub mod Numbers
+pub mod Gathered
+pub mod Parts
+pub mod Clean
+pub mod Apart
+pub mod Grown
+pub mod Faults
+pub mod Steps
+pub mod Drafted

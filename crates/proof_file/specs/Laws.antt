@@ -1,5 +1,5 @@
 -- Laws of acceptance, which functions with empty bodies claim.
-use Rattle.std.specs.Prelude.{ℕ, Bool, true, false, List, ◌≡◌, Some, Contains, slice_get}
+use Rattle.std.specs.Prelude.{ℕ, Bool, true, false, List, length, ◌≡◌, ◌≤◌, Some, Contains, slice_get}
 use Rattle.rdf_terms.specs.declared.terms.TermId.{TermId}
 use Rattle.rdf_terms.specs.declared.terms.Term.{Term}
 use Rattle.rdf_terms.specs.declared.terms.Triple.{Triple}
@@ -13,7 +13,9 @@ use Rattle.proof_file.specs.declared.Claim.{Claim}
 use Rattle.proof_file.specs.declared.Proof.{Proof}
 use Rattle.proof_file.specs.declared.Why.{Why}
 use Rattle.proof_file.specs.Views.{Refuted, yes_pairs, no_pairs, records_of}
+use Rattle.std.specs.List.{AllByRecursion}
 use Rattle.proof_file.specs.Accepts.{Accepts, AreAccepted, IsRejected, Setting}
+use Rattle.proof_file.specs.Text.{Keeps, IsUnicode, HasNoFeeds, ProofText, lines_of, text_of}
 
 -- U has each number whose term is a node line
 abbrev pub HoldsLines : List TermId → List Term → List Term → Type 0
@@ -50,3 +52,16 @@ abbrev pub OneRejection : Type 0
 OneRejection =
     (x : Setting) (p : Proof) (i : ℕ) (v : Why) → IsRejected x p i v →
     (¬ AreAccepted x p) × ((j : ℕ) (w : Why) → IsRejected x p j w → (i ≡ j) × (v ≡ w))
+
+-- a proof that keeps the orders and limits, and in which no text of a term or target holds a line feed, has one text
+abbrev pub ProofsHaveTexts : Type 0
+ProofsHaveTexts =
+    (p : Proof) → Keeps p → AllByRecursion IsUnicode (lines_of p) → HasNoFeeds p → ProofText p (text_of p) × ((bytes : List ℕ) → ProofText p bytes → bytes ≡ text_of p)
+
+-- no two proofs have the same text
+abbrev pub ProofTextsAreDistinct : Type 0
+ProofTextsAreDistinct = (p q : Proof) (bytes : List ℕ) → ProofText p bytes → ProofText q bytes → p ≡ q
+
+-- a proof has at most as many lines as its text has bytes
+abbrev pub LinesAreFew : Type 0
+LinesAreFew = (p : Proof) (bytes : List ℕ) → ProofText p bytes → length (lines_of p) ≤ length bytes

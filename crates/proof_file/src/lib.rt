@@ -3,6 +3,13 @@
 
 ghost use Rattle.proof_file.specs.Laws.{OneRejection, Soundness};
 
+pub(crate) mod fields;
+pub mod laws;
+pub mod line;
+pub mod lines;
+pub mod read;
+pub mod write;
+
 use rdf_terms::items::Items;
 use rdf_terms::terms::Term;
 use schema_tree::schema::Target;
@@ -89,3 +96,6 @@ pub fn accepted_is_true()
 pub fn rejected_is_one()
     ensures { OneRejection }
 {}
+
+#[cfg(test)]
+mod tests;

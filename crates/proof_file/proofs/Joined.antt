@@ -1,0 +1,108 @@
+-- Fields with a byte between them, and lines after one another.
+use Rattle.std.proofs.Common.{◌≡◌, ℕ, List, [], ◌∷◌, ◌++◌, refl, ap, sym, ◌∙◌, map, append_assoc, codes, ◌≤◌, ◌-◌, length, take, drop, get_or, arith}
+use Rattle.std.proofs.lemmas.Grind.{flat_map-append}
+use Rattle.std.proofs.lemmas.List.Folds.{flat_map-map}
+use Rattle.std.specs.Fmt.{decimal}
+use Rattle.std.specs.List.{AllByRecursion, flat_map, join_with_byte}
+use Rattle.proof_file.specs.Text.{ended, line_text, lines_text, section_lines, lines_of, first_line, last_line, text_of, IsUnicode, IsTextTerm, IsTextTarget}
+use Rattle.proof_file.specs.declared.Record.{Record}
+use Rattle.proof_file.specs.declared.Section.{Section}
+use Rattle.proof_file.specs.declared.Proof.{Proof}
+use Rattle.proof_file.specs.declared.line.Line.{Line}
+use Rattle.proof_file.specs.declared.line.Line.TheVariants as Lines
+
+-- the fields behind the first have the byte before them
+pub joined : (c : ℕ) (x : List ℕ) (xs : List (List ℕ)) → join_with_byte c (x ∷ xs) ≡ x ++ flat_map (λ f. c ∷ f) xs
+joined c x [] = sym (append_nil x)
+  where
+    append_nil : (xs : List ℕ) → xs ++ [] ≡ xs
+    append_nil [] = refl
+    append_nil (y ∷ ys) = ap (λ z. y ∷ z) (append_nil ys)
+joined c x (y ∷ ys) = ap (λ z. x ++ c ∷ z) (joined c y ys)
+
+pub joined_map : {X : Type 0} (c : ℕ) (g : X → List ℕ) (x : List ℕ) (xs : List X) → join_with_byte c (x ∷ map g xs) ≡ x ++ flat_map (λ y. c ∷ g y) xs
+joined_map c g x xs = joined c x (map g xs) ∙ ap (λ z. x ++ z) (flat_map-map (λ f. c ∷ f) g xs)
+
+-- a map into lines is written item by item
+pub all_map : {X Y : Type 0} (P : Y → Type 0) (g : X → Y) (xs : List X) → AllByRecursion (λ x. P (g x)) xs → AllByRecursion P (map g xs)
+all_map P g [] h = tt
+all_map P g (x ∷ xs) (h, hs) = (h, all_map P g xs hs)
+
+pub all_append : {X : Type 0} (P : X → Type 0) (xs ys : List X) → AllByRecursion P xs → AllByRecursion P ys → AllByRecursion P (xs ++ ys)
+all_append P [] ys h k = k
+all_append P (x ∷ xs) ys (h, hs) k = (h, all_append P xs ys hs k)
+
+pub all_front : {X : Type 0} (P : X → Type 0) (xs ys : List X) → AllByRecursion P (xs ++ ys) → AllByRecursion P xs
+all_front P [] ys h = tt
+all_front P (x ∷ xs) ys (h, hs) = (h, all_front P xs ys hs)
+
+pub all_back : {X : Type 0} (P : X → Type 0) (xs ys : List X) → AllByRecursion P (xs ++ ys) → AllByRecursion P ys
+all_back P [] ys h = h
+all_back P (x ∷ xs) ys (h, hs) = all_back P xs ys hs
+
+-- what `write` appends is the lines, piece by piece
+pub chained : (old a b e new w x y z : List ℕ) → a ≡ old ++ w → b ≡ a ++ x → e ≡ b ++ y → new ≡ e ++ z → new ≡ old ++ (w ++ (x ++ (y ++ z)))
+chained old a b e new w x y z p q r s =
+    s ∙ ap (λ l. l ++ z) (r ∙ ap (λ l. l ++ y) (q ∙ ap (λ l. l ++ x) p))
+    ∙ append_assoc ((old ++ w) ++ x) y z ∙ append_assoc (old ++ w) x (y ++ z) ∙ append_assoc old w (x ++ (y ++ z))
+
+pub record_written : (m n s : List ℕ) (fs : List (List ℕ)) → m ++ ((n ++ 32 ∷ s) ++ (flat_map (λ f. 32 ∷ f) fs ++ 10 ∷ [])) ≡ (m ++ join_with_byte 32 (n ∷ s ∷ fs)) ++ 10 ∷ []
+record_written m n s fs =
+    ap (λ z. m ++ z) (sym (append_assoc (n ++ 32 ∷ s) (flat_map (λ f. 32 ∷ f) fs) (10 ∷ []))
+    ∙ ap (λ z. z ++ 10 ∷ []) (append_assoc n (32 ∷ s) (flat_map (λ f. 32 ∷ f) fs) ∙ ap (λ z. n ++ 32 ∷ z) (sym (joined 32 s fs))))
+    ∙ sym (append_assoc m (n ++ 32 ∷ join_with_byte 32 (s ∷ fs)) (10 ∷ []))
+
+pub lines_written : {X : Type 0} (g : X → Line) (xs : List X) → flat_map (λ x. ended (line_text (g x))) xs ≡ lines_text (map g xs)
+lines_written g xs = sym (flat_map-map (λ l. ended (line_text l)) g xs)
+
+pub section_written : (x : Section) → codes "s " ++ (decimal x.stratum ++ (10 ∷ flat_map (λ r. ended (line_text (Lines.Record r))) x.records)) ≡ lines_text (section_lines x)
+section_written x = ap (λ z. codes "s " ++ z) (sym (append_assoc (decimal x.stratum) (10 ∷ []) (flat_map (λ r. ended (line_text (Lines.Record r))) x.records))
+    ∙ ap (λ z. (decimal x.stratum ++ 10 ∷ []) ++ z) (lines_written (λ r. Lines.Record r) x.records))
+
+pub sections_written : (xs : List Section) → flat_map (λ x. lines_text (section_lines x)) xs ≡ lines_text (flat_map section_lines xs)
+sections_written [] = refl
+sections_written (x ∷ xs) = ap (λ z. lines_text (section_lines x) ++ z) (sections_written xs) ∙ sym (flat_map-append (λ l. ended (line_text l)) (section_lines x) (flat_map section_lines xs))
+
+pub proof_written : (p : Proof) →
+    first_line ++ (flat_map (λ t. ended (line_text (Lines.Node t))) p.nodes ++ (flat_map (λ x. lines_text (section_lines x)) p.sections ++ (flat_map (λ c. ended (line_text (Lines.Claim c))) p.claims ++ last_line)))
+    ≡ text_of p
+proof_written p = ap (λ z. first_line ++ z) (
+    ap (λ z. flat_map (λ t. ended (line_text (Lines.Node t))) p.nodes ++ z) (sym (append_assoc _ _ last_line) ∙ ap (λ z. z ++ last_line) inner)
+    ∙ sym (append_assoc _ _ last_line) ∙ ap (λ z. z ++ last_line) outer)
+  where
+    inner : flat_map (λ x. lines_text (section_lines x)) p.sections ++ flat_map (λ c. ended (line_text (Lines.Claim c))) p.claims ≡ lines_text (flat_map section_lines p.sections ++ map (λ c. Lines.Claim c) p.claims)
+    inner = ap (λ z. z ++ flat_map (λ c. ended (line_text (Lines.Claim c))) p.claims) (sections_written p.sections)
+        ∙ ap (λ z. lines_text (flat_map section_lines p.sections) ++ z) (lines_written (λ c. Lines.Claim c) p.claims)
+        ∙ sym (flat_map-append (λ l. ended (line_text l)) (flat_map section_lines p.sections) (map (λ c. Lines.Claim c) p.claims))
+
+    outer : flat_map (λ t. ended (line_text (Lines.Node t))) p.nodes ++ lines_text (flat_map section_lines p.sections ++ map (λ c. Lines.Claim c) p.claims) ≡ lines_text (lines_of p)
+    outer = ap (λ z. z ++ lines_text (flat_map section_lines p.sections ++ map (λ c. Lines.Claim c) p.claims)) (lines_written (λ t. Lines.Node t) p.nodes)
+        ∙ sym (flat_map-append (λ l. ended (line_text l)) (map (λ t. Lines.Node t) p.nodes) (flat_map section_lines p.sections ++ map (λ c. Lines.Claim c) p.claims))
+
+-- the lines of sections hold no text of Unicode characters
+section_unicode : (x : Section) → AllByRecursion IsUnicode (section_lines x)
+section_unicode x = (tt, all_map IsUnicode (λ r. Lines.Record r) x.records (records x.records))
+  where
+    records : (rs : List Record) → AllByRecursion (λ r. IsUnicode (Lines.Record r)) rs
+    records [] = tt
+    records (r ∷ rs) = (tt, records rs)
+
+sections_unicode : (xs : List Section) → AllByRecursion IsUnicode (flat_map section_lines xs)
+sections_unicode [] = tt
+sections_unicode (x ∷ xs) = all_append IsUnicode (section_lines x) (flat_map section_lines xs) (section_unicode x) (sections_unicode xs)
+
+pub proof_unicode : (p : Proof) → AllByRecursion IsTextTerm p.nodes → AllByRecursion (λ c. IsTextTarget c.target) p.claims → AllByRecursion IsUnicode (lines_of p)
+proof_unicode p nodes claims =
+    all_append IsUnicode (map (λ t. Lines.Node t) p.nodes) (flat_map section_lines p.sections ++ map (λ c. Lines.Claim c) p.claims)
+    (all_map IsUnicode (λ t. Lines.Node t) p.nodes nodes)
+    (all_append IsUnicode (flat_map section_lines p.sections) (map (λ c. Lines.Claim c) p.claims) (sections_unicode p.sections) (all_map IsUnicode (λ c. Lines.Claim c) p.claims claims))
+
+take_all : {X : Type 0} (ys : List X) → take (length ys) ys ≡ ys
+take_all [] = refl
+take_all (y ∷ ys) = ap (λ z. y ∷ z) (take_all ys)
+
+pub numbers_written : (xs : List ℕ) → 1 ≤ length xs → decimal (get_or xs 0 0) ++ flat_map (λ n. 44 ∷ decimal n) (take (length xs - 1) (drop 1 xs)) ≡ join_with_byte 44 (map decimal xs)
+numbers_written [] h = absurd (omega arith)
+numbers_written (x ∷ ys) h =
+    let e : length (x ∷ ys) - 1 ≡ length ys = omega arith in
+    ap (λ k. decimal x ++ flat_map (λ n. 44 ∷ decimal n) (take k ys)) e ∙ ap (λ l. decimal x ++ flat_map (λ n. 44 ∷ decimal n) l) (take_all ys) ∙ sym (joined_map 44 decimal (decimal x) ys)

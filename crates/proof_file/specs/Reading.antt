@@ -1,0 +1,83 @@
+-- Readers of parts of a line (own).
+use Rattle.std.specs.Prelude.{ℕ, suc, length, Bool, true, List, [], ◌++◌, ◌==◌, ◌<◌, ◌≡◌, Option, Some, None, Result, Ok, Err, codes, ⊤}
+use Rattle.std.specs.Borrow.{Bor}
+use Rattle.std.specs.Fmt.{decimal}
+use Rattle.std.specs.List.{slice_split}
+use Rattle.std.specs.Str.{all_scalars}
+use Rattle.rdf_terms.specs.declared.terms.Term.{Term}
+use Rattle.proof_file.specs.declared.RecordKind.{RecordKind}
+use Rattle.proof_file.specs.declared.RecordKind.TheVariants.{Plus, Minus}
+use Rattle.proof_file.specs.declared.Record.{Record}
+use Rattle.proof_file.specs.declared.Claim.{Claim}
+use Rattle.proof_file.specs.declared.line.Line.{Line}
+use Rattle.proof_file.specs.declared.line.Line.TheVariants as Lines
+use Rattle.proof_file.specs.declared.fields.Stop.{Stop}
+use Rattle.proof_file.specs.declared.fields.Stop.TheVariants.{Bad, Memory}
+use Rattle.proof_file.specs.Text.{IsNumber, IsLineTerm, IsTextTerm, IsLine, IsUnicode, IsTextTarget, target_text}
+
+-- the source is the text of what is read, which is as it has to be; or it is the text of nothing that is so
+abbrev pub Reads : {X T : Type 0} → (X → T) → (X → Type 0) → T → Result X Stop → Type 0
+Reads text IsGood source (Ok x) = (source ≡ text x) × IsGood x
+Reads {X} text IsGood source (Err Bad) = (x : X) → IsGood x → ¬ (source ≡ text x)
+Reads text IsGood source (Err Memory) = ⊤
+
+-- the fields between the bytes c
+abbrev pub fields : ℕ → List ℕ → List (List ℕ)
+fields c text = slice_split (λ b. b == c) text
+
+-- the fields of a text that need not be there
+abbrev pub fields_left : ℕ → Option (Bor (List ℕ)) → List (List ℕ)
+fields_left c None = []
+fields_left c (Some x) = fields c x.now
+
+-- a text that need not be there is shorter
+abbrev pub IsShorter : Option (Bor (List ℕ)) → List ℕ → Type 0
+IsShorter None text = ⊤
+IsShorter (Some x) text = length x.now < length text
+
+-- the text is given unless it is empty
+abbrev pub IsGiven : Option (Bor (List ℕ)) → List ℕ → Type 0
+IsGiven None text = text ≡ []
+IsGiven (Some x) text = (x.now ≡ text) × (0 < length text)
+
+abbrev pub measure : Option (Bor (List ℕ)) → ℕ
+measure None = 0
+measure (Some x) = suc (length x.now)
+
+-- an IRI between angle brackets
+abbrev pub IsBracketed : Option (Bor (List ℕ)) → List ℕ → Type 0
+IsBracketed None text = (iri : List ℕ) → ¬ (text ≡ codes "<" ++ (iri ++ codes ">"))
+IsBracketed (Some x) text = text ≡ codes "<" ++ (x.now ++ codes ">")
+
+-- a term of a node line, with a text of Unicode characters
+abbrev pub IsNodeTerm : Term → Type 0
+IsNodeTerm term = IsLineTerm term × IsTextTerm term
+
+abbrev pub IsScalars : List ℕ → Type 0
+IsScalars text = all_scalars text ≡ true
+
+-- a record that confirms, and one that refutes
+abbrev pub IsPlusKind : RecordKind → Type 0
+IsPlusKind (Plus places) = ⊤
+IsPlusKind (Minus rank states) = ⊥
+
+abbrev pub IsMinusKind : RecordKind → Type 0
+IsMinusKind (Plus places) = ⊥
+IsMinusKind (Minus rank states) = ⊤
+
+abbrev pub IsPlus : Record → Type 0
+IsPlus r = IsLine (Lines.Record r) × IsPlusKind r.kind
+
+abbrev pub IsMinus : Record → Type 0
+IsMinus r = IsLine (Lines.Record r) × IsMinusKind r.kind
+
+-- a claim without its mark
+abbrev pub claim_rest : Claim → List ℕ
+claim_rest c = decimal c.node ++ (codes " " ++ target_text c.target)
+
+abbrev pub IsClaim : Bool → Claim → Type 0
+IsClaim holds c = (c.holds ≡ holds) × (IsNumber c.node × IsTextTarget c.target)
+
+-- a line within its limits, with texts of Unicode characters
+abbrev pub IsWhole : Line → Type 0
+IsWhole l = IsLine l × IsUnicode l

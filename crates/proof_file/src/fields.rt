@@ -1,0 +1,172 @@
+//! The fields of a line.
+
+ghost use Rattle.std.specs.Prelude.{◌≡◌, ◌∷◌, ◌<◌, ◌↔◌, map, IsTrue};
+ghost use Rattle.std.specs.Fmt.{decimal};
+ghost use Rattle.std.specs.List.{AllByRecursion, join_with_byte};
+ghost use Rattle.proof_file.specs.Text.{place_text, state_text, IsNumber, IsPlace, IsState, Rises, RisesFrom, IsStateBefore};
+ghost use Rattle.proof_file.specs.Reading.{Reads, fields, fields_left, IsShorter, IsGiven};
+
+use rdf_terms::items::Items;
+use schema_tree::verdicts::{Place, State};
+use std::alloc::{AllocError, Global};
+use std::cmp::Ordering;
+
+/// Why nothing is read.
+#[derive(Clone, Copy, Debug, PartialEq, Eq)]
+pub(crate) enum Stop {
+    /// The text is that of nothing that may stand there.
+    Bad,
+    /// Memory is wanting.
+    Memory,
+}
+
+impl From<AllocError> for Stop {
+    ghost use Rattle.proof_file.specs.declared.fields.Stop.TheVariants.{Memory};
+
+    ghost from_gives = { λ e s. s ≡ Memory };
+
+    fn from(_: AllocError) -> Stop {
+        Stop::Memory
+    }
+}
+
+/// The text up to the first separator, and what follows it, if there is one.
+pub(crate) fn cut(text: &str, separator: char) -> (&str, Option<&str>)
+    requires { separator < 128 }
+    ensures fields { fields separator text.now ≡ result.0.now ∷ fields_left separator result.1 }
+    ensures shorter { IsShorter result.1 text.now }
+{
+    match text.split_once(separator) {
+        Some((first, rest)) => (first, Some(rest)),
+        None => (text, None),
+    }
+}
+
+/// A number in decimal without leading zeros.
+pub(crate) fn number(field: &str) -> Result<u32, Stop>
+    ensures { Reads decimal IsNumber field.now result }
+{
+    if field.starts_with('+') {
+        return Err(Stop::Bad);
+    }
+    if field.len() > 1 && field.starts_with('0') {
+        return Err(Stop::Bad);
+    }
+    match field.parse() {
+        Ok(n) => Ok(n),
+        Err(_) => Err(Stop::Bad),
+    }
+}
+
+/// The place of one triple.
+fn place(field: &str) -> Result<Place, Stop>
+    ensures { Reads place_text IsPlace field.now result }
+{
+    if field == "r" {
+        return Ok(Place::Rest);
+    }
+    let occurrence = number(field)?;
+    if occurrence > 65534 {
+        return Err(Stop::Bad);
+    }
+    Ok(Place::At(occurrence as u16))
+}
+
+/// The places of a record.
+pub(crate) fn places(alloc: Global, text: Option<&str>) -> Result<Items<Place>, Stop>
+    ensures { Reads (λ ps. map place_text ps) (AllByRecursion IsPlace) (fields_left 32 text.entry) result }
+{
+    let mut places = Vec::new(alloc);
+    let mut left = text;
+    while let Some(rest) = left {
+        let (field, more) = cut(rest, ' ');
+        let place = place(field)?;
+        places.push(place).map_err(AllocError::from)?;
+        left = more;
+    }
+    Ok(Items::of(places))
+}
+
+/// Numbers between commas.
+fn numbers(alloc: Global, text: Option<&str>) -> Result<Items<u32>, Stop>
+    ensures { Reads (λ ns. map decimal ns) (AllByRecursion IsNumber) (fields_left 44 text.entry) result }
+{
+    let mut numbers = Vec::new(alloc);
+    let mut left = text;
+    while let Some(rest) = left {
+        let (field, more) = cut(rest, ',');
+        let n = number(field)?;
+        numbers.push(n).map_err(AllocError::from)?;
+        left = more;
+    }
+    Ok(Items::of(numbers))
+}
+
+/// A listed state.
+fn state(alloc: Global, field: &str) -> Result<State, Stop>
+    ensures { Reads state_text IsState field.now result }
+{
+    let Some((done, counts)) = field.split_once(':') else {
+        return Err(Stop::Bad);
+    };
+    let done = number(done)?;
+    let counts = numbers(alloc, none_if_empty(counts))?;
+    Ok(State { done, counts })
+}
+
+/// The text, unless it is empty.
+fn none_if_empty(text: &str) -> Option<&str>
+    ensures { IsGiven result text.now }
+{
+    if text.is_empty() { None } else { Some(text) }
+}
+
+/// The states of a record, in any order.
+pub(crate) fn states(alloc: Global, text: Option<&str>) -> Result<Items<State>, Stop>
+    ensures { Reads (λ xs. map state_text xs) (AllByRecursion IsState) (fields_left 32 text.entry) result }
+{
+    let mut states = Vec::new(alloc);
+    let mut left = text;
+    while let Some(rest) = left {
+        let (field, more) = cut(rest, ' ');
+        let state = state(alloc, field)?;
+        states.push(state).map_err(AllocError::from)?;
+        left = more;
+    }
+    Ok(Items::of(states))
+}
+
+/// Whether each state comes before the next.
+pub(crate) fn are_rising(states: &[State]) -> bool
+    ensures { IsTrue result ↔ Rises IsStateBefore states.now }
+{
+    match states {
+        [] => true,
+        [first, rest @ ..] => rise_from(first, rest),
+    }
+}
+
+/// Whether each state comes before the next, and `first` before all.
+fn rise_from(first: &State, rest: &[State]) -> bool
+    ensures { IsTrue result ↔ RisesFrom IsStateBefore first.now rest.now }
+{
+    let mut last = first;
+    for state in rest {
+        if !is_before(last, state) {
+            return false;
+        }
+        last = state;
+    }
+    true
+}
+
+/// Whether the state `a` comes before `b`: by the number of triples that have their places, and then the counts.
+fn is_before(a: &State, b: &State) -> bool
+    ensures { IsTrue result ↔ IsStateBefore a.now b.now }
+{
+    if a.done == b.done {
+        a.counts.as_slice().cmp(&b.counts.as_slice()) == Ordering::Less
+    } else {
+        a.done < b.done
+    }
+}

@@ -1,0 +1,149 @@
+//! Proofs from their text.
+
+ghost use Rattle.std.specs.Prelude.{◌≡◌, ◌++◌, IfOk, IfErr, OnOk};
+ghost use Rattle.proof_file.specs.declared.Proof.{Proof};
+ghost use Rattle.proof_file.specs.Text.{ProofText};
+ghost use Rattle.proof_file.specs.Faults.{FaultsAs};
+ghost use Rattle.proof_file.specs.Reader.{Grows, no_lines};
+ghost use Rattle.proof_file.specs.Drafts.{IsDraft, last_section};
+
+use crate::line::Line;
+use crate::lines::{Lines, Next};
+use crate::{Claim, Proof, Record, Section};
+use rdf_terms::items::Items;
+use rdf_terms::terms::Term;
+use std::alloc::{AllocError, Global};
+use std::mem;
+use thiserror::Error;
+
+/// Why bytes give no proof.
+#[derive(Debug, Drop, Error)]
+pub enum ReadError {
+    /// The bytes are the text of no proof, and cease to be one at this place.
+    #[error("no proof from byte {0} on")]
+    Syntax(u64),
+    /// Memory ran out.
+    #[error("memory ran out")]
+    Memory,
+}
+
+impl From<AllocError> for ReadError {
+    ghost use Rattle.std.specs.Prelude.{◌≡◌};
+    ghost use Rattle.proof_file.specs.declared.read.ReadError.TheVariants.{Memory};
+
+    ghost from_gives = { λ _ e. e ≡ Memory };
+
+    fn from(_error: AllocError) -> ReadError {
+        ReadError::Memory
+    }
+}
+
+/// What of a proof is read so far.
+#[derive(Drop)]
+pub(crate) struct Draft {
+    nodes: Vec<Term>,
+    /// The sections before the last.
+    sections: Vec<Section>,
+    /// The stratum of the last section, if there is one.
+    stratum: Option<u32>,
+    /// The records of the last section.
+    records: Vec<Record>,
+    claims: Vec<Claim>,
+}
+
+impl Draft {
+    /// The draft of a proof without lines.
+    fn new(alloc: Global) -> Draft
+        ensures { IsDraft result no_lines }
+    {
+        Draft {
+            nodes: Vec::new(alloc),
+            sections: Vec::new(alloc),
+            stratum: None,
+            records: Vec::new(alloc),
+            claims: Vec::new(alloc),
+        }
+    }
+
+    /// Adds a line behind the last.
+    fn add(&mut self, alloc: Global, line: Line) -> Result<(), AllocError>
+        ensures { OnOk result ((p q : Proof) → IsDraft self.old p → Grows p line q → IsDraft self.new q) }
+    {
+        match line {
+            Line::Node(term) => {
+                self.nodes.push(term)?;
+                Ok(())
+            }
+            Line::Section(stratum) => {
+                let records = mem::replace(&mut self.records, Vec::new(alloc));
+                close(&mut self.sections, self.stratum, records)?;
+                self.stratum = Some(stratum);
+                Ok(())
+            }
+            Line::Record(record) => {
+                self.records.push(record)?;
+                Ok(())
+            }
+            Line::Claim(claim) => {
+                self.claims.push(claim)?;
+                Ok(())
+            }
+        }
+    }
+
+    /// The proof of the lines that were added.
+    fn finish(self) -> Result<Proof, AllocError>
+        ensures { IfOk result (λ q. (p : Proof) → IsDraft self p → q ≡ p) }
+    {
+        let Draft {
+            nodes,
+            mut sections,
+            stratum,
+            records,
+            claims,
+        } = self;
+        close(&mut sections, stratum, records)?;
+        Ok(Proof {
+            nodes: Items::of(nodes),
+            sections: Items::of(sections),
+            claims: Items::of(claims),
+        })
+    }
+}
+
+/// Adds the last section, if there is one.
+fn close(
+    sections: &mut Vec<Section>,
+    stratum: Option<u32>,
+    records: Vec<Record>,
+) -> Result<(), AllocError>
+    ensures { OnOk result (sections.new.items ≡ sections.old.items ++ last_section stratum records.items) }
+{
+    match stratum {
+        Some(stratum) => {
+            sections.push(Section {
+                stratum,
+                records: Items::of(records),
+            })?;
+            Ok(())
+        }
+        None => Ok(()),
+    }
+}
+
+/// The proof of which the bytes are the text.
+pub fn read(alloc: Global, bytes: &[u8]) -> Result<Proof, ReadError>
+    ensures found { IfOk result (λ p. ProofText p bytes.now) }
+    ensures fault { IfErr result (FaultsAs bytes.now) }
+{
+    let mut lines = Lines::new(bytes);
+    let mut draft = Draft::new(alloc);
+    'lines: loop {
+        match lines.next(alloc) {
+            Next::Line(line) => draft.add(alloc, line)?,
+            Next::End => return Ok(draft.finish()?),
+            Next::Bad(at) => return Err(ReadError::Syntax(at)),
+            Next::Memory => return Err(ReadError::Memory),
+        }
+    }
+}

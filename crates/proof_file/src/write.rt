@@ -1,0 +1,279 @@
+//! Proofs as text.
+
+ghost use Rattle.std.specs.Prelude.{◌≡◌, ◌++◌, ◌∷◌, [], true, map, IfOk, OnOk, codes};
+ghost use Rattle.std.specs.Fmt.{decimal};
+ghost use Rattle.std.specs.List.{AllByRecursion, flat_map, join_with_byte};
+ghost use Rattle.std.specs.Str.{all_scalars};
+ghost use Rattle.rdf_terms.specs.Written.{iri_text};
+ghost use Rattle.proof_file.specs.Text.{place_text, state_text, kind_mark, kind_fields, target_text, ended, line_text, lines_text, section_lines, ProofText, Keeps, HasNoFeeds, IsTextTerm, IsTextTarget};
+ghost use Rattle.proof_file.specs.declared.line.Line.TheVariants as Lines;
+ghost use Rattle.schema_tree.specs.declared.schema.Target.TheVariants as Targets;
+ghost use Rattle.schema_tree.specs.declared.labels.Label.TheVariants as Labels;
+
+use crate::{Claim, Proof, Record, RecordKind, Section};
+use rdf_terms::terms::Term;
+use rdf_terms::text::Text;
+use rdf_terms::written::write_term;
+use schema_tree::labels::Label;
+use schema_tree::schema::Target;
+use schema_tree::verdicts::{Place, State};
+use std::alloc::{AllocError, Global};
+
+/// The text of a proof that keeps the orders and limits, where no text of a term or target holds a line feed.
+pub fn write(alloc: Global, p: &Proof) -> Result<Vec<u8>, AllocError>
+    requires { Keeps p.now }
+    ensures { IfOk result (λ v. HasNoFeeds p.now → ProofText p.now v.items) }
+{
+    let mut out = Vec::from_slice(alloc, b"shex-proof 1\n")?;
+    push_nodes(alloc, p.nodes.as_slice(), &mut out)?;
+    push_sections(alloc, p.sections.as_slice(), &mut out)?;
+    push_claims(alloc, p.claims.as_slice(), &mut out)?;
+    out.extend_from_slice(b"end\n")?;
+    Ok(out)
+}
+
+/// Appends the node lines.
+fn push_nodes(alloc: Global, nodes: &[Term], out: &mut Vec<u8>) -> Result<(), AllocError>
+    ensures lines { OnOk result (out.new.items ≡ out.old.items ++ flat_map (λ t. ended (line_text (Lines.Node t))) nodes.now) }
+    ensures texts { OnOk result (AllByRecursion IsTextTerm nodes.now) }
+{
+    for node in nodes {
+        push_node(alloc, node, out)?;
+    }
+    Ok(())
+}
+
+/// Appends a node line.
+fn push_node(alloc: Global, node: &Term, out: &mut Vec<u8>) -> Result<(), AllocError>
+    ensures line { OnOk result (out.new.items ≡ out.old.items ++ ended (line_text (Lines.Node node.now))) }
+    ensures text { OnOk result (IsTextTerm node.now) }
+{
+    out.extend_from_slice(b"n ")?;
+    match node {
+        Term::Iri(iri) => push_iri(iri, out)?,
+        other => write_term(alloc, other, out)?,
+    }
+    out.push(b'\n')?;
+    Ok(())
+}
+
+/// Appends an IRI in angle brackets.
+fn push_iri(iri: &Text, out: &mut Vec<u8>) -> Result<(), AllocError>
+    ensures bytes { OnOk result (out.new.items ≡ out.old.items ++ iri_text iri.now) }
+    ensures text { all_scalars iri.now ≡ true }
+{
+    let text = iri.as_str();
+    out.push(b'<')?;
+    out.extend_from_slice(text.as_bytes())?;
+    out.push(b'>')?;
+    Ok(())
+}
+
+/// Appends the lines of the sections.
+fn push_sections(alloc: Global, sections: &[Section], out: &mut Vec<u8>) -> Result<(), AllocError>
+    ensures { OnOk result (out.new.items ≡ out.old.items ++ flat_map (λ x. lines_text (section_lines x)) sections.now) }
+{
+    for section in sections {
+        push_section(alloc, section, out)?;
+    }
+    Ok(())
+}
+
+/// Appends the line of a section, and its records.
+fn push_section(alloc: Global, section: &Section, out: &mut Vec<u8>) -> Result<(), AllocError>
+    ensures { OnOk result (out.new.items ≡ out.old.items ++ lines_text (section_lines section.now)) }
+{
+    out.extend_from_slice(b"s ")?;
+    push_number(alloc, section.stratum, out)?;
+    out.push(b'\n')?;
+    push_records(alloc, section.records.as_slice(), out)?;
+    Ok(())
+}
+
+/// Appends the lines of the records.
+fn push_records(alloc: Global, records: &[Record], out: &mut Vec<u8>) -> Result<(), AllocError>
+    ensures { OnOk result (out.new.items ≡ out.old.items ++ flat_map (λ r. ended (line_text (Lines.Record r))) records.now) }
+{
+    for record in records {
+        push_record(alloc, record, out)?;
+    }
+    Ok(())
+}
+
+/// Appends the line of a record.
+fn push_record(alloc: Global, r: &Record, out: &mut Vec<u8>) -> Result<(), AllocError>
+    ensures { OnOk result (out.new.items ≡ out.old.items ++ ended (line_text (Lines.Record r.now))) }
+{
+    out.extend_from_slice(mark(&r.kind))?;
+    push_pair(alloc, r, out)?;
+    push_kind(alloc, &r.kind, out)?;
+    out.push(b'\n')?;
+    Ok(())
+}
+
+/// What stands before the fields of a record.
+fn mark(kind: &RecordKind) -> &'static [u8]
+    ensures { result.now ≡ kind_mark kind.now }
+{
+    match kind {
+        RecordKind::Plus(_) => b"+ ",
+        RecordKind::Minus(_, _) => b"- ",
+    }
+}
+
+/// Appends the fields of a record behind its Shape, a space before each.
+fn push_kind(alloc: Global, kind: &RecordKind, out: &mut Vec<u8>) -> Result<(), AllocError>
+    ensures { OnOk result (out.new.items ≡ out.old.items ++ flat_map (λ f. 32 ∷ f) (kind_fields kind.now)) }
+{
+    match kind {
+        RecordKind::Plus(places) => {
+            push_places(alloc, places.as_slice(), out)?;
+            Ok(())
+        }
+        RecordKind::Minus(rank, states) => {
+            out.push(b' ')?;
+            push_number(alloc, *rank, out)?;
+            push_states(alloc, states.as_slice(), out)?;
+            Ok(())
+        }
+    }
+}
+
+/// Appends the node and the Shape of a record.
+fn push_pair(alloc: Global, r: &Record, out: &mut Vec<u8>) -> Result<(), AllocError>
+    ensures { OnOk result (out.new.items ≡ out.old.items ++ (decimal r.now.node ++ 32 ∷ decimal r.now.shape)) }
+{
+    push_number(alloc, r.node, out)?;
+    out.push(b' ')?;
+    push_number(alloc, r.shape, out)
+}
+
+/// Appends the places, a space before each.
+fn push_places(alloc: Global, places: &[Place], out: &mut Vec<u8>) -> Result<(), AllocError>
+    ensures { OnOk result (out.new.items ≡ out.old.items ++ flat_map (λ p. 32 ∷ place_text p) places.now) }
+{
+    for place in places {
+        push_place(alloc, *place, out)?;
+    }
+    Ok(())
+}
+
+/// Appends a space and a place.
+fn push_place(alloc: Global, place: Place, out: &mut Vec<u8>) -> Result<(), AllocError>
+    ensures { OnOk result (out.new.items ≡ out.old.items ++ 32 ∷ place_text place) }
+{
+    out.push(b' ')?;
+    match place {
+        Place::At(occurrence) => push_number(alloc, u32::from(occurrence), out),
+        Place::Rest => {
+            out.push(b'r')?;
+            Ok(())
+        }
+    }
+}
+
+/// Appends the states, a space before each.
+fn push_states(alloc: Global, states: &[State], out: &mut Vec<u8>) -> Result<(), AllocError>
+    ensures { OnOk result (out.new.items ≡ out.old.items ++ flat_map (λ x. 32 ∷ state_text x) states.now) }
+{
+    for state in states {
+        push_state(alloc, state, out)?;
+    }
+    Ok(())
+}
+
+/// Appends a space and a state.
+fn push_state(alloc: Global, state: &State, out: &mut Vec<u8>) -> Result<(), AllocError>
+    ensures { OnOk result (out.new.items ≡ out.old.items ++ 32 ∷ state_text state.now) }
+{
+    out.push(b' ')?;
+    push_number(alloc, state.done, out)?;
+    out.push(b':')?;
+    push_numbers(alloc, state.counts.as_slice(), out)
+}
+
+/// Appends numbers with commas between them.
+fn push_numbers(alloc: Global, numbers: &[u32], out: &mut Vec<u8>) -> Result<(), AllocError>
+    ensures { OnOk result (out.new.items ≡ out.old.items ++ join_with_byte 44 (map decimal numbers.now)) }
+{
+    match numbers {
+        [] => Ok(()),
+        [first, rest @ ..] => {
+            push_number(alloc, *first, out)?;
+            push_counts(alloc, rest, out)?;
+            Ok(())
+        }
+    }
+}
+
+/// Appends the counts, a comma before each.
+fn push_counts(alloc: Global, counts: &[u32], out: &mut Vec<u8>) -> Result<(), AllocError>
+    ensures { OnOk result (out.new.items ≡ out.old.items ++ flat_map (λ n. 44 ∷ decimal n) counts.now) }
+{
+    for count in counts {
+        push_count(alloc, *count, out)?;
+    }
+    Ok(())
+}
+
+/// Appends a comma and a count.
+fn push_count(alloc: Global, count: u32, out: &mut Vec<u8>) -> Result<(), AllocError>
+    ensures { OnOk result (out.new.items ≡ out.old.items ++ 44 ∷ decimal count) }
+{
+    out.push(b',')?;
+    push_number(alloc, count, out)
+}
+
+/// Appends a number in decimal.
+fn push_number(alloc: Global, n: u32, out: &mut Vec<u8>) -> Result<(), AllocError>
+    ensures { OnOk result (out.new.items ≡ out.old.items ++ decimal n) }
+{
+    let digits = n.to_string(alloc)?;
+    out.extend_from_slice(digits.as_bytes())
+}
+
+/// Appends the lines of the claims.
+fn push_claims(alloc: Global, claims: &[Claim], out: &mut Vec<u8>) -> Result<(), AllocError>
+    ensures lines { OnOk result (out.new.items ≡ out.old.items ++ flat_map (λ c. ended (line_text (Lines.Claim c))) claims.now) }
+    ensures texts { OnOk result (AllByRecursion (λ c. IsTextTarget c.target) claims.now) }
+{
+    for claim in claims {
+        push_claim(alloc, claim, out)?;
+    }
+    Ok(())
+}
+
+/// Appends the line of a claim.
+fn push_claim(alloc: Global, claim: &Claim, out: &mut Vec<u8>) -> Result<(), AllocError>
+    ensures line { OnOk result (out.new.items ≡ out.old.items ++ ended (line_text (Lines.Claim claim.now))) }
+    ensures text { OnOk result (IsTextTarget claim.now.target) }
+{
+    out.extend_from_slice(if claim.holds { b"c + " } else { b"c - " })?;
+    push_number(alloc, claim.node, out)?;
+    out.push(b' ')?;
+    push_target(&claim.target, out)?;
+    out.push(b'\n')?;
+    Ok(())
+}
+
+/// Appends a target.
+fn push_target(target: &Target, out: &mut Vec<u8>) -> Result<(), AllocError>
+    ensures bytes { OnOk result (out.new.items ≡ out.old.items ++ target_text target.now) }
+    ensures text { OnOk result (IsTextTarget target.now) }
+{
+    match target {
+        Target::Start => out.extend_from_slice(b"START"),
+        Target::Label(Label::Iri(iri)) => push_iri(iri, out),
+        Target::Label(Label::Blank(label)) => push_blank(label, out),
+    }
+}
+
+/// Appends `_:` and the label of a blank node.
+fn push_blank(label: &Text, out: &mut Vec<u8>) -> Result<(), AllocError>
+    ensures bytes { OnOk result (out.new.items ≡ out.old.items ++ target_text (Targets.Label (Labels.Blank label.now))) }
+    ensures text { all_scalars label.now ≡ true }
+{
+    let text = label.as_str();
+    out.extend_from_slice(b"_:")?;
+    out.extend_from_slice(text.as_bytes())
+}
