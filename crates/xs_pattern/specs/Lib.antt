@@ -1,3 +1,4 @@
+pub mod Patterns
 pub mod Regex
 pub mod Characters
 pub mod Language

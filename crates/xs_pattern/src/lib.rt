@@ -4,6 +4,7 @@
 mod characters;
 pub mod expression;
 pub mod laws;
+mod limits;
 mod pattern;
 mod unrolled;
 mod walk;

@@ -1,5 +1,5 @@
 //! Patterns, and whether they are found in a text.
-ghost use Rattle.std.specs.Prelude.{◌≡◌, ◌↔◌, ℕ, ◌≤◌, true, false, IsTrue, IfOk, OnOk, length, slice_index_or};
+ghost use Rattle.std.specs.Prelude.{◌≡◌, ◌↔◌, ℕ, ◌≤◌, ◌<◌, true, false, IsTrue, IfOk, IfSome, IsNone, OnOk, length, slice_index_or};
 ghost use Rattle.std.specs.Str.{chars};
 ghost use Rattle.xs_pattern.specs.Language.{IsFound};
 ghost use Rattle.xs_pattern.specs.Limits.{positions};
@@ -10,6 +10,7 @@ ghost use Rattle.xs_pattern.specs.Way.{next, size, way_of};
 use crate::characters::{add_having, alike};
 use crate::unrolled::{Unrolled, unroll};
 use crate::walk::{Edge, add_blank, advance, exit_of};
+use crate::limits::fitting_positions;
 use crate::{Expression, Flags};
 use std::alloc::{AllocError, Global};
 
@@ -22,12 +23,28 @@ pub struct Pattern {
 }
 
 impl Pattern {
+    ghost use Rattle.xs_pattern.specs.Patterns.{flags_of, regex};
+
+    /// The pattern of a regular expression. None exactly where it has over 4,096 positions.
+    ///
+    /// Each character, set of characters and anchor is a position, as often as it stands when repetitions are written out.
+    pub fn new(expression: Expression, flags: Flags) -> Option<Pattern>
+        ensures some { IfSome result (λ p. (regex p ≡ regex_of expression) × (flags_of p ≡ flags)) }
+        ensures none { IsNone result ↔ (4096 < positions (regex_of expression)) }
+    {
+        if fitting_positions(&expression).is_some() {
+            Some(Pattern { expression, flags })
+        } else {
+            None
+        }
+    }
+
     /// Whether some part of the text is in the language of the pattern (section 5.6.3).
     ///
     /// The time is at most the text's length times the number of positions times the depth of the pattern, which are
     /// at most 4,096 and 64, whatever the pattern is.
     pub fn found(&self, alloc: Global, text: &str) -> Result<bool, AllocError>
-        ensures { IfOk result (λ b. IsTrue b ↔ IsFound self.now.flags (chars text.now) (regex_of self.now.expression)) }
+        ensures { IfOk result (λ b. IsTrue b ↔ IsFound (flags_of self.now) (chars text.now) (regex self.now)) }
     {
         let characters = characters(alloc, text)?;
         let mut next = 0;
