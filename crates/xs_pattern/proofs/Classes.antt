@@ -1,14 +1,14 @@
 -- The tests of sets of characters are exact.
-use Rattle.std.proofs.Common.{◌≡◌, ◌≢◌, ℕ, zero, suc, ◌+◌, ◌<◌, ◌≤◌, ◌⊎◌, ◌↔◌, inl, inr, List, [], ◌∷◌, length, refl, arith, sym, subst, ap, ◌∙◌, Bool, true, false, cond, not, ◌&&◌, ◌||◌, map, filter}
+use Rattle.std.proofs.Common.{◌≡◌, ◌≢◌, ℕ, zero, suc, ◌≤◌, ◌⊎◌, inl, inr, List, [], ◌∷◌, refl, arith, sym, ap, ◌∙◌, Bool, true, false, cond, not, ◌&&◌, ◌||◌, map, filter}
 use Rattle.std.proofs.lemmas.Bool.{leb-true, le-leb, eqb-true, eq-eqb, cases_eq}
-use Rattle.std.specs.Prelude.{Contains, slice_index_or, nat_le, nat_eq, MatchBool, ⊤}
+use Rattle.std.specs.Prelude.{Contains, nat_le, nat_eq, MatchBool, ⊤}
 use Rattle.std.specs.List.{list_any}
 use Rattle.ucd_case.specs.CaseFolding.{simple_fold, fold_pairs}
 use Rattle.ucd_case.proofs.FoldPairsLemmas.{IsFoldPairs-fold_pairs}
 use Rattle.xs_pattern.specs.declared.expression.Flags.{Flags}
 use Rattle.xs_pattern.specs.declared.expression.Item.{Item}
 use Rattle.xs_pattern.specs.declared.expression.Item.TheVariants as Items
-use Rattle.xs_pattern.specs.Characters.{has_kind, IsWithin, HasItem, HasSome, HasMember, HasClass, HasChar}
+use Rattle.xs_pattern.specs.Characters.{IsWithin, HasItem, HasSome, HasMember, HasClass, HasChar}
 use Rattle.xs_pattern.specs.Regex.{Members, Chars, dot, item, class}
 use Rattle.xs_pattern.specs.Tests.{others, alike, some_within, item_has, some_has, member_has, class_has, set_has, char_test}
 use Rattle.xs_pattern.proofs.Reading.{or_left, or_right, or_cases, and_both, and_parts}

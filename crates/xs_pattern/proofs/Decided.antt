@@ -1,12 +1,12 @@
 -- Whether an expression holds between two places is decided by the reading that is entered at the first one.
-use Rattle.std.proofs.Common.{◌≡◌, ℕ, zero, suc, ◌<◌, ◌≤◌, ◌⊎◌, inl, inr, List, [], ◌++◌, refl, arith, sym, subst, Bool, true, false}
+use Rattle.std.proofs.Common.{◌≡◌, ℕ, zero, suc, ◌<◌, ◌≤◌, ◌⊎◌, inl, inr, List, [], refl, arith, sym, subst, Bool, true, false}
 use Rattle.std.specs.Prelude.{nat_eq, replicate}
 use Rattle.std.proofs.lemmas.Bool.{cases_lt, cases_eq, eqb-true, eq-eqb}
 use Rattle.std.proofs.lemmas.List.{append-nil}
 use Rattle.xs_pattern.specs.declared.expression.Flags.{Flags}
 use Rattle.xs_pattern.specs.declared.walk.Edge.{Edge}
 use Rattle.xs_pattern.specs.Language.{Holds}
-use Rattle.xs_pattern.specs.Regex.{Chars, Regex}
+use Rattle.xs_pattern.specs.Regex.{Regex}
 use Rattle.xs_pattern.specs.Unrolling.{sets, unroll, edge_at, has_at}
 use Rattle.xs_pattern.specs.Way.{Way, Runs, size, passes, ends, next}
 use Rattle.xs_pattern.proofs.Reading.{IsRun, Came, exact, passes_holds, holds_passes, forward}

@@ -1,5 +1,5 @@
 -- What the reading of a text says of the language of the pattern.
-use Rattle.std.proofs.Common.{◌≡◌, ℕ, zero, suc, ◌+◌, ◌*◌, ◌<◌, ◌≤◌, ◌↔◌, List, [], ◌++◌, length, drop, refl, arith, sym, subst, ap, ◌∙◌, Bool, true, false, max, length-append}
+use Rattle.std.proofs.Common.{◌≡◌, ℕ, zero, suc, ◌*◌, ◌≤◌, ◌↔◌, List, [], length, refl, arith, sym, subst, Bool, true, false, max, length-append}
 use Rattle.std.specs.Prelude.{Option, Some, None, Result, Ok, Err, IfOk, IsTrue}
 use Rattle.std.proofs.Math.Nat.{mul-le-mul_right}
 use Rattle.std.proofs.lemmas.List.{append-nil}

@@ -1,5 +1,5 @@
 -- The marks of the parts of a way, one after the other.
-use Rattle.std.proofs.Common.{◌≡◌, ℕ, ◌+◌, List, ◌++◌, length, drop, refl, arith, sym, subst, ap, ◌∙◌, Bool, false, ◌||◌, ◌&&◌, append_assoc}
+use Rattle.std.proofs.Common.{◌≡◌, ℕ, ◌+◌, List, ◌++◌, drop, sym, ap, ◌∙◌, Bool, false, ◌||◌, ◌&&◌, append_assoc}
 use Rattle.std.specs.Prelude.{replicate, Result, OnOk}
 use Rattle.std.proofs.lemmas.List.{replicate-append-replicate, drop-drop}
 use Rattle.xs_pattern.specs.declared.walk.Edge.{Edge}

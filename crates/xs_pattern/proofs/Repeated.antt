@@ -1,11 +1,11 @@
 -- Ways put together hold where their parts do.
-use Rattle.std.proofs.Common.{◌≡◌, ℕ, zero, suc, ◌+◌, ◌-◌, ◌<◌, ◌≤◌, ◌⊎◌, ◌↔◌, inl, inr, List, [], ◌∷◌, ◌++◌, length, refl, arith, sym, subst, ap, ◌∙◌, Bool, true, false, cond, ◌&&◌, length-append, add-one}
+use Rattle.std.proofs.Common.{◌≡◌, ℕ, zero, suc, ◌+◌, ◌-◌, ◌≤◌, ◌⊎◌, inl, inr, List, [], ◌∷◌, ◌++◌, length, refl, arith, sym, subst, ap, ◌∙◌, Bool, true, false, cond, ◌&&◌, length-append, add-one}
 use Rattle.std.proofs.lemmas.Bool.Decides.{nat_tests}
 use Rattle.std.specs.Prelude.{Option, Some, None, nat_le}
 use Rattle.xs_pattern.specs.declared.walk.Edge.{Edge}
 use Rattle.xs_pattern.specs.Language.{Leads, IsUpTo}
 use Rattle.xs_pattern.specs.Way.{Way, nothing, never, start, finish, one, then, either, plus, Runs}
-use Rattle.xs_pattern.specs.Unrolling.{is_nothing, is_never, then_way, either_way, plus_way, copies, at_most, without_end, repeated}
+use Rattle.xs_pattern.specs.Unrolling.{is_nothing, is_never, then_way, either_way, plus_way, copies, at_most, repeated}
 
 nothing_is : (a : Way) → is_nothing a ≡ true → a ≡ nothing
 nothing_is nothing h = refl

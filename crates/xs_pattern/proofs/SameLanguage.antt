@@ -1,20 +1,19 @@
 -- A pattern and what it unrolls to hold between the same places.
-use Rattle.std.proofs.Common.{◌≡◌, ℕ, zero, suc, ◌+◌, ◌<◌, ◌≤◌, ◌⊎◌, inl, inr, List, [], ◌∷◌, ◌++◌, length, drop, refl, arith, sym, subst, ap, ◌∙◌, Bool, true, false, ◌&&◌, map, append_assoc}
+use Rattle.std.proofs.Common.{◌≡◌, ℕ, zero, suc, ◌+◌, ◌≤◌, ◌⊎◌, inl, inr, List, [], ◌∷◌, ◌++◌, length, drop, refl, arith, sym, subst, ap, ◌∙◌, Bool, false, map, append_assoc}
 use Rattle.std.proofs.Math.Seq.{drop-append_seam, drop-nil}
 use Rattle.std.proofs.lemmas.List.{drop-drop}
 use Rattle.std.proofs.lemmas.Bool.{ltb-true, lt-ltb, eqb-true, eq-eqb}
 use Rattle.std.specs.Prelude.{Option, Some, None, slice_index, slice_index_or, nat_lt}
 use Rattle.xs_pattern.specs.declared.expression.Flags.{Flags}
-use Rattle.xs_pattern.specs.Characters.{HasChar}
 use Rattle.xs_pattern.specs.Language.{Leads, IsUpTo, HoldsAt, Holds, HoldsAll, HoldsSome}
 use Rattle.xs_pattern.specs.Regex.{Chars, Regex, start, finish, one, group, branch, choice, repeat, Regexes, none, more}
 use Rattle.xs_pattern.specs.Tests.{char_test}
-use Rattle.xs_pattern.specs.Unrolling.{then_way, either_way, repeated, kept, sets, all_sets, unroll, unroll_all, unroll_some, edge_at, having, has_at}
+use Rattle.xs_pattern.specs.Unrolling.{then_way, either_way, repeated, sets, all_sets, unroll, unroll_all, unroll_some, edge_at, having, has_at}
 use Rattle.xs_pattern.specs.Way as Ways
 use Rattle.xs_pattern.specs.Way.{Way, Runs}
 use Rattle.xs_pattern.proofs.Classes.{char_tells}
 use Rattle.xs_pattern.proofs.Reading.{and_both, and_parts}
-use Rattle.xs_pattern.proofs.Repeated.{Steps, leads_map, to_then, of_then, to_either, of_either, to_repeated, of_repeated, repeated_none}
+use Rattle.xs_pattern.proofs.Repeated.{leads_map, to_then, of_then, to_either, of_either, to_repeated, of_repeated}
 
 -- the element behind the first k
 at_place : (g : Chars → Bool) (k : ℕ) (ss : List Chars) (s : Chars) (rest : List Chars) → drop k ss ≡ s ∷ rest → slice_index_or (map g ss) k false ≡ g s

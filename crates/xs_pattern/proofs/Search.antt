@@ -1,6 +1,6 @@
 -- The reading of a text from place to place.
-use Rattle.std.proofs.Common.{◌≡◌, ℕ, zero, suc, ◌+◌, ◌<◌, ◌≤◌, ◌⊎◌, inl, inr, List, [], ◌∷◌, ◌++◌, length, get_or, refl, arith, sym, subst, ap, ◌∙◌, Bool, true, false, ◌||◌, ◌&&◌, add-one, true≢false}
-use Rattle.std.specs.Prelude.{replicate, slice_index, slice_index_or, nat_lt, nat_eq}
+use Rattle.std.proofs.Common.{◌≡◌, ℕ, zero, suc, ◌+◌, ◌<◌, ◌≤◌, ◌⊎◌, inl, inr, List, [], length, get_or, refl, arith, sym, subst, ap, ◌∙◌, Bool, true, false, ◌&&◌, add-one}
+use Rattle.std.specs.Prelude.{replicate, slice_index, slice_index_or, nat_eq}
 use Rattle.std.proofs.lemmas.Bool.{lt-ltb, eqb-true, eq-eqb, cases_lt}
 use Rattle.std.proofs.lemmas.List.{length-replicate, get_or_default, append-nil}
 use Rattle.xs_pattern.specs.declared.expression.Flags.{Flags}

@@ -1,5 +1,5 @@
 -- Which characters a set has (XML Schema Part 2, version 1.1, section G.4; XPath Functions and Operators 3.1, section 5.6).
-use Rattle.std.specs.Prelude.{ℕ, ◌≤◌, ◌≡◌, ◌≢◌, ◌⊎◌, ⊤, Bool, true, false, IsTrue, ◌==◌, ◌||◌, ◌&&◌, not, MatchBool, List, [], ◌∷◌}
+use Rattle.std.specs.Prelude.{ℕ, ◌≤◌, ◌≡◌, ◌≢◌, ◌⊎◌, ⊤, Bool, IsTrue, ◌==◌, ◌||◌, not, MatchBool, List, [], ◌∷◌}
 use Rattle.unicode.specs.CaseFolding.{simple_fold}
 use Rattle.unicode.specs.GeneralCategory.{general_category, general_category_number}
 use Rattle.unicode.specs.GeneralCategoryGroup.{in_group}

@@ -1,5 +1,5 @@
 -- A pattern without counts as a plain tree, and the reading of a text by sets of positions.
-use Rattle.std.specs.Prelude.{ℕ, zero, suc, ◌+◌, ◌≤◌, ◌≡◌, ◌⊎◌, Bool, true, false, ◌||◌, ◌&&◌, List, [], ◌∷◌, ◌++◌, length, drop}
+use Rattle.std.specs.Prelude.{ℕ, ◌+◌, ◌≤◌, ◌≡◌, ◌⊎◌, Bool, true, false, ◌||◌, ◌&&◌, List, [], ◌∷◌, ◌++◌, length, drop}
 use Rattle.xs_pattern.specs.declared.unrolled.Unrolled.{Unrolled}
 use Rattle.xs_pattern.specs.declared.unrolled.Unrolled.TheOpen.{Unrolled-F, Nothing, Never, Start, End, One, Then, Either, Plus}
 use Rattle.xs_pattern.specs.declared.unrolled.Unrolled.TheFolds.{fold-Unrolled}

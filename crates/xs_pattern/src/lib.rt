@@ -11,3 +11,6 @@ mod walk;
 
 pub use expression::{CharGroup, Expression, Flags, Item, Kind, Set};
 pub use pattern::Pattern;
+
+#[cfg(test)]
+mod tests;

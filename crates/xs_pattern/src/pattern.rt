@@ -8,9 +8,9 @@ ghost use Rattle.xs_pattern.specs.Unrolling.{exits, exits_at, having, sets};
 ghost use Rattle.xs_pattern.specs.Way.{next, size, way_of};
 
 use crate::characters::{add_having, alike};
+use crate::limits::fitting_positions;
 use crate::unrolled::{Unrolled, unroll};
 use crate::walk::{Edge, add_blank, advance, exit_of};
-use crate::limits::fitting_positions;
 use crate::{Expression, Flags};
 use std::alloc::{AllocError, Global};
 

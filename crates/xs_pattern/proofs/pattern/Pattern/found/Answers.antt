@@ -1,4 +1,4 @@
-use Rattle.std.proofs.Common.{arith, ◌∙◌, sym}
+use Rattle.std.proofs.Common.{arith, ◌∙◌}
 use Rattle.xs_pattern.specs.Regex.{regex_of}
 use Rattle.xs_pattern.proofs.Found.{found_result, sets_within}
 use Rattle.xs_pattern.proofs.pattern.Pattern.found.Goals as goal
