@@ -8,3 +8,6 @@ pub mod Marks
 pub mod Search
 pub mod Found
 pub mod Decided
+pub mod Parsed
+pub mod Frames
+pub mod Depth

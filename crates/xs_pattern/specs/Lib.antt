@@ -1,3 +1,4 @@
+pub mod Parsing
 pub mod Patterns
 pub mod Regex
 pub mod Characters
@@ -5,5 +6,6 @@ pub mod Language
 pub mod Laws
 pub mod Limits
 pub mod Tests
+pub mod Tokens
 pub mod Unrolling
 pub mod Way

@@ -5,6 +5,7 @@ mod characters;
 pub mod expression;
 pub mod laws;
 mod limits;
+mod parser;
 mod pattern;
 mod unrolled;
 mod walk;
