@@ -2,12 +2,11 @@
 use Rattle.std.proofs.Common.{◌≡◌, ℕ, suc, ◌+◌, ◌-◌, ◌<◌, ◌≤◌, List, [], ◌∷◌, ◌++◌, length, drop, get_or, refl, arith, sym, ap, ◌∙◌, max, append_assoc, add-one}
 use Rattle.std.proofs.Math.ListN.{drop_of_length-le}
 use Rattle.std.proofs.Math.Seq.{drop-cons}
-use Rattle.std.specs.Prelude.{Option}
 use Rattle.std.proofs.lemmas.List.{append-nil}
-use Rattle.xs_pattern.specs.Limits.{layers, nesting, deepest_nesting, depth}
+use Rattle.xs_pattern.specs.Limits.{nesting, deepest_nesting, depth}
 use Rattle.xs_pattern.specs.declared.parser.Token.{Token as TokenInCode}
 use Rattle.xs_pattern.specs.Parsing.{open_behind, layers_of, token_of, tokens_of}
-use Rattle.xs_pattern.specs.Regex.{Chars, Regex, start, finish, one, group, branch, choice, repeat, Regexes, none, more}
+use Rattle.xs_pattern.specs.Regex.{Regex, start, finish, one, group, branch, choice, repeat, Regexes, none, more}
 use Rattle.xs_pattern.specs.Tokens.{Token, open_bracket, close_bracket, bar, start_anchor, end_anchor, one_of, times, tokens, tokens_of_pieces, tokens_of_branches, tokens_behind_bars}
 
 at_least : (n : ℕ) (ts : List Token) → n ≤ depth n ts

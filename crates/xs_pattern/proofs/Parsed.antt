@@ -1,13 +1,13 @@
 -- The reader of tokens is exact: it answers the expression whose tokens they are.
-use Rattle.std.proofs.Common.{◌≡◌, ℕ, zero, suc, ◌+◌, ◌-◌, ◌<◌, ◌≤◌, ◌⊎◌, inl, inr, List, [], ◌∷◌, ◌++◌, length, refl, arith, sym, subst, ap, ◌∙◌, Bool, true, false, ◌&&◌, append_assoc}
+use Rattle.std.proofs.Common.{◌≡◌, ℕ, suc, ◌+◌, ◌-◌, List, [], ◌∷◌, ◌++◌, length, refl, arith, sym, subst, ap, ◌∙◌, Bool, true, false, ◌&&◌, append_assoc}
 use Rattle.std.specs.Prelude.{⊤, ◌↔◌, IsTrue, Option, Some, None, IfSome, IfNone, Result, Ok, Err, IfOk, option_map, option_to_list, is_some, nat_eq, nat_lt}
 use Rattle.xs_pattern.specs.declared.expression.Expression.{Expression}
 use Rattle.std.proofs.lemmas.Bool.{lt-ltb}
 use Rattle.std.proofs.lemmas.Bool.Decides.{nat_tests}
 use Rattle.std.proofs.lemmas.List.{append-nil}
-use Rattle.xs_pattern.specs.Parsing.{Frame, blank, all_pieces, with_piece, with_atom, with_bar, with_times, whole, behind_times, behind_close, at_end, parse, is_spelled, IsSpelled}
-use Rattle.xs_pattern.specs.Regex.{Chars, Regex, start, finish, one, group, branch, choice, repeat, Regexes, none, more, row, regex_of}
-use Rattle.xs_pattern.specs.Tokens.{Token, open_bracket, close_bracket, bar, start_anchor, end_anchor, one_of, times, tokens, tokens_of_pieces, tokens_of_branches, tokens_behind_bars, IsPattern, AreBranches, IsBranch, ArePieces, IsPiece, IsAtom}
+use Rattle.xs_pattern.specs.Parsing.{Frame, blank, all_pieces, with_piece, with_atom, with_bar, with_times, whole, behind_times, parse, is_spelled, IsSpelled}
+use Rattle.xs_pattern.specs.Regex.{Regex, start, finish, one, group, branch, choice, repeat, Regexes, none, more, row, regex_of}
+use Rattle.xs_pattern.specs.Tokens.{Token, open_bracket, close_bracket, bar, start_anchor, end_anchor, one_of, times, tokens, tokens_of_pieces, tokens_behind_bars, IsPattern, AreBranches, IsBranch, ArePieces, IsPiece, IsAtom}
 
 -- children as a list
 abbrev pub listed : Regexes → List Regex

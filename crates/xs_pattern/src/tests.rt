@@ -1,4 +1,5 @@
 // Cases that the standards settle, and patterns that grow.
+use crate::parser::{Token, is_pattern, nesting, pattern_of};
 use crate::{CharGroup, Expression, Flags, Item, Kind, Pattern, Set};
 use std::alloc::{AllocError, Global};
 use std::test::Fail;
@@ -145,5 +146,34 @@ fn nested_repetitions_are_answered_at_once(rt: HostRuntime) -> Result<(), Fail> 
     let inner = repeat(rt.alloc(), empty, 4096, Some(4096))?;
     let outer = repeat(rt.alloc(), inner, 4096, Some(4096))?;
     assert_eq!(rt; is_found(rt.alloc(), outer, PLAIN, "")?, Some(true));
+    Ok(())
+}
+
+fn letter() -> Token {
+    Token::One(Set::Item(Item::Char('a')))
+}
+
+#[test]
+fn quantifiers_follow_atoms_alone(rt: HostRuntime) -> Result<(), Fail> {
+    // `((a)|)*`, `^*` and `a)`, each from its last token to its first.
+    let group = vec![in rt.alloc();
+        Token::Times(0, None),
+        Token::Close,
+        Token::Bar,
+        Token::Close,
+        letter(),
+        Token::Open,
+        Token::Open,
+    ]?;
+    let e = pattern_of(rt.alloc(), group)?;
+    assert!(rt; e.is_some_and(|e| Pattern::new(e, PLAIN).is_some()));
+    let anchor = vec![in rt.alloc(); Token::Times(0, None), Token::Start]?;
+    assert!(rt; pattern_of(rt.alloc(), anchor)?.is_none());
+    let unopened = vec![in rt.alloc(); Token::Close, letter()]?;
+    assert!(rt; pattern_of(rt.alloc(), unopened)?.is_none());
+    // `((a)` is none, and has two groups in one another.
+    let unclosed = vec![in rt.alloc(); Token::Open, Token::Open, letter(), Token::Close]?;
+    assert!(rt; !is_pattern(&unclosed));
+    assert_eq!(rt; nesting(&unclosed), 2);
     Ok(())
 }
