@@ -41,8 +41,9 @@ impl Pattern {
 
     /// Whether some part of the text is in the language of the pattern (section 5.6.3).
     ///
-    /// The time is at most the text's length times the number of positions times the depth of the pattern, which are
-    /// at most 4,096 and 64, whatever the pattern is.
+    /// The text is read once, whatever the pattern is: a character takes time in proportion to the positions, times how
+    /// deep repetitions without end nest, and to the sets of characters; where case is ignored, also to the table of
+    /// foldings.
     pub fn found(&self, alloc: Global, text: &str) -> Result<bool, AllocError>
         ensures { IfOk result (λ b. IsTrue b ↔ IsFound (flags_of self.now) (chars text.now) (regex self.now)) }
     {
