@@ -1,0 +1,13 @@
+pub mod Reading
+pub mod Repeated
+pub mod Classes
+pub mod SameLanguage
+pub mod Children
+pub mod Ways
+pub mod Marks
+pub mod Search
+pub mod Found
+pub mod Decided
+pub mod Parsed
+pub mod Frames
+pub mod Depth

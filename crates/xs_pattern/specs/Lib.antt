@@ -1,0 +1,11 @@
+pub mod Parsing
+pub mod Patterns
+pub mod Regex
+pub mod Characters
+pub mod Language
+pub mod Laws
+pub mod Limits
+pub mod Tests
+pub mod Tokens
+pub mod Unrolling
+pub mod Way

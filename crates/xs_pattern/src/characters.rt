@@ -1,0 +1,173 @@
+//! Which characters a set has.
+ghost use Rattle.std.specs.Prelude.{◌≡◌, ◌++◌, IfOk, OnOk, map};
+ghost use Rattle.xs_pattern.specs.Characters.{has_kind};
+ghost use Rattle.xs_pattern.specs.Regex.{chars_of, members_of, regex_of, regexes_of};
+ghost use Rattle.xs_pattern.specs.Tests.{alike, item_has, some_has, member_has, class_has, set_has, some_within};
+ghost use Rattle.xs_pattern.specs.Unrolling.{all_sets, kept, sets};
+
+use crate::{CharGroup, Expression, Flags, Item, Kind, Set};
+use std::alloc::{AllocError, Global};
+use unicode::case::fold_pairs;
+use unicode::properties::{GeneralCategory, GeneralCategoryGroup};
+
+impl Kind {
+    /// Whether the character is of the kind.
+    fn has(self, c: char) -> bool
+        ensures { result ≡ has_kind self c }
+    {
+        let category = GeneralCategory::for_char(c);
+        match self {
+            Kind::Digit => category.number() == GeneralCategory::DecimalNumber.number(),
+            Kind::Space => matches!(c, '\t' | '\n' | '\r' | ' '),
+            Kind::Word => {
+                !(GeneralCategoryGroup::Punctuation.contains(category)
+                    || GeneralCategoryGroup::Separator.contains(category)
+                    || GeneralCategoryGroup::Other.contains(category))
+            }
+            Kind::Category(wanted) => category.number() == wanted.number(),
+            Kind::Group(group) => group.contains(category),
+        }
+    }
+}
+
+impl Item {
+    /// Whether the item has the character, for which these characters stand.
+    fn has(self, c: char, alike: &[u32]) -> bool
+        ensures { result ≡ item_has self c alike.now }
+    {
+        match self {
+            Item::Char(only) => some_within(u32::from(only), u32::from(only), alike),
+            Item::Range(first, last) => some_within(u32::from(first), u32::from(last), alike),
+            Item::Kind(kind) => kind.has(c),
+            Item::Not(kind) => !kind.has(c),
+        }
+    }
+}
+
+/// Whether some of the characters is between the two.
+fn some_within(first: u32, last: u32, alike: &[u32]) -> bool
+    ensures { result ≡ some_within first last alike.now }
+{
+    alike.iter().any(|c| first <= *c && *c <= last)
+}
+
+/// Whether some item has the character.
+fn some_has(items: &[Item], c: char, alike: &[u32]) -> bool
+    ensures { result ≡ some_has items.now c alike.now }
+{
+    items.iter().any(|item| item.has(c, alike))
+}
+
+impl CharGroup {
+    /// Whether the group has the character.
+    fn has(&self, c: char, alike: &[u32]) -> bool
+        ensures { result ≡ member_has (members_of self.now) c alike.now }
+    {
+        if self.negated {
+            !some_has(&self.items, c, alike)
+        } else {
+            some_has(&self.items, c, alike)
+        }
+    }
+}
+
+/// Whether the class of these groups has the character.
+fn class_has(groups: &[CharGroup], c: char, alike: &[u32]) -> bool
+    ensures { result ≡ class_has (map members_of groups.now) c alike.now }
+{
+    match groups {
+        [first, rest @ ..] => first.has(c, alike) && !class_has(rest, c, alike),
+        [] => false,
+    }
+}
+
+impl Set {
+    /// Whether the set has the character.
+    fn has(&self, flags: Flags, c: char, alike: &[u32]) -> bool
+        ensures { result ≡ set_has flags (chars_of self.now) c alike.now }
+    {
+        match self {
+            Set::Dot => flags.dot_all || !(c == '\n' || c == '\r'),
+            Set::Item(item) => item.has(c, alike),
+            Set::Class(groups) => class_has(groups, c, alike),
+        }
+    }
+}
+
+/// The characters that stand for this one: itself, and where case is ignored those with its simple folding.
+pub(crate) fn alike(alloc: Global, flags: Flags, c: char) -> Result<Vec<u32>, AllocError>
+    ensures { IfOk result (λ cs. cs.items ≡ alike flags c) }
+{
+    let code = u32::from(c);
+    let mut all = Vec::new(alloc);
+    all.push(code)?;
+    if flags.ignore_case {
+        for pair in fold_pairs() {
+            if pair.0 == code {
+                all.push(pair.1)?;
+            }
+        }
+    }
+    Ok(all)
+}
+
+/// Adds for each set of the expression whether it has the character.
+#[cycle(having)]
+pub(crate) fn add_having(
+    e: &Expression,
+    flags: Flags,
+    c: char,
+    alike: &[u32],
+    having: &mut Vec<bool>,
+) -> Result<(), AllocError>
+    ensures { OnOk result (having.new.items
+        ≡ having.old.items ++ map (λ s. set_has flags s c alike.now) (sets (regex_of e.now))) }
+{
+    match e {
+        Expression::Start | Expression::End => Ok(()),
+        Expression::One(set) => Ok(having.push(set.has(flags, c, alike))?),
+        Expression::Group(body) => add_having(body, flags, c, alike, having),
+        Expression::Branch(parts) | Expression::Choice(parts) => {
+            add_all_having(parts, flags, c, alike, having)
+        }
+        Expression::Repeat(_, most, body) => {
+            add_repeated_having(*most, body, flags, c, alike, having)
+        }
+    }
+}
+
+/// What is repeated 0 times has no sets.
+#[cycle(having)]
+fn add_repeated_having(
+    most: Option<u32>,
+    body: &Expression,
+    flags: Flags,
+    c: char,
+    alike: &[u32],
+    having: &mut Vec<bool>,
+) -> Result<(), AllocError>
+    ensures { OnOk result (having.new.items
+        ≡ having.old.items ++ map (λ s. set_has flags s c alike.now) (kept most (sets (regex_of body.now)))) }
+{
+    if let Some(0) = most {
+        return Ok(());
+    }
+    add_having(body, flags, c, alike, having)
+}
+
+#[cycle(having)]
+fn add_all_having(
+    parts: &[Expression],
+    flags: Flags,
+    c: char,
+    alike: &[u32],
+    having: &mut Vec<bool>,
+) -> Result<(), AllocError>
+    ensures { OnOk result (having.new.items
+        ≡ having.old.items ++ map (λ s. set_has flags s c alike.now) (all_sets (regexes_of parts.now))) }
+{
+    for part in parts {
+        add_having(part, flags, c, alike, having)?;
+    }
+    Ok(())
+}

@@ -1,0 +1,118 @@
+//! Patterns, and whether they are found in a text.
+ghost use Rattle.std.specs.Prelude.{◌≡◌, ◌↔◌, ℕ, ◌≤◌, ◌<◌, true, false, IsTrue, IfOk, IfSome, IsNone, OnOk, length, slice_index_or};
+ghost use Rattle.std.specs.Str.{chars};
+ghost use Rattle.xs_pattern.specs.Language.{IsFound};
+ghost use Rattle.xs_pattern.specs.Limits.{positions};
+ghost use Rattle.xs_pattern.specs.Regex.{regex_of};
+ghost use Rattle.xs_pattern.specs.Unrolling.{exits, exits_at, having, sets};
+ghost use Rattle.xs_pattern.specs.Way.{next, size, way_of};
+
+use crate::characters::{add_having, alike};
+use crate::limits::fitting_positions;
+use crate::unrolled::{Unrolled, unroll};
+use crate::walk::{Edge, add_blank, advance, exit_of};
+use crate::{Expression, Flags};
+use std::alloc::{AllocError, Global};
+
+/// A pattern with its flags (XPath Functions and Operators 3.1, sections 5.6.1 and 5.6.2).
+#[derive(Debug, Drop)]
+pub struct Pattern {
+    expression: Expression,
+    flags: Flags,
+    ghost small: { positions (regex_of expression) ≤ 4096 },
+}
+
+impl Pattern {
+    ghost use Rattle.xs_pattern.specs.Patterns.{flags_of, regex};
+
+    /// The pattern of a regular expression. None exactly where it has over 4,096 positions.
+    ///
+    /// Each character, set of characters and anchor is a position, as often as it stands when repetitions are written out.
+    pub fn new(expression: Expression, flags: Flags) -> Option<Pattern>
+        ensures some { IfSome result (λ p. (regex p ≡ regex_of expression) × (flags_of p ≡ flags)) }
+        ensures none { IsNone result ↔ (4096 < positions (regex_of expression)) }
+    {
+        if fitting_positions(&expression).is_some() {
+            Some(Pattern { expression, flags })
+        } else {
+            None
+        }
+    }
+
+    /// Whether some part of the text is in the language of the pattern (section 5.6.3).
+    ///
+    /// The text is read once, whatever the pattern is: a character takes time in proportion to the positions, times how
+    /// deep repetitions without end nest, and to the sets of characters; where case is ignored, also to the table of
+    /// foldings.
+    pub fn found(&self, alloc: Global, text: &str) -> Result<bool, AllocError>
+        ensures { IfOk result (λ b. IsTrue b ↔ IsFound (flags_of self.now) (chars text.now) (regex self.now)) }
+    {
+        let characters = characters(alloc, text)?;
+        let mut next = 0;
+        let way = unroll(alloc, &self.expression, &mut next)?;
+        is_found(alloc, &self.expression, self.flags, &way, &characters)
+    }
+}
+
+/// The characters of a text.
+fn characters(alloc: Global, text: &str) -> Result<Vec<char>, AllocError>
+    ensures { IfOk result (λ v. v.items ≡ chars text.now) }
+{
+    text.chars().collect(alloc)
+}
+
+/// Reads a character at a place, and answers whether a part of the text ends there that is of the pattern.
+fn read_char(
+    alloc: Global,
+    e: &Expression,
+    flags: Flags,
+    way: &Unrolled,
+    edge: Edge,
+    c: char,
+    marks: &mut Vec<bool>,
+) -> Result<bool, AllocError>
+    requires { size (way_of way.now) ≤ length marks.old.items }
+    ensures exits { IfOk result (λ b. b ≡ exits edge (way_of way.now) marks.old.items) }
+    ensures marks { OnOk result (marks.new.items
+        ≡ next edge (λ k. slice_index_or (having flags (sets (regex_of e.now)) c) k false) (way_of way.now) true marks.old.items) }
+{
+    let alike = alike(alloc, flags, c)?;
+    let mut having = Vec::new(alloc);
+    add_having(e, flags, c, &alike, &mut having)?;
+    let mut behind = Vec::with_capacity(alloc, marks.len())?;
+    let exit = advance(way, edge, &having, true, marks, &mut behind)?;
+    *marks = behind;
+    Ok(exit.ends || exit.passes)
+}
+
+/// Whether some part of the text is of the pattern, which is given unrolled, too.
+pub(crate) fn is_found(
+    alloc: Global,
+    e: &Expression,
+    flags: Flags,
+    way: &Unrolled,
+    text: &[char],
+) -> Result<bool, AllocError>
+    ensures found { IfOk result (λ b. b ≡ true →
+        (j : ℕ) × (j ≤ length text.now) × (exits_at flags (sets (regex_of e.now)) text.now (way_of way.now) j ≡ true)) }
+    ensures missed { IfOk result (λ b. b ≡ false →
+        (j : ℕ) → j ≤ length text.now → exits_at flags (sets (regex_of e.now)) text.now (way_of way.now) j ≡ false) }
+{
+    let mut marks = Vec::new(alloc);
+    add_blank(way, &mut marks)?;
+    for (place, c) in text.iter().enumerate() {
+        let edge = Edge {
+            start: place == 0,
+            end: false,
+        };
+        if read_char(alloc, e, flags, way, edge, *c, &mut marks)? {
+            return Ok(true);
+        }
+    }
+    let edge = Edge {
+        start: text.is_empty(),
+        end: true,
+    };
+    let exit = exit_of(way, edge, &marks, 0);
+    Ok(exit.ends || exit.passes)
+}
