@@ -1,0 +1,11 @@
+pub mod Cuts
+pub mod Derivatives
+pub mod Languages
+pub mod Nexts
+pub mod Plain
+pub mod Recognised
+pub mod Residuals
+pub mod Samples
+pub mod Scanning
+pub mod Skipping
+pub mod Theorem

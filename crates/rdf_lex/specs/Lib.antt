@@ -1,0 +1,6 @@
+pub mod Characters
+pub mod Machine
+pub mod Phrases
+pub mod Scan
+pub mod Spelling
+pub mod Tokens

@@ -1,0 +1,11 @@
+//! Tokens of N-Triples, Turtle and shape maps, and prefixes (RDF 1.1 Turtle, section 6; RDF 1.1 N-Triples, section 3).
+#![tactic(auto)]
+
+mod characters;
+mod kinds;
+mod lexed;
+mod machine;
+mod scan;
+
+pub use kinds::{Kind, Mode};
+pub use lexed::{Lexed, Token, next};
