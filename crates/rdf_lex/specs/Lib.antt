@@ -1,6 +1,7 @@
 pub mod Characters
 pub mod Machine
 pub mod Phrases
+pub mod Prefixes
 pub mod Scan
 pub mod Spelling
 pub mod Tokens

@@ -5,7 +5,9 @@ mod characters;
 mod kinds;
 mod lexed;
 mod machine;
+mod prefixes;
 mod scan;
 
 pub use kinds::{Kind, Mode};
 pub use lexed::{Lexed, Token, next};
+pub use prefixes::Prefixes;
