@@ -1,6 +1,10 @@
+pub mod Standing
 pub mod Cuts
 pub mod Derivatives
+pub mod Enclosing
 pub mod Languages
+pub mod Meanings
+pub mod Meant
 pub mod Nexts
 pub mod Plain
 pub mod Recognised
@@ -9,3 +13,4 @@ pub mod Samples
 pub mod Scanning
 pub mod Skipping
 pub mod Theorem
+pub mod Unescaping

@@ -1,4 +1,5 @@
 pub mod Characters
+pub mod Escapes
 pub mod Machine
 pub mod Phrases
 pub mod Prefixes

@@ -19,8 +19,11 @@ abbrev pub text_escape : Phrase
 text_escape = char 92 ⨾ one text_escaped
 
 -- IRIREF: `<`, characters or UCHAR, `>` ([18])
+abbrev pub iri_body : Phrase
+iri_body = each (one iri_char ∣ numeric_escape)
+
 abbrev pub iri_ref : Phrase
-iri_ref = char 60 ⨾ each (one iri_char ∣ numeric_escape) ⨾ char 62
+iri_ref = char 60 ⨾ iri_body ⨾ char 62
 
 -- PN_PREFIX: begins with PN_CHARS_BASE, goes on with PN_CHARS or `.`, and does not end with `.` ([167s])
 abbrev pub prefix : Phrase
@@ -55,13 +58,18 @@ abbrev pub at_name : Phrase
 at_name = char 64 ⨾ (pname_ns ∣ pname_ln)
 
 -- STRING_LITERAL_QUOTE and STRING_LITERAL_SINGLE_QUOTE ([22], [23])
+abbrev pub short_body : ℕ → Phrase
+short_body quote = each (one (short_char quote) ∣ text_escape ∣ numeric_escape)
+
 abbrev pub short_text : ℕ → Phrase
-short_text quote = char quote ⨾ each (one (short_char quote) ∣ text_escape ∣ numeric_escape) ⨾ char quote
+short_text quote = char quote ⨾ short_body quote ⨾ char quote
 
 -- STRING_LITERAL_LONG_QUOTE and STRING_LITERAL_LONG_SINGLE_QUOTE ([24], [25])
+abbrev pub long_body : ℕ → Phrase
+long_body quote = each (maybe (char quote ∣ char quote ⨾ char quote) ⨾ (one (long_char quote) ∣ text_escape ∣ numeric_escape))
+
 abbrev pub long_text : ℕ → Phrase
-long_text quote = char quote ⨾ char quote ⨾ char quote ⨾ each (maybe (char quote ∣ char quote ⨾ char quote) ⨾ (one (long_char quote) ∣ text_escape ∣ numeric_escape))
-    ⨾ char quote ⨾ char quote ⨾ char quote
+long_text quote = char quote ⨾ char quote ⨾ char quote ⨾ long_body quote ⨾ char quote ⨾ char quote ⨾ char quote
 
 -- String ([17])
 abbrev pub any_text : Phrase

@@ -134,8 +134,8 @@ pub enum State {
     Line,
 }
 
-// One digit fewer, if there is one.
-fn fewer(left: Left) -> Option<Left>
+/// One digit fewer, if there is one.
+pub fn fewer(left: Left) -> Option<Left>
     ensures { result ≡ fewer_of left }
 {
     match left {
