@@ -1,11 +1,11 @@
 -- The part of a text between its marks.
-use Rattle.std.proofs.Common.{◌≡◌, ℕ, zero, suc, ◌+◌, ◌-◌, ◌≤◌, ◌<◌, Bool, true, false, cond, ◌&&◌, List, [], ◌∷◌, ◌++◌, length, take, drop, get_or, length-append, length-drop, encode_utf8_all, refl, sym, ap, subst, ◌∙◌, arith, ◌⊎◌, inl, inr}
+use Rattle.std.proofs.Common.{◌≡◌, ℕ, suc, ◌+◌, ◌-◌, ◌<◌, Bool, true, false, ◌&&◌, List, [], ◌∷◌, ◌++◌, length, take, drop, get_or, length-append, length-drop, encode_utf8_all, refl, sym, ap, subst, ◌∙◌, arith, ◌⊎◌, inl, inr}
 use Rattle.std.specs.Prelude.{nat_eq, nat_lt, not, slice_index, slice_range}
-use Rattle.std.specs.List.{after_first, position_or_len, prefix_len}
+use Rattle.std.specs.List.{after_first, prefix_len}
 use Rattle.std.specs.Str.{chars, IsUtf8, IsCharBoundary, NonePass}
 use Rattle.std.proofs.lemmas.Bool.{eqb-true, eq-eqb}
 use Rattle.std.proofs.lemmas.List.{drop-drop, append-nil}
-use Rattle.std.proofs.lemmas.Str.{encodes-chars, encodes-append, encode_ascii, chars-encodes, scalars-chars, IsUtf8-drop, IsCharBoundary-from_drop, char_from_byte, inside_one, chars_from_encodes}
+use Rattle.std.proofs.lemmas.Str.{encodes-chars, encodes-append, encode_ascii, IsCharBoundary-from_drop, char_from_byte, inside_one}
 use Rattle.std.proofs.Math.Utf8.{encode}
 use Rattle.rdf_lex.specs.declared.kinds.Kind.{Kind}
 use Rattle.rdf_lex.specs.declared.kinds.Kind.TheVariants.{IriRef, Str, PnameNs, PnameLn, AtName}
@@ -13,7 +13,7 @@ use Rattle.rdf_lex.specs.Characters.{short_char, text_escaped, hexadecimal}
 use Rattle.rdf_lex.specs.Escapes.{IsEnclosed, IsQuoted, Body, has_long_marks, is_colon, IsBehindColon}
 use Rattle.rdf_lex.specs.Phrases.{Spells}
 use Rattle.rdf_lex.specs.Spelling.{short_body}
-use Rattle.rdf_lex.proofs.Cuts.{IsCut, cut_at, size-length}
+use Rattle.rdf_lex.proofs.Cuts.{cut_at, size-length}
 use Rattle.rdf_lex.proofs.Languages.{to_past}
 use Rattle.rdf_lex.proofs.Theorem.{size}
 

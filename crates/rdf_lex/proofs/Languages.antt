@@ -1,11 +1,11 @@
 -- What is left of a phrase after a character spells what the phrase spells behind that character.
-use Rattle.std.proofs.Common.{◌≡◌, ℕ, Bool, true, false, cond, ◌&&◌, ◌||◌, List, [], ◌∷◌, ◌++◌, refl, sym, ap, subst, ◌∙◌, ◌⊎◌, inl, inr, append_assoc}
-use Rattle.std.specs.Prelude.{nat_eq, if◌then◌else◌}
+use Rattle.std.proofs.Common.{◌≡◌, ℕ, Bool, true, false, ◌&&◌, ◌||◌, List, [], ◌∷◌, ◌++◌, refl, sym, ap, subst, ◌∙◌, ◌⊎◌, inl, inr, append_assoc}
+use Rattle.std.specs.Prelude.{nat_eq}
 use Rattle.std.proofs.lemmas.List.{append-nil}
 use Rattle.std.proofs.lemmas.Bool.{eqb-true}
 use Rattle.rdf_lex.specs.Characters.{Class, Only, Among, Except, has, Ranges}
 use Rattle.rdf_lex.specs.Phrases.{Phrase, nothing, empty, one, ◌⨾◌, ◌∣◌, each, Spells, Pieces, none, more}
-use Rattle.rdf_lex.proofs.Derivatives.{ends, beside, either, follow, both, normal, when, past, past_all, same_ranges, same_class, same, stands_in, covered, alike}
+use Rattle.rdf_lex.proofs.Derivatives.{ends, beside, either, follow, both, normal, when, past, same_ranges, same_class, same, stands_in, covered}
 
 -- tests
 pub and_true : (a b : Bool) → (a && b) ≡ true → (a ≡ true) × (b ≡ true)

@@ -11,6 +11,7 @@ pub mod Recognised
 pub mod Residuals
 pub mod Samples
 pub mod Scanning
+pub mod Single
 pub mod Skipping
 pub mod Theorem
 pub mod Unescaping

@@ -1,18 +1,17 @@
 -- Each token of a kind that holds a text stands for something.
-use Rattle.std.proofs.Common.{◌≡◌, ℕ, Bool, true, false, ◌&&◌, List, [], ◌∷◌, ◌++◌, refl, sym, ap, subst, ◌∙◌, ◌⊎◌, inl, inr, append_assoc}
+use Rattle.std.proofs.Common.{◌≡◌, ℕ, true, List, [], ◌∷◌, ◌++◌, refl, sym, ap, subst, ◌∙◌, ◌⊎◌, inl, inr}
 use Rattle.std.specs.Prelude.{nat_eq}
 use Rattle.std.specs.Str.{NonePass}
 use Rattle.rdf_lex.specs.declared.escapes.Inside.{Inside}
-use Rattle.rdf_lex.specs.declared.escapes.Inside.TheVariants.{Iri, Text, Local}
+use Rattle.rdf_lex.specs.declared.escapes.Inside.TheVariants.{Local}
 use Rattle.rdf_lex.specs.declared.kinds.Kind.{Kind}
 use Rattle.rdf_lex.specs.declared.kinds.Kind.TheVariants as kinds
-use Rattle.rdf_lex.specs.declared.kinds.Mode.{Mode}
 use Rattle.rdf_lex.specs.declared.kinds.Mode.TheVariants.{NTriples, Turtle, Map}
 use Rattle.rdf_lex.specs.Characters.{name_base, name_char, short_char, long_char}
-use Rattle.rdf_lex.specs.Escapes.{StandsFor, ends, inside_of, IsBehindColon, IsQuoted, Body, holds_text, Means, IsSpelled}
+use Rattle.rdf_lex.specs.Escapes.{StandsFor, ends, inside_of, IsBehindColon, Body, holds_text, Means, IsSpelled}
 use Rattle.rdf_lex.specs.Phrases.{Phrase, ◌⨾◌, ◌∣◌, Spells, char, maybe}
-use Rattle.rdf_lex.specs.Spelling.{Spelling, iri_body, iri_ref, short_body, long_body, short_text, long_text, any_text, prefix, local_name, pname_ns, pname_ln, at_name}
-use Rattle.rdf_lex.proofs.Standing.{char_is, Whole, iri_stands, short_stands, long_stands, local_stands, none_spelled}
+use Rattle.rdf_lex.specs.Spelling.{iri_ref, short_body, long_body, short_text, long_text, any_text, prefix, local_name, pname_ns, pname_ln, at_name}
+use Rattle.rdf_lex.proofs.Standing.{char_is, iri_stands, short_stands, long_stands, local_stands, none_spelled}
 
 -- one character before, and one behind
 framed : (text xs rest body zs : List ℕ) (a b : ℕ) → text ≡ xs ++ rest → xs ≡ a ∷ [] → rest ≡ body ++ zs → zs ≡ b ∷ [] → text ≡ a ∷ (body ++ b ∷ [])

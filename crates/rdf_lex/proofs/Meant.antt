@@ -1,9 +1,9 @@
 -- A token's text stands for one text.
-use Rattle.std.proofs.Common.{◌≡◌, ℕ, Bool, true, false, ◌&&◌, List, [], ◌∷◌, ◌++◌, Result, Ok, Err, refl, sym, ap, subst, ◌∙◌, arith, encode_utf8_all, string_bytes}
+use Rattle.std.proofs.Common.{◌≡◌, ℕ, true, List, [], ◌∷◌, Result, Ok, Err, refl, sym, ap, subst, ◌∙◌, arith, string_bytes}
 use Rattle.std.specs.Prelude.{String}
 use Rattle.std.specs.declared.alloc.Global.{Global}
 use Rattle.std.specs.List.{list_all}
-use Rattle.std.specs.Str.{chars, IsUtf8, all_scalars}
+use Rattle.std.specs.Str.{chars, all_scalars}
 use Rattle.std.proofs.lemmas.Bool.Decides.{nat_tests}
 use Rattle.std.proofs.lemmas.Str.{chars-encodes}
 use Rattle.std.proofs.Math.Utf8.{scalar}
@@ -17,7 +17,7 @@ use Rattle.rdf_lex.specs.declared.escapes.LexError.{LexError}
 use Rattle.rdf_lex.specs.declared.escapes.LexError.TheVariants as error
 use Rattle.rdf_lex.specs.declared.kinds.Kind.{Kind}
 use Rattle.rdf_lex.specs.Characters.{has, iri_char}
-use Rattle.rdf_lex.specs.Escapes.{StandsFor, fits, is_character, step_after, inside_of, Body, Means, IsSpelled, holds_text, ReadsAs, IsMeaning, Unescapes}
+use Rattle.rdf_lex.specs.Escapes.{StandsFor, fits, is_character, step_after, inside_of, Body, IsSpelled, holds_text, ReadsAs, IsMeaning, Unescapes}
 use Rattle.rdf_lex.proofs.Languages.{and_true}
 use Rattle.rdf_lex.proofs.Meanings.{has_meaning}
 use Rattle.rdf_lex.proofs.Unescaping.{ReadsFrom, AfterStep, after_step, at_end}

@@ -1,8 +1,8 @@
 -- What a scan from a place finds is the longest token there.
-use Rattle.std.proofs.Common.{◌≡◌, ℕ, ◌+◌, ◌-◌, ◌≤◌, ◌<◌, Bool, true, false, cond, ◌&&◌, List, [], ◌∷◌, ◌++◌, length, take, drop, Option, Some, None, refl, sym, ap, subst, ◌∙◌, arith, length-append, length-take, length-drop, ◌⊎◌, inl, inr}
+use Rattle.std.proofs.Common.{◌≡◌, ℕ, ◌+◌, ◌≤◌, ◌<◌, Bool, true, false, cond, ◌&&◌, List, [], ◌∷◌, ◌++◌, length, take, drop, Option, Some, None, refl, sym, ap, subst, ◌∙◌, arith, length-take, length-drop, ◌⊎◌, inl, inr}
 use Rattle.std.specs.Char.{len_utf8}
 use Rattle.std.specs.Str.{chars, IsUtf8, IsCharBoundary, NonePass}
-use Rattle.std.specs.Prelude.{nat_eq, if◌then◌else◌, not}
+use Rattle.std.specs.Prelude.{nat_eq, not}
 use Rattle.std.proofs.lemmas.Bool.{eqb-true}
 use Rattle.std.proofs.lemmas.List.{drop-drop}
 use Rattle.std.proofs.lemmas.Str.{IsUtf8-drop, IsCharBoundary-from_drop, len_utf8_bounds}
@@ -14,8 +14,8 @@ use Rattle.rdf_lex.specs.declared.lexed.Lexed.TheVariants as lexed
 use Rattle.rdf_lex.specs.Phrases.{Spells}
 use Rattle.rdf_lex.specs.Spelling.{Spelling}
 use Rattle.rdf_lex.specs.Tokens.{Blanks, ends, stops, white, comment, is_white, ends_line, IsLineEnd, IsLongest, BeginsNone, IsSkipped, IsFirst, Lexes}
-use Rattle.rdf_lex.specs.Scan.{blank_step, blank_on, blank_from, scan_from, Next, at_end, at_bad, at_token, next_in, next_of, seen}
-use Rattle.rdf_lex.proofs.Cuts.{IsCut, cut_at}
+use Rattle.rdf_lex.specs.Scan.{blank_on, blank_from, scan_from, Next, at_end, at_bad, at_token, next_in, next_of, seen}
+use Rattle.rdf_lex.proofs.Cuts.{cut_at}
 use Rattle.rdf_lex.proofs.Languages.{heads}
 use Rattle.rdf_lex.proofs.Recognised.{kind_from, to_kind, from_kind}
 use Rattle.rdf_lex.proofs.Theorem.{size, HasLongest, Longest, scan_longest}
@@ -176,16 +176,22 @@ found m source at = scan_longest m Start (chars (drop (start_of m source at) sou
 none_begins : (m : Mode) (cs : List ℕ) → ((xs ys : List ℕ) → cs ≡ xs ++ ys → kind_from m Start xs ≡ None) → BeginsNone m cs
 none_begins m cs none j piece behind e h = none_some (kind_from m Start piece) j (none piece behind e) (to_kind m j piece h)
 
-pub lexes : (m : Mode) (source : List ℕ) (at : ℕ) (r : Lexed) → IsUtf8 source → IsCharBoundary source at → seen r ≡ next_of m source at → Lexes m source at r
+-- what comes next, as a scan sees it
+abbrev pub IsNext : Mode → List ℕ → ℕ → Next → Type 0
+IsNext m source at (at_token k text place) = IsFirst m source at k text place
+IsNext m source at at_end = IsSkipped m source at (length source)
+IsNext m source at (at_bad place) = IsSkipped m source at place × (place < length source) × BeginsNone m (chars (drop place source))
+
+pub is_next : (m : Mode) (source : List ℕ) (at : ℕ) (x : Next) → IsUtf8 source → IsCharBoundary source at → x ≡ next_of m source at → IsNext m source at x
 unfolding next_of
-lexes m source at (lexed.Token t) u b e =
+is_next m source at (at_token k text place) u b e =
     let start = start_of m source at in
     let rest = drop start source in
-    let s = token_shape rest start (scan_from m (chars rest) Start None 0) t.kind t.text.now t.at (sym e) in
-    let l : HasLongest m Start (chars rest) t.kind s.0 = subst (Longest m Start (chars rest)) s.1 (found m source at) in
-    subst (λ (p : ℕ). IsFirst m source at t.kind t.text.now p) s.2
-    (subst (λ (text : List ℕ). IsFirst m source at t.kind text start) s.3 (first_is m source at s.0 t.kind u b l))
-lexes m source at lexed.End u b e =
+    let s = token_shape rest start (scan_from m (chars rest) Start None 0) k text place (sym e) in
+    let l : HasLongest m Start (chars rest) k s.0 = subst (Longest m Start (chars rest)) s.1 (found m source at) in
+    subst (λ (p : ℕ). IsFirst m source at k text p) s.2
+    (subst (λ (bytes : List ℕ). IsFirst m source at k bytes start) s.3 (first_is m source at s.0 k u b l))
+is_next m source at at_end u b e =
     let start = start_of m source at in
     let rest = drop start source in
     let z = end_shape rest start (scan_from m (chars rest) Start None 0) (sym e) in
@@ -194,7 +200,7 @@ lexes m source at lexed.End u b e =
     let w : start ≤ length source = s.cut.0 in
     let p : start ≡ length source = omega arith in
     subst (IsSkipped m source at) p s
-lexes m source at (lexed.Bad place) u b e =
+is_next m source at (at_bad place) u b e =
     let start = start_of m source at in
     let rest = drop start source in
     let s = bad_shape rest start (scan_from m (chars rest) Start None 0) place (sym e) in
@@ -203,3 +209,8 @@ lexes m source at (lexed.Bad place) u b e =
     let small : start < length source = (let z = s.2 in omega arith) in
     subst (λ (p : ℕ). IsSkipped m source at p × (p < length source) × BeginsNone m (chars (drop p source))) s.1
     (skipped m source at u b, small, none_begins m (chars rest) none)
+
+pub lexes : (m : Mode) (source : List ℕ) (at : ℕ) (r : Lexed) → IsUtf8 source → IsCharBoundary source at → seen r ≡ next_of m source at → Lexes m source at r
+lexes m source at (lexed.Token t) u b e = is_next m source at (at_token t.kind t.text.now t.at) u b e
+lexes m source at lexed.End u b e = is_next m source at at_end u b e
+lexes m source at (lexed.Bad place) u b e = is_next m source at (at_bad place) u b e

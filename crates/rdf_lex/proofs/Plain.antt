@@ -1,12 +1,12 @@
 -- Characters that the classes of a phrase do not tell apart lead to the same rest.
-use Rattle.std.proofs.Common.{◌≡◌, ◌≢◌, ℕ, suc, ◌≤◌, ◌<◌, Bool, true, false, cond, ◌&&◌, ◌||◌, List, [], ◌∷◌, refl, sym, ap, subst, ◌∙◌, ◌⊎◌, inl, inr, arith}
-use Rattle.std.specs.Prelude.{nat_eq, nat_le, nat_lt, if◌then◌else◌, not}
-use Rattle.std.proofs.lemmas.Bool.{eqb-true, leb-true, le-leb, eq-eqb}
+use Rattle.std.proofs.Common.{◌≡◌, ℕ, suc, ◌≤◌, ◌<◌, Bool, true, false, cond, ◌&&◌, ◌||◌, List, [], ◌∷◌, refl, sym, ap, ◌∙◌, arith}
+use Rattle.std.specs.Prelude.{nat_eq, nat_le, nat_lt, not}
+use Rattle.std.proofs.lemmas.Bool.{leb-true}
 use Rattle.std.proofs.lemmas.Bool.Decides.{nat_tests}
 use Rattle.rdf_lex.specs.Characters.{Class, Only, Among, Except, has, within, Ranges}
 use Rattle.rdf_lex.specs.Phrases.{Phrase, nothing, empty, one, ◌⨾◌, ◌∣◌, each}
 use Rattle.rdf_lex.proofs.Derivatives.{ends, beside, either, follow, both, normal, when, past, past_all}
-use Rattle.rdf_lex.proofs.Languages.{and_true, or_true}
+use Rattle.rdf_lex.proofs.Languages.{and_true}
 use Rattle.rdf_lex.proofs.Samples.{Bounds, sample_in, bounds, sample}
 
 -- whether both are true or both false

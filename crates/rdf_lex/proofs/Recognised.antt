@@ -1,17 +1,16 @@
 -- The machine ends in a state of a kind exactly behind the texts that the kind's phrase spells.
-use Rattle.std.proofs.Common.{◌≡◌, ℕ, Bool, true, false, cond, ◌&&◌, ◌||◌, List, [], ◌∷◌, ◌++◌, Option, Some, None, refl, sym, ap, subst, ◌∙◌, ◌⊎◌, inl, inr}
-use Rattle.std.specs.Prelude.{◌↔◌, if◌then◌else◌}
+use Rattle.std.proofs.Common.{◌≡◌, ℕ, Bool, true, cond, List, [], ◌∷◌, Option, Some, None, refl, sym, ap, subst, ◌∙◌}
 use Rattle.rdf_lex.specs.declared.kinds.Kind.{Kind}
 use Rattle.rdf_lex.specs.declared.kinds.Mode.{Mode}
 use Rattle.rdf_lex.specs.declared.machine.State.{State}
 use Rattle.rdf_lex.specs.declared.machine.State.TheVariants.{Start}
-use Rattle.rdf_lex.specs.Characters.{Class, has}
+use Rattle.rdf_lex.specs.Characters.{has}
 use Rattle.rdf_lex.specs.Machine.{Rows, rows_of, following, step_of, label_of}
-use Rattle.rdf_lex.specs.Phrases.{Phrase, nothing, Spells}
+use Rattle.rdf_lex.specs.Phrases.{Phrase, Spells}
 use Rattle.rdf_lex.specs.Spelling.{Spelling}
-use Rattle.rdf_lex.proofs.Derivatives.{ends, past, past_all, normal, covered, alike}
+use Rattle.rdf_lex.proofs.Derivatives.{ends, past, normal, covered, alike}
 use Rattle.rdf_lex.proofs.Languages.{and_true, to_ends, from_ends, to_past, from_past, to_normal, from_normal, from_covered}
-use Rattle.rdf_lex.proofs.Plain.{Plain, plain, plain_class, both_or_none, alike_bools, has_sample, is_plain, past_sample, plain_normal, plain_past_all}
+use Rattle.rdf_lex.proofs.Plain.{Plain, plain_class, both_or_none, alike_bools, has_sample, is_plain, past_sample, plain_normal, plain_past_all}
 use Rattle.rdf_lex.proofs.Residuals.{way, residual, residual_on, is_kind, is_kind_some, some_is_kind, every_kind_is, agrees, labelled, plain_rows, rows_plain, is_steady, spelling_plain, at_sample}
 use Rattle.rdf_lex.proofs.Samples.{sample, samples, every}
 

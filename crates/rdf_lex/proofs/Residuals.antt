@@ -1,5 +1,5 @@
 -- What is left to be spelled in each state of the machine.
-use Rattle.std.proofs.Common.{◌≡◌, ℕ, Bool, true, false, cond, ◌&&◌, ◌||◌, List, [], ◌∷◌, ◌++◌, Option, Some, None, refl, sym, ap, ◌∙◌, ◌⊎◌, inl, inr}
+use Rattle.std.proofs.Common.{◌≡◌, ℕ, Bool, true, false, cond, ◌&&◌, ◌||◌, List, [], ◌∷◌, Option, Some, None, refl, sym, ap, ◌∙◌, inl, inr}
 use Rattle.std.specs.Prelude.{nat_eq, nat_le, if◌then◌else◌}
 use Rattle.std.proofs.lemmas.Bool.{eqb-true, eq-eqb}
 use Rattle.rdf_lex.specs.declared.kinds.Kind.{Kind}
@@ -28,7 +28,7 @@ use Rattle.rdf_lex.specs.declared.machine.MarkPart.{MarkPart}
 use Rattle.rdf_lex.specs.declared.machine.MarkPart.TheVariants as mark
 use Rattle.rdf_lex.specs.declared.machine.State.{State}
 use Rattle.rdf_lex.specs.declared.machine.State.TheVariants.{Start, Iri, Text, Number, Name, Tag, Label, Mark, Line}
-use Rattle.rdf_lex.specs.Characters.{Class, Only, has, digit, letter, letter_or_digit, hexadecimal, name_base, name_char, local_start, local_char, label_start, local_escaped, text_escaped, iri_char, short_char, long_char, line_end, turtle_mark, map_mark}
+use Rattle.rdf_lex.specs.Characters.{digit, letter, letter_or_digit, hexadecimal, name_base, name_char, local_start, local_char, label_start, local_escaped, text_escaped, iri_char, short_char, long_char, line_end, turtle_mark, map_mark}
 use Rattle.rdf_lex.specs.Machine.{Rows, rows_of, step_of, label_of, mark_of}
 use Rattle.rdf_lex.specs.Phrases.{Phrase, nothing}
 use Rattle.rdf_lex.specs.Spelling.{Spelling}

@@ -1,5 +1,5 @@
 -- One character for each set of classes that a character may be in.
-use Rattle.std.proofs.Common.{◌≡◌, ℕ, suc, Bool, true, false, cond, ◌&&◌, ◌||◌, List, [], ◌∷◌, refl}
+use Rattle.std.proofs.Common.{ℕ, Bool, true, ◌&&◌, List, [], ◌∷◌}
 use Rattle.std.specs.Prelude.{nat_le, if◌then◌else◌}
 
 -- up to which character which one stands for all

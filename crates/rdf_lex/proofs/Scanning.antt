@@ -1,5 +1,5 @@
 -- One character of a scan.
-use Rattle.std.proofs.Common.{◌≡◌, ℕ, ◌+◌, ◌≤◌, ◌<◌, List, [], ◌∷◌, ◌++◌, length, drop, Option, Some, None, refl, sym, ap, ◌∙◌, arith, length-append}
+use Rattle.std.proofs.Common.{◌≡◌, ℕ, ◌+◌, ◌≤◌, List, ◌++◌, length, drop, Option, Some, None, refl, sym, ap, ◌∙◌, arith, length-append}
 use Rattle.std.specs.Char.{len_utf8}
 use Rattle.std.specs.Option.{IfSome}
 use Rattle.std.specs.Str.{chars, IsUtf8, IsCharBoundary}
@@ -11,7 +11,7 @@ use Rattle.rdf_lex.specs.declared.kinds.Mode.{Mode}
 use Rattle.rdf_lex.specs.declared.machine.State.{State}
 use Rattle.rdf_lex.specs.declared.machine.State.TheVariants.{Start}
 use Rattle.rdf_lex.specs.Machine.{step_of, label_of}
-use Rattle.rdf_lex.specs.Scan.{scan_from, scan_on, best_of}
+use Rattle.rdf_lex.specs.Scan.{scan_from, best_of}
 
 abbrev pub Scans : Mode → List ℕ → State → Option (Kind × ℕ) → ℕ → List ℕ → Type 0
 Scans m bs s best n src = (scan_from m (chars bs) s best n ≡ scan_from m (chars src) Start None 0) × IsUtf8 bs × (n + length bs ≡ length src) × (drop n src ≡ bs) × IfSome best (λ x. IsCharBoundary src x.1)

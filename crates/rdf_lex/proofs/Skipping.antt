@@ -1,12 +1,12 @@
 -- One character of white space.
-use Rattle.std.proofs.Common.{◌≡◌, ℕ, ◌+◌, ◌≤◌, ◌<◌, Bool, true, false, List, [], ◌∷◌, ◌++◌, length, drop, Option, Some, None, refl, sym, ap, ◌∙◌, arith}
+use Rattle.std.proofs.Common.{◌≡◌, ℕ, ◌+◌, ◌≤◌, Bool, false, List, ◌++◌, length, drop, Some, None, refl, ◌∙◌, arith}
 use Rattle.std.specs.Char.{len_utf8}
 use Rattle.std.specs.Str.{chars, IsUtf8, IsCharBoundary}
 use Rattle.std.proofs.lemmas.Str.{chars_past_char, IsUtf8-past_char, chars-nil, drop_past_char, IsCharBoundary-from_drop}
 use Rattle.std.proofs.lemmas.List.{nil_from_length}
 use lib.Utf8.{encode}
 use Rattle.rdf_lex.specs.declared.kinds.Mode.{Mode}
-use Rattle.rdf_lex.specs.Scan.{blank_step, blank_on, blank_from}
+use Rattle.rdf_lex.specs.Scan.{blank_step, blank_from}
 use Rattle.rdf_lex.proofs.Scanning.{size_char}
 
 abbrev pub Skips : Mode → List ℕ → Bool → ℕ → List ℕ → Type 0

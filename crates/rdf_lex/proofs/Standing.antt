@@ -1,5 +1,5 @@
 -- The part of a token that stands for something is there, and it stands for something.
-use Rattle.std.proofs.Common.{◌≡◌, ℕ, suc, ◌+◌, ◌-◌, ◌≤◌, ◌<◌, Bool, true, false, cond, ◌&&◌, List, [], ◌∷◌, ◌++◌, length, drop, length-append, refl, sym, ap, subst, ◌∙◌, arith, ◌⊎◌, inl, inr, append_assoc, encode_utf8_all}
+use Rattle.std.proofs.Common.{◌≡◌, ℕ, ◌+◌, Bool, true, false, ◌&&◌, List, [], ◌∷◌, ◌++◌, length, length-append, refl, sym, ap, subst, ◌∙◌, arith, ◌⊎◌, inl, inr, append_assoc}
 use Rattle.std.specs.Prelude.{nat_eq, not}
 use Rattle.std.specs.List.{list_all}
 use Rattle.std.specs.Str.{NonePass}
@@ -8,14 +8,10 @@ use Rattle.std.proofs.lemmas.List.{append-nil}
 use Rattle.std.proofs.lemmas.List.Folds.{list_all-append}
 use Rattle.rdf_lex.specs.declared.escapes.Inside.{Inside}
 use Rattle.rdf_lex.specs.declared.escapes.Inside.TheVariants.{Iri, Text, Local}
-use Rattle.rdf_lex.specs.declared.kinds.Kind.{Kind}
-use Rattle.rdf_lex.specs.declared.kinds.Kind.TheVariants as kinds
-use Rattle.rdf_lex.specs.declared.kinds.Mode.{Mode}
-use Rattle.rdf_lex.specs.declared.kinds.Mode.TheVariants.{NTriples, Turtle, Map}
-use Rattle.rdf_lex.specs.Characters.{Class, Only, has, hexadecimal, name_base, name_char, iri_char, short_char, long_char, local_start, local_char, local_escaped, text_escaped}
-use Rattle.rdf_lex.specs.Escapes.{StandsFor, ends, plain, named, numbered, number_of, escaped, escapes, numbers, inside_of, IsBehindColon, IsQuoted, Body, holds_text, Means, IsSpelled}
+use Rattle.rdf_lex.specs.Characters.{Class, Only, has, hexadecimal, iri_char, short_char, long_char, local_start, local_char, local_escaped, text_escaped}
+use Rattle.rdf_lex.specs.Escapes.{StandsFor, ends, plain, named, numbered, number_of, escaped, escapes, numbers}
 use Rattle.rdf_lex.specs.Phrases.{Phrase, nothing, empty, one, ◌⨾◌, ◌∣◌, each, Spells, Pieces, none, more, char}
-use Rattle.rdf_lex.specs.Spelling.{four_digits, numeric_escape, text_escape, local_escape, iri_body, short_body, long_body, short_text, long_text, prefix, local_name, pname_ns, pname_ln}
+use Rattle.rdf_lex.specs.Spelling.{four_digits, numeric_escape, text_escape, iri_body, short_body, long_body, local_name}
 use Rattle.rdf_lex.proofs.Languages.{and_true, true_and}
 
 pub char_is : (d : ℕ) (xs : List ℕ) → Spells (char d) xs → xs ≡ d ∷ []

@@ -1,12 +1,12 @@
 -- A scan finds the longest token.
-use Rattle.std.proofs.Common.{◌≡◌, ℕ, zero, suc, ◌+◌, ◌≤◌, ◌<◌, List, [], ◌∷◌, ◌++◌, length, Option, Some, None, refl, sym, ap, subst, ◌∙◌, arith, add_assoc, zero-add, ◌⊎◌, inl, inr}
+use Rattle.std.proofs.Common.{◌≡◌, ℕ, ◌+◌, ◌<◌, List, [], ◌∷◌, ◌++◌, Option, Some, None, refl, sym, ap, subst, arith, zero-add}
 use Rattle.std.specs.Char.{len_utf8}
 use Rattle.rdf_lex.specs.declared.kinds.Kind.{Kind}
 use Rattle.rdf_lex.specs.declared.kinds.Mode.{Mode}
 use Rattle.rdf_lex.specs.declared.machine.State.{State}
 use Rattle.rdf_lex.specs.Machine.{step_of, label_of}
 use Rattle.rdf_lex.specs.Scan.{scan_from, scan_on, best_of}
-use Rattle.rdf_lex.proofs.Recognised.{kind_from, then_from}
+use Rattle.rdf_lex.proofs.Recognised.{kind_from}
 
 -- how many bytes the characters take
 abbrev pub size : List ℕ → ℕ

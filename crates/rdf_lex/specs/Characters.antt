@@ -1,5 +1,5 @@
 -- Sets of characters, as tables of ranges of code points.
-use Rattle.std.specs.Prelude.{ℕ, Bool, true, false, List, [], ◌∷◌, ◌++◌, nat_eq, nat_le, ◌&&◌, ◌||◌, not}
+use Rattle.std.specs.Prelude.{ℕ, Bool, false, List, [], ◌∷◌, ◌++◌, nat_eq, nat_le, ◌&&◌, ◌||◌, not}
 
 -- ranges, each from a first code point to a last
 abbrev pub Ranges : Type 0

@@ -1,5 +1,5 @@
 -- What a token's text stands for (RDF 1.1 Turtle, section 6.4).
-use Rattle.std.specs.Prelude.{◌≡◌, ℕ, ◌+◌, ◌-◌, ◌*◌, slice_index, Bool, true, false, Option, Some, None, List, [], ◌∷◌, ◌++◌, length, nat_eq, nat_lt, nat_le, if◌then◌else◌, ◌&&◌, ◌||◌, ◌⊎◌, not, encode_utf8, encode_utf8_all, string_bytes, ◌<◌, Result, Ok, Err, String}
+use Rattle.std.specs.Prelude.{◌≡◌, ℕ, ◌+◌, ◌-◌, ◌*◌, slice_index, Bool, true, false, Option, Some, None, List, [], ◌∷◌, ◌++◌, length, nat_eq, nat_lt, nat_le, if◌then◌else◌, ◌&&◌, ◌||◌, ◌⊎◌, encode_utf8, encode_utf8_all, string_bytes, ◌<◌, Result, Ok, Err, String}
 use Rattle.std.specs.declared.alloc.Global.{Global}
 use Rattle.std.specs.List.{fold, list_all}
 use Rattle.std.specs.Str.{chars, NonePass}

@@ -1,5 +1,6 @@
 pub mod Characters
 pub mod Escapes
+pub mod Laws
 pub mod Machine
 pub mod Phrases
 pub mod Prefixes

@@ -1,11 +1,11 @@
 -- What characters spell a token of each kind (RDF 1.1 Turtle, section 6.5; RDF 1.1 N-Triples, section 7).
-use Rattle.std.specs.Prelude.{ℕ, List, [], ◌∷◌, ◌++◌}
+use Rattle.std.specs.Prelude.{ℕ}
 use Rattle.rdf_lex.specs.declared.kinds.Kind.{Kind}
 use Rattle.rdf_lex.specs.declared.kinds.Kind.TheVariants as kinds
 use Rattle.rdf_lex.specs.declared.kinds.Mode.{Mode}
 use Rattle.rdf_lex.specs.declared.kinds.Mode.TheVariants.{NTriples, Turtle, Map}
 use Rattle.rdf_lex.specs.Characters.{Class, digit, letter, letter_or_digit, hexadecimal, name_base, name_char, local_start, local_char, label_start, local_escaped, text_escaped, iri_char, short_char, long_char, line_end, turtle_mark, map_mark}
-use Rattle.rdf_lex.specs.Phrases.{Phrase, nothing, empty, one, ◌⨾◌, ◌∣◌, each, char, maybe, some}
+use Rattle.rdf_lex.specs.Phrases.{Phrase, nothing, one, ◌⨾◌, ◌∣◌, each, char, maybe, some}
 
 abbrev pub four_digits : Phrase
 four_digits = one hexadecimal ⨾ one hexadecimal ⨾ one hexadecimal ⨾ one hexadecimal

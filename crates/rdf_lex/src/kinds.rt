@@ -41,3 +41,25 @@ pub enum Kind {
     /// One or more line ends, in N-Triples (EOL).
     Line,
 }
+
+impl Kind {
+    ghost use Rattle.std.specs.Prelude.{◌≡◌};
+    ghost use Rattle.rdf_lex.specs.Escapes.{holds_text};
+
+    /// Whether a token of this kind holds an IRI, a text or a local name, for `unescape`.
+    pub fn holds_text(self) -> bool
+        ensures { result ≡ holds_text self }
+    {
+        match self {
+            Kind::IriRef | Kind::PnameNs | Kind::PnameLn | Kind::AtName | Kind::Str => true,
+            Kind::BlankLabel
+            | Kind::LangTag
+            | Kind::Integer
+            | Kind::Decimal
+            | Kind::Double
+            | Kind::Word
+            | Kind::Punct
+            | Kind::Line => false,
+        }
+    }
+}

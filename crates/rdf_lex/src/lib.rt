@@ -5,12 +5,16 @@ mod bodies;
 mod characters;
 mod escapes;
 mod kinds;
+mod laws;
 mod lexed;
 mod machine;
 mod prefixes;
 mod scan;
+#[cfg(test)]
+mod tests;
 
 pub use escapes::{LexError, unescape};
 pub use kinds::{Kind, Mode};
+pub use laws::{kinds_are_apart, next_is_one, tokens_are_one};
 pub use lexed::{Lexed, Token, next};
 pub use prefixes::Prefixes;

@@ -1,5 +1,5 @@
 use Rattle.std.proofs.Common.{rules, string_bytes}
-use Rattle.rdf_lex.proofs.Unescaping.{begins, goes, refused, finished, stopped}
+use Rattle.rdf_lex.proofs.Unescaping.{begins, goes, finished, stopped}
 use Rattle.rdf_lex.proofs.escapes.read_body.Goals as goal
 
 pub loop-ch-init : goal.loop-ch-init

@@ -1,4 +1,4 @@
-use Rattle.std.proofs.Common.{sym, subst}
+use Rattle.std.proofs.Common.{sym}
 use Rattle.rdf_lex.proofs.Meant.{unescapes, has_body}
 use Rattle.rdf_lex.proofs.escapes.unescape.Goals as goal
 

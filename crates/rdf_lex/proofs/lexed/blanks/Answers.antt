@@ -1,4 +1,4 @@
-use Rattle.std.proofs.Common.{◌≡◌, Some, None, sym, refl, ap, ◌∙◌, arith}
+use Rattle.std.proofs.Common.{sym, refl, ◌∙◌, arith}
 use Rattle.rdf_lex.proofs.Skipping.{skips_goes, skips_stops, skips_ends, skips_bound, skips_room}
 use Rattle.rdf_lex.proofs.lexed.blanks.Goals as goal
 

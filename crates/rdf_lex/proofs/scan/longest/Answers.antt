@@ -1,4 +1,4 @@
-use Rattle.std.proofs.Common.{◌≡◌, Some, None, sym, refl, ap, ◌∙◌, arith}
+use Rattle.std.proofs.Common.{Some, None, sym, refl, ◌∙◌, arith}
 use Rattle.rdf_lex.proofs.Scanning.{goes, stops, ends, room, bound}
 use Rattle.rdf_lex.proofs.scan.longest.Goals as goal
 
