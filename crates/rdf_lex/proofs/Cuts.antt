@@ -10,11 +10,11 @@ pub size-length : (cs : List ℕ) → length (encode_utf8_all cs) ≡ size cs
 size-length [] = refl
 size-length (c ∷ cs) = length-append _ (encode_utf8_all cs) ∙ ap (λ (n : ℕ). n + length (encode_utf8_all cs)) (length-encode c) ∙ ap (λ (n : ℕ). len_utf8 c + n) (size-length cs)
 
-first_scalars : (xs ys : List ℕ) → all_scalars (xs ++ ys) ≡ true → all_scalars xs ≡ true
+pub first_scalars : (xs ys : List ℕ) → all_scalars (xs ++ ys) ≡ true → all_scalars xs ≡ true
 first_scalars [] ys e = refl
 first_scalars (x ∷ xs) ys e = let p = and_true _ (all_scalars (xs ++ ys)) e in rw (p.0, first_scalars xs ys p.1) refl
 
-last_scalars : (xs ys : List ℕ) → all_scalars (xs ++ ys) ≡ true → all_scalars ys ≡ true
+pub last_scalars : (xs ys : List ℕ) → all_scalars (xs ++ ys) ≡ true → all_scalars ys ≡ true
 last_scalars [] ys e = e
 last_scalars (x ∷ xs) ys e = last_scalars xs ys (and_true _ (all_scalars (xs ++ ys)) e).1
 

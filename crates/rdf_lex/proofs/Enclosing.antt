@@ -52,7 +52,7 @@ pub part_is : (bs : List ℕ) (n : ℕ) (body r : List ℕ) → IsPart bs n body
 part_is bs n body r p e = let w = p.whole in let k : length bs - n - n ≡ size body = omega arith in ap chars (e ∙ ap (λ (i : ℕ). take i (drop n bs)) k) ∙ p.part
 
 -- quotation marks
-quote_byte : (q : ℕ) (rest : List ℕ) → q < 128 → encode_utf8_all (q ∷ rest) ≡ q ∷ encode_utf8_all rest
+pub quote_byte : (q : ℕ) (rest : List ℕ) → q < 128 → encode_utf8_all (q ∷ rest) ≡ q ∷ encode_utf8_all rest
 quote_byte q rest low = ap (λ (v : List ℕ). v ++ encode_utf8_all rest) (encode_ascii q low)
 
 other_first : (q b : ℕ) (r : List ℕ) (t : Bool) → q < 128 → nat_eq q (slice_index (encode b ++ r) 0) ≡ t → 0 < length (encode b ++ r) → (b ≡ q → ⊥) → t ≡ false
@@ -118,7 +118,7 @@ quoted_by : (q : ℕ) (bs body : List ℕ) → q < 128 → ((cs : List ℕ) → 
 quoted_by q bs body low never u (inl (e, h)) = inl (short_marks q bs body low u e (no_quote q body never h), one_mark q bs body low e)
 quoted_by q bs body low never u (inr (e, h)) = inr (long_marks q bs (body ++ q ∷ q ∷ q ∷ []) low u e, three_marks q bs body low e)
 
-quoted_in : (bs body : List ℕ) → IsUtf8 bs → Body Str (chars bs) body → ((has_long_marks bs ≡ false) × IsEnclosed bs 1 body) ⊎ ((has_long_marks bs ≡ true) × IsEnclosed bs 3 body)
+pub quoted_in : (bs body : List ℕ) → IsUtf8 bs → Body Str (chars bs) body → ((has_long_marks bs ≡ false) × IsEnclosed bs 1 body) ⊎ ((has_long_marks bs ≡ true) × IsEnclosed bs 3 body)
 quoted_in bs body u (inl h) = quoted_by 34 bs body (omega arith) not_double u h
 quoted_in bs body u (inr h) = quoted_by 39 bs body (omega arith) not_single u h
 

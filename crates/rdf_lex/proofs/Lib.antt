@@ -6,6 +6,7 @@ pub mod Languages
 pub mod Meanings
 pub mod Meant
 pub mod Nexts
+pub mod Placing
 pub mod Plain
 pub mod Recognised
 pub mod Residuals
@@ -13,5 +14,6 @@ pub mod Samples
 pub mod Scanning
 pub mod Single
 pub mod Skipping
+pub mod TermTokens
 pub mod Theorem
 pub mod Unescaping

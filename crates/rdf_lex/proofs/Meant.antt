@@ -39,7 +39,7 @@ is_given : (w : Inside) (cs out : List ℕ) (s : Reading) → ReadsFrom w s cs o
 is_given w [] out s h = at_end w s [] out refl h
 is_given w (c ∷ cs) out s h = given_by w cs out (step_after w s c) (λ t r k. is_given w cs r t k) (after_step w s c cs out h)
 
-stands_for_one : (w : Inside) (cs a b : List ℕ) → StandsFor w cs a → StandsFor w cs b → a ≡ b
+pub stands_for_one : (w : Inside) (cs a b : List ℕ) → StandsFor w cs a → StandsFor w cs b → a ≡ b
 stands_for_one w cs a b h k = is_given w cs a reading.Plain h ∙ sym (is_given w cs b reading.Plain k)
 
 -- characters

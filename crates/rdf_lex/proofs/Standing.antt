@@ -52,7 +52,7 @@ whole_each w p f = record { stands = λ cs h. pieces_stand w p cs f h }
 whole_empty : (w : Inside) → Whole w empty
 whole_empty w = record { stands = λ cs h. stand_along w cs [] h ([], ends) }
 
-no_slash : (q : Class) (c : ℕ) (b : Bool) → nat_eq c 92 ≡ b → has q 92 ≡ false → has q c ≡ true → b ≡ false
+pub no_slash : (q : Class) (c : ℕ) (b : Bool) → nat_eq c 92 ≡ b → has q 92 ≡ false → has q c ≡ true → b ≡ false
 no_slash q c true e f g = sym (sym f ∙ ap (has q) (sym (eqb-true c 92 e)) ∙ g)
 no_slash q c false e f g = refl
 

@@ -1,6 +1,6 @@
 // Laws of tokens, for those that read them.
 
-ghost use Rattle.rdf_lex.specs.Laws.{KindsAreApart, NextIsOne, TokensAreOne};
+ghost use Rattle.rdf_lex.specs.Laws.{IriTextsAreTokens, KindsAreApart, LiteralTextsAreTokens, NextIsOne, TokensAreOne};
 
 /// No text is a token of two kinds.
 pub fn kinds_are_apart()
@@ -15,4 +15,17 @@ pub fn next_is_one()
 /// A text is one list of tokens at most.
 pub fn tokens_are_one()
     ensures { TokensAreOne }
+{}
+
+/// The text of an IRI is one token, which stands for the IRI, where the IRI has no character that an
+/// IRI may not have.
+pub fn iri_texts_are_tokens()
+    ensures { IriTextsAreTokens }
+{}
+
+/// The text of a literal is a string, which stands for its lexical form, and behind it its tag, or
+/// `^^` and its datatype unless that is xsd:string, where the datatype has no character that an IRI
+/// may not have and the tag is one of a language.
+pub fn literal_texts_are_tokens()
+    ensures { LiteralTextsAreTokens }
 {}

@@ -15,6 +15,8 @@ mod tests;
 
 pub use escapes::{LexError, unescape};
 pub use kinds::{Kind, Mode};
-pub use laws::{kinds_are_apart, next_is_one, tokens_are_one};
+pub use laws::{
+    iri_texts_are_tokens, kinds_are_apart, literal_texts_are_tokens, next_is_one, tokens_are_one,
+};
 pub use lexed::{Lexed, Token, next};
 pub use prefixes::Prefixes;
