@@ -50,7 +50,7 @@ letter = Among letters
 unfoldable pub letter_or_digit : Class
 letter_or_digit = Among (digits ++ letters)
 
--- HEX ([162s])
+-- HEX ([171s])
 unfoldable pub hexadecimal : Class
 hexadecimal = Among (digits ++ ((65, 70) ∷ (97, 102) ∷ []))
 

@@ -12,7 +12,8 @@ use crate::lexed::Token;
 /// An IRI between its brackets, a text between its quotation marks, a local name behind its colon.
 pub fn body_of<'a>(token: Token<'a>) -> &'a str
     requires { (body : List ℕ) × Body token.kind (chars token.text.now) body }
-    ensures { (body : List ℕ) → Body token.entry.kind (chars token.entry.text.now) body → chars result.now ≡ body }
+    ensures { (body : List ℕ) → Body token.entry.kind (chars token.entry.text.now) body
+        → chars result.now ≡ body }
 {
     match token.kind {
         Kind::IriRef => enclosed(token.text, 1),

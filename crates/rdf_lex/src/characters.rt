@@ -29,7 +29,7 @@ pub fn is_letter_or_digit(ch: char) -> bool
     matches!(ch, '0'..='9' | 'A'..='Z' | 'a'..='z')
 }
 
-// HEX ([162s]).
+// HEX ([171s]).
 #[tactic(auto, unfolding(crate::specs::Characters::hexadecimal))]
 pub fn is_hexadecimal(ch: char) -> bool
     ensures { result ≡ has hexadecimal ch }

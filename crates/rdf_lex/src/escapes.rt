@@ -132,7 +132,9 @@ fn number_on(left: Left, number: u32, ch: char) -> u32
 
 // The character of a number, if it may stand there.
 fn character(inside: Inside, number: u32) -> Result<char, LexError>
-    ensures { MatchResult result (λ c. (c ≡ number) × (fits inside number ≡ true)) (λ e. (e ≡ Escape) × (fits inside number ≡ false)) }
+    ensures { MatchResult result
+        (λ c. (c ≡ number) × (fits inside number ≡ true))
+        (λ e. (e ≡ Escape) × (fits inside number ≡ false)) }
 {
     match (inside, char::from_u32(number)) {
         (_, None) => Err(LexError::Escape),
@@ -149,7 +151,8 @@ fn read_char(
     text: &mut String,
 ) -> Result<Reading, LexError>
     requires { IsBelow reading }
-    ensures gave { Gave inside (string_bytes text.old) (string_bytes text.new) (step_after inside reading ch) result }
+    ensures gave { Gave inside (string_bytes text.old) (string_bytes text.new)
+        (step_after inside reading ch) result }
     ensures below { IfOk result IsBelow }
 {
     match step_on(inside, reading, ch) {

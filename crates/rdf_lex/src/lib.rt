@@ -1,4 +1,5 @@
-//! Tokens of N-Triples, Turtle and shape maps, and prefixes (RDF 1.1 Turtle, section 6; RDF 1.1 N-Triples, section 3).
+//! Tokens of N-Triples, Turtle and shape maps, lent from their source; what their texts stand for; and a
+//! document's base and prefixes (RDF 1.1 Turtle, section 6; RDF 1.1 N-Triples, section 7).
 #![tactic(auto)]
 
 mod bodies;

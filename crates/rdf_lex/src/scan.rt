@@ -14,17 +14,8 @@ pub fn add_len(len: usize, ch: char, source: &str) -> usize
     requires { len + len_utf8 ch ≤ length source.now }
     ensures { result ≡ len + len_utf8 ch }
 {
-    let whole = source.len();
-    if len > whole {
-        return whole;
-    }
-    let left = whole - len;
-    let size = ch.len_utf8();
-    if size > left {
-        whole
-    } else {
-        whole - (left - size)
-    }
+    let _whole = source.len();
+    len + ch.len_utf8()
 }
 
 /// The kind of the longest token at the front, and its number of bytes.
