@@ -179,3 +179,15 @@ pub lexed_one : (m : Mode) (source : List ℕ) (at : ℕ) (r : Lexed) → IsUtf8
 lexed_one m source at (lexed.Token t) u b h = lexes_one m source at (at_token t.kind t.text.now t.at) u b h
 lexed_one m source at lexed.End u b h = lexes_one m source at at_end u b h
 lexed_one m source at (lexed.Bad place) u b h = lexes_one m source at (at_bad place) u b h
+
+-- a token is not empty
+some_text : (m : Mode) (k : Kind) (text : List ℕ) → Spells (Spelling m k) (chars text) → 0 < length text
+some_text m k [] h = absurd (none_empty m k (subst (λ (v : List ℕ). Spells (Spelling m k) v) chars-nil h))
+some_text m k (b ∷ bs) h = omega arith
+
+pub on_behind : (m : Mode) (source : List ℕ) (at : ℕ) (k : Kind) (text : List ℕ) (place : ℕ) → IsFirst m source at k text place → (at < place + length text) × (place + length text ≤ length source)
+on_behind m source at k text place f =
+    let some = some_text m k text f.longest.spelled in
+    let on = f.skipped.onward in
+    let end : place + length text ≤ length source = f.cut.0 in
+    (omega arith, end)

@@ -1,5 +1,5 @@
 -- Laws of tokens.
-use Rattle.std.specs.Prelude.{◌≡◌, ℕ, true, if◌then◌else◌, List, [], ◌∷◌, ◌++◌, Option, Some, None, codes, encode_utf8_all}
+use Rattle.std.specs.Prelude.{◌≡◌, ℕ, ◌+◌, ◌<◌, ◌≤◌, length, true, if◌then◌else◌, List, [], ◌∷◌, ◌++◌, Option, Some, None, codes, encode_utf8_all}
 use Rattle.std.specs.List.{list_all, flat_map}
 use Rattle.std.specs.Str.{chars, all_scalars, IsUtf8, IsCharBoundary}
 use Rattle.rdf_terms.specs.Literals.{LiteralParts, xsd_string}
@@ -15,7 +15,7 @@ use Rattle.rdf_lex.specs.Escapes.{IsMeaning}
 use Rattle.rdf_lex.specs.Phrases.{Spells}
 use Rattle.rdf_lex.specs.Scan.{next_of, seen}
 use Rattle.rdf_lex.specs.Spelling.{Spelling, lang_tag}
-use Rattle.rdf_lex.specs.Tokens.{Lexes, Spelled, Tokens}
+use Rattle.rdf_lex.specs.Tokens.{IsFirst, Lexes, Spelled, Tokens}
 
 -- no text is a token of two kinds
 abbrev pub KindsAreApart : Type 0
@@ -60,3 +60,8 @@ IriTextsAreTokens = (m : Mode) (iri : List ℕ) → IsIri iri
 abbrev pub LiteralTextsAreTokens : Type 0
 LiteralTextsAreTokens = (m : Mode) (l : LiteralParts) → all_scalars l.lex ≡ true → IsIri l.datatype → IsTag l.lang
     → Tokens m (literal_text l) (record { kind = kinds.Str; text = quoted_text l } ∷ suffix_tokens l l.lang) × IsMeaning kinds.Str (chars (quoted_text l)) l.lex
+
+-- a token ends behind the place from which it was sought, and within the text
+abbrev pub TokensGoOn : Type 0
+TokensGoOn = (m : Mode) (source : List ℕ) (at : ℕ) (k : Kind) (text : List ℕ) (place : ℕ) → IsFirst m source at k text place
+    → (at < place + length text) × (place + length text ≤ length source)

@@ -1,6 +1,6 @@
 // Laws of tokens, for those that read them.
 
-ghost use Rattle.rdf_lex.specs.Laws.{IriTextsAreTokens, KindsAreApart, LiteralTextsAreTokens, NextIsOne, TokensAreOne};
+ghost use Rattle.rdf_lex.specs.Laws.{IriTextsAreTokens, KindsAreApart, LiteralTextsAreTokens, NextIsOne, TokensAreOne, TokensGoOn};
 
 /// No text is a token of two kinds.
 pub fn kinds_are_apart()
@@ -15,6 +15,11 @@ pub fn next_is_one()
 /// A text is one list of tokens at most.
 pub fn tokens_are_one()
     ensures { TokensAreOne }
+{}
+
+/// A token ends behind the place from which it was sought, so that a reader of tokens ends.
+pub fn tokens_go_on()
+    ensures { TokensGoOn }
 {}
 
 /// The text of an IRI is one token, which stands for the IRI, where the IRI has no character that an

@@ -18,6 +18,7 @@ pub use escapes::{LexError, unescape};
 pub use kinds::{Kind, Mode};
 pub use laws::{
     iri_texts_are_tokens, kinds_are_apart, literal_texts_are_tokens, next_is_one, tokens_are_one,
+    tokens_go_on,
 };
 pub use lexed::{Lexed, Token, next};
 pub use prefixes::Prefixes;
