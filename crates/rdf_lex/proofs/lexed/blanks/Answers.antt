@@ -1,0 +1,24 @@
+use Rattle.std.proofs.Common.{sym, refl, ◌∙◌, arith}
+use Rattle.rdf_lex.proofs.Skipping.{skips_goes, skips_stops, skips_ends, skips_bound, skips_room}
+use Rattle.rdf_lex.proofs.lexed.blanks.Goals as goal
+
+pub loop-ch-init : goal.loop-ch-init
+loop-ch-init c = rw (c.into_iter-ch-iterator.ensures.into_iter_gives, c.chars-ch-items.ensures.rest) (omega arith, c.utf8.source, omega arith, refl)
+
+pub add_len-len-requires : goal.add_len-len-requires
+add_len-len-requires c = skips_room _ _ _ _ _ _ _ c.in-Some.ensures.steps.0 c.loop-ch.invariant
+
+pub loop-ch-preserved : goal.loop-ch-preserved
+loop-ch-preserved c = skips_goes _ _ _ _ _ _ _ _ _ c.in-Some.ensures.steps.0 c.add_len-len.ensures (sym c.blank.ensures ∙ c.in-Some-blank.is) c.loop-ch.invariant
+
+pub returns-in_default-clause-count : goal.returns-in_default-clause-count
+returns-in_default-clause-count c = skips_stops _ _ _ _ _ _ _ c.in-Some.ensures.steps.0 (sym c.blank.ensures ∙ c.in_default.is) c.loop-ch.invariant
+
+pub returns-in_default-clause-boundary : goal.returns-in_default-clause-boundary
+returns-in_default-clause-boundary c = skips_bound _ _ _ _ _ c.loop-ch.invariant
+
+pub returns-clause-count : goal.returns-clause-count
+returns-clause-count c = skips_ends _ _ _ _ _ c.in-None.ensures.steps.0.0 c.loop-ch.invariant
+
+pub returns-clause-boundary : goal.returns-clause-boundary
+returns-clause-boundary c = skips_bound _ _ _ _ _ c.loop-ch.invariant

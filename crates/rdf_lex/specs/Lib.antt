@@ -1,0 +1,9 @@
+pub mod Characters
+pub mod Escapes
+pub mod Laws
+pub mod Machine
+pub mod Phrases
+pub mod Prefixes
+pub mod Scan
+pub mod Spelling
+pub mod Tokens
