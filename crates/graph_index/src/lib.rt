@@ -5,7 +5,7 @@ pub mod graph;
 pub mod laws;
 mod order;
 pub mod read_error;
-mod rows;
+pub mod rows;
 #[cfg(test)]
 mod tests;
 

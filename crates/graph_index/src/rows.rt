@@ -15,7 +15,7 @@ use std::marker::Model;
 
 /// The triples of a sealed graph: by the numbers of their subjects, and by those of their objects.
 #[derive(Debug, Drop)]
-pub(crate) struct Rows {
+pub struct Rows {
     outward: Vec<Triple>,
     inward: Vec<Triple>,
 }
@@ -33,7 +33,7 @@ impl Model for Rows {
 
 impl Rows {
     /// The triples in both orders, by the texts of the table.
-    pub(crate) fn arranged(
+    pub fn arranged(
         alloc: Global,
         triples: &[Triple],
         terms: &TermTable,
@@ -46,14 +46,14 @@ impl Rows {
     }
 
     /// The triples of a subject.
-    pub(crate) fn outs(&self, n: TermId) -> &[Triple]
+    pub fn outs(&self, n: TermId) -> &[Triple]
         ensures { result.now ≡ outs self.now.outward n }
     {
         of_subject(self.outward.as_slice(), n)
     }
 
     /// The triples of an object.
-    pub(crate) fn ins(&self, n: TermId) -> &[Triple]
+    pub fn ins(&self, n: TermId) -> &[Triple]
         ensures { result.now ≡ ins self.now.inward n }
     {
         of_object(self.inward.as_slice(), n)
