@@ -1,6 +1,5 @@
 -- Where bytes cease to be a proof text.
-use Rattle.std.specs.Prelude.{⊤}
-use Rattle.std.proofs.Common.{◌≡◌, ℕ, zero, suc, ◌<◌, ◌≤◌, ◌==◌, ◌⊎◌, inl, inr, subst, List, [], ◌∷◌, ◌++◌, refl, ap, sym, ◌∙◌, length, arith, map, append_assoc, true, false, true≢false, eq-eqb, codes, encode_utf8_all}
+use Rattle.std.proofs.Common.{◌≡◌, ℕ, zero, suc, ◌<◌, ◌≤◌, ◌==◌, inr, subst, List, [], ◌∷◌, ◌++◌, refl, ap, sym, ◌∙◌, length, arith, map, append_assoc, true, false, true≢false, eq-eqb, codes, encode_utf8_all}
 use Rattle.std.proofs.Math.Utf8.{encode}
 use Rattle.std.proofs.lemmas.List.{append_cancel_left, length-append}
 use Rattle.std.proofs.lemmas.Fmt.{IsAscii-decimal}
@@ -9,7 +8,6 @@ use Rattle.std.specs.Fmt.{decimal}
 use Rattle.std.specs.List.{AllByRecursion, Contains, join_with_byte}
 use Rattle.std.specs.Str.{IsUtf8}
 use Rattle.rdf_terms.specs.Written.{term_text}
-use Rattle.rdf_terms.specs.declared.terms.Term.{Term}
 use Rattle.rdf_terms.specs.declared.terms.Term.TheVariants as Terms
 use Rattle.schema_tree.specs.declared.labels.Label.TheVariants as Labels
 use Rattle.schema_tree.specs.declared.schema.Target.{Target}
@@ -23,12 +21,12 @@ use Rattle.proof_file.specs.declared.Proof.{Proof}
 use Rattle.proof_file.specs.declared.line.Line.{Line}
 use Rattle.proof_file.specs.declared.line.Line.TheVariants as Lines
 use Rattle.proof_file.specs.declared.lines.Stage.TheVariants as Stages
-use Rattle.proof_file.specs.Text.{Keeps, IsLine, IsUnicode, IsTextTarget, HasNoFeed, HasNoFeeds, ProofText, IsFault, Begins, AreLines, IsNumber, IsPlace, IsState, IsKind, place_text, state_text, kind_fields, kind_mark, claim_mark, record_fields, target_text, line_text, ended, lines_text, lines_of, first_line, last_line, text_of}
+use Rattle.proof_file.specs.Text.{Keeps, IsUnicode, IsTextTarget, HasNoFeed, HasNoFeeds, ProofText, IsFault, IsNumber, IsPlace, IsState, IsKind, place_text, state_text, kind_fields, kind_mark, claim_mark, record_fields, target_text, line_text, ended, lines_text, lines_of, first_line, last_line, text_of}
 use Rattle.proof_file.specs.Reader.{behind_text, IsGood, Follows, Runs, stage_after, last_after}
 use Rattle.proof_file.proofs.Joined.{all_back}
 use Rattle.proof_file.proofs.Parts.{once}
 use Rattle.proof_file.proofs.Clean.{IsClean}
-use Rattle.proof_file.proofs.Apart.{not_held, clean_line, prefix, line_first, good_lines, only_text, not_end}
+use Rattle.proof_file.proofs.Apart.{not_held, clean_line, prefix, line_first, good_lines, only_text}
 use Rattle.proof_file.proofs.Grown.{proof_runs, runs_back}
 
 -- ---- lines are UTF-8

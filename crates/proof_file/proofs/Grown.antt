@@ -1,9 +1,8 @@
 -- A proof grows line by line.
 use Rattle.std.specs.Prelude.{⊤}
-use Rattle.std.proofs.Common.{◌≡◌, ℕ, zero, suc, ◌<◌, ◌≤◌, ◌+◌, ◌⊎◌, inl, inr, subst, List, [], ◌∷◌, ◌++◌, refl, ap, sym, ◌∙◌, length, arith, map, append_assoc, true, false}
+use Rattle.std.proofs.Common.{◌≡◌, ℕ, suc, ◌<◌, ◌≤◌, ◌+◌, ◌⊎◌, inl, inr, subst, List, [], ◌∷◌, ◌++◌, refl, ap, sym, ◌∙◌, length, arith, map, append_assoc}
 use Rattle.std.proofs.lemmas.List.{map-append, length-append}
 use Rattle.std.proofs.lemmas.Grind.{flat_map-append}
-use Rattle.std.specs.Cmp.Lexicographic.{slice_cmp}
 use Rattle.std.specs.List.{AllByRecursion, flat_map}
 use Rattle.rdf_terms.specs.declared.terms.Term.{Term}
 use Rattle.proof_file.specs.declared.Record.{Record}
@@ -14,9 +13,9 @@ use Rattle.proof_file.specs.declared.line.Line.{Line}
 use Rattle.proof_file.specs.declared.line.Line.TheVariants as Lines
 use Rattle.proof_file.specs.declared.lines.Stage.{Stage}
 use Rattle.proof_file.specs.declared.lines.Stage.TheVariants as Stages
-use Rattle.proof_file.specs.Text.{Keeps, IsLine, IsLess, IsTermBefore, IsSectionBefore, IsRecordBefore, Rises, RisesFrom, line_text, lines_of, section_lines}
+use Rattle.proof_file.specs.Text.{Keeps, IsLine, IsTermBefore, IsSectionBefore, IsRecordBefore, Rises, RisesFrom, line_text, lines_of, section_lines}
 use Rattle.proof_file.specs.Reader.{IsBehind, Grows, node, section, entry, claim, Follows, next_stage, next_last, Runs, stage_after, last_after, InSection, Fits}
-use Rattle.proof_file.proofs.Joined.{all_append, all_front, all_back, all_map}
+use Rattle.proof_file.proofs.Joined.{all_append, all_front}
 
 -- ---- lines of a proof that keeps the orders follow one another
 

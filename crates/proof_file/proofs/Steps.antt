@@ -1,6 +1,5 @@
 -- The reader of lines, line by line.
-use Rattle.std.specs.Prelude.{⊤}
-use Rattle.std.proofs.Common.{◌≡◌, ℕ, zero, suc, ◌+◌, ◌-◌, ◌<◌, ◌≤◌, ◌==◌, ◌⊎◌, inl, inr, subst, List, [], ◌∷◌, ◌++◌, refl, ap, sym, ◌∙◌, length, get_or, take, drop, arith, append_assoc, Bool, true, false, true≢false, eq-eqb, eqb, ltb, cond, codes, Option, Some, None, position}
+use Rattle.std.proofs.Common.{◌≡◌, ℕ, zero, suc, ◌+◌, ◌-◌, ◌<◌, ◌≤◌, ◌==◌, ◌⊎◌, inl, inr, subst, List, [], ◌∷◌, ◌++◌, refl, ap, sym, ◌∙◌, length, get_or, take, drop, arith, append_assoc, Bool, true, false, true≢false, eq-eqb, eqb, ltb, cond, codes, Some, None, position}
 use Rattle.std.proofs.lemmas.List.{length-append, take_rest}
 use Rattle.std.proofs.lemmas.List.Quantifiers.{position-Some}
 use Rattle.std.proofs.lemmas.List.Elements.{All-from_get_or}
@@ -9,14 +8,14 @@ use Rattle.std.proofs.lemmas.Bool.{eqb-true, ltb-false}
 use Rattle.std.proofs.lemmas.Option.{none-some}
 use Rattle.std.proofs.lemmas.Grind.{flat_map-append}
 use Rattle.std.specs.Cmp.Lexicographic.{pointwise}
-use Rattle.std.specs.List.{AllByRecursion, flat_map, position_or_len}
+use Rattle.std.specs.List.{AllByRecursion, position_or_len}
 use Rattle.proof_file.specs.declared.Proof.{Proof}
 use Rattle.proof_file.specs.declared.line.Line.{Line}
 use Rattle.proof_file.specs.declared.lines.Stage.{Stage}
 use Rattle.proof_file.specs.declared.lines.Stage.TheVariants as Stages
 use Rattle.proof_file.specs.declared.lines.Lines.{Lines as Reader}
-use Rattle.proof_file.specs.Text.{Keeps, IsLine, IsUnicode, HasNoFeed, ProofText, IsFault, line_text, ended, lines_text, lines_of, first_line, last_line, text_of}
-use Rattle.proof_file.specs.Reader.{behind_text, IsGood, IsNext, IsPast, IsStuck, HasNoEnd, Grows, Follows, Fits, next_stage, next_last, stage_after, last_after, no_lines}
+use Rattle.proof_file.specs.Text.{IsUnicode, HasNoFeed, ProofText, IsFault, line_text, ended, lines_text, lines_of, first_line, last_line, text_of}
+use Rattle.proof_file.specs.Reader.{behind_text, IsNext, IsPast, IsStuck, HasNoEnd, Grows, Follows, Fits, next_stage, next_last, stage_after, last_after, no_lines}
 use Rattle.proof_file.proofs.Joined.{all_append, all_back}
 use Rattle.proof_file.proofs.Parts.{once, by_recursion}
 use Rattle.proof_file.proofs.Apart.{not_held}

@@ -43,7 +43,7 @@ pub enum Next {
     Line(Line),
     /// The bytes are the text of a proof, and all its lines are given.
     End,
-    /// The bytes are no proof text from this place on.
+    /// The bytes are the text of no proof, and cease to be one at this place, counted in bytes from 0.
     Bad(u64),
     /// Memory is wanting.
     Memory,

@@ -19,7 +19,7 @@ use thiserror::Error;
 /// Why bytes give no proof.
 #[derive(Debug, Drop, Error)]
 pub enum ReadError {
-    /// The bytes are the text of no proof, and cease to be one at this place.
+    /// The bytes are the text of no proof, and cease to be one at this place, counted in bytes from 0.
     #[error("no proof from byte {0} on")]
     Syntax(u64),
     /// Memory ran out.
@@ -131,7 +131,8 @@ fn close(
     }
 }
 
-/// The proof of which the bytes are the text.
+/// The proof of which the bytes are the text, in time linear in their number. Fails with `Syntax` where they are the text of
+/// none, at the start of the first line with which they begin none, and with `Memory` where memory is wanting.
 pub fn read(alloc: Global, bytes: &[u8]) -> Result<Proof, ReadError>
     ensures found { IfOk result (λ p. ProofText p bytes.now) }
     ensures fault { IfErr result (FaultsAs bytes.now) }

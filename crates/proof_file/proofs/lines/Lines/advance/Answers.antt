@@ -1,4 +1,4 @@
-use Rattle.std.proofs.Common.{refl, sym, ap, ◌∙◌, ◌++◌, ◌∷◌, ◌≡◌, ◌-◌, length, subst}
+use Rattle.std.proofs.Common.{refl, sym, ap, ◌∙◌, ◌++◌, ◌∷◌, subst}
 use Rattle.proof_file.specs.Text.{IsFault}
 use Rattle.proof_file.proofs.Steps.{past_more, past_stuck}
 use Rattle.proof_file.proofs.lines.Lines.advance.Goals as goal
