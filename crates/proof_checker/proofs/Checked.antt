@@ -1,0 +1,90 @@
+-- What the check of a whole proof rests on.
+use Rattle.std.proofs.Common.{◌≡◌, ℕ, ◌+◌, ◌^◌, ◌<◌, ◌≤◌, length, get_or, take, map, List, [], ◌∷◌, ◌++◌, refl, arith, ap, sym, subst, ◌∙◌}
+use Rattle.std.proofs.lemmas.List.{map-append, take_more, length-append}
+use Rattle.std.specs.Prelude.{Contains, Option, Some, None, slice_get, option_map}
+use Rattle.std.specs.List.{AllByRecursion, flat_map}
+use Rattle.rdf_terms.specs.declared.terms.TermId.{TermId}
+use Rattle.rdf_terms.specs.declared.terms.Term.{Term}
+use Rattle.rdf_terms.specs.declared.terms.Triple.{Triple}
+use Rattle.schema_tree.specs.declared.schema.Answer.{Answer}
+use Rattle.schema_tree.specs.declared.schema.Schema.{Schema}
+use Rattle.schema_tree.proofs.Lists.{in_map}
+use Rattle.schema_tree.proofs.Members.{all_at}
+use Rattle.std.proofs.lemmas.List.Elements.{Contains-append_right}
+use Rattle.proof_file.specs.declared.Claim.{Claim}
+use Rattle.proof_file.specs.declared.Section.{Section}
+use Rattle.proof_file.specs.declared.Proof.{Proof}
+use Rattle.proof_file.specs.Accepts.{AreAccepted, IsAccepted, Setting, in_section, is_claim, items_of}
+use Rattle.proof_file.specs.Laws.{LinesAreFew}
+use Rattle.proof_file.specs.Text.{ProofText, lines_of, section_lines}
+use Rattle.proof_file.specs.declared.line.Line.{Line}
+use Rattle.proof_file.specs.declared.line.Line.TheVariants as Lines
+use Rattle.proof_checker.specs.declared.items.Fault.{Fault}
+use Rattle.proof_checker.specs.Checks.{AreAnswers, IsReadAs, IsRejectedAs, answer_with, setting_of}
+use Rattle.proof_checker.specs.Faults.{FirstFault, proof_of, section_items}
+use Rattle.proof_checker.proofs.Found.{fault_none, fault_some, map_long}
+
+pub answers_push : (nodes : List TermId) (claims : List Claim) (i : ℕ) (claim : Claim) (given : List Answer) (a : Answer) → i < length claims → claim ≡ get_or claims i claim →
+    option_map (answer_with claim) (slice_get nodes claim.node) ≡ Some a → AreAnswers nodes (take i claims) given → AreAnswers nodes (take (i + 1) claims) (given ++ a ∷ [])
+answers_push nodes claims i claim given a within is own before =
+    ap (λ zs. map (λ c. option_map (answer_with c) (slice_get nodes c.node)) zs) (take_more claims i claim within ∙ ap (λ z. take i claims ++ z ∷ []) (sym is))
+    ∙ map-append (λ c. option_map (answer_with c) (slice_get nodes c.node)) (take i claims) (claim ∷ [])
+    ∙ ap (λ zs. zs ++ option_map (answer_with claim) (slice_get nodes claim.node) ∷ []) before
+    ∙ ap (λ o. map (λ z. Some z) given ++ o ∷ []) own ∙ sym (map-append (λ z. Some z) given (a ∷ []))
+
+-- a proof has no more items than lines
+sections_few : (xs : List Section) → length (section_items xs) ≤ length (flat_map section_lines xs)
+sections_few [] = omega arith
+sections_few (x ∷ xs) =
+    let a = length-append (map (λ r. in_section x.stratum r) x.records) (section_items xs) in
+    let b = length-append (section_lines x) (flat_map section_lines xs) in
+    let c = map_long (λ r. in_section x.stratum r) x.records in
+    let d = map_long (λ r. Lines.Record r) x.records in
+    let e = sections_few xs in
+    omega (arith, a, b, c, d, e)
+
+items_few : (p : Proof) → length (items_of p) ≤ length (lines_of p)
+items_few p =
+    let a = length-append (section_items p.sections) (map (λ c. is_claim c) p.claims) in
+    let b = length-append (map (λ t. Lines.Node t) p.nodes) (flat_map section_lines p.sections ++ map (λ c. Lines.Claim c) p.claims) in
+    let c = length-append (flat_map section_lines p.sections) (map (λ c. Lines.Claim c) p.claims) in
+    let d = map_long (λ c. is_claim c) p.claims in
+    let e = map_long (λ c. Lines.Claim c) p.claims in
+    let f = sections_few p.sections in
+    omega (arith, a, b, c, d, e, f)
+
+module _ (p : Proof) (sections : List Section) (claims : List Claim) (same : sections ≡ p.sections) (alike : claims ≡ p.claims) where
+  pub items_fit : LinesAreFew → (bytes : List ℕ) → ProofText p bytes → length bytes < 2 ^ 64 → length (items_of (proof_of sections claims)) < 2 ^ 64
+  items_fit law bytes text long =
+      subst (λ xs. length (items_of (proof_of xs claims)) < 2 ^ 64) (sym same)
+      (subst (λ cs. length (items_of (proof_of p.sections cs)) < 2 ^ 64) (sym alike)
+      (let a = law p bytes text in let b = items_few p in omega (arith, a, b, long)))
+
+  whole : (x : Setting) (o : Option Fault) → FirstFault x (proof_of sections claims) (items_of (proof_of sections claims)) o → FirstFault x p (items_of p) o
+  whole x o found =
+      subst (λ cs. FirstFault x (proof_of p.sections cs) (items_of (proof_of p.sections cs)) o) alike
+      (subst (λ xs. FirstFault x (proof_of xs claims) (items_of (proof_of xs claims)) o) same found)
+
+  -- what the first fault says of the proof as it was read
+  pub rejected_as : (f : List ℕ) (s : Schema) (old terms : List Term) (g : List Triple) (bytes : List ℕ) (nodes lent : List TermId) → lent ≡ nodes →
+      IsReadAs old terms bytes p nodes → (o : Option Fault) (fault : Fault) → o ≡ Some fault →
+      FirstFault (setting_of f s terms g lent) (proof_of sections claims) (items_of (proof_of sections claims)) o →
+      IsRejectedAs f s old terms g bytes fault.item fault.why
+  rejected_as f s old terms g bytes nodes lent one read o fault is found =
+      let at : FirstFault (setting_of f s terms g nodes) p (items_of p) (Some fault) =
+      subst (λ ns. FirstFault (setting_of f s terms g ns) p (items_of p) (Some fault)) one
+      (fault_some (setting_of f s terms g lent) p (items_of p) o fault is (whole (setting_of f s terms g lent) o found)) in
+      let (within, all, fails) = at in
+      record { proof = p; nodes = nodes; read = read; rejected = (all, fails) }
+
+  pub accepted_all : (f : List ℕ) (s : Schema) (terms : List Term) (g : List Triple) (lent : List TermId) (o : Option Fault) → ((fault : Fault) → ¬ (o ≡ Some fault)) →
+      FirstFault (setting_of f s terms g lent) (proof_of sections claims) (items_of (proof_of sections claims)) o → AreAccepted (setting_of f s terms g lent) p
+  accepted_all f s terms g lent o none found =
+      fault_none (setting_of f s terms g lent) p (items_of p) o none (whole (setting_of f s terms g lent) o found)
+
+  pub claims_in : (x : Setting) → AreAccepted x p → (c : Claim) → Contains claims c → c.node < length x.nodes
+  claims_in x all c held =
+      let item = all_at (IsAccepted x p) (items_of p) (is_claim c) all
+      (Contains-append_right (section_items p.sections) (map (λ d. is_claim d) p.claims) (is_claim c)
+      (in_map (λ d. is_claim d) p.claims c (subst (λ cs. Contains cs c) alike held))) in
+      item.0

@@ -1,0 +1,10 @@
+pub mod Noted
+pub mod Known
+pub mod Allowed
+pub mod Counting
+pub mod Stating
+pub mod Alike
+pub mod Found
+pub mod Neighbours
+pub mod TakenUp
+pub mod Checked

@@ -1,0 +1,27 @@
+use Rattle.std.proofs.Common.{refl, sym, true≢false, false, ◌∙◌, ◌≡◌}
+use Rattle.std.specs.Prelude.{IsTrue, Contains, ◌↔◌}
+use Rattle.std.proofs.lemmas.Result.{IfOk-weaker}
+use Rattle.schema_tree.specs.declared.verdicts.State.{State}
+use Rattle.proof_file.specs.Accepts.{AreStates}
+use Rattle.proof_checker.specs.Stated.{IsSettled}
+use Rattle.proof_checker.proofs.Allowed.{neither}
+use Rattle.proof_checker.proofs.Stating.{both_ok, states_fail, states_shaped}
+use Rattle.proof_checker.proofs.states.Listing.are_states.Goals as goal
+
+pub returns-then-not-are_shaped : goal.returns-then-not-are_shaped
+returns-then-not-are_shaped g c = neither (AreStates (g.J.Judge.hold c.args.self.now.judge.now) (g.J.Judge.fail c.args.self.now.judge.now) c.args.self.now.shape.now c.args.self.now.node c.args.self.now.triples.now c.args.self.now.states.now) (λ h. true≢false (sym (c.if-not-are_shaped.ensures.1 (states_shaped (g.J.Judge.hold c.args.self.now.judge.now) (g.J.Judge.fail c.args.self.now.judge.now) c.args.self.now.shape.now c.args.self.now.node c.args.self.now.triples.now c.args.self.now.states.now h))))
+
+pub returns-then-not-branch : goal.returns-then-not-branch
+returns-then-not-branch g c = neither (AreStates (g.J.Judge.hold c.args.self.now.judge.now) (g.J.Judge.fail c.args.self.now.judge.now) c.args.self.now.shape.now c.args.self.now.node c.args.self.now.triples.now c.args.self.now.states.now) (λ h. true≢false (sym (c.in_ok-is_opened.ensures.1 h.opened) ∙ c.if-not-branch.true))
+
+pub all_settled-requires-clause-shaped : goal.all_settled-requires-clause-shaped
+all_settled-requires-clause-shaped g c = c.if-not-are_shaped.ensures.0 refl
+
+pub returns : goal.returns
+returns g c =
+    IfOk-weaker c.all_settled.result
+    (λ b. (IsTrue b → (x : State) → Contains c.args.self.now.states.now x → IsSettled (g.J.Judge.hold c.args.self.now.judge.now) (g.J.Judge.fail c.args.self.now.judge.now) c.args.self.now.shape.now c.args.self.now.node c.args.self.now.triples.now c.args.self.now.states.now x)
+    × (b ≡ false → (x : State) × Contains c.args.self.now.states.now x × (¬ IsSettled (g.J.Judge.hold c.args.self.now.judge.now) (g.J.Judge.fail c.args.self.now.judge.now) c.args.self.now.shape.now c.args.self.now.node c.args.self.now.triples.now c.args.self.now.states.now x)))
+    (λ b. IsTrue b ↔ AreStates (g.J.Judge.hold c.args.self.now.judge.now) (g.J.Judge.fail c.args.self.now.judge.now) c.args.self.now.shape.now c.args.self.now.node c.args.self.now.triples.now c.args.self.now.states.now)
+    (λ b both. states_fail (g.J.Judge.hold c.args.self.now.judge.now) (g.J.Judge.fail c.args.self.now.judge.now) c.args.self.now.shape.now c.args.self.now.node c.args.self.now.triples.now c.args.self.now.states.now b (c.if-not-are_shaped.ensures.0 refl) (c.in_ok-is_opened.ensures.0 c.if-not-branch.false) both.0 both.1)
+    (both_ok c.all_settled.result _ _ c.all_settled.ensures.settled c.all_settled.ensures.unsettled)

@@ -1,0 +1,76 @@
+-- What a check of bytes that are given as a proof finds (own).
+use Rattle.std.specs.Prelude.{ℕ, List, [], ◌∷◌, ◌≡◌, ◌<◌, map, length, Option, Some, None, Contains, slice_get, option_map, ⊤}
+use Rattle.rdf_terms.specs.Lists.{AreDistinct, Adds}
+use Rattle.rdf_terms.specs.Tables.{max_terms}
+use Rattle.rdf_terms.specs.declared.terms.TermId.{TermId}
+use Rattle.rdf_terms.specs.declared.terms.Term.{Term}
+use Rattle.rdf_terms.specs.declared.terms.Triple.{Triple}
+use Rattle.schema_tree.specs.declared.schema.Schema.{Schema}
+use Rattle.schema_tree.specs.declared.schema.Answer.{Answer}
+use Rattle.proof_file.specs.declared.Claim.{Claim}
+use Rattle.proof_file.specs.declared.Proof.{Proof}
+use Rattle.proof_file.specs.declared.Why.{Why}
+use Rattle.proof_file.specs.Accepts.{AreNumbers, AreAccepted, IsRejected, Setting}
+use Rattle.proof_file.specs.Text.{ProofText, IsFault}
+use Rattle.proof_checker.specs.declared.check.CheckError.{CheckError}
+use Rattle.proof_checker.specs.declared.check.CheckError.TheVariants.{Syntax, Rejected, Full, Memory}
+
+abbrev pub answer_with : Claim → TermId → Answer
+answer_with c n = record { node = n; target = c.target; holds = c.holds }
+
+-- the answers that the claims give, in their order, each at the term of its node line
+abbrev pub AreAnswers : List TermId → List Claim → List Answer → Type 0
+AreAnswers nodes claims answers = map (λ c. option_map (answer_with c) (slice_get nodes c.node)) claims ≡ map (λ a. Some a) answers
+
+-- the table after the terms are put into it, one after another
+abbrev pub TakesUp : List Term → List Term → List Term → Type 0
+TakesUp old [] new = new ≡ old
+TakesUp old (t ∷ ts) new = (mid : List Term) × Adds old t mid × TakesUp mid ts new
+
+-- no table with at most as many terms as a table can hold has the terms of the old one at their places and these
+abbrev pub CannotTake : List Term → List Term → Type 0
+CannotTake old lines =
+    (new : List Term) → AreDistinct new → ((i : ℕ) (t : Term) → slice_get old i ≡ Some t → slice_get new i ≡ Some t) →
+    ((t : Term) → Contains lines t → Contains new t) → max_terms < length new
+
+-- what the proof is held against
+abbrev pub setting_of : List ℕ → Schema → List Term → List Triple → List TermId → Setting
+setting_of f s terms g nodes = record { schema = s; terms = terms; graph = g; strata = f; nodes = nodes }
+
+-- the bytes are the text of a proof, whose node lines' terms the table takes up and has under these numbers
+pub record IsReadAs (old terms : List Term) (bytes : List ℕ) (p : Proof) (nodes : List TermId) : Type 0 where
+  pub text : ProofText p bytes
+  pub table : TakesUp old p.nodes terms
+  pub numbers : AreNumbers terms p.nodes nodes
+
+-- the bytes are the text of a proof that is accepted, and the answers are its claims
+pub record IsAcceptedAs (f : List ℕ) (s : Schema) (old terms : List Term) (g : List Triple) (bytes : List ℕ) (answers : List Answer) : Type 0 where
+  pub proof : Proof
+  pub nodes : List TermId
+  pub read : IsReadAs old terms bytes proof nodes
+  pub accepted : AreAccepted (setting_of f s terms g nodes) proof
+  pub claims : AreAnswers nodes proof.claims answers
+
+-- the bytes are the text of a proof whose item i is the first that is not accepted, by the check w
+pub record IsRejectedAs (f : List ℕ) (s : Schema) (old terms : List Term) (g : List Triple) (bytes : List ℕ) (i : ℕ) (w : Why) : Type 0 where
+  pub proof : Proof
+  pub nodes : List TermId
+  pub read : IsReadAs old terms bytes proof nodes
+  pub rejected : IsRejected (setting_of f s terms g nodes) proof i w
+
+-- the bytes are the text of a proof, and the table cannot take up its node lines
+pub record IsFullFor (old : List Term) (bytes : List ℕ) : Type 0 where
+  pub proof : Proof
+  pub text : ProofText proof bytes
+  pub full : CannotTake old proof.nodes
+
+-- why bytes are not accepted
+abbrev pub FailsAs : List ℕ → Schema → List Term → List Term → List Triple → List ℕ → CheckError → Type 0
+FailsAs f s old terms g bytes (Syntax at) = IsFault bytes at
+FailsAs f s old terms g bytes (Rejected i w) = IsRejectedAs f s old terms g bytes i w
+FailsAs f s old terms g bytes Full = IsFullFor old bytes
+FailsAs f s old terms g bytes Memory = ⊤
+
+-- the new table has the terms of the old one at their places
+abbrev pub KeepsTerms : List Term → List Term → Type 0
+KeepsTerms old new = (i : ℕ) (t : Term) → slice_get old i ≡ Some t → slice_get new i ≡ Some t

@@ -1,0 +1,53 @@
+-- The first check that fails, and the first item that is not accepted.
+use Rattle.std.specs.Prelude.{ℕ, List, [], ◌∷◌, ◌^◌, ◌<◌, map, take, length, Option, Some, None, slice_get}
+use Rattle.std.specs.List.{AllByRecursion, flat_map}
+use Rattle.proof_file.specs.declared.Section.{Section}
+use Rattle.proof_file.specs.declared.Claim.{Claim}
+use Rattle.proof_file.specs.declared.Proof.{Proof}
+use Rattle.proof_file.specs.declared.Why.{Why}
+use Rattle.proof_file.specs.Accepts.{FailsAt, FailsBy, IsAccepted, Item, Setting, in_section, no_of, yes_of}
+use Rattle.proof_checker.specs.declared.items.Fault.{Fault}
+use Rattle.schema_tree.specs.Loaded.{IsLoaded}
+use Rattle.schema_tree.specs.Sure.{Known}
+use Rattle.proof_checker.specs.declared.items.Held.{Held}
+use Rattle.proof_checker.specs.declared.standings.Reader.{Reader}
+use Rattle.graph_index.specs.Contents.{IsArranged}
+use Rattle.proof_checker.specs.Checks.{setting_of}
+use Rattle.proof_checker.specs.Standings.{AreStandings, view_of}
+
+-- the checks pass, or the given one is the first that fails
+abbrev pub FoundBy : (Why → Type 0) → List Why → Option Why → Type 0
+FoundBy P checks None = AllByRecursion P checks
+FoundBy P checks (Some w) = FailsAt P checks w
+
+-- the items of some sections
+abbrev pub section_items : List Section → List Item
+section_items sections = flat_map (λ x. map (λ r. in_section x.stratum r) x.records) sections
+
+-- a proof by its sections and claims, which are all that the checks of an item look at
+abbrev pub proof_of : List Section → List Claim → Proof
+proof_of sections claims = record { nodes = []; sections = sections; claims = claims }
+
+-- all items are accepted, or the given one is the first that is not, by the given check
+abbrev pub FirstFault : Setting → Proof → List Item → Option Fault → Type 0
+FirstFault x p items None = AllByRecursion (IsAccepted x p) items
+FirstFault x p items (Some f) =
+    (f.item < length items) × AllByRecursion (IsAccepted x p) (take f.item items) × FailsBy x p (slice_get items f.item) f.why
+
+-- what is held: a proof against a schema, its strata, terms and a graph
+abbrev pub setting : Held → Setting
+setting h = setting_of h.strata.now h.schema.now h.terms.now h.graph.now h.nodes.now
+
+abbrev pub held : Held → Proof
+held h = proof_of h.sections.now h.claims.now
+
+-- what a reader may use of the records
+abbrev pub known_to : Held → Reader → Known
+known_to h reader = view_of h.strata.now (yes_of (setting h) (held h)) (no_of (setting h) (held h)) reader
+
+-- what the checks of an item need
+pub record IsReady (h : Held) : Type 0 where
+  pub loaded : IsLoaded h.schema.now
+  pub standings : AreStandings (yes_of (setting h) (held h)) (no_of (setting h) (held h)) h.standings.now
+  pub arranged : IsArranged h.terms.now h.graph.now h.rows.now
+  pub few : length h.graph.now < 2 ^ 31
