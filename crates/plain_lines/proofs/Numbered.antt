@@ -8,7 +8,7 @@ use Rattle.rdf_terms.specs.Lists.{AreDistinct, Adds}
 use Rattle.rdf_terms.specs.Tables.{max_terms}
 use Rattle.rdf_terms.specs.declared.terms.Term.{Term}
 use Rattle.rdf_terms.specs.declared.terms.Triple.{Triple}
-use Rattle.plain_lines.specs.Graphs.{IsGraphOf, IsTripleOf, IsStated, IsPartOf, IsUsed, Gains}
+use Rattle.plain_lines.specs.Graphs.{IsGraphOf, IsInOrder, IsTripleOf, IsStated, IsPartOf, IsUsed, Gains, AddsAll, AreTriplesOf, terms_of}
 use Rattle.plain_lines.specs.Lines.{Line, IsLine, IsData, line_text}
 use Rattle.plain_lines.proofs.SameTriples.{triple_from_ids}
 use Rattle.plain_lines.proofs.Spelled.{filled, lines_once, no_document}
@@ -107,6 +107,35 @@ used_more lines line t (l, h, p) = (l, Contains-append_left lines (line ∷ []) 
 used_last : (lines : List Line) (line : Line) (t : Term) → IsPartOf line t → IsUsed (lines ++ line ∷ []) t
 used_last lines line t p = (line, Contains-push lines line, p)
 
+-- items that are added in two turns are added in one
+pub adds_chain : {X : Type 0} (xs ys : List X) (old mid new : List X) → AddsAll old xs mid → AddsAll mid ys new → AddsAll old (xs ++ ys) new
+adds_chain [] ys old mid new h k = subst (λ z. AddsAll z ys new) h k
+adds_chain (x ∷ xs) ys old mid new (next, adds, more) k = (next, adds, adds_chain xs ys next mid new more k)
+
+triples_kept : (xs ys zs : List Term) (lines : List Line) (ts : List Triple) → zs ≡ xs ++ ys → AreTriplesOf xs lines ts → AreTriplesOf zs lines ts
+triples_kept xs ys zs [] [] e h = tt
+triples_kept xs ys zs [] (t ∷ ts) e h = h
+triples_kept xs ys zs (line ∷ lines) [] e h = h
+triples_kept xs ys zs (line ∷ lines) (t ∷ ts) e h = (triple_kept xs ys zs line t e h.0, triples_kept xs ys zs lines ts e h.1)
+
+triples_more : (terms : List Term) (lines : List Line) (ts : List Triple) (line : Line) (t : Triple) → AreTriplesOf terms lines ts → IsTripleOf terms line t → AreTriplesOf terms (lines ++ line ∷ []) (ts ++ t ∷ [])
+triples_more terms [] [] line t h k = (k, tt)
+triples_more terms [] (u ∷ ts) line t h k = absurd h
+triples_more terms (l ∷ lines) [] line t h k = absurd h
+triples_more terms (l ∷ lines) (u ∷ ts) line t h k = (h.0, triples_more terms lines ts line t h.1 k)
+
+order_grows : (first terms next more : List Term) (lines : List Line) (line : Line) (graph graph' : List Triple) (t : Triple) → next ≡ terms ++ more → IsInOrder first terms lines graph → AddsAll terms (terms_of line) next → IsTripleOf next line t → Adds graph t graph' → IsInOrder first next (lines ++ line ∷ []) graph'
+order_grows first terms next more lines line graph graph' t e r takes is adds = record {
+  table = subst (λ ts. AddsAll first ts next) (flat_map_more terms_of [] lines line) (adds_chain (flat_map terms_of lines) (terms_of line) first terms next r.table takes);
+  triples = r.triples ++ t ∷ [];
+  numbered = triples_more next lines r.triples line t (triples_kept terms more next lines r.triples e r.numbered) is;
+  added = adds_chain r.triples (t ∷ []) [] graph graph' r.added (graph', adds, refl);
+}
+
+adds_few : {X : Type 0} (old new : List X) (x : X) → Adds old x new → length new ≤ 1 + length old
+adds_few old new x (inl (held, e)) = let l : length new ≡ length old = ap length e in omega (arith, l)
+adds_few old new x (inr (fresh, e)) = let l : length new ≡ length (old ++ x ∷ []) = ap length e in let m = length-append old (x ∷ []) in omega (arith, l, m)
+
 -- the file so far: what is read of it, and what is left
 pub record IsReading (source rest : List ℕ) (first terms : List Term) (graph : List Triple) : Type 0 where
   pub lines : List Line
@@ -118,6 +147,9 @@ pub record IsReading (source rest : List ℕ) (first terms : List Term) (graph :
   pub used : All (IsUsed lines) more
   pub distinct : AreDistinct terms
   pub room : length terms + 3 * length rest ≤ max_terms
+  pub ordered : IsInOrder first terms lines graph
+  pub few : length terms + 3 * length rest ≤ length first + 3 * length source
+  pub small : length graph + length rest ≤ length source
 
 pub begins : (source : List ℕ) (first : List Term) → AreDistinct first → length first + 3 * length source ≤ max_terms → IsReading source source first first []
 begins source first d room = record {
@@ -130,6 +162,9 @@ begins source first d room = record {
   used = All-nil (IsUsed []);
   distinct = d;
   room = room;
+  ordered = record { table = refl; triples = []; numbered = tt; added = refl };
+  few = omega arith;
+  small = omega arith;
 }
   where
     none : {X : Type 0} (x : X) → Contains [] x → ⊥
@@ -151,8 +186,8 @@ room_for_line source rest after first terms graph line r h e =
     omega (arith, r.room)
 
 pub advances : (source rest after : List ℕ) (first terms next : List Term) (graph graph' : List Triple) (line : Line) (t : Triple) → IsReading source rest first terms graph → IsLine line → rest ≡ line_text line ++ after → Gains terms next (IsPartOf line) 3 → AreDistinct next → IsTripleOf next line t
-    → Adds graph t graph' → AreDistinct graph' → IsReading source after first next graph'
-advances source rest after first terms next graph graph' line t r h e g d is adds dg = record {
+    → Adds graph t graph' → AreDistinct graph' → AddsAll terms (terms_of line) next → IsReading source after first next graph'
+advances source rest after first terms next graph graph' line t r h e g d is adds dg takes = record {
   lines = r.lines ++ line ∷ [];
   each = All-push IsLine r.lines line r.each h;
   spelled = r.spelled ∙ ap (λ z. flat_map line_text r.lines ++ z) e ∙ sym (append_assoc (flat_map line_text r.lines) (line_text line) after) ∙ ap (λ z. z ++ after) (flat_map_more line_text [] r.lines line);
@@ -164,6 +199,14 @@ advances source rest after first terms next graph graph' line t r h e g d is add
   room =
       let less = rest_shorter rest after line h e in
       omega (arith, r.room, g.few, ap length g.added, length-append terms g.more);
+  ordered = order_grows first terms next g.more r.lines line graph graph' t g.added r.ordered takes is adds;
+  few =
+      let less = rest_shorter rest after line h e in
+      omega (arith, r.few, g.few, ap length g.added, length-append terms g.more);
+  small =
+      let less = rest_shorter rest after line h e in
+      let one = adds_few graph graph' t adds in
+      omega (arith, r.small, less, one);
 }
 
 -- what stands at the end of the file
@@ -182,6 +225,15 @@ module _ (source rest : List ℕ) (first terms : List Term) (graph : List Triple
       let same : r.more ≡ more = append_cancel_left first r.more more (sym r.added ∙ a) in
       let used : All (IsUsed lines) r.more = subst (λ ls. All (IsUsed ls) r.more) (lines_are e lines d) r.used in
       subst (λ ms. All (IsUsed lines) ms) same used
+
+  pub order_of : rest ≡ [] → (lines : List Line) → IsData lines source → IsInOrder first terms lines graph
+  order_of e lines d = subst (λ ls. IsInOrder first terms ls graph) (lines_are e lines d) r.ordered
+
+  pub few_of : rest ≡ [] → length terms ≤ length first + 3 * length source
+  few_of e = let none : length rest ≡ 0 = ap length e in omega (arith, r.few, none)
+
+  pub small_of : rest ≡ [] → length graph ≤ length source
+  small_of e = let none : length rest ≡ 0 = ap length e in omega (arith, r.small, none)
 
   pub none_spelled : (b : Bool) → b ≡ (length rest == 0) → b ≡ false → ((line : Line) (more : List ℕ) → IsLine line → ¬ (rest ≡ line_text line ++ more)) → (lines : List Line) → ¬ (IsData lines source)
   none_spelled b is h none lines d =

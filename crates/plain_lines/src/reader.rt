@@ -6,7 +6,7 @@ ghost use Rattle.rdf_terms.specs.Lists.{AreDistinct, Adds};
 ghost use Rattle.rdf_terms.specs.Tables.{max_terms};
 ghost use Rattle.rdf_terms.specs.declared.terms.Term.{Term};
 ghost use Rattle.rdf_terms.specs.declared.terms.Triple.{Triple};
-ghost use Rattle.plain_lines.specs.Graphs.{IsGraphOf, IsTripleOf, IsPartOf, IsUsed, Gains};
+ghost use Rattle.plain_lines.specs.Graphs.{IsGraphOf, IsInOrder, IsTripleOf, IsPartOf, IsUsed, Gains, AddsAll, terms_of};
 ghost use Rattle.plain_lines.specs.Laws.{OneDocument};
 ghost use Rattle.plain_lines.specs.Lent.{object_of, line_of, plain, labelled};
 ghost use Rattle.plain_lines.specs.Lines.{Line, IsData};
@@ -71,6 +71,7 @@ fn object_term(alloc: Global, object: Object<'_>) -> Result<Term, AllocError>
 fn number(terms: &mut TermTable, term: Term) -> Result<TermId, AllocError>
     requires { length terms.old < max_terms }
     ensures number { IfOk result (λ id. slice_get terms.new id.0 ≡ Some term) }
+    ensures added { OnOk result (Adds terms.old term terms.new) }
     ensures gains { Gains terms.old terms.new (λ t. t ≡ term) 1 }
     ensures distinct { AreDistinct terms.new }
 {
@@ -85,6 +86,7 @@ fn number(terms: &mut TermTable, term: Term) -> Result<TermId, AllocError>
 fn number_iri(alloc: Global, terms: &mut TermTable, text: &str) -> Result<TermId, AllocError>
     requires { length terms.old < max_terms }
     ensures number { IfOk result (λ id. slice_get terms.new id.0 ≡ Some (Term.Iri (chars text.now))) }
+    ensures added { OnOk result (Adds terms.old (Term.Iri (chars text.now)) terms.new) }
     ensures gains { Gains terms.old terms.new (λ t. t ≡ Term.Iri (chars text.now)) 1 }
     ensures distinct { OnOk result (AreDistinct terms.new) }
 {
@@ -100,6 +102,7 @@ fn number_object(
 ) -> Result<TermId, AllocError>
     requires { length terms.old < max_terms }
     ensures number { IfOk result (λ id. slice_get terms.new id.0 ≡ Some (object_of object.entry)) }
+    ensures added { OnOk result (Adds terms.old (object_of object.entry) terms.new) }
     ensures gains { Gains terms.old terms.new (λ t. t ≡ object_of object.entry) 1 }
     ensures distinct { OnOk result (AreDistinct terms.new) }
 {
@@ -111,6 +114,7 @@ fn number_object(
 fn number_line(alloc: Global, words: Words<'_>, terms: &mut TermTable) -> Result<Triple, AllocError>
     requires { length terms.old + 3 ≤ max_terms }
     ensures triple { IfOk result (λ t. IsTripleOf terms.new (line_of words.entry) t) }
+    ensures added { OnOk result (AddsAll terms.old (terms_of (line_of words.entry)) terms.new) }
     ensures gains { Gains terms.old terms.new (IsPartOf (line_of words.entry)) 3 }
     ensures distinct { OnOk result (AreDistinct terms.new) }
 {
@@ -140,6 +144,11 @@ pub fn read(alloc: Global, source: &[u8], terms: &mut TermTable) -> Result<Graph
     ensures grown { (more : List Term) × (terms.new ≡ terms.old ++ more) }
     ensures used { OnOk result ((lines : List Line) → IsData lines source.now → (more : List Term) → terms.new ≡ terms.old ++ more → All (λ term. IsUsed lines term) more) }
     ensures distinct { OnOk result (AreDistinct terms.new) }
+
+    // Terms and triples stand in reading order, and are no more than the bytes allow.
+    ensures ordered { IfOk result (λ graph. (lines : List Line) → IsData lines source.now → IsInOrder terms.old terms.new lines graph) }
+    ensures few { OnOk result (length terms.new ≤ length terms.old + 3 * length source.now) }
+    ensures small { IfOk result (λ graph. length graph ≤ length source.now) }
 {
     // The length of a table tells contracts that its terms are distinct.
     let _count = terms.len();

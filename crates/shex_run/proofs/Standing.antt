@@ -1,11 +1,12 @@
 -- The schema that is made of an arc stands for its document.
-use Rattle.std.proofs.Common.{◌≡◌, ℕ, zero, suc, ◌<◌, ◌≤◌, List, [], ◌∷◌, refl, sym, ap, subst, arith, length, true}
+use Rattle.std.proofs.Common.{◌≡◌, ℕ, zero, suc, ◌<◌, ◌≤◌, List, [], ◌∷◌, refl, sym, ap, subst, arith, length, true, false}
 use Rattle.std.specs.Prelude.{Contains, Option, Some, None, slice_get}
 use Rattle.std.proofs.lemmas.Bool.{eqb-true, eq-eqb}
 use Rattle.rdf_terms.specs.declared.terms.Term.{Term}
 use Rattle.rdf_terms.specs.Lists.{AreDistinct}
-use Rattle.tally.specs.declared.Count.{Count}
-use Rattle.tally.specs.Plan.{Plan, sym as symbol}
+use Rattle.tally.specs.declared.Count.{Count, Sym}
+use Rattle.tally.specs.Plan.{Plan, plan_of, sym as symbol}
+use Rattle.tally.proofs.Plans.{is_sym}
 use Rattle.tally.specs.Symbols.{IsDistinct, has_symbol}
 use Rattle.tally.specs.Span.{IsSound}
 use Rattle.node_constraint.specs.declared.Kind4.{Kind4}
@@ -23,14 +24,36 @@ use Rattle.schema_tree.specs.Loaded.{BodyOk, IsEntryIfAny, IsLoaded, IsShapeLoad
 use Rattle.schema_tree.proofs.Members.{in_one, not_in_none}
 use Rattle.shex_run.specs.declared.load.Arc.{Arc}
 use Rattle.shex_run.specs.Inputs.{IsBodyOf, IsValueOf, StandsFor}
-use Rattle.shex_run.specs.Loading.{IsArcBody, IsArcOf, IsShapeOf, entries_of, kind_of, occurrence_of, place_of, value_of}
+use Rattle.shex_run.specs.Loading.{IsArcOf, entries_of, kind_of, occurrence_of, place_of, schema_of, shape_of, value_of}
 
-module _ (label : List ℕ) (arc : Option Arc) (sh : Shape) (made : IsShapeOf arc sh) where
+-- the body and the occurrences of an arc, if there is one
+abbrev IsArcBody : Option Arc → Option Count → List Occurrence → Type 0
+IsArcBody None None occs = occs ≡ []
+IsArcBody (Some arc) (Some body) occs = (plan_of body ≡ symbol 0) × (occs ≡ occurrence_of arc ∷ [])
+IsArcBody _ _ occs = ⊥
+
+-- the open Shape of an arc, if there is one
+record IsShapeOf (arc : Option Arc) (sh : Shape) : Type 0 where
+  closed : sh.closed ≡ false
+  extra : sh.extra ≡ []
+  body : IsArcBody arc sh.body sh.occs
+
+shape_is : (arc : Option Arc) → IsShapeOf arc (shape_of arc)
+shape_is None = record { closed = refl; extra = refl; body = refl }
+shape_is (Some arc) = record { closed = refl; extra = refl; body = (is_sym (Sym 0) 0 refl, refl) }
+
+module _ (label : List ℕ) (arc : Option Arc) where
+  abbrev sh : Shape
+  sh = shape_of arc
+
+  made : IsShapeOf arc sh
+  made = shape_is arc
+
   abbrev place : ExprId
   place = record { 0 = place_of (kind_of arc) }
 
   abbrev pub schema : Schema
-  schema = record { exprs = entries_of (kind_of arc); shapes = sh ∷ []; labels = (Labels.Iri label, place) ∷ []; start = None }
+  schema = schema_of label arc
 
   refers : (e : ExprId) (x : Expr) → entry schema e ≡ Some x → RefersBelow schema e.0 x
   refers e x at = go (kind_of arc) e.0 at

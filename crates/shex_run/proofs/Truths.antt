@@ -85,6 +85,15 @@ module _ (terms : List Term) (doc : OneShape) (s : Schema) (stands : StandsFor t
       topped (k ∷ []) l z = ap (λ m. max m 0) z
       topped (k ∷ m ∷ h) l z = absurd (omega arith)
 
+  -- so they are one 0
+  pub one_zero : (f : List ℕ) → IsStratum s f → f ≡ 0 ∷ []
+  one_zero f (one_each, each) = alone f (one_each ∙ ap length stands.shapes) (stratum_zero f (one_each, each)).0
+    where
+      alone : (h : List ℕ) → length h ≡ 1 → slice_index h 0 ≡ 0 → h ≡ 0 ∷ []
+      alone [] l z = absurd (omega arith)
+      alone (k ∷ []) l z = ap (λ m. m ∷ []) z
+      alone (k ∷ m ∷ h) l z = absurd (omega arith)
+
   -- the strata are one 0
   zero_stratum : IsStratum s (0 ∷ [])
   zero_stratum = (one_number, λ i here. ((i, subst (λ k. Path s i i k) (sym (zeroth i.0)) stay), λ t m way. least i m (no_way i t m way)))

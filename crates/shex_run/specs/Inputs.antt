@@ -1,11 +1,11 @@
 -- What the files hold, read with the words: a schema, a graph, and what is asked, in the numbers of one table of terms.
-use Rattle.std.specs.Prelude.{ℕ, false, List, [], ◌∷◌, ◌≡◌, ◌≤◌, ◌<◌, ◌⊎◌, Option, Some, None, length, slice_get, Contains, IsTrue, Bool}
+use Rattle.std.specs.Prelude.{ℕ, false, List, [], ◌∷◌, ◌≡◌, ◌≤◌, ◌<◌, ◌^◌, Option, Some, None, length, slice_get, Contains, IsTrue, Bool, ⊤}
 use Rattle.shex_io.specs.Files.{Told, Holds}
 use Rattle.rdf_terms.specs.Lists.{AreDistinct}
+use Rattle.rdf_terms.specs.Tables.{max_terms}
 use Rattle.rdf_terms.specs.declared.terms.Term.{Term}
 use Rattle.rdf_terms.specs.declared.terms.Term.TheVariants as Terms
 use Rattle.rdf_terms.specs.declared.terms.TermId.{TermId}
-use Rattle.rdf_terms.specs.declared.terms.Triple.{Triple}
 use Rattle.tally.specs.declared.Count.{Count}
 use Rattle.tally.specs.Plan.{plan_of, sym}
 use Rattle.node_constraint.specs.declared.Kind4.{Kind4}
@@ -13,7 +13,8 @@ use Rattle.one_shape.specs.declared.OneShape.{OneShape}
 use Rattle.one_shape.specs.declared.Constraint.{Constraint}
 use Rattle.one_shape.specs.Texts.{IsSchemaText}
 use Rattle.plain_lines.specs.Lines.{Line, IsData}
-use Rattle.plain_lines.specs.Graphs.{IsGraphOf, IsUsed}
+use Rattle.plain_lines.specs.Graphs.{IsGraphOf, IsInOrder, AddsAll}
+use Rattle.proof_checker.specs.Checks.{TakesUp}
 use Rattle.schema_tree.specs.declared.schema.Schema.{Schema}
 use Rattle.schema_tree.specs.declared.schema.Shape.{Shape}
 use Rattle.schema_tree.specs.declared.schema.ExprId.{ExprId}
@@ -27,7 +28,9 @@ use Rattle.schema_tree.specs.Entries.{entry}
 use Rattle.schema_tree.specs.Loaded.{IsLoaded, IsTarget}
 use Rattle.schema_tree.specs.Satisfies.{Sat}
 use Rattle.schema_tree.specs.Typings.{HoldsEnds, IsTheTyping}
-use Rattle.shex_run.specs.Words.{Validate}
+use Rattle.shex_run.specs.declared.inputs.Base.{Base}
+use Rattle.shex_run.specs.Loading.{IsBuilt, predicates_of}
+use Rattle.shex_run.specs.Words.{Asked, Command, Validate, check, validate}
 
 -- how many bytes a schema file or a data file has at most
 abbrev pub max_file : ℕ
@@ -45,18 +48,23 @@ pub record IsTooLong (told : Told) (name : List ℕ) : Type 0 where
   pub above : max_file < length bytes
 
 -- the schema file holds the text of this schema
-pub record HoldsSchema (told : Told) (asked : Validate) (doc : OneShape) : Type 0 where
+pub record HoldsSchema (told : Told) (asked : Asked) (doc : OneShape) : Type 0 where
   pub bytes : List ℕ
   pub file : IsFile told asked.schema bytes
   pub spelled : IsSchemaText doc bytes
 
--- the schema file holds a schema whose label is the one asked for
-pub record HasLabel (told : Told) (asked : Validate) (doc : OneShape) : Type 0 where
+-- the schema has the label that is asked for, where one is
+abbrev pub IsWanted : Command → OneShape → Type 0
+IsWanted (validate v) doc = doc.label ≡ v.label
+IsWanted (check proof) doc = ⊤
+
+-- the schema file holds a schema with the label that is asked for, where one is
+pub record TakesSchema (told : Told) (asked : Asked) (doc : OneShape) : Type 0 where
   pub schema : HoldsSchema told asked doc
-  pub label : doc.label ≡ asked.label
+  pub wanted : IsWanted asked.command doc
 
 -- the data file holds the text of these lines
-pub record HoldsData (told : Told) (asked : Validate) (lines : List Line) : Type 0 where
+pub record HoldsData (told : Told) (asked : Asked) (lines : List Line) : Type 0 where
   pub bytes : List ℕ
   pub file : IsFile told asked.data_file bytes
   pub spelled : IsData lines bytes
@@ -93,50 +101,58 @@ pub record StandsFor (terms : List Term) (doc : OneShape) (s : Schema) : Type 0 
   pub extra : shape.extra ≡ []
   pub body : IsBodyOf terms s doc.constraint shape.body shape.occs
 
--- the predicate of the document, if it has one
-abbrev pub IsPredicateOf : OneShape → Term → Type 0
-IsPredicateOf doc t = (c : Constraint) × (doc.constraint ≡ Some c) × (t ≡ Terms.Iri c.predicate)
+-- a schema and a graph in the numbers of one table of terms are those of the document and the lines. The table has each term
+-- once: first the document's predicate, then the terms of the lines in reading order
+pub record IsBase (doc : OneShape) (lines : List Line) (b : Base) : Type 0 where
+  pub stands : StandsFor b.terms doc b.schema
+  pub built : IsBuilt b.terms doc.label doc.constraint b.schema
+  pub graph : IsGraphOf b.terms lines b.graph
+  pub distinct : AreDistinct b.terms
+  pub first : List Term
+  pub predicates : AddsAll [] (predicates_of doc.constraint) first
+  pub order : IsInOrder first b.terms lines b.graph
 
--- a table of terms, a schema and a graph in its numbers, and the node and the expression that are asked for
-pub record Inputs : Type 0 where
+-- the table can take up a term more, and the graph is no larger than the data can make it
+pub record HasRoom (b : Base) : Type 0 where
+  pub terms : length b.terms < max_terms
+  pub graph : length b.graph < 2 ^ 31
+
+-- the files hold these schema and graph for the words
+pub record IsTaken (told : Told) (asked : Asked) (b : Base) : Type 0 where
+  pub doc : OneShape
+  pub takes : TakesSchema told asked doc
+  pub lines : List Line
+  pub holds_data : HoldsData told asked lines
+  pub base : IsBase doc lines b
+
+-- a node and an expression, in the numbers of a table of terms
+pub record Question : Type 0 where
   pub terms : List Term
-  pub schema : Schema
-  pub graph : List Triple
   pub node : TermId
   pub expr : ExprId
 
--- the inputs are the schema of the document and the graph of the lines, and what is asked is whether the node satisfies
--- the document's label; the table has each term once, and those of the schema, the graph and the node alone
-pub record IsInputs (doc : OneShape) (lines : List Line) (node : List ℕ) (i : Inputs) : Type 0 where
-  pub stands : StandsFor i.terms doc i.schema
-  pub graph : IsGraphOf i.terms lines i.graph
-  pub number : slice_get i.terms i.node.0 ≡ Some (Terms.Iri node)
-  pub target : IsTarget i.schema (Targets.Label (Labels.Iri doc.label)) i.expr
-  pub distinct : AreDistinct i.terms
-  pub used : (t : Term) → Contains i.terms t → (t ≡ Terms.Iri node) ⊎ (IsPredicateOf doc t ⊎ IsUsed lines t)
-
--- the inputs are what the files hold for the words
-pub record IsTaken (told : Told) (asked : Validate) (i : Inputs) : Type 0 where
-  pub doc : OneShape
-  pub has_label : HasLabel told asked doc
-  pub lines : List Line
-  pub holds_data : HoldsData told asked lines
-  pub inputs : IsInputs doc lines asked.node i
+-- what is asked is whether the node satisfies the label; the table takes up the node behind the other terms
+pub record IsQuestion (b : Base) (asked : Validate) (q : Question) : Type 0 where
+  pub table : TakesUp b.terms (Terms.Iri asked.node ∷ []) q.terms
+  pub number : slice_get q.terms q.node.0 ≡ Some (Terms.Iri asked.node)
+  pub target : IsTarget b.schema (Targets.Label (Labels.Iri asked.label)) q.expr
 
 -- T is the complete typing over U, by the strata of the schema (ShEx 2.1, section 5.2)
-pub record IsTypingOf (i : Inputs) (f : List ℕ) (U : List TermId) (T : List Pair) : Type 0 where
-  pub strata : IsStratum i.schema f
-  pub complete : IsTheTyping i.schema i.terms i.graph f U T
+pub record IsTypingOf (b : Base) (terms : List Term) (f : List ℕ) (U : List TermId) (T : List Pair) : Type 0 where
+  pub strata : IsStratum b.schema f
+  pub complete : IsTheTyping b.schema terms b.graph f U T
 
 -- whether the complete typing satisfies what is asked: there is one over every list of terms, and over each list that holds
 -- the ends of the graph and the node it does exactly where the answer is true
-pub record IsTruth (i : Inputs) (holds : Bool) : Type 0 where
-  pub exists : (U : List TermId) → (f : List ℕ) × (T : List Pair) × IsTypingOf i f U T
-  pub exact : (f : List ℕ) (U : List TermId) (T : List Pair) → HoldsEnds U i.graph → Contains U i.node → IsTypingOf i f U T →
-      (IsTrue holds → Sat i.schema i.terms T i.node i.expr) × (Sat i.schema i.terms T i.node i.expr → IsTrue holds)
+pub record IsTruth (b : Base) (q : Question) (holds : Bool) : Type 0 where
+  pub exists : (U : List TermId) → (f : List ℕ) × (T : List Pair) × IsTypingOf b q.terms f U T
+  pub exact : (f : List ℕ) (U : List TermId) (T : List Pair) → HoldsEnds U b.graph → Contains U q.node → IsTypingOf b q.terms f U T →
+      (IsTrue holds → Sat b.schema q.terms T q.node q.expr) × (Sat b.schema q.terms T q.node q.expr → IsTrue holds)
 
 -- the answer is the truth of what the files hold for the words
-pub record IsAnswer (told : Told) (asked : Validate) (holds : Bool) : Type 0 where
-  pub inputs : Inputs
-  pub taken : IsTaken told asked inputs
-  pub truth : IsTruth inputs holds
+pub record IsAnswer (told : Told) (asked : Asked) (v : Validate) (holds : Bool) : Type 0 where
+  pub base : Base
+  pub taken : IsTaken told asked base
+  pub question : Question
+  pub is_question : IsQuestion base v question
+  pub truth : IsTruth base question holds

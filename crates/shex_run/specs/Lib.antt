@@ -1,11 +1,14 @@
 pub mod Words
 pub mod Inputs
 pub mod Outcomes
+pub mod Proofs
+pub mod Evidence
+pub mod Checking
 pub mod Texts
 pub mod Results
 pub mod Simple
 pub mod Loading
 pub mod Lent
-pub mod Decisions
+pub mod Unreadable
 pub mod Printing
 pub mod Endings

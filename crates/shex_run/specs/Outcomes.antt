@@ -1,60 +1,108 @@
--- How the reading of the inputs can end before an answer.
-use Rattle.std.specs.Prelude.{ℕ, List, ◌≡◌, ◌≢◌, ◌≤◌, ⊤}
+-- How a call can end before its answer.
+use Rattle.std.specs.Prelude.{ℕ, List, [], ◌≡◌, ◌≤◌, Option, Some, None, ⊤}
 use Rattle.shex_io.specs.Files.{Told, Lacks}
 use Rattle.one_shape.specs.declared.OneShape.{OneShape}
 use Rattle.one_shape.specs.Texts.{IsNoSchemaText}
 use Rattle.plain_lines.specs.Lines.{Line, IsData}
+use Rattle.shex_run.specs.declared.inputs.Base.{Base}
 use Rattle.shex_run.specs.declared.stop.File.{File}
 use Rattle.shex_run.specs.declared.stop.File.TheVariants as Files
 use Rattle.shex_run.specs.declared.stop.Refusal.{Refusal}
 use Rattle.shex_run.specs.declared.stop.Refusal.TheVariants as Refusals
+use Rattle.shex_run.specs.declared.stop.Source.{Source}
+use Rattle.shex_run.specs.declared.stop.Source.TheVariants as Sources
 use Rattle.shex_run.specs.declared.stop.Stop.{Stop}
 use Rattle.shex_run.specs.declared.stop.Stop.TheVariants as Stops
 use Rattle.shex_io.specs.Faults.{Rose}
 use Rattle.shex_io.specs.declared.files.Act.{Act}
 use Rattle.shex_io.specs.declared.files.Act.TheVariants as Acts
-use Rattle.shex_run.specs.Inputs.{IsFile, IsTooLong, HoldsSchema, HasLabel}
-use Rattle.shex_run.specs.Words.{Validate}
+use Rattle.shex_run.specs.Checking.{IsFull, IsRejected}
+use Rattle.shex_run.specs.Inputs.{IsFile, IsTaken, IsTooLong, IsWanted, HoldsSchema, TakesSchema}
+use Rattle.shex_run.specs.Proofs.{IsDueProof}
+use Rattle.shex_run.specs.Words.{Asked, Command, check, proof_of, validate}
+
+-- the name of a file of the inputs
+abbrev pub source_name : Asked → Source → List ℕ
+source_name asked Sources.Schema = asked.schema
+source_name asked Sources.Data = asked.data_file
+
+-- the name of the proof, where there is one
+abbrev pub given_name : Option (List ℕ) → List ℕ
+given_name None = []
+given_name (Some name) = name
 
 -- the name of a file in the words
-abbrev pub name_of : Validate → File → List ℕ
-name_of asked Files.Schema = asked.schema
-name_of asked Files.Data = asked.data_file
+abbrev pub name_of : Asked → File → List ℕ
+name_of asked (Files.Input source) = source_name asked source
+name_of asked Files.Proof = given_name (proof_of asked.command)
 
--- the steps come to the file: the words are taken, and for the data file the schema with its label too
-abbrev pub Reaches : Told → Validate → File → Type 0
-Reaches told asked Files.Schema = ⊤
-Reaches told asked Files.Data = (doc : OneShape) × HasLabel told asked doc
+-- the steps come to the file of the inputs: the words are taken, and for the data file the schema too
+abbrev pub ReachesInput : Told → Asked → Source → Type 0
+ReachesInput told asked Sources.Schema = ⊤
+ReachesInput told asked Sources.Data = (doc : OneShape) × TakesSchema told asked doc
+
+-- the steps come to the proof: the inputs are taken, and where a proof is to be stored, it is made
+abbrev pub ReachesProof : Told → Asked → Command → Type 0
+ReachesProof told asked (validate v) = (name : List ℕ) × (v.proof ≡ Some name) × ((bytes : List ℕ) × IsDueProof told asked v bytes)
+ReachesProof told asked (check name) = (b : Base) × IsTaken told asked b
+
+-- the steps come to the file
+abbrev pub Reaches : Told → Asked → File → Type 0
+Reaches told asked (Files.Input source) = ReachesInput told asked source
+Reaches told asked Files.Proof = ReachesProof told asked asked.command
 
 -- the file's bytes, within the limit, are not of the form that is read
-abbrev pub IsOfNoForm : Told → Validate → File → Type 0
-IsOfNoForm told asked Files.Schema = (bytes : List ℕ) × IsFile told asked.schema bytes × IsNoSchemaText bytes
-IsOfNoForm told asked Files.Data = (bytes : List ℕ) × IsFile told asked.data_file bytes × ((lines : List Line) → ¬ IsData lines bytes)
+abbrev pub IsOfNoForm : Told → Asked → Source → Type 0
+IsOfNoForm told asked Sources.Schema = (bytes : List ℕ) × IsFile told asked.schema bytes × IsNoSchemaText bytes
+IsOfNoForm told asked Sources.Data = (bytes : List ℕ) × IsFile told asked.data_file bytes × ((lines : List Line) → ¬ IsData lines bytes)
 
--- the inputs are refused: the first that is not taken is too long, is of no form that is read, or has another label
-abbrev pub IsRefused : Told → Validate → Refusal → Type 0
-IsRefused told asked (Refusals.Size file) = Reaches told asked file × IsTooLong told (name_of asked file)
-IsRefused told asked (Refusals.NotBuilt file) = Reaches told asked file × IsOfNoForm told asked file
-IsRefused told asked Refusals.Label = (doc : OneShape) × HoldsSchema told asked doc × (doc.label ≢ asked.label)
+-- the inputs are refused: the first that is not taken is too long, is of no form that is read, or has another label; or the
+-- table cannot take up the proof's node lines
+abbrev pub IsRefused : Told → Asked → Refusal → Type 0
+IsRefused told asked (Refusals.Size source) = ReachesInput told asked source × IsTooLong told (source_name asked source)
+IsRefused told asked (Refusals.NotBuilt source) = ReachesInput told asked source × IsOfNoForm told asked source
+IsRefused told asked Refusals.Label = (doc : OneShape) × HoldsSchema told asked doc × (¬ IsWanted asked.command doc)
+IsRefused told asked Refusals.Full = IsFull told asked
+
+-- the file is to be fetched, and not to be stored
+abbrev pub IsFetched : File → Command → Type 0
+IsFetched (Files.Input source) command = ⊤
+IsFetched Files.Proof (validate v) = ⊥
+IsFetched Files.Proof (check name) = ⊤
 
 -- the next file to be fetched is told to be absent
-abbrev pub IsAbsent : Told → Validate → File → Type 0
-IsAbsent told asked file = Reaches told asked file × Lacks told (name_of asked file)
+abbrev pub IsAbsent : Told → Asked → File → Type 0
+IsAbsent told asked file = IsFetched file asked.command × Reaches told asked file × Lacks told (name_of asked file)
 
--- why there is no answer: the inputs are refused, the steps came to a file that was not fetched, or memory ran out
-abbrev pub Explains : Told → Validate → Stop → Type 0
+-- why there is no answer: the inputs are refused, the proof is rejected, the steps came to a file that was not fetched or
+-- stored, or memory ran out
+abbrev pub Explains : Told → Asked → Stop → Type 0
 Explains told asked (Stops.Refused refusal) = IsRefused told asked refusal
+Explains told asked (Stops.Rejected rejection) = IsRejected told asked rejection
 Explains told asked (Stops.Failed file) = Reaches told asked file
 Explains told asked Stops.Memory = ⊤
 
--- what a call that stops does to the count of faults of the files: it rises where a file was not fetched, which is then
+-- what is done with a file
+abbrev pub act_of : File → Command → Act
+act_of (Files.Input source) command = Acts.Fetch
+act_of Files.Proof (validate v) = Acts.Store
+act_of Files.Proof (check name) = Acts.Fetch
+
+-- what a call that stops does to the count of faults of the files: it rises where a call on a file failed, which is then
 -- named, and else stays
-abbrev pub FaultsAs : Validate → ℕ → ℕ → List ℕ → Act → Stop → Type 0
-FaultsAs asked before after blame act (Stops.Failed file) = Rose before after × (before ≤ after) × (blame ≡ name_of asked file) × (act ≡ Acts.Fetch)
+abbrev pub FaultsAs : Asked → ℕ → ℕ → List ℕ → Act → Stop → Type 0
+FaultsAs asked before after blame act (Stops.Failed file) = Rose before after × (before ≤ after) × (blame ≡ name_of asked file) × (act ≡ act_of file asked.command)
 FaultsAs asked before after blame act stop = after ≡ before
 
--- how a fetch stops: the file is too long, it was not fetched, or memory ran out
-abbrev pub FetchStops : Told → List ℕ → File → ℕ → ℕ → List ℕ → Act → Stop → Type 0
-FetchStops told name file before after blame act (Stops.Refused refusal) = (refusal ≡ Refusals.Size file) × IsTooLong told name × (after ≡ before)
-FetchStops told name file before after blame act (Stops.Failed failed) = (failed ≡ file) × (Rose before after × (before ≤ after) × (blame ≡ name) × (act ≡ Acts.Fetch))
-FetchStops told name file before after blame act Stops.Memory = after ≡ before
+-- how a fetch of a file of the inputs stops: it is too long, it was not fetched, or memory ran out
+abbrev pub FetchStops : Told → List ℕ → Source → ℕ → ℕ → List ℕ → Act → Stop → Type 0
+FetchStops told name source before after blame act (Stops.Refused refusal) = (refusal ≡ Refusals.Size source) × IsTooLong told name × (after ≡ before)
+FetchStops told name source before after blame act (Stops.Rejected rejection) = ⊥
+FetchStops told name source before after blame act (Stops.Failed failed) = (failed ≡ Files.Input source) × (Rose before after × (before ≤ after) × (blame ≡ name) × (act ≡ Acts.Fetch))
+FetchStops told name source before after blame act Stops.Memory = after ≡ before
+
+-- how a call on the proof's file stops: the call failed, or memory ran out
+abbrev pub ProofStops : List ℕ → Act → ℕ → ℕ → List ℕ → Act → Stop → Type 0
+ProofStops name wanted before after blame act (Stops.Failed file) = (file ≡ Files.Proof) × (Rose before after × (before ≤ after) × (blame ≡ name) × (act ≡ wanted))
+ProofStops name wanted before after blame act Stops.Memory = after ≡ before
+ProofStops name wanted before after blame act stop = ⊥

@@ -1,8 +1,12 @@
-//! The top call: from the words and the files to the answer that is printed.
+//! The top call: from the words and the files to the answer that is printed and the proof that is stored.
 #![tactic(auto)]
 
+mod answers;
+mod checking;
+mod evidence;
 mod inputs;
 mod load;
+mod proving;
 mod report;
 mod shape;
 mod stop;

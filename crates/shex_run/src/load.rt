@@ -1,14 +1,12 @@
 //! The schema that stands for a document of one Shape.
 
-ghost use Rattle.std.specs.Prelude.{[], ◌∷◌, ◌≡◌, ◌<◌, None, Some, IfOk, OnOk, length, option_map};
+ghost use Rattle.std.specs.Prelude.{[], ◌∷◌, ◌≡◌, ◌<◌, None, Some, IfOk, OnOk, length, slice_get};
 ghost use Rattle.rdf_terms.specs.Tables.{max_terms};
 ghost use Rattle.rdf_terms.specs.declared.terms.Term.TheVariants as Terms;
 ghost use Rattle.rdf_terms.specs.Lists.{AreDistinct};
-ghost use Rattle.std.specs.Prelude.{slice_get, List};
-ghost use Rattle.rdf_terms.specs.declared.terms.Term.{Term};
-ghost use Rattle.one_shape.specs.declared.OneShape.{OneShape};
-ghost use Rattle.shex_run.specs.Inputs.{StandsFor};
-ghost use Rattle.shex_run.specs.Loading.{GainsOnly, IsArcOf, IsShapeOf, entries_of, kind_of, occurrence_of, place_of, value_of};
+ghost use Rattle.rdf_terms.specs.Lists.{Adds};
+ghost use Rattle.plain_lines.specs.Graphs.{AddsAll};
+ghost use Rattle.shex_run.specs.Loading.{IsArcOf, entries_of, kind_of, occurrence_of, place_of, predicates_of, schema_of, shape_of};
 
 use node_constraint::{Kind4, NodeConstraint};
 use one_shape::Constraint;
@@ -34,7 +32,7 @@ pub struct Arc {
 pub fn number_of(iri: Text, terms: &mut TermTable) -> Result<TermId, AllocError>
     requires { length terms.old < max_terms }
     ensures number { IfOk result (λ id. slice_get terms.new id.0 ≡ Some (Terms.Iri iri)) }
-    ensures gains { GainsOnly (λ t. t ≡ Terms.Iri iri) terms.old terms.new }
+    ensures added { OnOk result (Adds terms.old (Terms.Iri iri) terms.new) }
     ensures distinct { AreDistinct terms.new }
 {
     match terms.put(Term::Iri(iri)) {
@@ -51,7 +49,7 @@ pub fn arc_of(
 ) -> Result<Option<Arc>, AllocError>
     requires { length terms.old < max_terms }
     ensures arc { IfOk result (IsArcOf terms.new constraint) }
-    ensures gains { GainsOnly (λ t. (c : _) × (constraint ≡ Some c) × (t ≡ Terms.Iri c.predicate)) terms.old terms.new }
+    ensures added { OnOk result (AddsAll terms.old (predicates_of constraint) terms.new) }
 {
     match constraint {
         Some(c) => {
@@ -97,7 +95,7 @@ fn occurrence(arc: Arc) -> Occurrence
 
 /// The open Shape of an arc, if there is one.
 fn shape(alloc: Global, arc: Option<Arc>) -> Result<Shape, AllocError>
-    ensures { IfOk result (IsShapeOf arc) }
+    ensures { IfOk result (λ sh. sh ≡ shape_of arc) }
 {
     let extra = Items::of(Vec::new(alloc));
     match arc {
@@ -140,8 +138,8 @@ fn place(kind: Option<Kind4>) -> ExprId
 }
 
 /// The schema of one open Shape with this label and arc.
-pub fn schema_of(alloc: Global, label: Text, arc: Option<Arc>) -> Result<Schema, AllocError>
-    ensures { IfOk result (λ s. (terms : List Term) (doc : OneShape) → doc.label ≡ label → IsArcOf terms doc.constraint arc → StandsFor terms doc s) }
+pub fn make_schema(alloc: Global, label: Text, arc: Option<Arc>) -> Result<Schema, AllocError>
+    ensures { IfOk result (λ s. s ≡ schema_of label arc) }
 {
     let exprs = entries(alloc, kind(arc))?;
     let only = shape(alloc, arc)?;

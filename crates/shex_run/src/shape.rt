@@ -37,7 +37,7 @@ fn only_arc(triples: &[Triple], node: TermId, o: Occurrence) -> Option<Triple>
 }
 
 /// Whether the term satisfies the value of an occurrence, which is absent or a node constraint.
-fn value_holds(schema: &Schema, terms: &TermTable, value: Option<ExprId>, end: TermId) -> bool
+pub fn value_holds(schema: &Schema, terms: &TermTable, value: Option<ExprId>, end: TermId) -> bool
     requires node { IsNodeValue schema.now value }
     requires there { end.0 < length terms.now }
     ensures { (T : List Pair) → IsTrue result ↔ SatValue (Sat schema.now terms.now T end) value }

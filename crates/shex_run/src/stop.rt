@@ -1,23 +1,46 @@
 //! Why a call ends before its answer.
 
-/// A file that the words name.
+use proof_file::Why;
+
+/// A file of the inputs.
 #[derive(Clone, Copy, Debug, PartialEq, Eq)]
-pub enum File {
+pub enum Source {
     /// The schema.
     Schema,
     /// The data.
     Data,
 }
 
+/// A file that the words name.
+#[derive(Clone, Copy, Debug, PartialEq, Eq)]
+pub enum File {
+    /// A file of the inputs.
+    Input(Source),
+    /// The proof: `validate` stores it, and `check` reads it.
+    Proof,
+}
+
 /// Why the inputs are refused.
 #[derive(Clone, Copy, Debug, PartialEq, Eq)]
 pub enum Refusal {
     /// The file has more bytes than the limit.
-    Size(File),
+    Size(Source),
     /// The file's bytes are not of the form that is read.
-    NotBuilt(File),
+    NotBuilt(Source),
     /// The label that is asked for is not the schema's.
     Label,
+    /// The table of terms cannot take up the proof's node lines.
+    Full,
+}
+
+/// Why a proof is rejected.
+#[derive(Clone, Copy, Debug, PartialEq, Eq)]
+pub enum Rejection {
+    /// The bytes are no text of a proof: where they cease to begin one.
+    Syntax(u64),
+    /// The number of the first item that is not accepted, from 0 over records and claims, and the first check that it
+    /// fails.
+    Item(u64, Why),
 }
 
 /// Why there is no answer.
@@ -25,7 +48,9 @@ pub enum Refusal {
 pub enum Stop {
     /// The inputs are refused.
     Refused(Refusal),
-    /// The file was not fetched.
+    /// The proof is rejected.
+    Rejected(Rejection),
+    /// The file was not fetched, or not stored.
     Failed(File),
     /// Memory ran out.
     Memory,

@@ -215,9 +215,12 @@ fn other_words_ask_for_nothing(rt: HostRuntime) -> Result<(), Fail> {
             "d.nt",
             "http://localhost/n",
             "http://localhost/S",
-            "http://localhost/S",
+            "p",
+            "p",
         ]
         .as_slice(),
+        ["check", "s.json", "d.nt"].as_slice(),
+        ["check", "s.json", "d.nt", "p", "p"].as_slice(),
         [
             "Validate",
             "s.json",
@@ -440,5 +443,179 @@ fn a_hundred_thousand_statements_are_answered_for(rt: HostRuntime) -> Result<(),
     let (status, out) = answer(rt.alloc(), WANTS_IRI, data.as_str())?;
     assert_eq!(rt; out.as_str(), HOLDS);
     assert_eq!(rt; status, 0);
+    Ok(())
+}
+
+/// The text of a proof with this record and claim.
+fn proof(alloc: Global, record: &str, mark: &str) -> Result<String, Fail> {
+    Ok(format!(in alloc;
+        "shex-proof 1\nn <http://localhost/n>\ns 0\n{record}\nc {mark} 0 <http://localhost/S>\nend\n"
+    )?)
+}
+
+/// The files of a schema and data, of which the calls of these numbers fail.
+fn files(alloc: Global, schema: &str, data: &str, fail: Vec<u64>) -> Result<MemFiles, Fail> {
+    let mut files = MemFiles::new(alloc, fail);
+    files.add("s.json", schema.as_bytes())?;
+    files.add("d.nt", data.as_bytes())?;
+    Ok(files)
+}
+
+/// The words that ask for a proof under this name.
+fn proving(alloc: Global, name: &str) -> Result<Vec<String>, Fail> {
+    owned(
+        alloc,
+        &[
+            "validate",
+            "s.json",
+            "d.nt",
+            "http://localhost/n",
+            "http://localhost/S",
+            name,
+        ],
+    )
+}
+
+/// The status, the line and the stored proof of a call that asks for a proof.
+fn proved(alloc: Global, schema: &str, data: &str) -> Result<(u8, String, String), Fail> {
+    let mut files = files(alloc, schema, data, Vec::new(alloc))?;
+    let mut out = MemSink::new(alloc, Vec::new(alloc));
+    let mut err = MemSink::new(alloc, Vec::new(alloc));
+    let words = proving(alloc, "p")?;
+    let status = run(alloc, words.as_slice(), &mut files, &mut out, &mut err);
+    let printed = String::from_utf8_lossy(alloc, out.bytes())?;
+    let stored = String::from_utf8_lossy(alloc, files.file("p").unwrap_or(b"absent"))?;
+    Ok((status, printed, stored))
+}
+
+/// How the check of these bytes ends, over a schema and data.
+fn checked(
+    alloc: Global,
+    schema: &str,
+    data: &str,
+    proof: &str,
+) -> Result<(u8, String, String), Fail> {
+    let mut files = files(alloc, schema, data, Vec::new(alloc))?;
+    files.add("p", proof.as_bytes())?;
+    let words = owned(alloc, &["check", "s.json", "d.nt", "p"])?;
+    call(alloc, words.as_slice(), files)
+}
+
+/// A statement of the node's one arc that has a string.
+const STRING: &str = "<http://localhost/n> <http://localhost/p> \"x\" .\n";
+
+/// Statements of two arcs that have IRIs.
+const TWO: &str =
+    "<http://localhost/n> <http://localhost/p> <http://localhost/x> .\n<http://localhost/n> <http://localhost/p> <http://localhost/y> .\n";
+
+#[test]
+fn the_stored_proof_is_accepted_with_the_same_line(rt: HostRuntime) -> Result<(), Fail> {
+    let alloc = rt.alloc();
+    for (schema, data, record, mark, status, line) in [
+        (NO_EXPRESSION, ARC, "+ 0 0", "+", 0, HOLDS),
+        (WANTS_IRI, ARC, "+ 0 0 0", "+", 0, HOLDS),
+        (WANTS_IRI, STRING, "- 0 0 1 0:0", "-", 1, FAILS),
+        (WANTS_IRI, "", "- 0 0 1", "-", 1, FAILS),
+        (WANTS_IRI, TWO, "- 0 0 1 0:0 1:1", "-", 1, FAILS),
+    ] {
+        let (found, out, stored) = proved(alloc, schema, data)?;
+        let wanted = proof(alloc, record, mark)?;
+        assert_eq!(rt; stored.as_str(), wanted.as_str(), "{record}");
+        assert_eq!(rt; out.as_str(), line, "{record}");
+        assert_eq!(rt; found, status, "{record}");
+        let (found, out, err) = checked(alloc, schema, data, wanted.as_str())?;
+        assert_eq!(rt; err.as_str(), "", "{record}");
+        assert_eq!(rt; out.as_str(), line, "{record}");
+        assert_eq!(rt; found, 0, "{record}");
+    }
+    Ok(())
+}
+
+#[test]
+fn forged_proofs_are_rejected(rt: HostRuntime) -> Result<(), Fail> {
+    let alloc = rt.alloc();
+    for (data, record, mark, line) in [
+        (STRING, "+ 0 0 0", "+", "shex: p: Rejected(0,Value)\n"),
+        (TWO, "- 0 0 1 0:0", "-", "shex: p: Rejected(0,States)\n"),
+    ] {
+        let forged = proof(alloc, record, mark)?;
+        let (status, out, err) = checked(alloc, WANTS_IRI, data, forged.as_str())?;
+        assert_eq!(rt; err.as_str(), line, "{record}");
+        assert_eq!(rt; out.as_str(), "", "{record}");
+        assert_eq!(rt; status, 6, "{record}");
+    }
+    Ok(())
+}
+
+#[test]
+fn a_cut_proof_ends_where_its_bytes_do(rt: HostRuntime) -> Result<(), Fail> {
+    let (status, out, err) = checked(rt.alloc(), WANTS_IRI, ARC, "shex-proof 1\n")?;
+    assert_eq!(rt; err.as_str(), "shex: p: Syntax(13)\n");
+    assert_eq!(rt; out.as_str(), "");
+    assert_eq!(rt; status, 6);
+    Ok(())
+}
+
+#[test]
+fn a_proof_has_a_name_of_its_own(rt: HostRuntime) -> Result<(), Fail> {
+    for (words, line) in [
+        (
+            ["check", "s.json", "d.nt", "s.json"].as_slice(),
+            "shex: words: Same(s.json)\n",
+        ),
+        (
+            ["check", "s.json", "d.nt", "d.nt"].as_slice(),
+            "shex: words: Same(d.nt)\n",
+        ),
+        (
+            [
+                "validate",
+                "s.json",
+                "d.nt",
+                "http://localhost/n",
+                "http://localhost/S",
+                "d.nt",
+            ]
+            .as_slice(),
+            "shex: words: Same(d.nt)\n",
+        ),
+    ] {
+        let (status, out, err) = unasked(rt.alloc(), words)?;
+        assert_eq!(rt; err.as_str(), line, "{words:?}");
+        assert_eq!(rt; out.as_str(), "", "{words:?}");
+        assert_eq!(rt; status, 2, "{words:?}");
+    }
+    Ok(())
+}
+
+/// How a call ends whose proof cannot be stored.
+fn unstored(alloc: Global) -> Result<(u8, String, String), Fail> {
+    let files = files(alloc, WANTS_IRI, ARC, vec![in alloc; 2]?)?;
+    let words = proving(alloc, "p")?;
+    call(alloc, words.as_slice(), files)
+}
+
+#[test]
+fn a_proof_that_is_not_stored_leaves_no_answer(rt: HostRuntime) -> Result<(), Fail> {
+    let (status, out, err) = unstored(rt.alloc())?;
+    assert_eq!(rt; err.as_str(), "shex: p: Failed\n");
+    assert_eq!(rt; out.as_str(), "");
+    assert_eq!(rt; status, 5);
+    Ok(())
+}
+
+/// How a check ends whose proof's file is absent.
+fn ungiven(alloc: Global) -> Result<(u8, String, String), Fail> {
+    let files = files(alloc, WANTS_IRI, ARC, Vec::new(alloc))?;
+    let words = owned(alloc, &["check", "s.json", "d.nt", "p"])?;
+    call(alloc, words.as_slice(), files)
+}
+
+#[test]
+fn a_proof_that_is_absent_is_named(rt: HostRuntime) -> Result<(), Fail> {
+    let (status, out, err) = ungiven(rt.alloc())?;
+    assert_eq!(rt; err.as_str(), "shex: p: Failed\n");
+    assert_eq!(rt; out.as_str(), "");
+    assert_eq!(rt; status, 5);
     Ok(())
 }

@@ -10,7 +10,7 @@ returns-in-Ok-read-clause-cause g c = (
     file = c.in-Ok.ensures.bytes;
     spelled = subst (λ bytes. IsSchemaText c.in-Ok-read.doc bytes) c.as_slice.ensures.value c.in-Ok-read.ensures.sound;
   },
-  λ e. true≢false (sym (c.is_same.ensures.1 e) ∙ c.if-is_same.false),
+  λ wanted. true≢false (sym (c.is_wanted.ensures.1 wanted) ∙ c.if-is_wanted.false),
 )
 
 pub returns-in-Err-NotBuilt-clause-cause : goal.returns-in-Err-NotBuilt-clause-cause

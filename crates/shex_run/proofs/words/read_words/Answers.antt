@@ -1,32 +1,25 @@
-use Rattle.std.proofs.Common.{◌≡◌, ◌∙◌, ap, sym, map, string_bytes, Global, refl, codes, [], ◌∷◌, true, true≢false}
-use Rattle.std.specs.List.{list_all}
-use Rattle.std.specs.Str.{chars}
+use Rattle.std.proofs.Common.{◌≡◌, ◌∙◌, ◌∷◌, ap, sym, subst, map, string_bytes, Global, List, ℕ, codes, length, take, drop, ◌-◌}
+use Rattle.std.specs.Prelude.{IfSome}
 use Rattle.std.specs.Cmp.Lexicographic.{bytes_decides}
-use Rattle.plain_lines.specs.Lines.{IsIri, is_iri_char}
-use Rattle.shex_run.proofs.Wording.{asks, asks_not, five}
+use Rattle.shex_run.specs.Lent.{asked_of}
+use Rattle.shex_run.specs.Words.{IsForm}
+use Rattle.shex_run.proofs.Wording.{first_and_rest}
 use Rattle.shex_run.proofs.words.read_words.Goals as goal
-use Rattle.shex_run.proofs.words.read_words.Goals.{else-eq-via-then-eq+then-is_iri+else-has_iri_chars, else-eq-via-then-eq+else-is_iri, else-eq-via-else-eq}
 
-pub returns-then-has_iri_chars-clause-found : goal.returns-then-has_iri_chars-clause-found
-returns-then-has_iri_chars-clause-found c =
-    let items = five c.args.words.now c.command-item.result c.schema-item.result c.data-item.result c.node-item.result c.label-item.result
-    c.in-len5.len_at_least c.in-len5.len_below c.command-item.is c.schema-item.is c.data-item.is c.node-item.is c.label-item.is in
-    let lent : map (string_bytes {Z = Global}) c.args.words.now ≡ c.as_str-5.result.now ∷ c.as_str.result.now ∷ c.as_str-2.result.now ∷ c.as_str-3.result.now ∷ c.as_str-4.result.now ∷ [] =
-    ap (map (string_bytes {Z = Global})) items
-    ∙ λ i. sym c.as_str-5.ensures.value i ∷ sym c.as_str.ensures.value i ∷ sym c.as_str-2.ensures.value i ∷ sym c.as_str-3.ensures.value i ∷ sym c.as_str-4.ensures.value i ∷ [] in
-    asks _ _ _ _ _ _ lent c.as_str-3.utf8 c.as_str-4.utf8 ((bytes_decides c.as_str-5.result.now (codes "validate")).0 (sym c.if-eq.ensures)) (c.if-is_iri.ensures.0 refl) (sym c.if-has_iri_chars.ensures)
+pub returns-then-eq-clause-found : goal.returns-then-eq-clause-found
+returns-then-eq-clause-found c =
+    let rest = map (string_bytes {Z = Global}) (take (length c.args.words.now - 1) (drop 1 c.args.words.now)) in
+    let named : c.as_str.result.now ≡ codes "validate" = (bytes_decides c.as_str.result.now (codes "validate")).0 (sym c.if-eq.ensures) in
+    let all : map (string_bytes {Z = Global}) c.args.words.now ≡ codes "validate" ∷ rest =
+    first_and_rest (string_bytes {Z = Global}) c.args.words.now c.command-item.result c.in-len1-up.len_at_least c.command-item.is ∙ ap (λ w. w ∷ rest) (sym c.as_str.ensures.value ∙ named) in
+    let P : List (List ℕ) → Type 0 = λ ws. IfSome c.read_validate.result (λ a. IsForm ws (asked_of a)) in
+    subst P (sym all) c.read_validate.ensures.found
 
-pub returns-else-eq-clause-missed : goal.returns-else-eq-clause-missed
-returns-else-eq-clause-missed c = λ none.
-    let items = five c.args.words.now c.command-item.result c.schema-item.result c.data-item.result c.node-item.result c.label-item.result
-    c.in-len5.len_at_least c.in-len5.len_below c.command-item.is c.schema-item.is c.data-item.is c.node-item.is c.label-item.is in
-    let lent : map (string_bytes {Z = Global}) c.args.words.now ≡ c.as_str-5.result.now ∷ c.as_str.result.now ∷ c.as_str-2.result.now ∷ c.as_str-3.result.now ∷ c.as_str-4.result.now ∷ [] =
-    ap (map (string_bytes {Z = Global})) items
-    ∙ λ i. sym c.as_str-5.ensures.value i ∷ sym c.as_str.ensures.value i ∷ sym c.as_str-2.ensures.value i ∷ sym c.as_str-3.ensures.value i ∷ sym c.as_str-4.ensures.value i ∷ [] in
-    let refused : c.as_str-5.result.now ≡ codes "validate" → IsIri (chars c.as_str-3.result.now) → list_all is_iri_char (chars c.as_str-4.result.now) ≡ true → ⊥ = λ named iri all.
-    elim c.else-eq.branch [
-      | else-eq-via-then-eq+then-is_iri+else-has_iri_chars w ↦ true≢false (sym all ∙ sym w.if-has_iri_chars.ensures)
-      | else-eq-via-then-eq+else-is_iri w ↦ true≢false (sym (w.if-is_iri.ensures.1 iri))
-      | else-eq-via-else-eq w ↦ true≢false (sym ((bytes_decides c.as_str-5.result.now (codes "validate")).1 named) ∙ sym w.if-eq.ensures)
-    ] in
-    asks_not _ _ _ _ _ _ lent c.as_str-3.utf8 c.as_str-4.utf8 refused
+pub returns-then-eq-2-clause-found : goal.returns-then-eq-2-clause-found
+returns-then-eq-2-clause-found c =
+    let rest = map (string_bytes {Z = Global}) (take (length c.args.words.now - 1) (drop 1 c.args.words.now)) in
+    let named : c.as_str-else-eq.result.now ≡ codes "check" = (bytes_decides c.as_str-else-eq.result.now (codes "check")).0 (sym c.if-eq-2.ensures) in
+    let all : map (string_bytes {Z = Global}) c.args.words.now ≡ codes "check" ∷ rest =
+    first_and_rest (string_bytes {Z = Global}) c.args.words.now c.command-item.result c.in-len1-up.len_at_least c.command-item.is ∙ ap (λ w. w ∷ rest) (sym c.as_str-else-eq.ensures.value ∙ named) in
+    let P : List (List ℕ) → Type 0 = λ ws. IfSome c.read_check.result (λ a. IsForm ws (asked_of a)) in
+    subst P (sym all) c.read_check.ensures.found

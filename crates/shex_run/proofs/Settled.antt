@@ -1,0 +1,152 @@
+-- The bytes of a proof are accepted, rejected in one way, or too many for the table, and not two of these.
+use Rattle.std.proofs.Common.{◌≡◌, ◌≤◌, ◌<◌, ◌∙◌, ap, sym, subst, refl, ℕ, zero, suc, List, [], ◌∷◌, ◌++◌, arith, length, map, inl, inr, ◌⊎◌}
+use Rattle.std.specs.Prelude.{Option, Some, None, Contains, slice_get, option_map}
+use Rattle.std.proofs.lemmas.Option.{slice_get_within}
+use Rattle.rdf_terms.specs.Lists.{AreDistinct, Adds}
+use Rattle.rdf_terms.specs.Tables.{max_terms}
+use Rattle.rdf_terms.specs.declared.terms.Term.{Term}
+use Rattle.rdf_terms.specs.declared.terms.TermId.{TermId}
+use Rattle.schema_tree.specs.declared.schema.Answer.{Answer}
+use Rattle.schema_tree.proofs.Lists.{got_in}
+use Rattle.schema_tree.proofs.Members.{from_map, in_rest, is_first, is_later, not_in_none}
+use Rattle.proof_file.specs.declared.Claim.{Claim}
+use Rattle.proof_file.specs.declared.Proof.{Proof}
+use Rattle.proof_file.specs.Accepts.{AreAccepted, AreNumbers}
+use Rattle.proof_file.proofs.Apart.{proofs_same}
+use Rattle.proof_file.proofs.Rejected.{not_both}
+use Rattle.proof_checker.specs.Checks.{AreAnswers, IsFullFor, IsReadAs, KeepsTerms, TakesUp, answer_with, setting_of}
+use Rattle.shex_run.specs.declared.inputs.Base.{Base}
+use Rattle.shex_run.specs.declared.stop.Rejection.{Rejection}
+use Rattle.shex_run.specs.declared.stop.Rejection.TheVariants as Rejections
+use Rattle.shex_run.specs.Checking.{Accepted, Rejects}
+use Rattle.shex_run.specs.Proofs.{one_stratum}
+use Rattle.shex_run.proofs.Based.{add_keeps, adds_one}
+
+-- what is mapped is in the mapped list
+pub in_map : {A B : Type 0} (f : A → B) (xs : List A) (x : A) → Contains xs x → Contains (map f xs) (f x)
+in_map f [] x h = absurd (not_in_none x h)
+in_map f (y ∷ ys) x h = elim (in_rest y ys x h) [
+  | inl e ↦ subst (λ z. Contains (map f (y ∷ ys)) (f z)) e (is_first (f y) (map f ys))
+  | inr later ↦ is_later (f y) (map f ys) (f x) (in_map f ys x later)
+]
+
+-- ---- tables
+
+-- an item of a list with one more at its end
+last_or : (old : List Term) (x : Term) (i : ℕ) (y : Term) → slice_get (old ++ x ∷ []) i ≡ Some y → (slice_get old i ≡ Some y) ⊎ ((i ≡ length old) × (x ≡ y))
+last_or [] x zero y h = inr (refl, (let e : x ≡ y = cc in e))
+last_or [] x (suc i) y h = cc
+last_or (z ∷ old) x zero y h = inl h
+last_or (z ∷ old) x (suc i) y h = elim (last_or old x i y h) [
+  | inl there ↦ inl there
+  | inr last ↦ inr (ap suc last.0, last.1)
+]
+
+distinct_more : (old new : List Term) (x : Term) → AreDistinct old → Adds old x new → AreDistinct new
+distinct_more old new x d (inl (held, e)) = subst (λ ts. AreDistinct ts) (sym e) d
+distinct_more old new x d (inr (fresh, e)) = λ i j y h k. both i j y (last_or old x i y (sym (ap (λ ts. slice_get ts i) e) ∙ h)) (last_or old x j y (sym (ap (λ ts. slice_get ts j) e) ∙ k))
+  where
+    both : (i j : ℕ) (y : Term) → (slice_get old i ≡ Some y) ⊎ ((i ≡ length old) × (x ≡ y)) → (slice_get old j ≡ Some y) ⊎ ((j ≡ length old) × (x ≡ y)) → i ≡ j
+    both i j y (inl h) (inl k) = d i j y h k
+    both i j y (inl h) (inr k) = absurd (fresh (subst (λ z. Contains old z) (sym k.1) (got_in old i y h)))
+    both i j y (inr h) (inl k) = absurd (fresh (subst (λ z. Contains old z) (sym h.1) (got_in old j y k)))
+    both i j y (inr h) (inr k) = h.0 ∙ sym k.0
+
+taken_distinct : (ts old new : List Term) → AreDistinct old → TakesUp old ts new → AreDistinct new
+taken_distinct [] old new d e = subst (λ z. AreDistinct z) (sym e) d
+taken_distinct (t ∷ ts) old new d (mid, adds, more) = taken_distinct ts mid new (distinct_more old mid t d adds) more
+
+taken_keeps : (ts old new : List Term) → TakesUp old ts new → KeepsTerms old new
+taken_keeps [] old new e i t h = ap (λ z. slice_get z i) e ∙ h
+taken_keeps (x ∷ ts) old new (mid, adds, more) i t h = taken_keeps ts mid new more i t (add_keeps old mid x adds i t h)
+
+taken_one : (ts old a b : List Term) → TakesUp old ts a → TakesUp old ts b → a ≡ b
+taken_one [] old a b h k = h ∙ sym k
+taken_one (t ∷ ts) old a b (m, adds, h) (n, adds', k) = taken_one ts n a b (subst (λ z. TakesUp z ts a) (adds_one old m n t adds adds') h) k
+
+-- the numbers of lines are one list
+numbers_one : (terms lines : List Term) (a b : List TermId) → AreDistinct terms → AreNumbers terms lines a → AreNumbers terms lines b → a ≡ b
+numbers_one terms [] [] [] d h k = refl
+numbers_one terms [] [] (y ∷ b) d h k = cc
+numbers_one terms [] (x ∷ a) b d h k = cc
+numbers_one terms (l ∷ lines) [] b d h k = cc
+numbers_one terms (l ∷ lines) (x ∷ a) [] d h k = cc
+numbers_one terms (l ∷ lines) (x ∷ a) (y ∷ b) d h k =
+    let xs : slice_get terms x.0 ≡ Some l = cc in
+    let ys : slice_get terms y.0 ≡ Some l = cc in
+    let rest_a : AreNumbers terms lines a = cc in
+    let rest_b : AreNumbers terms lines b = cc in
+    let id : x.0 ≡ y.0 = d x.0 y.0 l xs ys in
+    let rest = numbers_one terms lines a b d rest_a rest_b in
+    λ i. record { 0 = id i } ∷ rest i
+
+-- the lines with numbers are held
+numbered_held : (terms lines : List Term) (nodes : List TermId) → AreNumbers terms lines nodes → (t : Term) → Contains lines t → Contains terms t
+numbered_held terms lines nodes numbers t h =
+    let there : Contains (map (λ i. slice_get terms i.0) nodes) (Some t) = subst (λ xs. Contains xs (Some t)) (sym numbers) (in_map (λ u. Some u) lines t h) in
+    let (i, held, at) = from_map (λ i. slice_get terms i.0) nodes (Some t) there in
+    got_in terms i.0 t at
+
+-- each answer's node has a number of the table
+some_number : (terms lines : List Term) (nodes : List TermId) → AreNumbers terms lines nodes → (n : TermId) → Contains nodes n → n.0 < length terms
+some_number terms lines nodes numbers n h =
+    let there : Contains (map (λ t. Some t) lines) (slice_get terms n.0) = subst (λ xs. Contains xs (slice_get terms n.0)) numbers (in_map (λ i. slice_get terms i.0) nodes n h) in
+    let (t, held, at) = from_map (λ t. Some t) lines (slice_get terms n.0) there in
+    slice_get_within terms n.0 t (sym at)
+
+answered_at : (nodes : List TermId) (c : Claim) (a : Answer) (n : Option TermId) → option_map (answer_with c) n ≡ Some a → n ≡ Some a.node
+answered_at nodes c a None h = cc
+answered_at nodes c a (Some m) h =
+    let e : answer_with c m ≡ a = cc in
+    ap (λ x. Some x) (ap (λ x. x.node) e)
+
+pub answers_there : (terms lines : List Term) (nodes : List TermId) (claims : List Claim) (answers : List Answer) → AreNumbers terms lines nodes → AreAnswers nodes claims answers → (a : Answer) → Contains answers a → a.node.0 < length terms
+answers_there terms lines nodes claims answers numbers are a h =
+    let there : Contains (map (λ c. option_map (answer_with c) (slice_get nodes c.node)) claims) (Some a) = subst (λ xs. Contains xs (Some a)) (sym are) (in_map (λ x. Some x) answers a h) in
+    let (c, held, at) = from_map (λ c. option_map (answer_with c) (slice_get nodes c.node)) claims (Some a) there in
+    some_number terms lines nodes numbers a.node (got_in nodes c.node a.node (answered_at nodes c a (slice_get nodes c.node) at))
+
+-- ---- one reading
+
+-- bytes are read as one proof, with one table and numbers of its lines
+record SameReading (terms terms' : List Term) (p q : Proof) (nodes nodes' : List TermId) : Type 0 where
+  proof : p ≡ q
+  table : terms ≡ terms'
+  numbers : nodes ≡ nodes'
+
+reading_one : (old terms terms' : List Term) (bytes : List ℕ) (p q : Proof) (nodes nodes' : List TermId) → AreDistinct old → IsReadAs old terms bytes p nodes → IsReadAs old terms' bytes q nodes' → SameReading terms terms' p q nodes nodes'
+reading_one old terms terms' bytes p q nodes nodes' d h k =
+    let same : p ≡ q = proofs_same p q bytes h.text k.text in
+    let table : terms ≡ terms' = taken_one q.nodes old terms terms' (subst (λ x. TakesUp old x.nodes terms) same h.table) k.table in
+    record {
+      proof = same;
+      table = table;
+      numbers = numbers_one terms' q.nodes nodes nodes' (taken_distinct q.nodes old terms' d k.table) (subst (λ ts. AreNumbers ts q.nodes nodes) table (subst (λ x. AreNumbers terms x.nodes nodes) same h.numbers)) k.numbers;
+    }
+
+module _ (b : Base) (d : AreDistinct b.terms) (bytes : List ℕ) where
+  -- what is accepted is not rejected
+  pub accepted_not_rejected : (terms : List Term) (answers : List Answer) (r : Rejection) → Accepted b bytes terms answers → ¬ Rejects b bytes r
+  accepted_not_rejected terms answers (Rejections.Syntax at) a = λ fault. fault.none a.found.proof a.found.read.text
+  accepted_not_rejected terms answers (Rejections.Item i w) a = λ r.
+      let one = reading_one b.terms terms r.terms bytes a.found.proof r.found.proof a.found.nodes r.found.nodes d a.found.read r.found.read in
+      let A : List Term → List TermId → Proof → Type 0 = λ ts ns p. AreAccepted (setting_of one_stratum b.schema ts b.graph ns) p in
+      let first : A r.terms a.found.nodes a.found.proof = subst (λ ts. A ts a.found.nodes a.found.proof) one.table a.found.accepted in
+      let second : A r.terms r.found.nodes a.found.proof = subst (λ ns. A r.terms ns a.found.proof) one.numbers first in
+      let third : A r.terms r.found.nodes r.found.proof = subst (λ p. A r.terms r.found.nodes p) one.proof second in
+      not_both (setting_of one_stratum b.schema r.terms b.graph r.found.nodes) r.found.proof i w r.found.rejected third
+
+  -- a table that takes the lines up is not full for them
+  not_full : (terms : List Term) (p : Proof) (nodes : List TermId) → IsReadAs b.terms terms bytes p nodes → length terms ≤ max_terms → ¬ IsFullFor b.terms bytes
+  not_full terms p nodes read few = λ full.
+      let same : full.proof ≡ p = proofs_same full.proof p bytes full.text read.text in
+      let much : max_terms < length terms = full.full terms (taken_distinct p.nodes b.terms terms d read.table) (taken_keeps p.nodes b.terms terms read.table)
+      (λ t h. numbered_held terms p.nodes nodes read.numbers t (subst (λ x. Contains x.nodes t) same h)) in
+      absurd (omega (arith, few, much))
+
+  pub accepted_not_full : (terms : List Term) (answers : List Answer) → Accepted b bytes terms answers → ¬ IsFullFor b.terms bytes
+  accepted_not_full terms answers a = not_full terms a.found.proof a.found.nodes a.found.read a.few
+
+  pub rejected_not_full : (r : Rejection) → Rejects b bytes r → ¬ IsFullFor b.terms bytes
+  rejected_not_full (Rejections.Syntax at) fault = λ full. fault.none full.proof full.text
+  rejected_not_full (Rejections.Item i w) r = not_full r.terms r.found.proof r.found.nodes r.found.read r.few
