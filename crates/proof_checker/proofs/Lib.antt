@@ -7,4 +7,5 @@ pub mod Alike
 pub mod Found
 pub mod Neighbours
 pub mod TakenUp
+pub mod Truthful
 pub mod Checked

@@ -7,10 +7,16 @@ use Rattle.rdf_terms.specs.declared.terms.Term.{Term}
 use Rattle.rdf_terms.specs.declared.terms.Triple.{Triple}
 use Rattle.schema_tree.specs.declared.schema.Schema.{Schema}
 use Rattle.schema_tree.specs.declared.schema.Answer.{Answer}
+use Rattle.schema_tree.specs.declared.schema.ExprId.{ExprId}
+use Rattle.schema_tree.specs.declared.schema.Pair.{Pair}
+use Rattle.schema_tree.specs.Loaded.{IsTarget}
+use Rattle.schema_tree.specs.Satisfies.{Sat}
+use Rattle.schema_tree.specs.Typings.{IsTheTyping}
 use Rattle.proof_file.specs.declared.Claim.{Claim}
 use Rattle.proof_file.specs.declared.Proof.{Proof}
 use Rattle.proof_file.specs.declared.Why.{Why}
 use Rattle.proof_file.specs.Accepts.{AreNumbers, AreAccepted, IsRejected, Setting}
+use Rattle.proof_file.specs.Laws.{HoldsLines, IsTrueProof, Says}
 use Rattle.proof_file.specs.Text.{ProofText, IsFault}
 use Rattle.proof_checker.specs.declared.check.CheckError.{CheckError}
 use Rattle.proof_checker.specs.declared.check.CheckError.TheVariants.{Syntax, Rejected, Full, Memory}
@@ -50,6 +56,21 @@ pub record IsAcceptedAs (f : List ℕ) (s : Schema) (old terms : List Term) (g :
   pub read : IsReadAs old terms bytes proof nodes
   pub accepted : AreAccepted (setting_of f s terms g nodes) proof
   pub claims : AreAnswers nodes proof.claims answers
+
+-- the answer is true of the typing T: its target is declared, and its node satisfies the target's expression or not, as answered
+pub record IsTrueAnswer (s : Schema) (terms : List Term) (T : List Pair) (a : Answer) : Type 0 where
+  pub expr : ExprId
+  pub is_target : IsTarget s a.target expr
+  pub says : Says a.holds (Sat s terms T a.node expr)
+
+-- the bytes are the text of a proof of which each record and each claim is true of every complete typing over terms that hold
+-- its node lines, and so is each of the answers
+pub record IsTrueAs (f : List ℕ) (s : Schema) (old terms : List Term) (g : List Triple) (bytes : List ℕ) (answers : List Answer) : Type 0 where
+  pub proof : Proof
+  pub nodes : List TermId
+  pub read : IsReadAs old terms bytes proof nodes
+  pub truth : (U : List TermId) (T : List Pair) → HoldsLines U terms proof.nodes → IsTheTyping s terms g f U T → IsTrueProof s terms nodes T proof
+  pub replies : (U : List TermId) (T : List Pair) → HoldsLines U terms proof.nodes → IsTheTyping s terms g f U T → (a : Answer) → Contains answers a → IsTrueAnswer s terms T a
 
 -- the bytes are the text of a proof whose item i is the first that is not accepted, by the check w
 pub record IsRejectedAs (f : List ℕ) (s : Schema) (old terms : List Term) (g : List Triple) (bytes : List ℕ) (i : ℕ) (w : Why) : Type 0 where

@@ -5,7 +5,7 @@ ghost use Rattle.rdf_terms.specs.Lists.{AreDistinct};
 ghost use Rattle.schema_tree.specs.Loaded.{IsLoaded};
 ghost use Rattle.proof_file.specs.declared.Claim.{Claim};
 ghost use Rattle.proof_file.specs.Accepts.{items_of};
-ghost use Rattle.proof_checker.specs.Checks.{AreAnswers, FailsAs, IsAcceptedAs, KeepsTerms, answer_with, setting_of};
+ghost use Rattle.proof_checker.specs.Checks.{AreAnswers, FailsAs, IsAcceptedAs, IsTrueAs, KeepsTerms, answer_with, setting_of};
 ghost use Rattle.proof_checker.specs.Faults.{FirstFault, proof_of};
 
 use crate::items::{Fault, Held};
@@ -14,7 +14,7 @@ use crate::standings::Standings;
 use graph_index::rows::Rows;
 use proof_file::laws::lines_are_few;
 use proof_file::read::{ReadError, read};
-use proof_file::{Claim, Proof, Section, Why};
+use proof_file::{Claim, Proof, Section, Why, accepted_is_true};
 use rdf_terms::items::Items;
 use rdf_terms::table::{PutError, TermTable};
 use rdf_terms::terms::{TermId, Triple};
@@ -131,10 +131,8 @@ fn size(bytes: &[u8]) -> u64
     bytes.len() as u64
 }
 
-/// Checks bytes that are given as a proof, against a loaded schema, the stratum of each Shape, and a graph. The terms of
-/// the node lines are put into the table. Gives the claims in their order where the proof is accepted. After a refusal
-/// the table may have more terms.
-pub fn check(
+/// Checks bytes that are given as a proof, as `check` does.
+fn checked(
     alloc: Global,
     schema: &Schema,
     strata: &[u32],
@@ -172,4 +170,28 @@ pub fn check(
         return Err(CheckError::Rejected(fault.item as u64, fault.why));
     }
     Ok(Items::of(answers(alloc, nodes, claims)?))
+}
+
+/// Checks bytes that are given as a proof, against a loaded schema, the stratum of each Shape, and a graph. The terms of
+/// the node lines are put into the table. Gives the claims in their order where the proof is accepted; then each of its
+/// records and claims is true. After a refusal the table may have more terms.
+pub fn check(
+    alloc: Global,
+    schema: &Schema,
+    strata: &[u32],
+    graph: &[Triple],
+    terms: &mut TermTable,
+    proof: &[u8],
+) -> Result<Items<Answer>, CheckError>
+    requires loaded { IsLoaded schema.now }
+    requires few { length graph.now < 2 ^ 31 }
+    ensures accepted { IfOk result (IsAcceptedAs strata.now schema.now terms.old terms.new graph.now proof.now) }
+    ensures sound { IfOk result (IsTrueAs strata.now schema.now terms.old terms.new graph.now proof.now) }
+    ensures fails { IfErr result (FailsAs strata.now schema.now terms.old terms.new graph.now proof.now) }
+    ensures kept { KeepsTerms terms.old terms.new }
+    ensures distinct { AreDistinct terms.new }
+{
+    // The law that ties what is accepted to the complete typing.
+    accepted_is_true();
+    checked(alloc, schema, strata, graph, terms, proof)
 }
