@@ -5,3 +5,4 @@ pub mod Loops
 pub mod Soundness
 pub mod Completeness
 pub mod Blocking
+pub mod Agreement

@@ -9,6 +9,10 @@ Phrase T = Ahead T → Ahead T → Type 0
 abbrev pub Is : {T F A : Type 0} → (T → Result A F) → A → Phrase T
 Is {T = T} class x ts rest = (t : T) × (ts ≡ token t rest) × (class t ≡ Ok x)
 
+-- one token with a property
+abbrev pub Such : {T : Type 0} → (T → Type 0) → Phrase T
+Such {T = T} Has ts rest = (t : T) × (ts ≡ token t rest) × Has t
+
 infixr 10 ◌⨾◌
 -- one phrase, and behind it another
 abbrev pub ◌⨾◌ : {T : Type 0} → Phrase T → Phrase T → Phrase T

@@ -1,5 +1,5 @@
 -- What is asked of a reader, and what follows for the place of a fault.
-use Rattle.std.specs.Prelude.{◌≡◌, ◌<◌, List, Ok, Err}
+use Rattle.std.specs.Prelude.{◌⊎◌, ◌≡◌, ◌<◌, List, Ok, Err}
 use Rattle.token_readers.specs.Ahead.{Ahead, prepend, count, SameNext}
 use Rattle.token_readers.specs.Readers.{Answer, Reader}
 
@@ -21,3 +21,12 @@ pub record Blocked {T A : Type 0} (Spells : A → Ahead T → Type 0) (ts rest :
   pub front : List T
   pub parts : ts ≡ prepend front rest
   pub none : (x : A) (other : Ahead T) → SameNext rest other → ¬ Spells x (prepend front other)
+
+-- Two readers agree but for some faults: a value is answered by both; a fault is common and answered by both, or it is
+-- one that the first answers alone.
+abbrev pub AgreesAt : {T F A : Type 0} → (F → Type 0) → (F → Ahead T → Type 0) → Answer T F A → Answer T F A → Type 0
+AgreesAt Common Alone (Ok x) other = other ≡ Ok x
+AgreesAt Common Alone (Err e) other = (Common e.0 × (other ≡ Err e)) ⊎ Alone e.0 e.1
+
+abbrev pub Agrees : {T F A : Type 0} → (F → Type 0) → (F → Ahead T → Type 0) → Reader T F A → Reader T F A → Type 0
+Agrees {T = T} Common Alone p q = (ts : Ahead T) → AgreesAt Common Alone (p ts) (q ts)
