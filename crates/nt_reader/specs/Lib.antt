@@ -3,3 +3,4 @@ pub mod Grammar
 pub mod Reading
 pub mod Modes
 pub mod Cursors
+pub mod Endings

@@ -218,4 +218,157 @@ impl<'a> LineReader<'a> {
         self.cursor.advance();
         Ok(iri)
     }
+
+    #[tactic(auto, unfolding(crate::specs::Reading::datatype))]
+    fn datatype(&mut self) -> Result<Text, Stop>
+        ensures gives { Gives (λ x. x) result (left self.new) (datatype true (left self.old)) }
+        ensures text { text_of self.new ≡ text_of self.old }
+    {
+        let Some(token) = self.cursor.peek() else {
+            return Err(Stop::Fault(Fault::Syntax));
+        };
+        let iri = datatype_of(self.alloc, token)?;
+        self.cursor.advance();
+        Ok(iri)
+    }
+
+    #[tactic(auto, unfolding(crate::specs::Reading::lexical))]
+    fn lexical(&mut self) -> Result<Text, Stop>
+        ensures gives { Gives (λ x. x) result (left self.new) (lexical true (left self.old)) }
+        ensures text { text_of self.new ≡ text_of self.old }
+    {
+        let Some(token) = self.cursor.peek() else {
+            return Err(Stop::Fault(Fault::Syntax));
+        };
+        let lex = lexical_of(self.alloc, token)?;
+        self.cursor.advance();
+        Ok(lex)
+    }
+
+    #[tactic(auto, unfolding(crate::specs::Reading::tag))]
+    fn tag(&mut self) -> Result<&'a str, Stop>
+        ensures gives { Gives (λ x. chars x.now) result (left self.new) (tag (left self.old)) }
+        ensures text { text_of self.new ≡ text_of self.old }
+    {
+        let Some(token) = self.cursor.peek() else {
+            return Err(Stop::Fault(Fault::Syntax));
+        };
+        let tag = tag_of(token)?;
+        self.cursor.advance();
+        Ok(tag)
+    }
+
+    fn label_text(&mut self) -> Result<&'a str, Stop>
+        ensures gives { Gives (λ x. x.now) result (left self.new) (one Syntax (label_of true) (left self.old)) }
+        ensures text { text_of self.new ≡ text_of self.old }
+    {
+        let Some(token) = self.cursor.peek() else {
+            return Err(Stop::Fault(Fault::Syntax));
+        };
+        let label = label_of(token)?;
+        self.cursor.advance();
+        Ok(label)
+    }
+
+    #[tactic(auto, using(crate::proofs::Names::name_is), unfolding(crate::specs::Reading::label))]
+    fn label(&mut self) -> Result<Name, Stop>
+        ensures gives { Gives (λ x. x) result (left self.new) (label true (left self.old)) }
+        ensures text { text_of self.new ≡ text_of self.old }
+    {
+        let label = self.label_text()?;
+        let name = name_from(self.alloc, label)?;
+        Ok(name)
+    }
+
+    #[tactic(auto, unfolding(crate::specs::Reading::subject))]
+    fn subject(&mut self) -> Result<Term, Stop>
+        ensures gives { Gives (λ x. x) result (left self.new) (subject true (left self.old)) }
+        ensures text { text_of self.new ≡ text_of self.old }
+    {
+        if self.is_at(Terminal::IriRef) {
+            let iri = self.iri()?;
+            Ok(Term::Iri(iri))
+        } else {
+            let name = self.label()?;
+            Ok(Term::Blank(name))
+        }
+    }
+
+    #[tactic(auto, unfolding(crate::specs::Reading::suffix))]
+    fn suffix(&mut self, lex: Text) -> Result<Literal, Stop>
+        ensures gives { Gives (λ x. x) result (left self.new) (suffix true lex (left self.old)) }
+        ensures text { text_of self.new ≡ text_of self.old }
+    {
+        if self.is_at(Terminal::LangTag) {
+            let tag = self.tag()?;
+            Ok(Literal::tagged(self.alloc, lex, tag)?)
+        } else if self.is_at(Terminal::Carets) {
+            self.mark(Terminal::Carets)?;
+            let datatype = self.datatype()?;
+            match Literal::typed(lex, datatype) {
+                Some(literal) => Ok(literal),
+                None => unreachable!(),
+            }
+        } else {
+            Ok(Literal::plain(self.alloc, lex)?)
+        }
+    }
+
+    #[tactic(auto, unfolding(crate::specs::Reading::object))]
+    fn object(&mut self) -> Result<Term, Stop>
+        ensures gives { Gives (λ x. x) result (left self.new) (object true (left self.old)) }
+        ensures text { text_of self.new ≡ text_of self.old }
+    {
+        if self.is_at(Terminal::Str) {
+            let lex = self.lexical()?;
+            let literal = self.suffix(lex)?;
+            Ok(Term::Lit(literal))
+        } else {
+            self.subject()
+        }
+    }
+
+    #[tactic(auto, unfolding(crate::specs::Reading::statement))]
+    fn statement(&mut self) -> Result<TermTriple, Stop>
+        ensures gives { Gives (λ x. x) result (left self.new) (statement true (left self.old)) }
+        ensures text { text_of self.new ≡ text_of self.old }
+    {
+        let subject = self.subject()?;
+        let predicate = self.iri()?;
+        let object = self.object()?;
+        self.mark(Terminal::Dot)?;
+        Ok(TermTriple {
+            subject,
+            predicate: Term::Iri(predicate),
+            object,
+        })
+    }
+
+    #[tactic(auto, unfolding(crate::specs::Reading::line_end))]
+    fn line_end(&mut self) -> Result<(), Stop>
+        ensures gives { Gives (λ x. x) result (left self.new) (line_end (left self.old)) }
+        ensures text { text_of self.new ≡ text_of self.old }
+    {
+        if self.is_at(Terminal::Line) {
+            self.mark(Terminal::Line)
+        } else {
+            self.end()
+        }
+    }
+
+    /// The triple of the next line, and `None` where the line is blank.
+    #[tactic(auto, unfolding(crate::specs::Reading::line))]
+    pub fn line(&mut self) -> Result<Option<TermTriple>, Stop>
+        ensures gives { Gives option_to_list result (left self.new) (line true (left self.old)) }
+        ensures text { text_of self.new ≡ text_of self.old }
+    {
+        if self.is_at(Terminal::Line) {
+            self.mark(Terminal::Line)?;
+            Ok(None)
+        } else {
+            let triple = self.statement()?;
+            self.line_end()?;
+            Ok(Some(triple))
+        }
+    }
 }
