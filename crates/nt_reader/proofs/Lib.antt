@@ -4,3 +4,10 @@ pub mod Names
 pub mod Datatypes
 pub mod Places
 pub mod Limits
+pub mod Terminals
+pub mod Quotes
+pub mod Judged
+pub mod Sound
+pub mod Complete
+pub mod Turns
+pub mod Endings

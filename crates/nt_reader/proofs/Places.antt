@@ -73,7 +73,7 @@ consumes_statement : (k : Bool) → Consumes (statement k)
 unfolding statement
 consumes_statement k = consumes_bind _ _ (consumes_subject k) (λ s. local_bind _ _ (local_iri k) (λ p. local_bind _ _ (local_object k) (λ o. local_bind _ _ (local_one _ _) (λ d. local_give _))))
 
-consumes_line : (k : Bool) → Consumes (line k)
+pub consumes_line : (k : Bool) → Consumes (line k)
 unfolding line
 consumes_line k = consumes_either _ _ _ (consumes_bind _ _ (consumes_one _ _) (λ _. local_give _)) (consumes_bind _ _ (consumes_statement k) (λ t. local_bind _ _ local_line_end (λ _. local_give _)))
 

@@ -1,6 +1,7 @@
 -- The grammar of N-Triples (RDF 1.1 N-Triples, section 7): which tokens spell which triples. `Fits` says of which bytes an
 -- IRI, a label and a lexical form may be.
 use Rattle.std.specs.Prelude.{◌≡◌, ◌≢◌, ◌⊎◌, ℕ, ◌≤◌, List, [], ◌∷◌, ◌++◌, Option, Some, None, length, encode_utf8_all}
+use Rattle.std.specs.Str.{IsUtf8}
 use Rattle.token_readers.specs.Ahead.{Ahead, finished, prepend}
 use Rattle.token_readers.specs.Phrases.{Phrase, Such, ◌⨾◌}
 use Rattle.rdf_terms.specs.Literals.{LiteralParts, rdf_lang_string, xsd_string}
@@ -57,9 +58,9 @@ pub data Lines (Fits : List ℕ → Type 0) : List TermTriple → Ahead Spelled 
 abbrev pub Spells : (List ℕ → Type 0) → List TermTriple → List Spelled → Type 0
 Spells Fits xs ts = Lines Fits xs (prepend ts finished) finished
 
--- the bytes are a document of these triples
+-- the bytes are UTF-8, and their tokens a document of these triples
 abbrev pub IsDocument : (List ℕ → Type 0) → List ℕ → List TermTriple → Type 0
-IsDocument Fits source xs = (ts : List Spelled) × Tokens NTriples source ts × Spells Fits xs ts
+IsDocument Fits source xs = (ts : List Spelled) × IsUtf8 source × Tokens NTriples source ts × Spells Fits xs ts
 
 -- how many bytes an IRI, a label or a lexical form has at most (own)
 abbrev pub max_bytes : ℕ

@@ -4,3 +4,4 @@ pub mod Reading
 pub mod Modes
 pub mod Cursors
 pub mod Endings
+pub mod Steps

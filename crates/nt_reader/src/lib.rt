@@ -2,8 +2,8 @@
 #![tactic(auto)]
 
 mod lines;
-// mod reader;
+mod reader;
 // cfg
 // mod tests;
 
-// pub use reader::read;
+pub use reader::{documents_are_one, read};
