@@ -1,17 +1,13 @@
 -- What the classes of tokens answer, and how one token is read.
-use Rattle.std.proofs.Common.{◌≡◌, ℕ, Bool, true, false, cond, ◌&&◌, List, Option, Some, None, is_some, length, drop, nat_eq, nat_lt, refl, sym, ap, subst, ◌∙◌, codes, encode_utf8_all, Result, Ok, Err}
-use Rattle.std.specs.List.{starts_with}
+use Rattle.std.proofs.Common.{◌≡◌, ℕ, Bool, true, false, cond, ◌&&◌, List, Some, is_some, length, nat_lt, refl, ap, ◌∙◌, encode_utf8_all, Result, Ok, Err}
 use Rattle.std.specs.Str.{chars}
 use Rattle.iri_resolve.specs.Reference.{scheme_of}
-use Rattle.rdf_terms.specs.Literals.{rdf_lang_string}
-use Rattle.rdf_terms.specs.Texts.{same_text}
-use Rattle.rdf_terms.specs.declared.terms.Name.{Name}
 use Rattle.token_readers.specs.Ahead.{Ahead, finished, broken, token, next_is}
-use Rattle.token_readers.specs.Readers.{Answer, one}
+use Rattle.token_readers.specs.Readers.{one}
 use Rattle.rdf_lex.specs.declared.kinds.Mode.TheVariants.{NTriples}
 use Rattle.rdf_lex.specs.Tokens.{Spelled}
 use Rattle.rdf_cursor.specs.Lent.{behind_next}
-use Rattle.rdf_cursor.specs.Meanings.{text_of, name_of}
+use Rattle.rdf_cursor.specs.Meanings.{text_of}
 use Rattle.rdf_cursor.specs.Terminals.{is_terminal}
 use Rattle.rdf_cursor.specs.declared.stops.Fault.{Fault}
 use Rattle.rdf_cursor.specs.declared.stops.Fault.TheVariants.{Syntax, Prefix, Deep, Long}
@@ -20,8 +16,8 @@ use Rattle.rdf_cursor.specs.declared.stops.Stop.TheVariants as stop
 use Rattle.rdf_cursor.specs.declared.terminals.Terminal.TheVariants as terminal
 use Rattle.rdf_cursor.specs.Stops.{StopsAs}
 use Rattle.nt_reader.specs.Grammar.{max_bytes}
-use Rattle.nt_reader.specs.Modes.{IsStop, Judges, MeansText}
-use Rattle.nt_reader.specs.Reading.{iri_of, datatype_by, label_of, lexical_of, lexical_by, tag_of, is_plain_quote}
+use Rattle.nt_reader.specs.Modes.{IsStop, MeansText}
+use Rattle.nt_reader.specs.Reading.{iri_of, lexical_of, lexical_by, is_plain_quote}
 
 -- one token
 pub took : {A : Type 0} (class : Spelled → Result A Fault) (ahead new : Ahead Spelled) (t : Spelled) (x : A) → ((rest : Ahead Spelled) × (ahead ≡ token t rest)) → class t ≡ Ok x → new ≡ behind_next ahead → one Syntax class ahead ≡ Ok (x, new)

@@ -1,14 +1,13 @@
 -- What is spelled so is read, with the limit where all fits.
-use Rattle.std.proofs.Common.{◌≡◌, ℕ, Bool, true, false, List, [], ◌∷◌, ◌++◌, Option, Some, None, Ok, refl, sym, ap, subst, ◌∙◌, inl, inr, append_assoc, encode_utf8_all, map}
+use Rattle.std.proofs.Common.{◌≡◌, ℕ, Bool, true, false, List, [], ◌∷◌, ◌++◌, Option, Some, None, Ok, refl, sym, ap, ◌∙◌, inl, inr, append_assoc, encode_utf8_all, map}
 use Rattle.std.specs.Char.{to_ascii_lowercase}
 use Rattle.std.specs.Str.{chars}
-use Rattle.std.specs.Prelude.{Result}
 use Rattle.std.proofs.lemmas.List.{append-nil}
 use Rattle.rdf_terms.specs.Literals.{LiteralParts, rdf_lang_string, xsd_string}
 use Rattle.rdf_terms.specs.declared.terms.Name.{Name}
 use Rattle.rdf_terms.specs.declared.terms.Term.{Term}
 use Rattle.rdf_terms.specs.declared.terms.Term.TheVariants.{Iri, Blank, Lit}
-use Rattle.token_readers.specs.Ahead.{Ahead, finished, broken, token, next_is}
+use Rattle.token_readers.specs.Ahead.{Ahead, finished, token, next_is}
 use Rattle.token_readers.specs.Phrases.{Such, ◌⨾◌}
 use Rattle.token_readers.specs.Readers.{Answer, and_then, loop}
 use Rattle.token_readers.proofs.Loops.{loop_more, loop_stop}
@@ -18,12 +17,12 @@ use Rattle.rdf_cursor.specs.declared.stops.Fault.{Fault}
 use Rattle.rdf_cursor.specs.declared.terminals.Terminal.{Terminal}
 use Rattle.rdf_cursor.specs.declared.terminals.Terminal.TheVariants as terminal
 use Rattle.graph_loading.specs.declared.triples.TermTriple.{TermTriple}
-use Rattle.nt_reader.specs.Grammar.{IriToken, Subject, Predicate, Suffix, Object, Statement, LineEnd, Lines, no_lines, blank_line, line}
+use Rattle.nt_reader.specs.Grammar.{IriToken, Subject, Suffix, Object, Statement, LineEnd, Lines, no_lines, blank_line, line}
 use Rattle.nt_reader.specs.Reading as r
 use Rattle.nt_reader.specs.Terms.{IsA, IsLabel}
 use Rattle.nt_reader.proofs.Judged.{iri_class, datatype_class, label_class, lexical_class, tag_class, mark_class}
 use Rattle.nt_reader.proofs.Places.{consumes_line_behind}
-use Rattle.nt_reader.proofs.Terminals.{is_other, next_at, next_other, next_any}
+use Rattle.nt_reader.proofs.Terminals.{next_at, next_other, next_any}
 
 literal_is : (lex d e : List ℕ) (a b : Option (List ℕ)) (rest : Ahead Spelled) → d ≡ e → a ≡ b
     → Path (Answer Spelled Fault LiteralParts) (Ok (record { lex = lex; datatype = d; lang = a }, rest)) (Ok (record { lex = lex; datatype = e; lang = b }, rest))

@@ -1,5 +1,5 @@
 -- A datatype that is read is not rdf:langString.
-use Rattle.std.proofs.Common.{◌≡◌, ℕ, Bool, true, false, cond, List, Result, Ok, Err, refl, sym, ap, ◌∙◌}
+use Rattle.std.proofs.Common.{◌≡◌, ℕ, Bool, true, false, cond, List, Result, Ok, Err, refl, ◌∙◌}
 use Rattle.rdf_terms.specs.Literals.{rdf_lang_string}
 use Rattle.rdf_terms.specs.Sameness.{text_decides}
 use Rattle.rdf_terms.specs.Texts.{same_text}

@@ -1,5 +1,5 @@
 -- What the ends of the lines say of the bytes.
-use Rattle.std.proofs.Common.{◌≡◌, ℕ, Bool, true, false, List, [], ◌∷◌, ◌++◌, length, take, Option, Some, None, Result, Ok, Err, refl, sym, ap, subst, ◌∙◌, ◌⊎◌, inl, inr, append_assoc}
+use Rattle.std.proofs.Common.{◌≡◌, ℕ, Bool, true, false, List, [], ◌∷◌, ◌++◌, Option, Some, None, Ok, Err, refl, sym, ap, subst, ◌∙◌, ◌⊎◌, inl, inr, append_assoc}
 use Rattle.std.specs.Str.{IsUtf8}
 use Rattle.std.proofs.lemmas.List.{append-nil}
 use Rattle.rdf_terms.specs.Lists.{AreDistinct}
@@ -7,18 +7,17 @@ use Rattle.rdf_terms.specs.declared.terms.Term.{Term}
 use Rattle.rdf_terms.specs.declared.terms.Term.TheVariants.{Iri, Blank, Lit}
 use Rattle.rdf_terms.specs.declared.terms.Triple.{Triple}
 use Rattle.graph_index.specs.declared.read_error.ReadError.{ReadError}
-use Rattle.graph_index.specs.declared.read_error.ReadError.TheVariants as error
 use Rattle.token_readers.specs.Ahead.{Ahead, finished, token, prepend}
 use Rattle.token_readers.specs.Phrases.{Such, ◌⨾◌}
 use Rattle.token_readers.specs.Properties.{IsLocalAt, AgreesAt}
-use Rattle.token_readers.specs.Readers.{Answer, Reader, and_then, loop, finish}
+use Rattle.token_readers.specs.Readers.{Answer, Reader, loop, finish}
 use Rattle.token_readers.proofs.Answers.{then_ok, apart, err_is, ok_is}
 use Rattle.token_readers.proofs.Blocking.{blocked}
 use Rattle.token_readers.proofs.Locality.{prepend-append}
 use Rattle.token_readers.proofs.Loops.{loop_rule}
 use Rattle.token_readers.proofs.Soundness.{finish_sound}
 use Rattle.rdf_lex.specs.declared.kinds.Mode.TheVariants.{NTriples}
-use Rattle.rdf_lex.specs.Tokens.{Spelled, Between, IsFirst, Tokens}
+use Rattle.rdf_lex.specs.Tokens.{Spelled}
 use Rattle.rdf_cursor.specs.Lent.{Stands}
 use Rattle.rdf_cursor.specs.Places.{IsFaultPlace}
 use Rattle.rdf_cursor.specs.Streams.{stream_from}
@@ -28,12 +27,12 @@ use Rattle.rdf_cursor.specs.declared.stops.Fault.TheVariants as faults
 use Rattle.rdf_cursor.proofs.Places.{fault_place, first_at}
 use Rattle.rdf_cursor.proofs.Streams.{to_tokens, from_tokens, found, start}
 use Rattle.graph_loading.specs.declared.triples.TermTriple.{TermTriple}
-use Rattle.graph_loading.specs.Loading.{Loads, IsWithin, FindsNoRoom}
+use Rattle.graph_loading.specs.Loading.{Loads, IsWithin}
 use Rattle.graph_loading.proofs.Loading.{loads_one, no_room_behind}
 use Rattle.nt_reader.specs.declared.reader.Refusal.{Refusal}
 use Rattle.nt_reader.specs.declared.reader.Refusal.TheVariants as refusal
-use Rattle.nt_reader.specs.Endings.{IsLong, IsLongAt, IsOverfull, Explains, ReadsTo}
-use Rattle.nt_reader.specs.Grammar.{IriToken, Subject, Predicate, Suffix, Object, Statement, LineEnd, Lines, no_lines, blank_line, line, Spells, IsDocument, IsShort, IsAny}
+use Rattle.nt_reader.specs.Endings.{IsLongAt, IsOverfull, Explains, ReadsTo}
+use Rattle.nt_reader.specs.Grammar.{Subject, Predicate, Suffix, Object, Statement, LineEnd, Lines, no_lines, blank_line, line, Spells, IsDocument, IsShort, IsAny}
 use Rattle.nt_reader.specs.Reading as r
 use Rattle.nt_reader.specs.Steps.{Fills, Ends, error_of}
 use Rattle.nt_reader.proofs.Complete.{document_read}

@@ -1,28 +1,28 @@
 -- What a class answers is what the token stands for, and the other way round.
-use Rattle.std.proofs.Common.{◌≡◌, ℕ, ◌≤◌, Bool, true, false, cond, ◌&&◌, List, [], ◌∷◌, ◌++◌, Option, Some, None, is_some, length, drop, map, nat_eq, nat_lt, refl, sym, ap, subst, ◌∙◌, codes, encode_utf8_all, Result, Ok, Err}
+use Rattle.std.proofs.Common.{◌≡◌, ℕ, Bool, true, false, cond, ◌&&◌, List, ◌++◌, Option, Some, None, is_some, length, drop, map, nat_eq, nat_lt, refl, sym, ap, subst, ◌∙◌, codes, encode_utf8_all, Result, Ok, Err}
 use Rattle.std.specs.Char.{to_ascii_lowercase}
 use Rattle.std.specs.List.{starts_with}
 use Rattle.std.specs.Str.{chars}
 use Rattle.std.proofs.lemmas.Bool.{ltb-false, le-ltb}
 use Rattle.iri_resolve.specs.Reference.{scheme_of}
 use Rattle.rdf_terms.specs.Literals.{rdf_lang_string}
-use Rattle.rdf_terms.specs.Names.{IsNameOf}
 use Rattle.rdf_terms.specs.Sameness.{text_decides}
 use Rattle.rdf_terms.specs.Texts.{same_text}
 use Rattle.rdf_terms.specs.declared.terms.Name.{Name}
+use Rattle.rdf_terms.specs.declared.terms.Name.TheVariants.{Label}
 use Rattle.rdf_terms.proofs.Characters.{starts}
 use Rattle.rdf_lex.specs.declared.kinds.Kind.{Kind}
 use Rattle.rdf_lex.specs.declared.kinds.Mode.TheVariants.{NTriples}
 use Rattle.rdf_lex.specs.Phrases.{Spells}
 use Rattle.rdf_lex.specs.Spelling.{Spelling}
 use Rattle.rdf_lex.specs.Tokens.{Spelled}
-use Rattle.rdf_cursor.specs.Meanings.{text_of, name_of, IsText}
+use Rattle.rdf_cursor.specs.Meanings.{text_of}
 use Rattle.rdf_cursor.specs.Terminals.{is_terminal}
 use Rattle.rdf_cursor.specs.declared.stops.Fault.{Fault}
 use Rattle.rdf_cursor.specs.declared.stops.Fault.TheVariants.{Syntax, Long}
 use Rattle.rdf_cursor.specs.declared.terminals.Terminal.{Terminal}
 use Rattle.rdf_cursor.specs.declared.terminals.Terminal.TheVariants as terminal
-use Rattle.rdf_cursor.proofs.Meanings.{text_of_is, text_is, name_of_is, name_is}
+use Rattle.rdf_cursor.proofs.Meanings.{text_of_is, text_is}
 use Rattle.nt_reader.specs.Grammar.{IsShort, max_bytes}
 use Rattle.nt_reader.specs.Reading.{too_long, fitting, iri_by, iri_of, datatype_by, label_of, lexical_by, lexical_of, is_plain_quote, tag_of, of_mark}
 use Rattle.nt_reader.specs.Terms.{IsA, IsIri, IsLabel, IsLexical, IsTag}
@@ -73,14 +73,15 @@ pub datatype_is : (t : Spelled) (iri : List ℕ) → datatype_by (iri_of true t)
 datatype_is t iri e = (iri_is t iri (datatype_same (iri_of true t) iri e), class_other (iri_of true t) iri e)
 
 -- a blank node
-pub label_is : (t : Spelled) (label : List ℕ) → label_of true t ≡ Ok label → (l : List ℕ) × IsLabel t l (name_of (chars label)) × IsShort l
+pub label_is : (t : Spelled) (label : List ℕ) → label_of true t ≡ Ok label → (l : List ℕ) × IsLabel t l (Label (chars label)) × IsShort l
 label_is t label e =
     let w = when (is_terminal terminal.BlankLabel t && starts_with nat_eq t.text (codes "_:")) (fitting true (drop 2 t.text) (drop 2 t.text)) label e in
     let p = both (is_terminal terminal.BlankLabel t) (starts_with nat_eq t.text (codes "_:")) w.0 in
-    let f = fits (drop 2 t.text) (drop 2 t.text) label w.1 in
-    (drop 2 t.text,
-     record { terminal = p.0; text = starts t.text (codes "_:") p.1; named = subst (λ (v : List ℕ). IsNameOf (chars (drop 2 t.text)) (name_of (chars v))) f.0 (name_of_is (chars (drop 2 t.text))) },
-     f.1)
+    let f = fits (drop 2 t.text) (drop 2 t.text) label w.1 in (
+      drop 2 t.text,
+      record { terminal = p.0; text = starts t.text (codes "_:") p.1; named = ap (λ (v : List ℕ). Label (chars v)) (sym f.0) },
+      f.1,
+    )
 
 -- a lexical form
 lexical_by_is : (t : Spelled) (o : Option (List ℕ)) (lex : List ℕ) → text_of NTriples t ≡ o → IsA terminal.Str t → is_plain_quote (chars t.text) ≡ true → lexical_by true o ≡ Ok lex → IsLexical t lex × IsShort (encode_utf8_all lex)
@@ -127,12 +128,13 @@ datatype_class k t iri f h other = ap datatype_by (iri_class k t iri f h) ∙ ap
 starts_label : (text label : List ℕ) → text ≡ codes "_:" ++ label → starts_with nat_eq text (codes "_:") ≡ true
 starts_label text label e = ap (λ (v : List ℕ). starts_with nat_eq v (codes "_:")) e
 
-pub label_class : (k : Bool) (t : Spelled) (label : List ℕ) (name : Name) → too_long k label ≡ false → IsLabel t label name → (label_of k t ≡ Ok label) × (name_of (chars label) ≡ name)
+pub label_class : (k : Bool) (t : Spelled) (label : List ℕ) (name : Name) → too_long k label ≡ false → IsLabel t label name → (label_of k t ≡ Ok label) × (Label (chars label) ≡ name)
 label_class k t label name f h =
-    let same : drop 2 t.text ≡ label = ap (drop 2) h.text in
-    (ap (λ (b : Bool). cond b (fitting k (drop 2 t.text) (drop 2 t.text)) (Err Syntax)) (and_true (is_terminal terminal.BlankLabel t) (starts_with nat_eq t.text (codes "_:")) h.terminal (starts_label t.text label h.text))
-     ∙ ap (λ (v : List ℕ). fitting k v v) same ∙ ap (λ (b : Bool). cond b (Err Long) (Ok label)) f,
-     name_is (chars label) name h.named)
+    let same : drop 2 t.text ≡ label = ap (drop 2) h.text in (
+      ap (λ (b : Bool). cond b (fitting k (drop 2 t.text) (drop 2 t.text)) (Err Syntax)) (and_true (is_terminal terminal.BlankLabel t) (starts_with nat_eq t.text (codes "_:")) h.terminal (starts_label t.text label h.text))
+          ∙ ap (λ (v : List ℕ). fitting k v v) same ∙ ap (λ (b : Bool). cond b (Err Long) (Ok label)) f,
+      sym h.named,
+    )
 
 pub lexical_class : (k : Bool) (t : Spelled) (lex : List ℕ) → too_long k (encode_utf8_all lex) ≡ false → IsLexical t lex → lexical_of k t ≡ Ok lex
 lexical_class k t lex f h = rw (h.terminal, short_quote (chars t.text) h.short, text_is NTriples t lex h.text, f) refl

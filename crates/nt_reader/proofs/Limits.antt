@@ -1,5 +1,5 @@
 -- Without the limit a document is read in the same way, but for what is too long.
-use Rattle.std.proofs.Common.{◌≡◌, ℕ, Bool, true, false, cond, ◌&&◌, List, Option, Some, None, is_some, length, drop, nat_eq, nat_lt, refl, sym, ap, subst, ◌∙◌, ◌<◌, codes, encode_utf8_all, Result, Ok, Err, inl, inr}
+use Rattle.std.proofs.Common.{◌≡◌, ℕ, Bool, true, false, cond, ◌&&◌, List, Option, Some, None, is_some, length, drop, nat_eq, nat_lt, refl, sym, ap, subst, ◌<◌, codes, encode_utf8_all, Result, Ok, Err, inl, inr}
 use Rattle.std.proofs.lemmas.Bool.{ltb-true}
 use Rattle.std.specs.List.{starts_with}
 use Rattle.std.specs.Str.{chars}
@@ -135,8 +135,8 @@ same_suffix : (lex : List ℕ) → Same (suffix true lex) (suffix false lex)
 unfolding suffix
 same_suffix lex = agrees_either Common LongNext _ _ _ _ _ (agrees_bind Common LongNext _ _ _ _ same_tag (λ g. agrees_give Common LongNext _))
     (agrees_either Common LongNext _ _ _ _ _
-      (agrees_bind Common LongNext _ _ _ _ (agrees_one Common LongNext Syntax _ _ refl (λ t. cond_syntax t (is_terminal terminal.Carets t) tt)) (λ _. agrees_bind Common LongNext _ _ _ _ same_datatype (λ d. agrees_give Common LongNext _)))
-      (agrees_give Common LongNext _))
+    (agrees_bind Common LongNext _ _ _ _ (agrees_one Common LongNext Syntax _ _ refl (λ t. cond_syntax t (is_terminal terminal.Carets t) tt)) (λ _. agrees_bind Common LongNext _ _ _ _ same_datatype (λ d. agrees_give Common LongNext _)))
+    (agrees_give Common LongNext _))
 
 same_object : Same (object true) (object false)
 unfolding object

@@ -1,10 +1,9 @@
 -- What is read is spelled so, within the limit.
-use Rattle.std.proofs.Common.{◌≡◌, ℕ, true, List, [], ◌∷◌, ◌++◌, refl, sym, ap, subst, ◌∙◌, inl, inr, ◌⊎◌, append_assoc, encode_utf8_all}
-use Rattle.std.proofs.lemmas.List.{append-nil}
+use Rattle.std.proofs.Common.{◌≡◌, ℕ, true, List, [], ◌∷◌, ◌++◌, refl, sym, subst, inl, inr, ◌⊎◌, encode_utf8_all}
 use Rattle.rdf_terms.specs.Literals.{LiteralParts}
 use Rattle.rdf_terms.specs.declared.terms.Term.{Term}
 use Rattle.rdf_terms.specs.declared.terms.Term.TheVariants.{Iri, Blank, Lit}
-use Rattle.token_readers.specs.Ahead.{Ahead, finished}
+use Rattle.token_readers.specs.Ahead.{Ahead}
 use Rattle.token_readers.specs.Phrases.{Such, ◌⨾◌}
 use Rattle.token_readers.proofs.Soundness.{Meets, meets_give, meets_one, meets_bind, meets_either, meets_finish, meets_rule}
 use Rattle.rdf_lex.specs.Tokens.{Spelled}
@@ -28,8 +27,8 @@ suffix_meets : (lex : List ℕ) (ts : Ahead Spelled) → Meets (r.suffix true le
 unfolding r.suffix r.tag r.datatype
 suffix_meets lex ts = meets_either (meets_bind (meets_one (λ g rest h. meets_give (refl, (refl, (h.0, h.1, tag_is h.0 g h.2))))))
     (meets_either
-      (meets_bind (meets_one (λ x mid h. meets_bind (meets_one (λ d rest k. let i = datatype_is k.0 d k.2 in meets_give (refl, inr (i.1, (mid, (h.0, h.1, mark_is terminal.Carets h.0 x h.2), (k.0, k.1, i.0)))))))))
-      (meets_give (refl, inl (refl, refl))))
+    (meets_bind (meets_one (λ x mid h. meets_bind (meets_one (λ d rest k. let i = datatype_is k.0 d k.2 in meets_give (refl, inr (i.1, (mid, (h.0, h.1, mark_is terminal.Carets h.0 x h.2), (k.0, k.1, i.0)))))))))
+    (meets_give (refl, inl (refl, refl))))
 
 literal_spelled : (l : LiteralParts) (lex : List ℕ) (ts mid rest : Ahead Spelled) → Such (λ t. IsLexical t lex × IsShort (encode_utf8_all lex)) ts mid → Behind lex mid l rest → Object IsShort (Lit l) ts rest
 literal_spelled l lex ts mid rest h b = (mid, subst (λ (v : List ℕ). Such (λ t. IsLexical t v × IsShort (encode_utf8_all v)) ts mid) (sym b.0) h, b.1)
@@ -48,7 +47,7 @@ object_meets ts = meets_either
 statement_meets : (ts : Ahead Spelled) → Meets (r.statement true) (λ x rest. Statement IsShort x ts rest) ts
 unfolding r.statement r.iri
 statement_meets ts = meets_bind (meets_rule (subject_meets ts) (λ s m a. meets_bind (meets_one (λ p n b. meets_bind (meets_rule (object_meets n) (λ o k c.
-    meets_bind (meets_one (λ x rest d. meets_give (m, a, (n, (b.0, b.1, iri_is b.0 p b.2), (k, c, (d.0, d.1, mark_is terminal.Dot d.0 x d.2)))))))))))) 
+    meets_bind (meets_one (λ x rest d. meets_give (m, a, (n, (b.0, b.1, iri_is b.0 p b.2), (k, c, (d.0, d.1, mark_is terminal.Dot d.0 x d.2))))))))))))
 
 line_end_meets : (ts : Ahead Spelled) → Meets r.line_end (λ x rest. LineEnd ts rest) ts
 unfolding r.line_end

@@ -1,11 +1,10 @@
 -- Tests of texts, by their characters and by their bytes.
-use Rattle.std.proofs.Common.{◌≡◌, ℕ, Bool, true, false, ◌&&◌, List, Option, Some, None, is_some, length, nat_eq, nat_lt, refl, sym, ap, ◌∙◌, codes, encode_utf8_all, Bor}
-use Rattle.std.specs.Prelude.{not}
+use Rattle.std.proofs.Common.{◌≡◌, ℕ, Bool, true, false, List, Option, Some, None, is_some, nat_eq, refl, sym, ap, ◌∙◌, encode_utf8_all, Bor}
 use Rattle.std.specs.List.{starts_with}
 use Rattle.std.specs.Option.{option_copied}
 use Rattle.std.specs.Str.{chars, IsUtf8}
 use Rattle.std.proofs.lemmas.Str.{encodes-chars}
-use Rattle.iri_resolve.specs.Reference.{Components, components_of, scheme_of}
+use Rattle.iri_resolve.specs.Reference.{scheme_of}
 use Rattle.rdf_terms.proofs.Characters.{is_ascii, starts_encodes}
 use Rattle.rdf_lex.specs.declared.kinds.Mode.{Mode}
 use Rattle.rdf_lex.specs.declared.machine.State.TheVariants.{Start}

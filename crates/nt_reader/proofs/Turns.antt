@@ -1,11 +1,11 @@
 -- How the loop over lines goes on and ends.
-use Rattle.std.proofs.Common.{append_assoc, ◌≡◌, ℕ, true, false, List, [], ◌∷◌, ◌++◌, Result, Ok, Err, Option, Some, None, refl, sym, ap, subst, ◌∙◌}
+use Rattle.std.proofs.Common.{append_assoc, ◌≡◌, true, false, List, [], ◌∷◌, ◌++◌, Result, Ok, Err, Option, Some, None, refl, sym, ap, subst, ◌∙◌}
 use Rattle.std.proofs.lemmas.List.{append-nil}
 use Rattle.std.specs.Option.{option_to_list}
 use Rattle.rdf_terms.specs.declared.terms.Term.{Term}
 use Rattle.rdf_terms.specs.declared.terms.Triple.{Triple}
-use Rattle.token_readers.specs.Ahead.{Ahead, finished, broken, token, count, next_is}
-use Rattle.token_readers.specs.Readers.{Answer, and_then, loop, finish}
+use Rattle.token_readers.specs.Ahead.{Ahead, finished, broken, token, next_is}
+use Rattle.token_readers.specs.Readers.{Answer, loop, finish}
 use Rattle.token_readers.proofs.Loops.{loop_goes, loop_fails, loop_ends}
 use Rattle.token_readers.proofs.Soundness.{finish_sound}
 use Rattle.rdf_lex.specs.Tokens.{Spelled}
@@ -19,13 +19,13 @@ use Rattle.graph_loading.specs.declared.triples.LoadError.{LoadError}
 use Rattle.graph_loading.specs.declared.triples.LoadError.TheVariants as load
 use Rattle.graph_loading.specs.declared.triples.TermTriple.{TermTriple}
 use Rattle.graph_loading.specs.Loading.{Loads, nothing, FindsNoRoom}
-use Rattle.graph_loading.proofs.Loading.{loads_append, loads_grow}
+use Rattle.graph_loading.proofs.Loading.{loads_append}
 use Rattle.nt_reader.specs.declared.reader.Refusal.{Refusal}
 use Rattle.nt_reader.specs.declared.reader.Refusal.TheVariants as refusal
 use Rattle.nt_reader.specs.Grammar.{Lines, no_lines, IsShort}
 use Rattle.nt_reader.specs.Reading.{line, line_behind, document}
-use Rattle.nt_reader.specs.Steps.{from_stop, from_load, Steps, Comes, Fills, Ends}
-use Rattle.nt_reader.proofs.Places.{consumes_line, consumes_line_behind}
+use Rattle.nt_reader.specs.Steps.{from_stop, from_load, Steps, Comes, Ends}
+use Rattle.nt_reader.proofs.Places.{consumes_line_behind}
 use Rattle.nt_reader.proofs.Sound.{line_meets, lines_more}
 
 pub begins : (ahead : Ahead Spelled) (terms : List Term) (graph : List Triple) → Comes ahead terms graph ahead terms graph

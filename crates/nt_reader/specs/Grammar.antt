@@ -1,10 +1,10 @@
 -- The grammar of N-Triples (RDF 1.1 N-Triples, section 7): which tokens spell which triples. `Fits` says of which bytes an
 -- IRI, a label and a lexical form may be.
-use Rattle.std.specs.Prelude.{◌≡◌, ◌≢◌, ◌⊎◌, ℕ, ◌≤◌, List, [], ◌∷◌, ◌++◌, Option, Some, None, length, encode_utf8_all}
+use Rattle.std.specs.Prelude.{◌≡◌, ◌≢◌, ◌⊎◌, ℕ, ◌≤◌, List, [], ◌∷◌, Option, Some, None, length, encode_utf8_all}
 use Rattle.std.specs.Str.{IsUtf8}
 use Rattle.token_readers.specs.Ahead.{Ahead, finished, prepend}
 use Rattle.token_readers.specs.Phrases.{Phrase, Such, ◌⨾◌}
-use Rattle.rdf_terms.specs.Literals.{LiteralParts, rdf_lang_string, xsd_string}
+use Rattle.rdf_terms.specs.Literals.{rdf_lang_string, xsd_string}
 use Rattle.rdf_terms.specs.declared.terms.Term.{Term}
 use Rattle.rdf_terms.specs.declared.terms.Term.TheVariants.{Iri, Blank, Lit}
 use Rattle.rdf_lex.specs.declared.kinds.Mode.TheVariants.{NTriples}

@@ -1,6 +1,6 @@
 -- What is read from the front of the tokens, as functions; only the functions inside the crate speak of them. With the flag,
 -- texts that are too long are faults.
-use Rattle.std.specs.Prelude.{◌≡◌, ℕ, Bool, ◌&&◌, not, nat_eq, nat_lt, List, [], ◌∷◌, ◌++◌, length, drop, map, Option, Some, None, is_some, Result, Ok, Err, codes, encode_utf8_all, if◌then◌else◌}
+use Rattle.std.specs.Prelude.{ℕ, Bool, ◌&&◌, not, nat_eq, nat_lt, List, [], ◌∷◌, ◌++◌, length, drop, map, Option, Some, None, is_some, Result, Ok, Err, codes, encode_utf8_all, if◌then◌else◌}
 use Rattle.std.specs.Char.{to_ascii_lowercase}
 use Rattle.std.specs.List.{starts_with}
 use Rattle.std.specs.Str.{chars}
@@ -8,12 +8,13 @@ use Rattle.iri_resolve.specs.Reference.{scheme_of}
 use Rattle.rdf_terms.specs.Literals.{LiteralParts, rdf_lang_string, xsd_string}
 use Rattle.rdf_terms.specs.Texts.{same_text}
 use Rattle.rdf_terms.specs.declared.terms.Name.{Name}
+use Rattle.rdf_terms.specs.declared.terms.Name.TheVariants.{Label}
 use Rattle.rdf_terms.specs.declared.terms.Term.{Term}
 use Rattle.rdf_terms.specs.declared.terms.Term.TheVariants.{Iri, Blank, Lit}
 use Rattle.token_readers.specs.Readers.{Reader, ◌>>=◌, give, one, either, loop, finish}
 use Rattle.rdf_lex.specs.declared.kinds.Mode.TheVariants.{NTriples}
 use Rattle.rdf_lex.specs.Tokens.{Spelled}
-use Rattle.rdf_cursor.specs.Meanings.{text_of, name_of}
+use Rattle.rdf_cursor.specs.Meanings.{text_of}
 use Rattle.rdf_cursor.specs.Terminals.{is_terminal, is_any}
 use Rattle.rdf_cursor.specs.declared.stops.Fault.{Fault}
 use Rattle.rdf_cursor.specs.declared.stops.Fault.TheVariants.{Syntax, Long}
@@ -62,7 +63,7 @@ abbrev pub label_of : Bool → Spelled → Result (List ℕ) Fault
 label_of check t = if is_terminal terminal.BlankLabel t && starts_with nat_eq t.text (codes "_:") then fitting check (drop 2 t.text) (drop 2 t.text) else Err Syntax
 
 unfoldable pub label : Bool → R Name
-label check = one Syntax (label_of check) >>= λ l. give (name_of (chars l))
+label check = one Syntax (label_of check) >>= λ l. give (Label (chars l))
 
 -- a lexical form
 abbrev pub is_plain_quote : List ℕ → Bool
@@ -90,7 +91,7 @@ subject check = either (is_terminal terminal.IriRef) (iri check >>= λ i. give (
 
 unfoldable pub suffix : Bool → List ℕ → R LiteralParts
 suffix check lex = either (is_terminal terminal.LangTag) (tag >>= λ g. give (record { lex = lex; datatype = rdf_lang_string; lang = Some (map to_ascii_lowercase g) }))
-  (either (is_terminal terminal.Carets) (mark terminal.Carets >>= λ _. datatype check >>= λ d. give (record { lex = lex; datatype = d; lang = None }))
+    (either (is_terminal terminal.Carets) (mark terminal.Carets >>= λ _. datatype check >>= λ d. give (record { lex = lex; datatype = d; lang = None }))
     (give (record { lex = lex; datatype = xsd_string; lang = None })))
 
 unfoldable pub object : Bool → R Term

@@ -3,8 +3,8 @@ use Rattle.std.specs.Prelude.{◌≡◌, ℕ, true, List, ◌++◌, IsSome, map,
 use Rattle.std.specs.Char.{to_ascii_lowercase}
 use Rattle.std.specs.Str.{chars}
 use Rattle.iri_resolve.specs.Reference.{scheme_of}
-use Rattle.rdf_terms.specs.Names.{IsNameOf}
 use Rattle.rdf_terms.specs.declared.terms.Name.{Name}
+use Rattle.rdf_terms.specs.declared.terms.Name.TheVariants.{Label}
 use Rattle.rdf_lex.specs.declared.kinds.Mode.TheVariants.{NTriples}
 use Rattle.rdf_lex.specs.Phrases.{Spells}
 use Rattle.rdf_lex.specs.Spelling.{short_text}
@@ -24,11 +24,11 @@ pub record IsIri (t : Spelled) (iri : List ℕ) : Type 0 where
   pub text : IsText NTriples t iri
   pub absolute : IsSome (scheme_of (encode_utf8_all iri))
 
--- `_:` and the label of a blank node (section 2.4)
+-- `_:` and the label of a blank node, which is kept as it is written (section 2.4)
 pub record IsLabel (t : Spelled) (label : List ℕ) (name : Name) : Type 0 where
   pub terminal : IsA terminal.BlankLabel t
   pub text : t.text ≡ codes "_:" ++ label
-  pub named : IsNameOf (chars label) name
+  pub named : name ≡ Label (chars label)
 
 -- a lexical form in `"` on one line (section 2.3)
 pub record IsLexical (t : Spelled) (lex : List ℕ) : Type 0 where

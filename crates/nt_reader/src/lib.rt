@@ -3,7 +3,7 @@
 
 mod lines;
 mod reader;
-// cfg
-// mod tests;
+#[cfg(test)]
+mod tests;
 
 pub use reader::{documents_are_one, read};

@@ -18,7 +18,6 @@ use rdf_cursor::{Cursor, Fault, Stop, Terminal};
 use rdf_lex::{LexError, Mode, Token, unescape};
 use rdf_terms::terms::{Literal, Name, Term};
 use rdf_terms::text::Text;
-use rdf_terms::written::name_from;
 use std::alloc::Global;
 
 /// How many bytes an IRI, a label of a blank node or a lexical form has at most.
@@ -270,14 +269,14 @@ impl<'a> LineReader<'a> {
         Ok(label)
     }
 
-    #[tactic(auto, using(crate::proofs::Names::name_is), unfolding(crate::specs::Reading::label))]
+    #[tactic(auto, unfolding(crate::specs::Reading::label))]
     fn label(&mut self) -> Result<Name, Stop>
         ensures gives { Gives (λ x. x) result (left self.new) (label true (left self.old)) }
         ensures text { text_of self.new ≡ text_of self.old }
     {
         let label = self.label_text()?;
-        let name = name_from(self.alloc, label)?;
-        Ok(name)
+        let label = Text::from_str(self.alloc, label)?;
+        Ok(Name::Label(label))
     }
 
     #[tactic(auto, unfolding(crate::specs::Reading::subject))]

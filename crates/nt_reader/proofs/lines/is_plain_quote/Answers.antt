@@ -1,4 +1,4 @@
-use Rattle.std.proofs.Common.{refl, sym, ◌∙◌, codes}
+use Rattle.std.proofs.Common.{refl, codes}
 use Rattle.std.proofs.lemmas.Str.Pattern.{starts_text}
 use Rattle.nt_reader.proofs.Texts.{starts_chars}
 use Rattle.nt_reader.proofs.lines.is_plain_quote.Goals as goal

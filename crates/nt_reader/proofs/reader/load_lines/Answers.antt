@@ -12,8 +12,10 @@ pub loop-lines-smaller : goal.loop-lines-smaller
 loop-lines-smaller c = let (xs, e, l) = c.in_ok-load_line.ensures.steps in consumes_line _ _ xs _ e
 
 pub loop-lines-preserved : goal.loop-lines-preserved
-loop-lines-preserved c = (comes_on _ _ _ _ _ _ _ _ _ c.loop-lines.invariant.0 (sym c.has_next.ensures ∙ c.loop-lines-test.true) c.in_ok-load_line.ensures.steps,
-    c.in_ok-load_line.ensures.text ∙ c.loop-lines.invariant.1)
+loop-lines-preserved c = (
+  comes_on _ _ _ _ _ _ _ _ _ c.loop-lines.invariant.0 (sym c.has_next.ensures ∙ c.loop-lines-test.true) c.in_ok-load_line.ensures.steps,
+  c.in_ok-load_line.ensures.text ∙ c.loop-lines.invariant.1,
+)
 
 pub returns-in_err-load_line-clause-ends : goal.returns-in_err-load_line-clause-ends
 returns-in_err-load_line-clause-ends c =
