@@ -1,5 +1,4 @@
 pub mod Texts
-pub mod Classes
 pub mod Datatypes
 pub mod Places
 pub mod Limits
