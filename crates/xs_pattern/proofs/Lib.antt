@@ -11,3 +11,4 @@ pub mod Decided
 pub mod Parsed
 pub mod Frames
 pub mod Depth
+pub mod Lexed

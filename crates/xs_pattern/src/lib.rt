@@ -3,7 +3,9 @@
 
 mod characters;
 pub mod expression;
+mod flagged;
 pub mod laws;
+mod lexer;
 mod limits;
 mod parser;
 mod pattern;
