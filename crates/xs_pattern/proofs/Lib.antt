@@ -12,3 +12,10 @@ pub mod Parsed
 pub mod Frames
 pub mod Depth
 pub mod Lexed
+pub mod Sound
+pub mod Steps
+pub mod Named
+pub mod Numbers
+pub mod Loops
+pub mod Capped
+pub mod Answered

@@ -11,7 +11,7 @@ pub fn places_never_fall()
     ensures { PlacesNeverFall }
 {}
 
-/// A text spells at most one pattern.
+/// A text spells at most one pattern under given flags.
 pub fn spelling_is_unique()
     ensures { SpellingIsUnique }
 {}

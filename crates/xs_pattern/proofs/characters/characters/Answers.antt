@@ -1,5 +1,5 @@
 use Rattle.std.proofs.lemmas.Iterator.{YieldsList-from_chars, items_from_collect}
-use Rattle.xs_pattern.proofs.pattern.characters.Goals as goal
+use Rattle.xs_pattern.proofs.characters.characters.Goals as goal
 
 pub returns : goal.returns
 returns c =
