@@ -11,6 +11,7 @@ use Rattle.xs_pattern.specs.Parsing.{IsSpelled, has_large, is_spelled, large_tok
 use Rattle.xs_pattern.specs.Regex.{Regex, start, finish, one, group, branch, choice, repeat, Regexes, none, more}
 use Rattle.xs_pattern.specs.Spelling.{Spells, SpellsTokens}
 use Rattle.xs_pattern.specs.Tokens.{Token, open_bracket, close_bracket, bar, start_anchor, end_anchor, one_of, times, tokens, tokens_of_pieces, tokens_of_branches, tokens_behind_bars, IsPattern}
+use Rattle.xs_pattern.proofs.Choices.{or_no}
 use Rattle.xs_pattern.proofs.Lexed.{tokens_complete, well_placed}
 use Rattle.xs_pattern.proofs.Parsed.{spelled_meaning}
 use Rattle.xs_pattern.proofs.Sound.{some_same, tokens_sound}
@@ -85,10 +86,6 @@ larger a b = go (nat_lt 4096 a) (nat_lt 4096 b) refl refl
     go false true e f = sym (lt-ltb 4096 (max a b) (let h = ltb-true 4096 b f in omega arith))
     go false false e f = sym (le-ltb 4096 (max a b) (let h = ltb-false 4096 a e in let k = ltb-false 4096 b f in omega arith))
 
-or_false : (b : Bool) → (b || false) ≡ b
-or_false true = refl
-or_false false = refl
-
 both : (ts us : List Token) (a b : ℕ) → has_large ts ≡ nat_lt 4096 a → has_large us ≡ nat_lt 4096 b → has_large (ts ++ us) ≡ nat_lt 4096 (max a b)
 both ts us a b e f =
     list_any-append large_token ts us ∙ (ap (λ v. v || has_large us) e ∙ (ap (λ v. nat_lt 4096 a || v) f ∙ larger a b))
@@ -98,10 +95,10 @@ mutual
   large_in start = refl
   large_in finish = refl
   large_in (one s) = refl
-  large_in (group e) = list_any-append large_token (tokens e) (close_bracket ∷ []) ∙ (or_false (has_large (tokens e)) ∙ large_in e)
+  large_in (group e) = list_any-append large_token (tokens e) (close_bracket ∷ []) ∙ (or_no (has_large (tokens e)) ∙ large_in e)
   large_in (branch es) = large_in_pieces es
   large_in (choice es) = large_in_branches es
-  large_in (repeat least most e) = both (tokens e) (times least most ∷ []) (greatest e) (greater least most) (large_in e) (or_false (nat_lt 4096 (greater least most)))
+  large_in (repeat least most e) = both (tokens e) (times least most ∷ []) (greatest e) (greater least most) (large_in e) (or_no (nat_lt 4096 (greater least most)))
 
   large_in_pieces : (es : Regexes) → has_large (tokens_of_pieces es) ≡ nat_lt 4096 (greatest_of_all es)
   large_in_pieces none = refl

@@ -16,8 +16,9 @@ use Rattle.xs_pattern.specs.Tokens.{Token, open_bracket, close_bracket, bar, sta
 use Rattle.xs_pattern.specs.Regex.{Members, dot, item, class, Regex}
 use Rattle.xs_pattern.specs.Parsing.{blank, is_spelled, parse}
 use Rattle.xs_pattern.proofs.Parsed.{is_spelled_told, parse_complete}
-use Rattle.xs_pattern.proofs.Reading.{and_parts, or_cases}
-use Rattle.xs_pattern.proofs.Sound.{Groups, closing, groups_of_class, some_same}
+use Rattle.xs_pattern.proofs.Choices.{and_no, not_true, or_true, or_yes, skip}
+use Rattle.xs_pattern.proofs.Reading.{and_both, and_parts, or_cases}
+use Rattle.xs_pattern.proofs.Sound.{begins_with, Groups, closing, groups_of_class, some_same}
 
 -- a character that an escape needs not is another one
 apart : (c k d : ℕ) → escaped k ≡ None → escaped c ≡ Some d → nat_eq c k ≡ false
@@ -38,10 +39,6 @@ same_is (c ∷ cs) (d ∷ ds) h =
     let es = same_is cs ds p.1 in
     λ i. e i ∷ es i
 
-skip : {A : Type 0} (b : Bool) (x y : A) → b ≡ false → cond b x y ≡ y
-skip true x y h = absurd (cc)
-skip false x y h = refl
-
 -- the names of categories have one letter or two, and none is a brace
 abbrev is_name : List ℕ → Bool
 is_name [] = false
@@ -60,10 +57,6 @@ named_name (entry ∷ entries) name k all h = go (is_same entry.0 name) refl h (
 all_names : list_all (λ entry. is_name entry.0) categories ≡ true
 unfolding categories
 all_names = refl
-
-not_true : (b : Bool) → not b ≡ true → b ≡ false
-not_true true h = absurd (cc)
-not_true false h = refl
 
 -- a name in braces is read
 braces_read : (name r : List ℕ) (k : Kind) → is_name name ≡ true → named categories name ≡ Some k → in_braces (name ++ 125 ∷ r) ≡ Some (k, r)
@@ -140,19 +133,10 @@ other test k d yes_k no_d = go (nat_eq d k) refl
 begins_is : (c : ℕ) (ts : List ℕ) → Begins c ts → begins c ts ≡ true
 begins_is c ts (r, is) = ap (begins c) is ∙ eq-eqb c c refl
 
-or_true : (a b : Bool) → (a ≡ true) ⊎ (b ≡ true) → (a || b) ≡ true
-or_true true b h = refl
-or_true false b (inl h) = absurd (cc)
-or_true false b (inr h) = h
-
-and_true : (a b : Bool) → a ≡ true → b ≡ true → (a && b) ≡ true
-and_true true b h k = k
-and_true false b h k = absurd (cc)
-
 -- a character that stands for itself is told
 own_told : (is_first : Bool) (d : ℕ) (r : List ℕ) → is_one_of (codes "\\[]") d ≡ false → (d ≡ 45 → (is_first ≡ true) ⊎ Begins 93 r) → is_own is_first d r ≡ true
 own_told is_first d r clean may =
-    and_true (not (is_one_of (codes "\\[]") d)) (not (nat_eq d 45) || is_first || begins 93 r) (ap not clean) (go (nat_eq d 45) refl)
+    and_both (not (is_one_of (codes "\\[]") d)) (not (nat_eq d 45) || is_first || begins 93 r) (ap not clean) (go (nat_eq d 45) refl)
   where
     allowed : (is_first ≡ true) ⊎ Begins 93 r → (false || is_first || begins 93 r) ≡ true
     allowed (inl h) = or_true is_first (begins 93 r) (inl h)
@@ -231,14 +215,6 @@ item_starts (Items.Char d) ts r h = char_starts d ts r h
 item_starts (Items.Range a b) ts r (m, x, y, le) = char_starts a ts (45 ∷ m) x
 item_starts (Items.Kind k) ts r h = let e = escape_read (Items.Kind k) ts r h in subst Fresh (sym e.1) (refl, refl)
 item_starts (Items.Not k) ts r h = let e = escape_read (Items.Not k) ts r h in subst Fresh (sym e.1) (refl, refl)
-
-and_no : (b : Bool) → (b && false) ≡ false
-and_no true = refl
-and_no false = refl
-
-or_yes : (b : Bool) → (b || true) ≡ true
-or_yes true = refl
-or_yes false = refl
 
 end_no_range : (r : List ℕ) → is_end r ≡ true → is_range r ≡ false
 end_no_range [] h = absurd (cc)
@@ -375,7 +351,7 @@ closing_rest (suc n) r = closing_rest n r
 
 closing_read : (n : ℕ) (r : List ℕ) → behind_closing n (closing n r) ≡ Some r
 closing_read n r =
-    ap (λ b. cond b (Some (drop n (closing n r))) None) (and_true (nat_le n (length (closing n r))) (list_all (λ c. nat_eq c 93) (take n (closing n r))) (closing_long n r) (closing_front n r))
+    ap (λ b. cond b (Some (drop n (closing n r))) None) (and_both (nat_le n (length (closing n r))) (list_all (λ c. nat_eq c 93) (take n (closing n r))) (closing_long n r) (closing_front n r))
     ∙ ap Some (closing_rest n r)
 
 pub class_read : (ms : List Members) (m : Members) (ts r : List ℕ) → SpellsClass m ms ts r → read_class ts ≡ Some (m ∷ ms, r)
@@ -508,10 +484,6 @@ differ test c k yes_c no_k = go (nat_eq c k) refl
     go true e = let same = ap test (eqb-true c k e) in absurd (cc)
     go false e = refl
 
-begins_with : (c : ℕ) (ts : List ℕ) → begins c ts ≡ true → (a : List ℕ) × (ts ≡ c ∷ a)
-begins_with c [] h = absurd (cc)
-begins_with c (d ∷ ds) h = (ds, λ i. eqb-true d c h i ∷ ds)
-
 abbrev is_times : Token → Bool
 is_times (times least most) = true
 is_times _ = false
@@ -534,7 +506,7 @@ token_begins (one_of (item (Items.Range a b))) ts r h no_times = absurd h
 token_begins (one_of (item (Items.Kind k))) ts r h no_times = escape_begins (Items.Kind k) ts r h
 token_begins (one_of (item (Items.Not k))) ts r h no_times = escape_begins (Items.Not k) ts r h
 token_begins (one_of (class [])) ts r h no_times = absurd h
-token_begins (one_of (class (m ∷ ms))) ts r h no_times = ap (begins 63) (begins_with 91 ts (class_opens m ms ts r h)).1
+token_begins (one_of (class (m ∷ ms))) ts r h no_times = ap (begins 63) (begins_with 91 ts (class_opens m ms ts r h))
 token_begins (times least most) ts r h no_times = absurd (cc)
 
 times_special : (least : ℕ) (most : Option ℕ) (ts r : List ℕ) → SpellsQuantifier least most ts r → read_token ts ≡ times_token (read_quantifier ts)
@@ -562,10 +534,6 @@ is_quiet open_bracket = true
 is_quiet (times least most) = true
 is_quiet _ = false
 
-begins_as : (c : ℕ) (ts : List ℕ) → begins c ts ≡ true → (a : List ℕ) × (ts ≡ c ∷ a)
-begins_as c [] h = absurd (cc)
-begins_as c (d ∷ ds) h = (ds, λ i. eqb-true d c h i ∷ ds)
-
 -- a token is read, where no question mark follows a bracket or a quantifier
 token_read : (u : Token) (ts r : List ℕ) → SpellsToken u ts r → (is_quiet u ≡ true → begins 63 r ≡ false) → read_token ts ≡ Some (u, r)
 token_read open_bracket ts r (inl at) follows =
@@ -583,7 +551,7 @@ token_read (one_of (item (Items.Kind k))) ts r h follows = escape_token (Items.K
 token_read (one_of (item (Items.Not k))) ts r h follows = escape_token (Items.Not k) ts r h
 token_read (one_of (class [])) ts r h follows = absurd h
 token_read (one_of (class (m ∷ ms))) ts r h follows =
-    let at = (begins_as 91 ts (class_opens m ms ts r h)).1 in
+    let at = begins_with 91 ts (class_opens m ms ts r h) in
     ap read_token at ∙ (ap (λ v. class_token (read_class v)) (sym at) ∙ ap class_token (class_read ms m ts r h))
 token_read (times least most) ts r (inl h) follows = times_special least most ts r h ∙ times_read least most ts r (inl h) (follows refl)
 token_read (times least most) ts r (inr h) follows = times_special least most ts (63 ∷ r) h ∙ times_read least most ts r (inr h) (follows refl)

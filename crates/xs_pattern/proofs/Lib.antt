@@ -19,3 +19,4 @@ pub mod Numbers
 pub mod Loops
 pub mod Capped
 pub mod Answered
+pub mod Choices

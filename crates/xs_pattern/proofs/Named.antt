@@ -9,10 +9,7 @@ use Rattle.xs_pattern.specs.declared.categories.TheConstants.{GROUPS, CATEGORIES
 use Rattle.xs_pattern.specs.declared.expression.Kind.{Kind}
 use Rattle.xs_pattern.specs.declared.expression.Kind.TheVariants as Kinds
 use Rattle.xs_pattern.specs.Spelling.{categories, is_same, named}
-
-and_no : (b : Bool) → (b && false) ≡ false
-and_no true = refl
-and_no false = refl
+use Rattle.xs_pattern.proofs.Choices.{and_no}
 
 -- names of one letter
 abbrev with_one : List ℕ → Kind → List (ℕ × Kind) → List (ℕ × Kind)

@@ -15,15 +15,11 @@ use Rattle.xs_pattern.specs.Lexing.{with_rest, or_else, begins, tail, two_letter
 use Rattle.xs_pattern.specs.Spelling.{categories, escaped, is_one_of, is_same, named, Begins, SpellsKind, SpellsEscape, SpellsChar, SpellsItem, SpellsMore, SpellsItems, SpellsOpening, SpellsMembers, SpellsClass, SpellsNumber, SpellsQuantifier, SpellsToken, SpellsTokens, is_normal}
 use Rattle.xs_pattern.specs.Tokens.{Token, open_bracket, close_bracket, bar, start_anchor, end_anchor, one_of, times}
 use Rattle.xs_pattern.specs.Regex.{Members, dot, item, class}
+use Rattle.xs_pattern.proofs.Choices.{chosen, not_true}
 use Rattle.xs_pattern.proofs.Reading.{and_parts, or_cases}
 
 pub some_same : {A : Type 0} (x y : A) → Some x ≡ Some y → x ≡ y
 some_same x y h = cc
-
--- what a choice by a test gives
-pub chosen : {A : Type 0} (b : Bool) (x y : Option A) (v : A) (P : Type 0) → cond b x y ≡ Some v → (b ≡ true → x ≡ Some v → P) → (b ≡ false → y ≡ Some v → P) → P
-chosen true x y v P h f g = f refl h
-chosen false x y v P h f g = g refl h
 
 either_way : {A : Type 0} (a b : Option A) (v : A) (P : Type 0) → or_else a b ≡ Some v → (a ≡ Some v → P) → (b ≡ Some v → P) → P
 either_way None b v P h f g = g h
@@ -144,10 +140,6 @@ escape_sound cs r x h =
     (λ e. char_item_sound (read_single cs) x cs r e (λ d m. single_sound cs m d))
 
 -- characters and items of classes
-not_true : (b : Bool) → not b ≡ true → b ≡ false
-not_true true h = absurd (cc)
-not_true false h = refl
-
 own_sound : (is_first : Bool) (c : ℕ) (cs : List ℕ) → is_own is_first c cs ≡ true → SpellsChar is_first c (c ∷ cs) cs
 own_sound is_first c cs h =
     let p = and_parts (not (is_one_of (codes "\\[]") c)) (not (nat_eq c 45) || is_first || begins 93 cs) h in

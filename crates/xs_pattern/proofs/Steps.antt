@@ -1,16 +1,13 @@
 -- How lists of items, classes and tokens are read one after the other: what a reader may take of a text is never too little.
-use Rattle.std.proofs.Common.{◌≡◌, ◌<◌, ◌≤◌, ℕ, zero, suc, arith, length, List, [], ◌∷◌, refl, ap, ◌∙◌, Bool, true, false, cond}
+use Rattle.std.proofs.Common.{◌≡◌, ◌<◌, ◌≤◌, ℕ, zero, suc, arith, length, List, [], ◌∷◌, refl, ap, ◌∙◌, true, false, cond}
 use Rattle.std.specs.Prelude.{Option, Some, None}
 use Rattle.xs_pattern.specs.declared.expression.Item.{Item}
 use Rattle.xs_pattern.specs.Lexing.{begins, tail, is_end, read_item, item_before, item_then, items_within, read_more, read_members, group_before, groups_then, groups_within, read_groups, read_token, token_before, tokens_then, tokens_within, read_tokens}
 use Rattle.xs_pattern.specs.Tokens.{Token}
 use Rattle.xs_pattern.specs.Regex.{Members}
+use Rattle.xs_pattern.proofs.Choices.{skip}
 use Rattle.xs_pattern.proofs.Sound.{item_sound, members_sound, token_sound}
 use Rattle.xs_pattern.proofs.Lexed.{item_longer, members_longer, token_longer}
-
-skip : {A : Type 0} (b : Bool) (x y : A) → b ≡ false → cond b x y ≡ y
-skip true x y h = absurd (cc)
-skip false x y h = refl
 
 -- items
 same_items : (go other : List ℕ → Option (List Item × List ℕ)) (o : Option (Item × List ℕ)) → ((x : Item) (r : List ℕ) → o ≡ Some (x, r) → go r ≡ other r) → item_then go o ≡ item_then other o

@@ -65,7 +65,7 @@ impl Token {
         ensures { result ≡ large_token (token_of self.now) }
     {
         match self {
-            Token::Times(least, Some(most)) => *(least.max(most)) > MOST,
+            Token::Times(least, Some(most)) => (*least).max(*most) > MOST,
             Token::Times(least, None) => *least > MOST,
             _ => false,
         }
