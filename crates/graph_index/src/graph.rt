@@ -1,6 +1,6 @@
 //! Graphs of triples.
 
-ghost use Rattle.std.specs.Prelude.{List, ◌≡◌, ◌≤◌, ◌↔◌, [], ◌∷◌, length, IsTrue, IfOk, OnOk, OnErr, None, Contains};
+ghost use Rattle.std.specs.Prelude.{List, ◌≡◌, ◌≤◌, ◌<◌, ◌↔◌, [], ◌∷◌, length, take, IsTrue, IfOk, OnOk, OnErr, None, Contains};
 ghost use Rattle.std.specs.Bool.{OnTrue, OnFalse};
 ghost use Rattle.std.specs.List.Sorted.{IsPermutation};
 ghost use Rattle.rdf_terms.specs.declared.terms.Term.{Term};
@@ -126,6 +126,19 @@ impl Graph {
             self.rows = None;
         }
         held
+    }
+
+    /// Keeps the first `len` triples, in the order of `triples`, and removes those behind them; where there are such, the
+    /// graph is no longer sealed. Triples that were added last are so taken back.
+    pub fn truncate(&mut self, len: u64)
+        ensures triples { self.new.triples ≡ take len self.old.triples }
+        ensures unsealed { len < length self.old.triples → ¬ IsSealed self.new }
+        ensures kept { length self.old.triples ≤ len → self.new ≡ self.old }
+    {
+        if len < self.len() {
+            self.held.truncate(len as usize);
+            self.rows = None;
+        }
     }
 
     /// Whether the graph is sealed.

@@ -1,6 +1,7 @@
 -- What is read into one table in turn is a base, and there is one base for a document and lines.
-use Rattle.std.proofs.Common.{◌≡◌, ◌∙◌, ap, sym, subst, refl, ℕ, zero, suc, ◌<◌, ◌≤◌, ◌+◌, ◌*◌, List, [], ◌∷◌, ◌++◌, arith, length, inl, inr, get_or}
-use Rattle.std.specs.Prelude.{Contains, Option, Some, None, slice_get}
+use Rattle.std.proofs.Common.{◌≡◌, ◌∙◌, ap, sym, subst, refl, ℕ, zero, suc, ◌<◌, ◌≤◌, ◌+◌, ◌*◌, ◌^◌, List, [], ◌∷◌, ◌++◌, arith, length, inl, inr, get_or}
+use Rattle.std.specs.Prelude.{Contains, Option, Some, None, slice_get, ◌⊎◌}
+use Rattle.schema_tree.proofs.Members.{not_in_none}
 use Rattle.std.proofs.lemmas.List.{length-append}
 use Rattle.std.proofs.lemmas.Option.{slice_get_within}
 use Rattle.rdf_terms.specs.declared.terms.Term.{Term}
@@ -11,20 +12,30 @@ use Rattle.tally.specs.declared.Count.{Count}
 use Rattle.node_constraint.specs.declared.Kind4.{Kind4}
 use Rattle.one_shape.specs.declared.Constraint.{Constraint}
 use Rattle.one_shape.specs.declared.OneShape.{OneShape}
-use Rattle.std.specs.List.{flat_map}
-use Rattle.plain_lines.specs.Graphs.{AddsAll, terms_of, AreTriplesOf, IsGraphOf, IsInOrder, IsTripleOf}
-use Rattle.plain_lines.specs.Lines.{Line}
-use Rattle.plain_lines.proofs.SameTriples.{triple_from_ids}
+use Rattle.graph_loading.specs.declared.triples.TermTriple.{TermTriple}
+use Rattle.graph_loading.specs.Loading.{IsNumbered, IsWithin, Loads}
+use Rattle.graph_loading.proofs.Loading.{adds_distinct, loads_grow, loads_hold, loads_one}
+use Rattle.proof_checker.specs.Checks.{TakesUp}
 use Rattle.schema_tree.specs.declared.schema.ExprId.{ExprId}
 use Rattle.schema_tree.specs.declared.schema.Occurrence.{Occurrence}
 use Rattle.schema_tree.specs.declared.schema.Schema.{Schema}
 use Rattle.schema_tree.specs.declared.schema.Shape.{Shape}
 use Rattle.shex_run.specs.declared.inputs.Base.{Base}
 use Rattle.shex_run.specs.declared.load.Arc.{Arc}
+use Rattle.shex_run.specs.declared.stop.Refusal.TheVariants as Refusals
+use Rattle.shex_run.specs.declared.stop.Stop.{Stop}
+use Rattle.shex_run.specs.declared.stop.Stop.TheVariants as Stops
+use Rattle.shex_run.specs.declared.stop.Unread.{Unread}
+use Rattle.shex_run.specs.declared.stop.Unread.TheVariants as Causes
+use Rattle.shex_run.specs.Outcomes.{AreUnread, StopsLoading}
+use Rattle.shex_run.specs.Unreadable.{AreUnreadable, IsCauseFor, StopsReading}
 use Rattle.shex_run.specs.Inputs.{HasRoom, IsBase, IsBodyOf, IsValueOf, StandsFor, max_file}
 use Rattle.shex_run.specs.Loading.{IsArcOf, predicates_of, schema_of}
 use Rattle.shex_run.specs.Simple.{IsNodeValue, IsSimple, IsSimpleBody}
 use Rattle.shex_run.proofs.Standing.{stands}
+
+empty_distinct : {X : Type 0} → AreDistinct {X = X} []
+empty_distinct i j x h k = cc
 
 -- each term keeps its number
 abbrev pub Keeps : List Term → List Term → Type 0
@@ -41,6 +52,9 @@ grown_keeps old more new e i t h = ap (λ ts. slice_get ts i) e ∙ append_keeps
 pub add_keeps : (old new : List Term) (x : Term) → Adds old x new → Keeps old new
 add_keeps old new x (inl (held, e)) i t h = ap (λ ts. slice_get ts i) e ∙ h
 add_keeps old new x (inr (fresh, e)) i t h = grown_keeps old (x ∷ []) new e i t h
+
+loads_keep : (old new : List Term) (before after : List Triple) (triples : List TermTriple) → Loads old before triples new after → Keeps old new
+loads_keep old new before after triples loads = let (more, grown) = (loads_grow old new before after triples loads).0 in grown_keeps old more new grown
 
 pub arc_kept : (old new : List Term) → Keeps old new → (c : Option Constraint) (arc : Option Arc) → IsArcOf old c arc → IsArcOf new c arc
 arc_kept old new keeps None None h = tt
@@ -71,30 +85,38 @@ stands_simple terms doc s stands = record {
 pub first_shape : (terms : List Term) (doc : OneShape) (s : Schema) (stands : StandsFor terms doc s) (shown : List Shape) (read : Shape) → shown ≡ s.shapes → read ≡ get_or shown 0 read → stands.shape ≡ read
 first_shape terms doc s stands shown read same at = sym (at ∙ ap (λ xs. get_or xs 0 read) (same ∙ stands.shapes))
 
+-- the table of the predicates has each term once
+pub first_distinct : (c : Option Constraint) (first : List Term) → TakesUp [] (predicates_of c) first → AreDistinct first
+first_distinct None first e = subst AreDistinct (sym e) empty_distinct
+first_distinct (Some c) first (mid, adds, e) = subst AreDistinct (sym e) (adds_distinct [] mid (Terms.Iri c.predicate) empty_distinct adds)
+
 -- the objects of the graph have numbers of the table
-pub ends_there : (terms : List Term) (lines : List Line) (g shown : List Triple) → IsGraphOf terms lines g → shown ≡ g → (t : Triple) → Contains shown t → t.o.0 < length terms
-ends_there terms lines g shown graph same t held =
-    let (line, listed, made) = (graph.exact t).0 (subst (λ ts. Contains ts t) same held) in
-    slice_get_within terms t.o.0 line.object made.object
+pub ends_there : (c : Option Constraint) (first terms : List Term) (triples : List TermTriple) (g : List Triple) → TakesUp [] (predicates_of c) first → Loads first [] triples terms g →
+    (t : Triple) → Contains g t → (o : Term) × (slice_get terms t.o.0 ≡ Some o)
+ends_there c first terms triples g takes loads t held = go ((loads_hold first terms [] g triples (first_distinct c first takes) loads t).0 held)
+  where
+    go : (Contains [] t ⊎ ((x : TermTriple) × Contains triples x × IsNumbered terms x t)) → (o : Term) × (slice_get terms t.o.0 ≡ Some o)
+    go (inl h) = absurd (not_in_none t h)
+    go (inr (x, listed, made)) = (x.object, made.object)
 
 -- what is read is a base
-pub based : (doc : OneShape) (lines : List Line) (arc : Option Arc) (s : Schema) (g : List Triple) (empty first last more : List Term) →
-    empty ≡ [] → AddsAll empty (predicates_of doc.constraint) first → IsArcOf first doc.constraint arc → s ≡ schema_of doc.label arc →
-    last ≡ first ++ more → AreDistinct last → IsGraphOf last lines g → IsInOrder first last lines g → IsBase doc lines (record { terms = last; schema = s; graph = g })
-based doc lines arc s g empty first last more nothing takes arcs made grown distinct graph order =
-    let numbered : IsArcOf last doc.constraint arc = arc_kept first last (grown_keeps first more last grown) doc.constraint arc arcs in
+pub based : (doc : OneShape) (triples : List TermTriple) (arc : Option Arc) (s : Schema) (g : List Triple) (empty first last : List Term) →
+    empty ≡ [] → TakesUp empty (predicates_of doc.constraint) first → IsArcOf first doc.constraint arc → s ≡ schema_of doc.label arc →
+    AreDistinct last → Loads first [] triples last g → IsWithin last g → IsBase doc triples (record { terms = last; schema = s; graph = g })
+based doc triples arc s g empty first last nothing takes arcs made distinct loads within =
+    let numbered : IsArcOf last doc.constraint arc = arc_kept first last (loads_keep first last [] g triples loads) doc.constraint arc arcs in
     record {
       stands = subst (λ x. StandsFor last doc x) (sym made) (stands doc.label arc last doc refl numbered);
       built = record { arc = arc; numbered = numbered; made = made };
-      graph = graph;
       distinct = distinct;
       first = first;
-      predicates = subst (λ ts. AddsAll ts (predicates_of doc.constraint) first) nothing takes;
-      order = order;
+      predicates = subst (λ ts. TakesUp ts (predicates_of doc.constraint) first) nothing takes;
+      graph = loads;
+      within = within;
     }
 
 -- one predicate at most goes into the empty table
-pub few_first : (empty first : List Term) (c : Option Constraint) → empty ≡ [] → AddsAll empty (predicates_of c) first → length first ≤ 1
+pub few_first : (empty first : List Term) (c : Option Constraint) → empty ≡ [] → TakesUp empty (predicates_of c) first → length first ≤ 1
 few_first empty first None e h = let l : length first ≡ 0 = ap length (h ∙ e) in omega (arith, l)
 few_first empty first (Some c) e (mid, adds, h) = go adds
   where
@@ -108,8 +130,8 @@ few_first empty first (Some c) e (mid, adds, h) = go adds
     go (inl (held, same)) = let m : length mid ≡ length empty = ap length same in omega (arith, l, m, z)
     go (inr (fresh, same)) = let m : length mid ≡ length (empty ++ Terms.Iri c.predicate ∷ []) = ap length same in let k = length-append empty (Terms.Iri c.predicate ∷ []) in omega (arith, l, m, k, z)
 
-pub room : (b : Base) (source : ℕ) (first : ℕ) → source ≤ max_file → first ≤ 1 → length b.terms ≤ first + 3 * source → length b.graph ≤ source → HasRoom b
-room b source first small one terms graph = record { terms = omega (arith, small, one, terms); graph = omega (arith, small, graph) }
+pub room : (b : Base) (source : ℕ) (first : ℕ) → source ≤ max_file → first ≤ 1 → length b.terms ≤ first + 3 * source → IsWithin b.terms b.graph → HasRoom b
+room b source first small one terms within = record { terms = omega (arith, small, one, terms); graph = let g = within.1 in omega (arith, g) }
 
 -- ---- one base
 
@@ -120,24 +142,9 @@ adds_one old a b x (inl (held, e)) (inr (fresh, e')) = absurd (fresh held)
 adds_one old a b x (inr (fresh, e)) (inl (held, e')) = absurd (fresh held)
 adds_one old a b x (inr (fresh, e)) (inr (fresh', e')) = e ∙ sym e'
 
-pub adds_all_one : {X : Type 0} (xs : List X) (old a b : List X) → AddsAll old xs a → AddsAll old xs b → a ≡ b
-adds_all_one [] old a b h k = h ∙ sym k
-adds_all_one (x ∷ xs) old a b (m, add, h) (n, add', k) = adds_all_one xs n a b (subst (λ z. AddsAll z xs a) (adds_one old m n x add add') h) k
-
-triple_one : (terms : List Term) (line : Line) (a b : Triple) → AreDistinct terms → IsTripleOf terms line a → IsTripleOf terms line b → a ≡ b
-triple_one terms line a b d h k =
-    triple_from_ids a b (d a.s.0 b.s.0 line.subject h.subject k.subject) (d a.p.0 b.p.0 line.predicate h.predicate k.predicate) (d a.o.0 b.o.0 line.object h.object k.object)
-
-cons_same : {X : Type 0} (x y : X) (xs ys : List X) → x ≡ y → xs ≡ ys → x ∷ xs ≡ y ∷ ys
-cons_same x y xs ys p q = λ i. p i ∷ q i
-
-triples_one : (terms : List Term) (lines : List Line) (a b : List Triple) → AreDistinct terms → AreTriplesOf terms lines a → AreTriplesOf terms lines b → a ≡ b
-triples_one terms [] [] [] d h k = refl
-triples_one terms [] [] (y ∷ ys) d h k = absurd k
-triples_one terms [] (x ∷ xs) b d h k = absurd h
-triples_one terms (l ∷ lines) [] b d h k = absurd h
-triples_one terms (l ∷ lines) (x ∷ xs) [] d h k = absurd k
-triples_one terms (l ∷ lines) (x ∷ xs) (y ∷ ys) d (h, hs) (k, ks) = cons_same x y xs ys (triple_one terms l x y d h k) (triples_one terms lines xs ys d hs ks)
+pub takes_one : (xs : List Term) (old a b : List Term) → TakesUp old xs a → TakesUp old xs b → a ≡ b
+takes_one [] old a b h k = h ∙ sym k
+takes_one (x ∷ xs) old a b (m, add, h) (n, add', k) = takes_one xs n a b (subst (λ z. TakesUp z xs a) (adds_one old m n x add add') h) k
 
 arc_one : (terms : List Term) (c : Option Constraint) (a b : Option Arc) → AreDistinct terms → IsArcOf terms c a → IsArcOf terms c b → a ≡ b
 arc_one terms None None None d h k = refl
@@ -150,12 +157,33 @@ arc_one terms (Some c) (Some a) (Some b) d (n, kind) (m, kind') =
     let kinds : a.kind ≡ b.kind = kind ∙ sym kind' in
     λ i. Some (record { predicate = record { 0 = id i }; kind = kinds i })
 
-pub one_base : (doc : OneShape) (lines : List Line) (a b : Base) → IsBase doc lines a → IsBase doc lines b → a ≡ b
-one_base doc lines a b h k =
-    let firsts : h.first ≡ k.first = adds_all_one (predicates_of doc.constraint) [] h.first k.first h.predicates k.predicates in
-    let terms : a.terms ≡ b.terms = adds_all_one (flat_map terms_of lines) k.first a.terms b.terms (subst (λ z. AddsAll z (flat_map terms_of lines) a.terms) firsts h.order.table) k.order.table in
+pub one_base : (doc : OneShape) (triples : List TermTriple) (a b : Base) → IsBase doc triples a → IsBase doc triples b → a ≡ b
+one_base doc triples a b h k =
+    let firsts : h.first ≡ k.first = takes_one (predicates_of doc.constraint) [] h.first k.first h.predicates k.predicates in
+    let (terms, graph) = loads_one k.first a.terms b.terms [] a.graph b.graph triples (first_distinct doc.constraint k.first k.predicates) (subst (λ z. Loads z [] triples a.terms a.graph) firsts h.graph) k.graph in
     let arcs : h.built.arc ≡ k.built.arc = arc_one b.terms doc.constraint h.built.arc k.built.arc k.distinct (subst (λ ts. IsArcOf ts doc.constraint h.built.arc) terms h.built.numbered) k.built.numbered in
     let schema : a.schema ≡ b.schema = h.built.made ∙ ap (schema_of doc.label) arcs ∙ sym k.built.made in
-    let triples : h.order.triples ≡ k.order.triples = triples_one b.terms lines h.order.triples k.order.triples k.distinct (subst (λ ts. AreTriplesOf ts lines h.order.triples) terms h.order.numbered) k.order.numbered in
-    let graph : a.graph ≡ b.graph = adds_all_one k.order.triples [] a.graph b.graph (subst (λ ts. AddsAll [] ts a.graph) triples h.order.added) k.order.added in
     λ i. record { terms = terms i; schema = schema i; graph = graph i }
+
+-- what is not read into the table of the predicate is not read
+module _ (doc : OneShape) (empty first : List Term) (bytes : List ℕ) (nothing : empty ≡ []) (takes : TakesUp empty (predicates_of doc.constraint) first) where
+  from_none : TakesUp [] (predicates_of doc.constraint) first
+  from_none = subst (λ ts. TakesUp ts (predicates_of doc.constraint) first) nothing takes
+
+  are_unread : (unread : Unread) → IsCauseFor first bytes unread → AreUnreadable first bytes → AreUnread doc bytes unread
+  are_unread unread cause none = record {
+    cause = (first, from_none, cause);
+    none = λ triples spelled b is.
+        let same : is.first ≡ first = takes_one (predicates_of doc.constraint) [] is.first first is.predicates from_none in
+        none triples spelled b.terms b.graph (subst (λ ts. Loads ts [] triples b.terms b.graph) same is.graph) is.within;
+  }
+
+  pub stops_loading : (stop : Stop) → StopsReading first bytes stop → StopsLoading doc bytes stop
+  stops_loading (Stops.Refused (Refusals.Unread unread)) (cause, none) = are_unread unread cause none
+  stops_loading (Stops.Refused (Refusals.Size source)) h = h
+  stops_loading (Stops.Refused Refusals.NotBuilt) h = h
+  stops_loading (Stops.Refused Refusals.Label) h = h
+  stops_loading (Stops.Refused Refusals.Full) h = h
+  stops_loading (Stops.Rejected rejection) h = h
+  stops_loading (Stops.Failed file) h = h
+  stops_loading Stops.Memory h = h

@@ -2,7 +2,7 @@
 use Rattle.std.proofs.Common.{sym, subst, refl, ℕ, List}
 use Rattle.rdf_terms.specs.declared.terms.Term.{Term}
 use Rattle.one_shape.specs.declared.OneShape.{OneShape}
-use Rattle.plain_lines.specs.Lines.{Line}
+use Rattle.graph_loading.specs.declared.triples.TermTriple.{TermTriple}
 use Rattle.schema_tree.specs.declared.schema.Answer.{Answer}
 use Rattle.schema_tree.specs.Laws.{TypingExists}
 use Rattle.schema_tree.specs.Typings.{IsTheTyping}
@@ -17,7 +17,7 @@ use Rattle.shex_run.proofs.Based.{arc_kept}
 use Rattle.shex_run.proofs.Standing.{stands}
 use Rattle.shex_run.proofs.Truths.{has_typing, one_zero}
 
-module _ (doc : OneShape) (lines : List Line) (b : Base) (is : IsBase doc lines b) (terms : List Term) (kept : KeepsTerms b.terms terms) where
+module _ (doc : OneShape) (triples : List TermTriple) (b : Base) (is : IsBase doc triples b) (terms : List Term) (kept : KeepsTerms b.terms terms) where
   standing : StandsFor terms doc b.schema
   standing = subst (λ x. StandsFor terms doc x) (sym is.built.made) (stands doc.label is.built.arc terms doc refl (arc_kept b.terms terms kept doc.constraint is.built.arc is.built.numbered))
 

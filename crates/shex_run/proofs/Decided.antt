@@ -8,8 +8,11 @@ use Rattle.rdf_terms.specs.declared.terms.TermId.{TermId}
 use Rattle.rdf_terms.specs.declared.terms.Triple.{Triple}
 use Rattle.rdf_terms.specs.Lists.{Adds}
 use Rattle.one_shape.specs.declared.OneShape.{OneShape}
-use Rattle.plain_lines.specs.Graphs.{IsGraphOf}
-use Rattle.plain_lines.specs.Lines.{Line}
+use Rattle.graph_loading.specs.Loading.{Loads}
+use Rattle.one_shape.specs.declared.Constraint.{Constraint}
+use Rattle.proof_checker.specs.Checks.{TakesUp}
+use Rattle.shex_run.specs.Loading.{predicates_of}
+use Rattle.graph_loading.specs.declared.triples.TermTriple.{TermTriple}
 use Rattle.schema_tree.specs.declared.labels.Label.TheVariants as Labels
 use Rattle.schema_tree.specs.declared.schema.Pair.{Pair}
 use Rattle.schema_tree.specs.declared.schema.Shape.{Shape}
@@ -25,18 +28,18 @@ use Rattle.shex_run.specs.Inputs.{IsBase, IsQuestion, IsTruth, Question, StandsF
 use Rattle.shex_run.specs.Proofs.{AreProofIf, IsMadeAs, proof_with, target_of}
 use Rattle.shex_run.specs.Words.{Validate}
 use Rattle.shex_run.proofs.Accepted.{accepted}
-use Rattle.shex_run.proofs.Based.{add_keeps, arc_kept}
+use Rattle.shex_run.proofs.Based.{add_keeps, arc_kept, ends_there}
 use Rattle.shex_run.proofs.Simples.{Both}
 use Rattle.shex_run.proofs.Standing.{stands}
 use Rattle.shex_run.proofs.Truths.{has_typing, truth}
 
 -- the ends of the graph have numbers of a table that is grown by a term
-pub ends_grown : (terms q : List Term) (x : Term) (lines : List Line) (g : List Triple) → Adds terms x q → IsGraphOf terms lines g → (t : Triple) → Contains g t → t.o.0 < length q
-ends_grown terms q x lines g adds graph t held =
-    let (line, listed, made) = (graph.exact t).0 held in
-    slice_get_within q t.o.0 line.object (add_keeps terms q x adds t.o.0 line.object made.object)
+pub ends_grown : (doc : OneShape) (triples : List TermTriple) (b : Base) → IsBase doc triples b → (q : List Term) (x : Term) → Adds b.terms x q → (t : Triple) → Contains b.graph t → t.o.0 < length q
+ends_grown doc triples b is q x adds t held =
+    let (o, at) = ends_there doc.constraint is.first b.terms triples b.graph is.predicates is.graph t held in
+    slice_get_within q t.o.0 o (add_keeps b.terms q x adds t.o.0 o at)
 
-module _ (doc : OneShape) (lines : List Line) (b : Base) (is : IsBase doc lines b) (v : Validate) (named : doc.label ≡ v.label)
+module _ (doc : OneShape) (triples : List TermTriple) (b : Base) (is : IsBase doc triples b) (v : Validate) (named : doc.label ≡ v.label)
     (q : List Term) (n : TermId) (adds : Adds b.terms (Terms.Iri v.node) q) (number : slice_get q n.0 ≡ Some (Terms.Iri v.node)) where
   pub standing : StandsFor q doc b.schema
   standing = subst (λ x. StandsFor q doc x) (sym is.built.made)

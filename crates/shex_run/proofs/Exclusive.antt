@@ -6,8 +6,9 @@ use Rattle.shex_io.specs.Files.{Holds, Lacks, Told}
 use Rattle.one_shape.specs.declared.OneShape.{OneShape}
 use Rattle.one_shape.proofs.Readings.{one_reading}
 use Rattle.one_shape.specs.Texts.{IsNoSchemaText, IsSchemaText}
-use Rattle.plain_lines.specs.Lines.{IsData, Line}
-use Rattle.plain_lines.proofs.Spelled.{lines_once}
+use Rattle.graph_loading.specs.declared.triples.TermTriple.{TermTriple}
+use Rattle.shex_run.proofs.Documents.{documents_once}
+use Rattle.shex_run.specs.Data.{IsData}
 use Rattle.shex_run.specs.declared.inputs.Base.{Base}
 use Rattle.shex_run.specs.declared.stop.File.{File}
 use Rattle.shex_run.specs.declared.stop.File.TheVariants as Files
@@ -82,17 +83,16 @@ module _ (told : Told) (contents : List ℕ → Option (List ℕ)) (e : told ≡
   one_schema a b h k =
       one_reading h.bytes a b h.spelled (subst (λ bs. IsSchemaText b bs) (same_bytes told contents e asked.schema k.bytes h.bytes k.file.held h.file.held) k.spelled)
 
-  one_source : (a b : List Line) → HoldsData told asked a → HoldsData told asked b → a ≡ b
+  one_source : (a b : List TermTriple) → HoldsData told asked a → HoldsData told asked b → a ≡ b
   one_source a b h k =
-      let same : h.bytes ≡ k.bytes = same_bytes told contents e asked.data_file h.bytes k.bytes h.file.held k.file.held in
-      lines_once a b h.spelled.each k.spelled.each (sym h.spelled.spelled ∙ same ∙ k.spelled.spelled)
+      documents_once h.bytes a b h.spelled (subst (λ bs. IsData b bs) (same_bytes told contents e asked.data_file k.bytes h.bytes k.file.held h.file.held) k.spelled)
 
   -- what is taken is one base
   pub one_taken : (a b : Base) → IsTaken told asked a → IsTaken told asked b → a ≡ b
   one_taken a b h k =
       let docs : h.doc ≡ k.doc = one_schema h.doc k.doc h.takes.schema k.takes.schema in
-      let lines : h.lines ≡ k.lines = one_source h.lines k.lines h.holds_data k.holds_data in
-      one_base k.doc k.lines a b (subst (λ ls. IsBase k.doc ls a) lines (subst (λ d. IsBase d h.lines a) docs h.base)) k.base
+      let triples : h.triples ≡ k.triples = one_source h.triples k.triples h.holds_data k.holds_data in
+      one_base k.doc k.triples a b (subst (λ ts. IsBase k.doc ts a) triples (subst (λ d. IsBase d h.triples a) docs h.base)) k.base
 
   -- and the proof's file holds one text
   pub one_given : (a b : Base) (x y : List ℕ) → IsGiven told asked a x → IsGiven told asked b y → x ≡ y
@@ -107,9 +107,11 @@ module _ (told : Told) (contents : List ℕ → Option (List ℕ)) (e : told ≡
   pub taken_not_refused : (b : Base) (refusal : Refusal) → IsTaken told asked b → IsRefused told asked refusal → IsFull told asked
   taken_not_refused b (Refusals.Size Sources.Schema) taken (reached, long) = absurd (not_too_long asked.schema taken.takes.schema.bytes taken.takes.schema.file long)
   taken_not_refused b (Refusals.Size Sources.Data) taken (reached, long) = absurd (not_too_long asked.data_file taken.holds_data.bytes taken.holds_data.file long)
-  taken_not_refused b (Refusals.NotBuilt Sources.Schema) taken (reached, (bytes, file, none)) = absurd (not_formless taken.doc taken.takes.schema bytes file none)
-  taken_not_refused b (Refusals.NotBuilt Sources.Data) taken (reached, (bytes, file, none)) =
-      absurd (none taken.lines (subst (λ bs. IsData taken.lines bs) (same_bytes told contents e asked.data_file taken.holds_data.bytes bytes taken.holds_data.file.held file.held) taken.holds_data.spelled))
+  taken_not_refused b Refusals.NotBuilt taken (bytes, file, none) = absurd (not_formless taken.doc taken.takes.schema bytes file none)
+  taken_not_refused b (Refusals.Unread cause) taken (doc, takes, (bytes, file, unread)) =
+      absurd
+      (unread.none taken.triples (subst (λ bs. IsData taken.triples bs) (same_bytes told contents e asked.data_file taken.holds_data.bytes bytes taken.holds_data.file.held file.held) taken.holds_data.spelled) b
+      (subst (λ d. IsBase d taken.triples b) (one_schema taken.doc doc taken.takes.schema takes.schema) taken.base))
   taken_not_refused b Refusals.Label taken (other, holds, unwanted) =
       absurd (unwanted (subst (λ d. IsWanted asked.command d) (sym (one_schema other taken.doc holds taken.takes.schema)) taken.takes.wanted))
   taken_not_refused b Refusals.Full taken full = full
@@ -139,13 +141,13 @@ module _ (told : Told) (contents : List ℕ → Option (List ℕ)) (e : told ≡
   pub refused_not_absent : (refusal : Refusal) (file : File) → IsRefused told asked refusal → IsAbsent told asked file → ⊥
   refused_not_absent (Refusals.Size Sources.Schema) (Files.Input Sources.Schema) (reached, long) (fetched, there, lacks) = held_not_lacking told asked.schema long.bytes long.held lacks
   refused_not_absent (Refusals.Size Sources.Data) (Files.Input Sources.Schema) ((doc, takes), long) (fetched, there, lacks) = held_not_lacking told asked.schema takes.schema.bytes takes.schema.file.held lacks
-  refused_not_absent (Refusals.NotBuilt Sources.Schema) (Files.Input Sources.Schema) (reached, (bytes, file, none)) (fetched, there, lacks) = held_not_lacking told asked.schema bytes file.held lacks
-  refused_not_absent (Refusals.NotBuilt Sources.Data) (Files.Input Sources.Schema) ((doc, takes), formless) (fetched, there, lacks) = held_not_lacking told asked.schema takes.schema.bytes takes.schema.file.held lacks
+  refused_not_absent Refusals.NotBuilt (Files.Input Sources.Schema) (bytes, file, none) (fetched, there, lacks) = held_not_lacking told asked.schema bytes file.held lacks
+  refused_not_absent (Refusals.Unread cause) (Files.Input Sources.Schema) (doc, takes, unread) (fetched, there, lacks) = held_not_lacking told asked.schema takes.schema.bytes takes.schema.file.held lacks
   refused_not_absent Refusals.Label (Files.Input Sources.Schema) (other, holds, unwanted) (fetched, there, lacks) = held_not_lacking told asked.schema holds.bytes holds.file.held lacks
   refused_not_absent (Refusals.Size Sources.Schema) (Files.Input Sources.Data) (reached, long) (fetched, (doc, takes), lacks) = not_too_long asked.schema takes.schema.bytes takes.schema.file long
   refused_not_absent (Refusals.Size Sources.Data) (Files.Input Sources.Data) (reached, long) (fetched, there, lacks) = held_not_lacking told asked.data_file long.bytes long.held lacks
-  refused_not_absent (Refusals.NotBuilt Sources.Schema) (Files.Input Sources.Data) (reached, (bytes, file, none)) (fetched, (doc, takes), lacks) = not_formless doc takes.schema bytes file none
-  refused_not_absent (Refusals.NotBuilt Sources.Data) (Files.Input Sources.Data) (reached, (bytes, file, none)) (fetched, there, lacks) = held_not_lacking told asked.data_file bytes file.held lacks
+  refused_not_absent Refusals.NotBuilt (Files.Input Sources.Data) (bytes, file, none) (fetched, (doc, takes), lacks) = not_formless doc takes.schema bytes file none
+  refused_not_absent (Refusals.Unread cause) (Files.Input Sources.Data) (doc, takes, (bytes, file, unread)) (fetched, there, lacks) = held_not_lacking told asked.data_file bytes file.held lacks
   refused_not_absent Refusals.Label (Files.Input Sources.Data) (other, holds, unwanted) (fetched, (doc, takes), lacks) =
       unwanted (subst (λ d. IsWanted asked.command d) (sym (one_schema other doc holds takes.schema)) takes.wanted)
   refused_not_absent Refusals.Full file (b, bytes, given, full) absent = given_not_absent b bytes file given absent

@@ -4,10 +4,12 @@ pub mod Based
 pub mod Closing
 pub mod Confirmed
 pub mod Decided
+pub mod Documents
 pub mod Ended
 pub mod Evident
 pub mod Exclusive
 pub mod Fetched
+pub mod IriTexts
 pub mod Listed
 pub mod OneArc
 pub mod Said

@@ -4,7 +4,7 @@ use Rattle.std.specs.Prelude.{Option, Some, None, codes, encode_utf8_all, option
 use Rattle.std.specs.List.{list_all}
 use Rattle.std.specs.Str.{IsUtf8, chars}
 use Rattle.std.proofs.lemmas.Str.{chars-encodes, encodes-chars, scalars-chars}
-use Rattle.plain_lines.specs.Lines.{IsIri, is_iri_char}
+use Rattle.shex_run.specs.Iris.{IsIri, is_iri_char}
 use Rattle.shex_run.specs.Words.{Asked, Command, HasForms, IsForm, Validate, check, spelling, validate}
 
 -- lists with their items

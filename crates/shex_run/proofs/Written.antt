@@ -5,9 +5,8 @@ use Rattle.std.specs.List.{list_all}
 use Rattle.std.proofs.lemmas.Bool.{and_parts, and_from, eqb-true, eq-eqb}
 use Rattle.schema_tree.proofs.Members.{in_rest, not_in_none}
 use Rattle.rdf_terms.specs.Written.{iri_text}
-use Rattle.plain_lines.specs.Lent.{lacks}
-use Rattle.plain_lines.specs.Lines.{is_iri_char}
-use Rattle.plain_lines.proofs.Texts.{lacks-append, lacks_encodes}
+use Rattle.shex_run.specs.Iris.{is_iri_char}
+use Rattle.shex_run.proofs.IriTexts.{lacks, lacks-append, lacks_encodes}
 use Rattle.proof_file.specs.Text.{HasNoFeeds, IsKind, Keeps}
 use Rattle.proof_file.specs.declared.RecordKind.{RecordKind}
 use Rattle.shex_run.specs.Proofs.{proof_with}

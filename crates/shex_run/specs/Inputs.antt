@@ -12,8 +12,9 @@ use Rattle.node_constraint.specs.declared.Kind4.{Kind4}
 use Rattle.one_shape.specs.declared.OneShape.{OneShape}
 use Rattle.one_shape.specs.declared.Constraint.{Constraint}
 use Rattle.one_shape.specs.Texts.{IsSchemaText}
-use Rattle.plain_lines.specs.Lines.{Line, IsData}
-use Rattle.plain_lines.specs.Graphs.{IsGraphOf, IsInOrder, AddsAll}
+use Rattle.graph_loading.specs.declared.triples.TermTriple.{TermTriple}
+use Rattle.graph_loading.specs.Loading.{IsWithin, Loads}
+use Rattle.shex_run.specs.Data.{IsData}
 use Rattle.proof_checker.specs.Checks.{TakesUp}
 use Rattle.schema_tree.specs.declared.schema.Schema.{Schema}
 use Rattle.schema_tree.specs.declared.schema.Shape.{Shape}
@@ -63,11 +64,11 @@ pub record TakesSchema (told : Told) (asked : Asked) (doc : OneShape) : Type 0 w
   pub schema : HoldsSchema told asked doc
   pub wanted : IsWanted asked.command doc
 
--- the data file holds the text of these lines
-pub record HoldsData (told : Told) (asked : Asked) (lines : List Line) : Type 0 where
+-- the data file holds a document of these triples
+pub record HoldsData (told : Told) (asked : Asked) (triples : List TermTriple) : Type 0 where
   pub bytes : List ℕ
   pub file : IsFile told asked.data_file bytes
-  pub spelled : IsData lines bytes
+  pub spelled : IsData triples bytes
 
 -- the value of an occurrence is the node constraint of this kind, or is absent where no kind is given
 abbrev pub IsValueOf : Schema → Option Kind4 → Option ExprId → Type 0
@@ -101,16 +102,16 @@ pub record StandsFor (terms : List Term) (doc : OneShape) (s : Schema) : Type 0 
   pub extra : shape.extra ≡ []
   pub body : IsBodyOf terms s doc.constraint shape.body shape.occs
 
--- a schema and a graph in the numbers of one table of terms are those of the document and the lines. The table has each term
--- once: first the document's predicate, then the terms of the lines in reading order
-pub record IsBase (doc : OneShape) (lines : List Line) (b : Base) : Type 0 where
+-- a schema and a graph in the numbers of one table of terms are those of the document and the triples. The table has each
+-- term once: first the document's predicate, then the terms of the triples in their order
+pub record IsBase (doc : OneShape) (triples : List TermTriple) (b : Base) : Type 0 where
   pub stands : StandsFor b.terms doc b.schema
   pub built : IsBuilt b.terms doc.label doc.constraint b.schema
-  pub graph : IsGraphOf b.terms lines b.graph
   pub distinct : AreDistinct b.terms
   pub first : List Term
-  pub predicates : AddsAll [] (predicates_of doc.constraint) first
-  pub order : IsInOrder first b.terms lines b.graph
+  pub predicates : TakesUp [] (predicates_of doc.constraint) first
+  pub graph : Loads first [] triples b.terms b.graph
+  pub within : IsWithin b.terms b.graph
 
 -- the table can take up a term more, and the graph is no larger than the data can make it
 pub record HasRoom (b : Base) : Type 0 where
@@ -121,9 +122,9 @@ pub record HasRoom (b : Base) : Type 0 where
 pub record IsTaken (told : Told) (asked : Asked) (b : Base) : Type 0 where
   pub doc : OneShape
   pub takes : TakesSchema told asked doc
-  pub lines : List Line
-  pub holds_data : HoldsData told asked lines
-  pub base : IsBase doc lines b
+  pub triples : List TermTriple
+  pub holds_data : HoldsData told asked triples
+  pub base : IsBase doc triples b
 
 -- a node and an expression, in the numbers of a table of terms
 pub record Question : Type 0 where

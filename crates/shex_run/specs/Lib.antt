@@ -1,3 +1,5 @@
+pub mod Iris
+pub mod Data
 pub mod Words
 pub mod Inputs
 pub mod Outcomes

@@ -3,7 +3,8 @@ use Rattle.std.specs.Prelude.{ℕ, List, [], ◌≡◌, ◌≤◌, Option, Some,
 use Rattle.shex_io.specs.Files.{Told, Lacks}
 use Rattle.one_shape.specs.declared.OneShape.{OneShape}
 use Rattle.one_shape.specs.Texts.{IsNoSchemaText}
-use Rattle.plain_lines.specs.Lines.{Line, IsData}
+use Rattle.graph_loading.specs.declared.triples.TermTriple.{TermTriple}
+use Rattle.shex_run.specs.Data.{IsData}
 use Rattle.shex_run.specs.declared.inputs.Base.{Base}
 use Rattle.shex_run.specs.declared.stop.File.{File}
 use Rattle.shex_run.specs.declared.stop.File.TheVariants as Files
@@ -13,11 +14,13 @@ use Rattle.shex_run.specs.declared.stop.Source.{Source}
 use Rattle.shex_run.specs.declared.stop.Source.TheVariants as Sources
 use Rattle.shex_run.specs.declared.stop.Stop.{Stop}
 use Rattle.shex_run.specs.declared.stop.Stop.TheVariants as Stops
+use Rattle.shex_run.specs.declared.stop.Unread.{Unread}
+use Rattle.shex_run.specs.Unreadable.{IsCause}
 use Rattle.shex_io.specs.Faults.{Rose}
 use Rattle.shex_io.specs.declared.files.Act.{Act}
 use Rattle.shex_io.specs.declared.files.Act.TheVariants as Acts
 use Rattle.shex_run.specs.Checking.{IsFull, IsRejected}
-use Rattle.shex_run.specs.Inputs.{IsFile, IsTaken, IsTooLong, IsWanted, HoldsSchema, TakesSchema}
+use Rattle.shex_run.specs.Inputs.{IsBase, IsFile, IsTaken, IsTooLong, IsWanted, HoldsSchema, TakesSchema}
 use Rattle.shex_run.specs.Proofs.{IsDueProof}
 use Rattle.shex_run.specs.Words.{Asked, Command, check, proof_of, validate}
 
@@ -51,16 +54,26 @@ abbrev pub Reaches : Told → Asked → File → Type 0
 Reaches told asked (Files.Input source) = ReachesInput told asked source
 Reaches told asked Files.Proof = ReachesProof told asked asked.command
 
--- the file's bytes, within the limit, are not of the form that is read
-abbrev pub IsOfNoForm : Told → Asked → Source → Type 0
-IsOfNoForm told asked Sources.Schema = (bytes : List ℕ) × IsFile told asked.schema bytes × IsNoSchemaText bytes
-IsOfNoForm told asked Sources.Data = (bytes : List ℕ) × IsFile told asked.data_file bytes × ((lines : List Line) → ¬ IsData lines bytes)
+-- the schema file's bytes, within the limit, are not of the form that is read
+abbrev pub IsOfNoForm : Told → Asked → Type 0
+IsOfNoForm told asked = (bytes : List ℕ) × IsFile told asked.schema bytes × IsNoSchemaText bytes
 
--- the inputs are refused: the first that is not taken is too long, is of no form that is read, or has another label; or the
--- table cannot take up the proof's node lines
+-- no table and graph are made of the schema document and a document that the bytes spell, and this is a cause
+pub record AreUnread (doc : OneShape) (bytes : List ℕ) (unread : Unread) : Type 0 where
+  pub cause : IsCause doc bytes unread
+  pub none : (triples : List TermTriple) → IsData triples bytes → (b : Base) → ¬ IsBase doc triples b
+
+-- the schema is taken, and the data file's bytes, within the limit, are not read
+abbrev pub IsUnread : Told → Asked → Unread → Type 0
+IsUnread told asked unread =
+    (doc : OneShape) × TakesSchema told asked doc × ((bytes : List ℕ) × IsFile told asked.data_file bytes × AreUnread doc bytes unread)
+
+-- the inputs are refused: the first that is not taken is too long, is not read, or has another label; or the table cannot
+-- take up the proof's node lines
 abbrev pub IsRefused : Told → Asked → Refusal → Type 0
 IsRefused told asked (Refusals.Size source) = ReachesInput told asked source × IsTooLong told (source_name asked source)
-IsRefused told asked (Refusals.NotBuilt source) = ReachesInput told asked source × IsOfNoForm told asked source
+IsRefused told asked Refusals.NotBuilt = IsOfNoForm told asked
+IsRefused told asked (Refusals.Unread unread) = IsUnread told asked unread
 IsRefused told asked Refusals.Label = (doc : OneShape) × HoldsSchema told asked doc × (¬ IsWanted asked.command doc)
 IsRefused told asked Refusals.Full = IsFull told asked
 
@@ -93,6 +106,12 @@ act_of Files.Proof (check name) = Acts.Fetch
 abbrev pub FaultsAs : Asked → ℕ → ℕ → List ℕ → Act → Stop → Type 0
 FaultsAs asked before after blame act (Stops.Failed file) = Rose before after × (before ≤ after) × (blame ≡ name_of asked file) × (act ≡ act_of file asked.command)
 FaultsAs asked before after blame act stop = after ≡ before
+
+-- how the reading of data into the table of the schema document stops: the data are not read, or memory ran out
+abbrev pub StopsLoading : OneShape → List ℕ → Stop → Type 0
+StopsLoading doc bytes (Stops.Refused (Refusals.Unread unread)) = AreUnread doc bytes unread
+StopsLoading doc bytes Stops.Memory = ⊤
+StopsLoading doc bytes stop = ⊥
 
 -- how a fetch of a file of the inputs stops: it is too long, it was not fetched, or memory ran out
 abbrev pub FetchStops : Told → List ℕ → Source → ℕ → ℕ → List ℕ → Act → Stop → Type 0

@@ -10,6 +10,8 @@ use Rattle.shex_run.specs.declared.stop.Refusal.TheVariants as Refusals
 use Rattle.shex_run.specs.declared.stop.Rejection.{Rejection}
 use Rattle.shex_run.specs.declared.stop.Rejection.TheVariants as Rejections
 use Rattle.shex_run.specs.declared.stop.File.TheVariants as Files
+use Rattle.shex_run.specs.declared.stop.Unread.{Unread}
+use Rattle.shex_run.specs.declared.stop.Unread.TheVariants as Causes
 use Rattle.shex_run.specs.Outcomes.{name_of, source_name}
 use Rattle.shex_run.specs.Words.{Asked, Command, check, validate}
 
@@ -34,10 +36,20 @@ abbrev pub label_of : Command → List ℕ
 label_of (validate v) = v.label
 label_of (check proof) = []
 
+-- why data are not read
+abbrev pub unread_text : Unread → List ℕ
+unread_text Causes.NotUtf8 = codes "NotUtf8"
+unread_text (Causes.Syntax at) = codes "Syntax(" ++ (decimal at ++ codes ")")
+unread_text (Causes.Prefix at) = codes "Prefix(" ++ (decimal at ++ codes ")")
+unread_text Causes.Deep = codes "Deep"
+unread_text (Causes.Long at) = codes "Long(" ++ (decimal at ++ codes ")")
+unread_text Causes.Full = codes "Full"
+
 -- the line for refused inputs
 abbrev pub refusal_line : Asked → Refusal → List ℕ
 refusal_line asked (Refusals.Size source) = error_line (source_name asked source) (codes "Size")
-refusal_line asked (Refusals.NotBuilt source) = error_line (source_name asked source) (codes "NotBuilt")
+refusal_line asked Refusals.NotBuilt = error_line asked.schema (codes "NotBuilt")
+refusal_line asked (Refusals.Unread unread) = error_line asked.data_file (unread_text unread)
 refusal_line asked Refusals.Label = label_line (label_of asked.command)
 refusal_line asked Refusals.Full = error_line (name_of asked Files.Proof) (codes "Full")
 

@@ -1,6 +1,6 @@
 -- What the words of a call ask for.
 use Rattle.std.specs.Prelude.{ℕ, List, [], ◌∷◌, ◌≡◌, ◌⊎◌, Option, Some, codes, encode_utf8_all, option_to_list, ⊤}
-use Rattle.plain_lines.specs.Lines.{IsIri, IsTextOf, is_iri_char}
+use Rattle.shex_run.specs.Iris.{HasIriChars, IsIri}
 
 -- whether a node has a Shape: the IRI of the node, the label, and the name under which the proof is to be stored, if it is
 pub record Validate : Type 0 where
@@ -28,7 +28,7 @@ spelling schema source (check proof) = codes "check" ∷ schema ∷ source ∷ p
 -- NODE is an IRI with a scheme, and LABEL has the characters of one
 pub record AreForms (v : Validate) : Type 0 where
   pub node : IsIri v.node
-  pub label : IsTextOf is_iri_char v.label
+  pub label : HasIriChars v.label
 
 -- they are of these forms, where they are given
 abbrev pub HasForms : Command → Type 0

@@ -2,7 +2,7 @@
 
 ghost use Rattle.std.specs.Prelude.{List, IfErr, IfOk};
 ghost use Rattle.one_shape.specs.declared.OneShape.{OneShape};
-ghost use Rattle.plain_lines.specs.Lines.{Line};
+ghost use Rattle.graph_loading.specs.declared.triples.TermTriple.{TermTriple};
 ghost use Rattle.shex_run.specs.Checking.{ConfirmStops, Confirms};
 ghost use Rattle.shex_run.specs.Inputs.{HasRoom, IsBase};
 
@@ -19,7 +19,7 @@ const ONE_STRATUM: [u32; 1] = [0];
 
 /// The result map of the claims of a proof that is accepted, or why it is not.
 pub fn confirm(alloc: Global, base: Base, proof: &[u8]) -> Result<Vec<u8>, Stop>
-    requires base { (doc : OneShape) × (lines : List Line) × IsBase doc lines base }
+    requires base { (doc : OneShape) × (triples : List TermTriple) × IsBase doc triples base }
     requires room { HasRoom base }
     ensures confirmed { IfOk result (λ text. Confirms base proof.now text.items) }
     ensures stops { IfErr result (ConfirmStops base proof.now) }

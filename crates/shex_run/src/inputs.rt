@@ -1,23 +1,29 @@
 //! What the files hold, in the numbers of one table of terms.
 
-ghost use Rattle.std.specs.Prelude.{◌≡◌, ◌≤◌, ◌<◌, ◌↔◌, List, ℕ, IfOk, IfErr, OnOk, length, IsTrue};
+ghost use Rattle.std.specs.Prelude.{◌≡◌, ◌≤◌, ◌<◌, ◌+◌, ◌*◌, ◌↔◌, List, [], ℕ, IfOk, IfErr, OnOk, length, IsTrue};
 ghost use Rattle.std.specs.Str.{chars};
-ghost use Rattle.plain_lines.specs.Lines.{Line, IsData};
+ghost use Rattle.rdf_terms.specs.Lists.{AreDistinct};
+ghost use Rattle.graph_loading.specs.declared.triples.TermTriple.{TermTriple};
+ghost use Rattle.graph_loading.specs.Loading.{IsWithin, Loads};
+ghost use Rattle.shex_run.specs.Data.{IsData};
 ghost use Rattle.shex_run.specs.Inputs.{IsBase, IsFile, IsTaken, IsWanted, TakesSchema, HasRoom, max_file};
 ghost use Rattle.shex_run.specs.Lent.{asked_of, command_of};
-ghost use Rattle.shex_run.specs.Outcomes.{Explains, FaultsAs, FetchStops};
+ghost use Rattle.shex_run.specs.Outcomes.{Explains, FaultsAs, FetchStops, StopsLoading};
+ghost use Rattle.shex_run.specs.Unreadable.{StopsReading, stop_of};
 
 use crate::load::{arc_of, make_schema};
-use crate::stop::{File, Refusal, Source, Stop};
+use crate::stop::{File, Refusal, Source, Stop, Unread};
 use crate::words::{Asked, Command};
+use graph_index::graph::Graph;
+use graph_index::read_error::ReadError;
 use one_shape::{OneShape, SchemaError};
-use plain_lines::graph::Graph;
-use plain_lines::reader::DataError;
 use rdf_terms::table::TermTable;
+use rdf_terms::terms::Triple;
 use rdf_terms::text::Text;
 use schema_tree::schema::Schema;
 use shex_io::{FetchError, Files};
-use std::alloc::{AllocError, Global};
+use std::alloc::Global;
+use std::marker::Model;
 
 /// How many bytes a schema file or a data file has at most.
 pub const MAX_FILE: u64 = 67_108_864;
@@ -30,55 +36,80 @@ pub struct Base {
     /// The schema.
     pub schema: Schema,
     /// The graph.
-    pub graph: Graph,
+    pub graph: DataGraph,
 }
 
-/// Why the data is not read.
-#[derive(Debug, Drop)]
-pub enum Unread {
-    /// The data is of no form that is read.
-    NotBuilt,
-    /// Memory ran out.
-    Memory,
+/// The graph of the data.
+#[derive(Drop)]
+pub struct DataGraph {
+    graph: Graph,
 }
 
-impl From<AllocError> for Unread {
-    ghost use Rattle.std.specs.Prelude.{◌≡◌};
-    ghost use Rattle.shex_run.specs.declared.inputs.Unread.TheVariants.{Memory};
+impl Model for DataGraph {
+    ghost use Rattle.std.specs.Prelude.{List};
+    ghost use Rattle.rdf_terms.specs.declared.terms.Triple.{Triple};
 
-    ghost from_gives = { λ _ e. e ≡ Memory };
+    ghost Value = { List Triple };
 
-    fn from(_error: AllocError) -> Unread {
-        Unread::Memory
+    ghost view = { λ g. g.graph.triples };
+}
+
+impl DataGraph {
+    /// The triples, each once.
+    pub fn triples(&self) -> &[Triple]
+        ensures items { result.now ≡ self.now }
+    {
+        self.graph.triples()
     }
 }
 
-impl From<DataError> for Unread {
-    ghost use Rattle.shex_run.specs.Unreadable.{unread_of};
-    ghost use Rattle.std.specs.Prelude.{◌≡◌};
+/// Why there is no answer where data are not read.
+fn stop_of(error: ReadError) -> Stop
+    ensures { result ≡ stop_of error }
+{
+    let cause = match error {
+        ReadError::NotUtf8 => Unread::NotUtf8,
+        ReadError::Syntax(at) => Unread::Syntax(at),
+        ReadError::Prefix(at) => Unread::Prefix(at),
+        ReadError::Deep => Unread::Deep,
+        ReadError::Long(at) => Unread::Long(at),
+        ReadError::Full => Unread::Full,
+        ReadError::Memory => return Stop::Memory,
+    };
+    Stop::Refused(Refusal::Unread(cause))
+}
 
-    ghost from_gives = { λ e u. u ≡ unread_of e };
-
-    fn from(error: DataError) -> Unread {
-        match error {
-            DataError::NotBuilt => Unread::NotBuilt,
-            DataError::Memory => Unread::Memory,
-        }
+/// The graph of a source, whose terms the table takes up.
+fn read_data(alloc: Global, source: &[u8], terms: &mut TermTable) -> Result<DataGraph, Stop>
+    ensures read { IfOk result (λ g. (triples : List TermTriple) × IsData triples source.now × Loads terms.old [] triples terms.new g) }
+    ensures few { OnOk result (length terms.new ≤ length terms.old + 3 * length source.now) }
+    ensures within { IfOk result (λ g. IsWithin terms.new g) }
+    ensures distinct { OnOk result (AreDistinct terms.new) }
+    ensures unread { IfErr result (StopsReading terms.old source.now) }
+{
+    let mut graph = Graph::new(alloc);
+    let read = nt_reader::read(alloc, source, terms, &mut graph);
+    // Their lengths tell contracts that they are within the limits.
+    let _terms = terms.len();
+    let _triples = graph.len();
+    match read {
+        Ok(()) => Ok(DataGraph { graph }),
+        Err(error) => Err(stop_of(error)),
     }
 }
 
 /// The schema of a document and the graph of a source.
-fn load(alloc: Global, doc: OneShape, source: &[u8]) -> Result<Base, Unread>
+fn load(alloc: Global, doc: OneShape, source: &[u8]) -> Result<Base, Stop>
     requires { length source.now ≤ max_file }
-    ensures read { IfOk result (λ b. (lines : List Line) × IsData lines source.now × IsBase doc lines b) }
+    ensures read { IfOk result (λ b. (triples : List TermTriple) × IsData triples source.now × IsBase doc triples b) }
     ensures room { IfOk result HasRoom }
-    ensures not_built { result ≡ Err Unread.NotBuilt → (lines : List Line) → ¬ IsData lines source.now }
+    ensures unread { IfErr result (StopsLoading doc source.now) }
 {
     let OneShape { label, constraint } = doc;
     let mut terms = TermTable::new(alloc);
     let arc = arc_of(constraint, &mut terms)?;
     let schema = make_schema(alloc, label, arc)?;
-    let graph = plain_lines::reader::read(alloc, source, &mut terms)?;
+    let graph = read_data(alloc, source, &mut terms)?;
     Ok(Base {
         terms,
         schema,
@@ -143,7 +174,7 @@ fn read_schema<F: Files>(alloc: Global, files: &mut F, asked: Asked<'_>) -> Resu
                 Err(Stop::Refused(Refusal::Label))
             }
         }
-        Err(SchemaError::NotBuilt) => Err(Stop::Refused(Refusal::NotBuilt(Source::Schema))),
+        Err(SchemaError::NotBuilt) => Err(Stop::Refused(Refusal::NotBuilt)),
         Err(SchemaError::Memory) => Err(Stop::Memory),
     }
 }
@@ -165,9 +196,5 @@ pub fn read_base<F: Files>(alloc: Global, files: &mut F, asked: Asked<'_>) -> Re
         Ok(bytes) => bytes,
         Err(stop) => return Err(stop),
     };
-    match load(alloc, doc, bytes.as_slice()) {
-        Ok(base) => Ok(base),
-        Err(Unread::NotBuilt) => Err(Stop::Refused(Refusal::NotBuilt(Source::Data))),
-        Err(Unread::Memory) => Err(Stop::Memory),
-    }
+    load(alloc, doc, bytes.as_slice())
 }

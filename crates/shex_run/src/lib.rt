@@ -5,6 +5,7 @@ mod answers;
 mod checking;
 mod evidence;
 mod inputs;
+mod iris;
 mod load;
 mod proving;
 mod report;

@@ -5,7 +5,7 @@ ghost use Rattle.rdf_terms.specs.Tables.{max_terms};
 ghost use Rattle.rdf_terms.specs.declared.terms.Term.TheVariants as Terms;
 ghost use Rattle.rdf_terms.specs.Lists.{AreDistinct};
 ghost use Rattle.rdf_terms.specs.Lists.{Adds};
-ghost use Rattle.plain_lines.specs.Graphs.{AddsAll};
+ghost use Rattle.proof_checker.specs.Checks.{TakesUp};
 ghost use Rattle.shex_run.specs.Loading.{IsArcOf, entries_of, kind_of, occurrence_of, place_of, predicates_of, schema_of, shape_of};
 
 use node_constraint::{Kind4, NodeConstraint};
@@ -49,7 +49,7 @@ pub fn arc_of(
 ) -> Result<Option<Arc>, AllocError>
     requires { length terms.old < max_terms }
     ensures arc { IfOk result (IsArcOf terms.new constraint) }
-    ensures added { OnOk result (AddsAll terms.old (predicates_of constraint) terms.new) }
+    ensures added { OnOk result (TakesUp terms.old (predicates_of constraint) terms.new) }
 {
     match constraint {
         Some(c) => {

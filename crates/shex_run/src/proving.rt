@@ -3,7 +3,7 @@
 ghost use Rattle.std.specs.Prelude.{◌≡◌, ◌<◌, List, IfOk, Contains, length, option_map, slice_get, Some};
 ghost use Rattle.std.specs.Str.{chars};
 ghost use Rattle.one_shape.specs.declared.OneShape.{OneShape};
-ghost use Rattle.plain_lines.specs.Lines.{Line};
+ghost use Rattle.graph_loading.specs.declared.triples.TermTriple.{TermTriple};
 ghost use Rattle.rdf_terms.specs.declared.terms.Triple.{Triple as Arc};
 ghost use Rattle.shex_run.specs.Inputs.{HasRoom, IsBase};
 ghost use Rattle.shex_run.specs.Lent.{validate_of};
@@ -129,7 +129,7 @@ fn proof_if(
 
 /// Whether the node has the Shape of the schema in the graph, with the proof where one is asked for.
 pub fn decide(alloc: Global, base: Base, validation: Validation<'_>) -> Result<Decided, AllocError>
-    requires base { (doc : OneShape) × (lines : List Line) × IsBase doc lines base × (doc.label ≡ chars validation.label.now) }
+    requires base { (doc : OneShape) × (triples : List TermTriple) × IsBase doc triples base × (doc.label ≡ chars validation.label.now) }
     requires room { HasRoom base }
     requires forms { AreForms (validate_of validation) }
     ensures { IfOk result (IsDecided base (validate_of validation.entry)) }

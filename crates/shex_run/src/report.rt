@@ -11,9 +11,9 @@ ghost use Rattle.std.specs.Str.{chars};
 ghost use Rattle.shex_run.specs.Outcomes.{given_name, name_of, source_name};
 ghost use Rattle.shex_run.specs.Words.{proof_of};
 ghost use Rattle.shex_run.specs.Results.{answer_text, mark, result_text, target_text};
-ghost use Rattle.shex_run.specs.Texts.{arguments_line, error_line, failed_line, label_line, label_of, refusal_line, rejection_line, rejection_text, same_line, why_text};
+ghost use Rattle.shex_run.specs.Texts.{arguments_line, error_line, failed_line, label_line, label_of, refusal_line, rejection_line, rejection_text, same_line, unread_text, why_text};
 
-use crate::stop::{File, Refusal, Rejection, Source};
+use crate::stop::{File, Refusal, Rejection, Source, Unread};
 use crate::words::{Asked, Command};
 use proof_file::Why;
 use rdf_terms::table::TermTable;
@@ -116,13 +116,57 @@ fn label_asked(command: Command<'_>) -> &str
     }
 }
 
+/// That bytes are none of the form from a place on.
+fn syntax(alloc: Global, at: u64) -> Result<String, AllocError>
+    ensures { IfOk result (λ s. string_bytes s ≡ codes "Syntax(" ++ (decimal at ++ codes ")")) }
+{
+    format!(in alloc; "Syntax({at})")
+}
+
+/// That a prefix is not declared, and where it stands.
+fn prefix(alloc: Global, at: u64) -> Result<String, AllocError>
+    ensures { IfOk result (λ s. string_bytes s ≡ codes "Prefix(" ++ (decimal at ++ codes ")")) }
+{
+    format!(in alloc; "Prefix({at})")
+}
+
+/// That the text of a term is too long, and where it begins.
+fn long(alloc: Global, at: u64) -> Result<String, AllocError>
+    ensures { IfOk result (λ s. string_bytes s ≡ codes "Long(" ++ (decimal at ++ codes ")")) }
+{
+    format!(in alloc; "Long({at})")
+}
+
+/// Why data are not read.
+fn unread_what(alloc: Global, unread: Unread) -> Result<String, AllocError>
+    ensures { IfOk result (λ s. string_bytes s ≡ unread_text unread) }
+{
+    match unread {
+        Unread::NotUtf8 => String::from_str(alloc, "NotUtf8"),
+        Unread::Syntax(at) => syntax(alloc, at),
+        Unread::Prefix(at) => prefix(alloc, at),
+        Unread::Deep => String::from_str(alloc, "Deep"),
+        Unread::Long(at) => long(alloc, at),
+        Unread::Full => String::from_str(alloc, "Full"),
+    }
+}
+
+/// The line for data that are not read.
+fn unread(alloc: Global, asked: Asked<'_>, unread: Unread) -> Result<String, AllocError>
+    ensures { IfOk result (λ s. string_bytes s ≡ error_line (asked_of asked.entry).data_file (unread_text unread)) }
+{
+    let what = unread_what(alloc, unread)?;
+    line(alloc, asked.data, what.as_str())
+}
+
 /// The line for refused inputs.
 pub fn refusal(alloc: Global, asked: Asked<'_>, refusal: Refusal) -> Result<String, AllocError>
     ensures { IfOk result (λ s. string_bytes s ≡ refusal_line (asked_of asked.entry) refusal) }
 {
     match refusal {
         Refusal::Size(source) => line(alloc, input_name(asked, source), "Size"),
-        Refusal::NotBuilt(source) => line(alloc, input_name(asked, source), "NotBuilt"),
+        Refusal::NotBuilt => line(alloc, asked.schema, "NotBuilt"),
+        Refusal::Unread(cause) => unread(alloc, asked, cause),
         Refusal::Label => label(alloc, label_asked(asked.command)),
         Refusal::Full => line(alloc, proof_name(asked.command), "Full"),
     }
@@ -142,13 +186,6 @@ fn check_name(why: Why) -> &'static str
         Why::States => "States",
         Why::Claim => "Claim",
     }
-}
-
-/// Where the bytes of a proof cease to begin one.
-fn syntax(alloc: Global, at: u64) -> Result<String, AllocError>
-    ensures { IfOk result (λ s. string_bytes s ≡ codes "Syntax(" ++ (decimal at ++ codes ")")) }
-{
-    format!(in alloc; "Syntax({at})")
 }
 
 /// Which item of a proof is not accepted, and by which check.

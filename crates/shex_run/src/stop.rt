@@ -1,6 +1,7 @@
 //! Why a call ends before its answer.
 
 use proof_file::Why;
+use std::alloc::AllocError;
 
 /// A file of the inputs.
 #[derive(Clone, Copy, Debug, PartialEq, Eq)]
@@ -20,13 +21,32 @@ pub enum File {
     Proof,
 }
 
+/// Why data are not read. A place is counted in bytes from 0.
+#[derive(Clone, Copy, Debug, PartialEq, Eq)]
+pub enum Unread {
+    /// The bytes are not UTF-8.
+    NotUtf8,
+    /// They are no document from this place on.
+    Syntax(u64),
+    /// The prefix that stands at this place is not declared.
+    Prefix(u64),
+    /// Brackets nest too deep.
+    Deep,
+    /// The text of the term that begins at this place is too long.
+    Long(u64),
+    /// There are too many triples or terms.
+    Full,
+}
+
 /// Why the inputs are refused.
 #[derive(Clone, Copy, Debug, PartialEq, Eq)]
 pub enum Refusal {
     /// The file has more bytes than the limit.
     Size(Source),
-    /// The file's bytes are not of the form that is read.
-    NotBuilt(Source),
+    /// The schema's bytes are not of the form that is read.
+    NotBuilt,
+    /// The data are not read.
+    Unread(Unread),
     /// The label that is asked for is not the schema's.
     Label,
     /// The table of terms cannot take up the proof's node lines.
@@ -54,4 +74,15 @@ pub enum Stop {
     Failed(File),
     /// Memory ran out.
     Memory,
+}
+
+impl From<AllocError> for Stop {
+    ghost use Rattle.std.specs.Prelude.{◌≡◌};
+    ghost use Rattle.shex_run.specs.declared.stop.Stop.TheVariants.{Memory};
+
+    ghost from_gives = { λ _ e. e ≡ Memory };
+
+    fn from(_error: AllocError) -> Stop {
+        Stop::Memory
+    }
 }

@@ -24,8 +24,8 @@ const BEFORE_KIND: &str =
 /// A statement of the node's one arc that has an IRI.
 const ARC: &str = "<http://localhost/n> <http://localhost/p> <http://localhost/x> .\n";
 
-/// A statement whose string has an escape, which is not read.
-const ESCAPE: &str = "<http://localhost/n> <http://localhost/p> \"\\n\" .\n";
+/// A statement whose predicate has no scheme, which is not read.
+const RELATIVE: &str = "<http://localhost/n> <p> \"x\" .\n";
 
 /// The line of a node that has the Shape.
 const HOLDS: &str = "<http://localhost/n>@<http://localhost/S>\n";
@@ -287,20 +287,84 @@ fn bytes_of_no_form_are_refused(rt: HostRuntime) -> Result<(), Fail> {
         (
             "http://localhost/T",
             "{",
-            ESCAPE,
+            RELATIVE,
             "shex: s.json: NotBuilt\n",
         ),
         (
             "http://localhost/S",
             WANTS_IRI,
-            ESCAPE,
-            "shex: d.nt: NotBuilt\n",
+            RELATIVE,
+            "shex: d.nt: Syntax(21)\n",
         ),
     ] {
         let (status, out, err) = ends(rt.alloc(), label, schema.as_bytes(), data.as_bytes())?;
         assert_eq!(rt; err.as_str(), line, "{schema}");
         assert_eq!(rt; out.as_str(), "", "{schema}");
         assert_eq!(rt; status, 3, "{schema}");
+    }
+    Ok(())
+}
+
+#[test]
+fn data_are_n_triples(rt: HostRuntime) -> Result<(), Fail> {
+    for (data, status) in [
+        (
+            "# first\r\n\r\n<http://localhost/n>\t<http://localhost/p> <http://localhost/x>. # last",
+            0,
+        ),
+        (
+            "<http://localhost/n><http://localhost/p><http://localhost/x>.",
+            0,
+        ),
+        (
+            "<http://localhost/\\u006E> <http://localhost/\\U00000070> <http://localhost/x> .\n",
+            0,
+        ),
+        (
+            "_:n <http://localhost/p> \"x\"@en .\n_:n.b <http://localhost/p> \"1\"^^<http://localhost/d> .\n",
+            1,
+        ),
+        (
+            "<http://localhost/n> <http://localhost/p> \"\\t\\\"\\u00e9\" .\n",
+            1,
+        ),
+    ] {
+        let (found, out) = answer(rt.alloc(), WANTS_IRI, data)?;
+        assert_eq!(rt; found, status, "{data}");
+        let line = if status == 0 { HOLDS } else { FAILS };
+        assert_eq!(rt; out.as_str(), line, "{data}");
+    }
+    Ok(())
+}
+
+/// The line of a refusal of these data.
+fn unread(alloc: Global, data: &[u8]) -> Result<String, Fail> {
+    let (_, _, err) = ends(alloc, "http://localhost/S", WANTS_IRI.as_bytes(), data)?;
+    Ok(err)
+}
+
+#[test]
+fn data_that_are_not_read_are_refused_at_their_place(rt: HostRuntime) -> Result<(), Fail> {
+    for (data, line) in [
+        (b"\xFF".as_slice(), "shex: d.nt: NotUtf8\n"),
+        (b"# a\xC3".as_slice(), "shex: d.nt: NotUtf8\n"),
+        (b"x \xFF".as_slice(), "shex: d.nt: NotUtf8\n"),
+        (b"\xEF\xBB\xBF# a".as_slice(), "shex: d.nt: Syntax(0)\n"),
+        (
+            b"<http://localhost/n> <http://localhost/p> \"\\uD800\" .".as_slice(),
+            "shex: d.nt: Syntax(42)\n",
+        ),
+        (
+            b"<http://localhost/n> <http://localhost/p>".as_slice(),
+            "shex: d.nt: Syntax(41)\n",
+        ),
+        (
+            b"<http://localhost/n> <http://localhost/p> 'x' .".as_slice(),
+            "shex: d.nt: Syntax(42)\n",
+        ),
+    ] {
+        let err = unread(rt.alloc(), data)?;
+        assert_eq!(rt; err.as_str(), line);
     }
     Ok(())
 }
@@ -316,7 +380,7 @@ fn another_label_is_refused_before_the_data_is_read(rt: HostRuntime) -> Result<(
         ("T", ARC, "shex: words: Label(<T>)\n"),
         (
             "http://localhost/T",
-            ESCAPE,
+            RELATIVE,
             "shex: words: Label(<http://localhost/T>)\n",
         ),
     ] {
@@ -408,7 +472,7 @@ fn a_sink_that_fails_is_told_by_the_status(rt: HostRuntime) -> Result<(), Fail> 
 fn a_file_may_have_67_108_864_bytes(rt: HostRuntime) -> Result<(), Fail> {
     let alloc = rt.alloc();
     for (length, line) in [
-        (67_108_864, "shex: d.nt: NotBuilt\n"),
+        (67_108_864, "shex: d.nt: Syntax(0)\n"),
         (67_108_865, "shex: d.nt: Size\n"),
     ] {
         let data = vec![in alloc; b'x'; length]?;

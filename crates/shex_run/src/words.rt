@@ -4,7 +4,7 @@ ghost use Rattle.std.specs.Prelude.{◌∷◌, ◌≡◌, IfSome, IsNone, List, 
 ghost use Rattle.shex_run.specs.Words.{Asked as Asking, IsForm, IsSame, IsUnasked, proof_of};
 ghost use Rattle.shex_run.specs.Lent.{asked_of, command_of};
 
-use plain_lines::{has_iri_chars, is_iri};
+use crate::iris::{has_iri_chars, is_iri};
 
 /// What `validate` asks: whether a node has a Shape.
 #[derive(Clone, Copy)]

@@ -11,3 +11,12 @@ pub mod Decided
 pub mod Parsed
 pub mod Frames
 pub mod Depth
+pub mod Lexed
+pub mod Sound
+pub mod Steps
+pub mod Named
+pub mod Numbers
+pub mod Loops
+pub mod Capped
+pub mod Answered
+pub mod Choices

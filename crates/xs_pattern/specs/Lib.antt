@@ -1,10 +1,15 @@
+pub mod Lexing
 pub mod Parsing
 pub mod Patterns
 pub mod Regex
 pub mod Characters
+pub mod Ends
+pub mod Flagged
 pub mod Language
 pub mod Laws
 pub mod Limits
+pub mod Parses
+pub mod Spelling
 pub mod Tests
 pub mod Tokens
 pub mod Unrolling

@@ -1,5 +1,5 @@
 -- How large a pattern is.
-use Rattle.std.specs.Prelude.{ℕ, ◌+◌, ◌-◌, ◌*◌, max, Option, Some, None, List, [], ◌∷◌, length}
+use Rattle.std.specs.Prelude.{ℕ, ◌+◌, ◌-◌, ◌*◌, ◌<◌, ◌⊎◌, max, Option, Some, None, List, [], ◌∷◌, length}
 use Rattle.xs_pattern.specs.Regex.{Chars, dot, item, class, Regex, start, finish, one, group, branch, choice, repeat, Regexes, none, more}
 use Rattle.xs_pattern.specs.Tokens.{Token, open_bracket, close_bracket, bar, start_anchor, end_anchor, one_of, times}
 
@@ -44,7 +44,31 @@ abbrev mutual
   deepest_nesting none = 0
   deepest_nesting (more e es) = max (nesting e) (deepest_nesting es)
 
--- the same of tokens, where so many groups are open
+-- the greater number of a quantifier
+abbrev pub greater : ℕ → Option ℕ → ℕ
+greater least None = least
+greater least (Some most) = max least most
+
+abbrev mutual
+  -- the greatest number of a quantifier, and 0 where there is none
+  pub greatest : Regex → ℕ
+  greatest start = 0
+  greatest finish = 0
+  greatest (one s) = 0
+  greatest (group e) = greatest e
+  greatest (branch es) = greatest_of_all es
+  greatest (choice es) = greatest_of_all es
+  greatest (repeat least most e) = max (greatest e) (greater least most)
+
+  pub greatest_of_all : Regexes → ℕ
+  greatest_of_all none = 0
+  greatest_of_all (more e es) = max (greatest e) (greatest_of_all es)
+
+-- it has a number over 4,096, nests over 64 deep, or has over 4,096 positions
+abbrev pub IsLarge : Regex → Type 0
+IsLarge e = (4096 < greatest e) ⊎ (64 < nesting e) ⊎ (4096 < positions e)
+
+-- how deep the groups and classes of tokens nest, where so many groups are open
 abbrev pub depth : ℕ → List Token → ℕ
 depth n [] = n
 depth n (open_bracket ∷ ts) = max n (depth (n + 1) ts)

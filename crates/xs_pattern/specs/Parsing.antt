@@ -5,7 +5,8 @@ use Rattle.xs_pattern.specs.declared.parser.Token.TheVariants as Codes
 use Rattle.xs_pattern.specs.declared.parser.Frame.{Frame as FrameInCode}
 use Rattle.xs_pattern.specs.Regex.{Regex, chars_of, regex_of, start, finish, one, group, branch, choice, repeat, row}
 use Rattle.xs_pattern.specs.Tokens.{Token, open_bracket, close_bracket, bar, start_anchor, end_anchor, one_of, times, tokens, IsPattern}
-use Rattle.xs_pattern.specs.Limits.{layers}
+use Rattle.std.specs.List.{list_any}
+use Rattle.xs_pattern.specs.Limits.{greater, layers}
 
 -- what was read of a pattern: whole branches, pieces of the next one, and an atom that a quantifier may follow
 pub record Frame : Type 0 where
@@ -119,3 +120,12 @@ open_behind _ n = n
 abbrev pub layers_of : Token → ℕ
 layers_of (one_of s) = layers s
 layers_of _ = 0
+
+-- a token with a number over 4,096
+abbrev pub large_token : Token → Bool
+large_token (times least most) = nat_lt 4096 (greater least most)
+large_token _ = false
+
+-- some token has such a number
+abbrev pub has_large : List Token → Bool
+has_large ts = list_any large_token ts

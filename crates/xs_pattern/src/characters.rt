@@ -1,5 +1,6 @@
-//! Which characters a set has.
+//! The characters of a text, and which of them a set has.
 ghost use Rattle.std.specs.Prelude.{◌≡◌, ◌++◌, IfOk, OnOk, map};
+ghost use Rattle.std.specs.Str.{chars};
 ghost use Rattle.xs_pattern.specs.Characters.{has_kind};
 ghost use Rattle.xs_pattern.specs.Regex.{chars_of, members_of, regex_of, regexes_of};
 ghost use Rattle.xs_pattern.specs.Tests.{alike, item_has, some_has, member_has, class_has, set_has, some_within};
@@ -9,6 +10,13 @@ use crate::{CharGroup, Expression, Flags, Item, Kind, Set};
 use std::alloc::{AllocError, Global};
 use unicode::case::fold_pairs;
 use unicode::properties::{GeneralCategory, GeneralCategoryGroup};
+
+/// The characters of a text.
+pub(crate) fn characters(alloc: Global, text: &str) -> Result<Vec<char>, AllocError>
+    ensures { IfOk result (λ v. v.items ≡ chars text.now) }
+{
+    text.chars().collect(alloc)
+}
 
 impl Kind {
     /// Whether the character is of the kind.

@@ -5,8 +5,8 @@ ghost use Rattle.xs_pattern.specs.Regex.{regex_of, regexes_of};
 
 use crate::Expression;
 
-/// The most positions that a pattern has.
-const MOST: u32 = 4096;
+/// The most positions that a pattern has, and the greatest number of a quantifier.
+pub(crate) const MOST: u32 = 4096;
 
 /// The number of positions, if it is at most 4,096.
 #[cycle(positions)]

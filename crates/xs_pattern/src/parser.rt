@@ -1,11 +1,13 @@
 //! Reading a pattern token by token (XML Schema Part 2, version 1.1, sections G.1 and G.2).
 ghost use Rattle.std.specs.Prelude.{◌≡◌, ◌↔◌, ◌<◌, ◌^◌, ◌∷◌, List, [], true, false, Some, None, IfNone, IfOk, IfSome, IsTrue, OnOk, map, option_map, reverse};
+ghost use Rattle.std.specs.List.{list_any};
 ghost use Rattle.xs_pattern.specs.Limits.{depth, nesting};
 ghost use Rattle.xs_pattern.specs.Parsing.{
   IsSpelled,
   blank,
   frame_of,
   is_spelled,
+  large_token,
   layers_of,
   open_behind,
   parse,
@@ -22,6 +24,7 @@ ghost use Rattle.xs_pattern.specs.Parsing.{
 ghost use Rattle.xs_pattern.specs.Regex.{Regex, regex_of};
 ghost use Rattle.xs_pattern.specs.Tokens as Tokens;
 
+use crate::limits::MOST;
 use crate::{Expression, Set};
 use std::alloc::{AllocError, Global};
 use std::mem;
@@ -56,6 +59,24 @@ impl Token {
             _ => 0,
         }
     }
+
+    /// Whether it is a quantifier with a number over 4,096.
+    fn is_large(&self) -> bool
+        ensures { result ≡ large_token (token_of self.now) }
+    {
+        match self {
+            Token::Times(least, Some(most)) => (*least).max(*most) > MOST,
+            Token::Times(least, None) => *least > MOST,
+            _ => false,
+        }
+    }
+}
+
+/// Whether some quantifier has a number over 4,096.
+pub(crate) fn has_large(tokens: &[Token]) -> bool
+    ensures { result ≡ list_any (λ t. large_token (token_of t)) tokens.now }
+{
+    tokens.iter().any(|token| token.is_large())
 }
 
 /// How deep groups and classes nest in a pattern with these tokens.

@@ -1,17 +1,20 @@
 //! Patterns, and whether they are found in a text.
-ghost use Rattle.std.specs.Prelude.{◌≡◌, ◌↔◌, ℕ, ◌≤◌, ◌<◌, true, false, IsTrue, IfOk, IfSome, IsNone, OnOk, length, slice_index_or};
+ghost use Rattle.std.specs.Prelude.{◌≡◌, ◌↔◌, ℕ, ◌≤◌, ◌<◌, true, false, IsTrue, ◌⊎◌, IfOk, IfSome, IsErrOf, IsNone, MatchResult, OnOk, length, slice_index_or};
+ghost use Rattle.xs_pattern.specs.Flagged.{AreFlags, IsSpelledUnder, SpellsUnder, flags_named};
 ghost use Rattle.std.specs.Str.{chars};
 ghost use Rattle.xs_pattern.specs.Language.{IsFound};
-ghost use Rattle.xs_pattern.specs.Limits.{positions};
-ghost use Rattle.xs_pattern.specs.Regex.{regex_of};
+ghost use Rattle.xs_pattern.specs.Limits.{IsLarge, positions};
+ghost use Rattle.xs_pattern.specs.Regex.{Regex, regex_of};
 ghost use Rattle.xs_pattern.specs.Unrolling.{exits, exits_at, having, sets};
 ghost use Rattle.xs_pattern.specs.Way.{next, size, way_of};
 
-use crate::characters::{add_having, alike};
+use crate::characters::{add_having, alike, characters};
+use crate::flagged::{are_flags, flags_named};
 use crate::limits::fitting_positions;
+use crate::reader::read_expression;
 use crate::unrolled::{Unrolled, unroll};
 use crate::walk::{Edge, add_blank, advance, exit_of};
-use crate::{Expression, Flags};
+use crate::{Expression, Flags, PatternError};
 use std::alloc::{AllocError, Global};
 
 /// A pattern with its flags (XPath Functions and Operators 3.1, sections 5.6.1 and 5.6.2).
@@ -23,6 +26,7 @@ pub struct Pattern {
 }
 
 impl Pattern {
+    ghost use Rattle.xs_pattern.specs.Ends.{Ends};
     ghost use Rattle.xs_pattern.specs.Patterns.{flags_of, regex};
 
     /// The pattern of a regular expression. None exactly where it has over 4,096 positions.
@@ -39,6 +43,48 @@ impl Pattern {
         }
     }
 
+    /// The pattern that the text spells under these flags (XML Schema Part 2, version 1.1, section G; XPath Functions and
+    /// Operators 3.1, sections 5.6.1 and 5.6.2), without back references, block escapes, `\i` and `\c`.
+    ///
+    /// Of the flags, `s` lets the dot have all characters, `i` ignores case, and `q` takes the text as it stands. Fails with
+    /// `Flag` where there is another one; then with `Syntax` where no pattern is spelled so; then with `Large` where a
+    /// quantifier has a number over 4,096, groups and classes nest over 64 deep, or the pattern has over 4,096 positions.
+    pub fn read(alloc: Global, text: &str, flags: &str) -> Result<Pattern, PatternError>
+        ensures spelled { IfOk result (λ p. SpellsUnder (chars flags.now) (regex p) (chars text.now)) }
+        ensures flags { IfOk result (λ p. flags_of p ≡ flags_named (chars flags.now)) }
+        ensures small { IfOk result (λ p. ¬ IsLarge (regex p)) }
+
+        ensures flag { IsErrOf result PatternError.Flag ↔ (¬ AreFlags (chars flags.now)) }
+        ensures syntax { IsErrOf result PatternError.Syntax
+            → AreFlags (chars flags.now) × (¬ IsSpelledUnder (chars flags.now) (chars text.now)) }
+        ensures large { IsErrOf result PatternError.Large
+            → AreFlags (chars flags.now) × ((e : Regex) × SpellsUnder (chars flags.now) e (chars text.now) × IsLarge e) }
+
+        ensures unspelled { AreFlags (chars flags.now) → (¬ IsSpelledUnder (chars flags.now) (chars text.now))
+            → IsErrOf result PatternError.Syntax ⊎ IsErrOf result PatternError.Memory }
+        ensures too_large { AreFlags (chars flags.now) → (e : Regex) → SpellsUnder (chars flags.now) e (chars text.now) → IsLarge e
+            → IsErrOf result PatternError.Large ⊎ IsErrOf result PatternError.Memory }
+        ensures read { AreFlags (chars flags.now) → (e : Regex) → SpellsUnder (chars flags.now) e (chars text.now) → (¬ IsLarge e)
+            → MatchResult result (λ p. regex p ≡ e) (λ x. x ≡ PatternError.Memory) }
+    {
+        if !are_flags(flags) {
+            return Err(PatternError::Flag);
+        }
+        Pattern::read_flagged(alloc, text, flags)
+    }
+
+    /// The pattern that the text spells under these flags.
+    fn read_flagged(alloc: Global, text: &str, flags: &str) -> Result<Pattern, PatternError>
+        requires { AreFlags (chars flags.now) }
+        ensures { Ends (chars flags.now) (chars text.now) result }
+    {
+        let expression = read_expression(alloc, text, flags)?;
+        match Pattern::new(expression, flags_named(flags)) {
+            Some(pattern) => Ok(pattern),
+            None => Err(PatternError::Large),
+        }
+    }
+
     /// Whether some part of the text is in the language of the pattern (section 5.6.3).
     ///
     /// The text is read once, whatever the pattern is: a character takes time in proportion to the positions, times how
@@ -52,13 +98,6 @@ impl Pattern {
         let way = unroll(alloc, &self.expression, &mut next)?;
         is_found(alloc, &self.expression, self.flags, &way, &characters)
     }
-}
-
-/// The characters of a text.
-fn characters(alloc: Global, text: &str) -> Result<Vec<char>, AllocError>
-    ensures { IfOk result (λ v. v.items ≡ chars text.now) }
-{
-    text.chars().collect(alloc)
 }
 
 /// Reads a character at a place, and answers whether a part of the text ends there that is of the pattern.

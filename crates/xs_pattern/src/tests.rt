@@ -1,179 +1,231 @@
 // Cases that the standards settle, and patterns that grow.
-use crate::parser::{Token, is_pattern, nesting, pattern_of};
-use crate::{CharGroup, Expression, Flags, Item, Kind, Pattern, Set};
+use crate::{Expression, Flags, Pattern, PatternError};
 use std::alloc::{AllocError, Global};
 use std::test::Fail;
-use unicode::properties::GeneralCategory;
 
-const PLAIN: Flags = Flags {
-    dot_all: false,
-    ignore_case: false,
-};
-
-const CASELESS: Flags = Flags {
-    dot_all: false,
-    ignore_case: true,
-};
-
-fn item(item: Item) -> Expression {
-    Expression::One(Set::Item(item))
-}
-
-fn repeat(
+/// Whether the pattern is found in the text, or why it is refused.
+fn search(
     alloc: Global,
-    e: Expression,
-    least: u32,
-    most: Option<u32>,
-) -> Result<Expression, AllocError> {
-    Ok(Expression::Repeat(least, most, Box::new(alloc, e)?))
-}
-
-fn branch(alloc: Global, first: Expression, second: Expression) -> Result<Expression, AllocError> {
-    Ok(Expression::Branch(vec![in alloc; first, second]?))
-}
-
-fn group(alloc: Global, negated: bool, only: Item) -> Result<CharGroup, AllocError> {
-    Ok(CharGroup {
-        negated,
-        items: vec![in alloc; only]?,
-    })
-}
-
-/// Whether the pattern is found in the text; none is too large.
-fn is_found(
-    alloc: Global,
-    e: Expression,
-    flags: Flags,
+    pattern: &str,
+    flags: &str,
     text: &str,
-) -> Result<Option<bool>, AllocError> {
-    match Pattern::new(e, flags) {
-        Some(pattern) => Ok(Some(pattern.found(alloc, text)?)),
-        None => Ok(None),
+) -> Result<Result<bool, PatternError>, AllocError> {
+    match Pattern::read(alloc, pattern, flags) {
+        Ok(pattern) => Ok(Ok(pattern.found(alloc, text)?)),
+        Err(error) => Ok(Err(error)),
     }
 }
 
-/// So many letters `a`.
-fn letters(alloc: Global, number: u32) -> Result<String, AllocError> {
+/// The part so many times.
+fn repeated(alloc: Global, part: &str, number: u32) -> Result<String, AllocError> {
     let mut text = String::new(alloc);
     for _ in 0..number {
-        text.push('a')?;
+        text.push_str(part)?;
     }
     Ok(text)
 }
 
+/// The middle in so many brackets.
+fn nested(
+    alloc: Global,
+    open: &str,
+    middle: &str,
+    close: &str,
+    number: u32,
+) -> Result<String, AllocError> {
+    let mut text = repeated(alloc, open, number)?;
+    text.push_str(middle)?;
+    let behind = repeated(alloc, close, number)?;
+    text.push_str(behind.as_str())?;
+    Ok(text)
+}
+
 #[test]
-fn items_have_the_characters_of_the_standard(rt: HostRuntime) -> Result<(), Fail> {
-    let upper = Item::Kind(Kind::Category(GeneralCategory::UppercaseLetter));
+fn characters_and_classes_are_those_of_the_standard(rt: HostRuntime) -> Result<(), Fail> {
     let cases = [
-        (Item::Char('k'), CASELESS, "\u{212A}", true),
-        (Item::Char('k'), PLAIN, "K", false),
-        (Item::Range('a', 'z'), CASELESS, "\u{212A}", true),
-        (Item::Range('a', 'z'), CASELESS, "\u{17F}", true),
-        (Item::Range('a', 'z'), PLAIN, "\u{17F}", false),
-        (Item::Range('\u{D7FF}', '\u{E000}'), PLAIN, "\u{E000}", true),
-        (upper, CASELESS, "a", false),
-        (Item::Kind(Kind::Digit), PLAIN, "\u{663}", true),
-        (Item::Kind(Kind::Space), PLAIN, "\u{A0}", false),
-        (Item::Kind(Kind::Word), PLAIN, "_", false),
-        (Item::Not(Kind::Word), PLAIN, "-", true),
+        ("k", "\u{212A}", false),
+        ("[\u{D7FF}-\u{E000}]", "\u{E000}", true),
+        ("\\d", "\u{663}", true),
+        ("\\s", "\u{A0}", false),
+        ("\\w", "_", false),
+        ("\\W", "-", true),
+        (".", "\n", false),
+        ("[a-]", "-", true),
+        ("[--a]", "A", true),
+        ("[+--]", ",", true),
+        ("[\\n-\\r]", "\u{B}", true),
+        ("[^a-[b-y-[m]]]", "z", true),
+        ("[^a-[b-y-[m]]]", "a", false),
+        ("[^a-[b-y-[m]]]", "c", false),
+        ("[^a-[b-y-[m]]]", "m", true),
+        ("[a-z-[aeiou]]", "aex", true),
+        ("[a-z-[aeiou]]", "aei", false),
+        ("\\p{L}\\P{Lu}", "Aa", true),
+        ("\\p{Cn}", "a", false),
     ];
-    for (of, flags, text, want) in cases {
-        let found = is_found(rt.alloc(), item(of), flags, text)?;
-        assert_eq!(rt; found, Some(want), "{of:?} in {text}");
+    for (pattern, text, want) in cases {
+        let found = search(rt.alloc(), pattern, "", text)?;
+        assert_eq!(rt; found, Ok(want), "{pattern} in {text}");
     }
     Ok(())
 }
 
 #[test]
-fn negation_comes_before_subtraction_and_behind_folding(rt: HostRuntime) -> Result<(), Fail> {
-    // `[^k]` and `[^a-[b-y-[m]]]`.
-    let only = vec![in rt.alloc(); group(rt.alloc(), true, Item::Char('k'))?]?;
-    let not_k = Expression::One(Set::Class(only));
-    assert_eq!(rt; is_found(rt.alloc(), not_k, CASELESS, "K")?, Some(false));
-    for (text, want) in [("z", true), ("a", false), ("c", false), ("m", true)] {
-        let first = group(rt.alloc(), true, Item::Char('a'))?;
-        let second = group(rt.alloc(), false, Item::Range('b', 'y'))?;
-        let third = group(rt.alloc(), false, Item::Char('m'))?;
-        let class = Set::Class(vec![in rt.alloc(); first, second, third]?);
-        let found = is_found(rt.alloc(), Expression::One(class), PLAIN, text)?;
-        assert_eq!(rt; found, Some(want), "{text}");
+fn pieces_and_anchors_are_those_of_the_standard(rt: HostRuntime) -> Result<(), Fail> {
+    let cases = [
+        ("", "", true),
+        ("^a[b-d]{2}$", "abd", true),
+        ("^a[b-d]{2}$", "abde", false),
+        ("(^a|b$)", "ac", true),
+        ("(^a|b$)", "ba", false),
+        ("(^a|b$)", "xb", true),
+        ("a^b", "ab", false),
+        ("a$b", "ab", false),
+        ("^(?:ab){2}$", "abab", true),
+        ("^a+?b??c*?$", "aabcc", true),
+        ("^a{0002}$", "aa", true),
+        ("^a{2,}$", "a", false),
+        ("^a{1,2}$", "aaa", false),
+        ("^((a)|)*$", "aa", true),
+        ("((){4096}){4096}", "", true),
+    ];
+    for (pattern, text, want) in cases {
+        let found = search(rt.alloc(), pattern, "", text)?;
+        assert_eq!(rt; found, Ok(want), "{pattern} in {text}");
     }
     Ok(())
 }
 
 #[test]
-fn anchors_hold_at_the_ends_alone(rt: HostRuntime) -> Result<(), Fail> {
-    // `(^a|b$)`, and `a^`.
-    for (text, want) in [("ac", true), ("ba", false), ("xb", true), ("", false)] {
-        let first = branch(rt.alloc(), Expression::Start, item(Item::Char('a')))?;
-        let second = branch(rt.alloc(), item(Item::Char('b')), Expression::End)?;
-        let choice = Expression::Choice(vec![in rt.alloc(); first, second]?);
-        let e = Expression::Group(Box::new(rt.alloc(), choice)?);
-        assert_eq!(rt; is_found(rt.alloc(), e, PLAIN, text)?, Some(want), "{text}");
+fn flags_change_what_is_meant(rt: HostRuntime) -> Result<(), Fail> {
+    let cases = [
+        ("a.b", "q", "xa.b", true),
+        ("a.b", "q", "xaxb", false),
+        ("(", "qi", "(", true),
+        ("k", "i", "\u{212A}", true),
+        ("[a-z]", "i", "\u{212A}", true),
+        ("[a-z]", "i", "\u{17F}", true),
+        ("[^k]", "i", "K", false),
+        ("\\p{Lu}", "i", "a", false),
+        (".", "ss", "\n", true),
+    ];
+    for (pattern, flags, text, want) in cases {
+        let found = search(rt.alloc(), pattern, flags, text)?;
+        assert_eq!(rt; found, Ok(want), "{pattern} with {flags} in {text}");
     }
-    let never = branch(rt.alloc(), item(Item::Char('a')), Expression::Start)?;
-    assert_eq!(rt; is_found(rt.alloc(), never, PLAIN, "aa")?, Some(false));
-    let empty = Expression::Branch(Vec::new(rt.alloc()));
-    assert_eq!(rt; is_found(rt.alloc(), empty, PLAIN, "")?, Some(true));
+    Ok(())
+}
+
+#[test]
+fn flags_come_before_syntax_and_syntax_before_limits(rt: HostRuntime) -> Result<(), Fail> {
+    let cases = [
+        ("a", "m", PatternError::Flag),
+        ("(a{4097}", "x", PatternError::Flag),
+        ("(a{4097}", "s", PatternError::Syntax),
+        (
+            "a{99999999999999999999,99999999999999999998}",
+            "",
+            PatternError::Syntax,
+        ),
+        (
+            "a{99999999999999999998,099999999999999999999}",
+            "",
+            PatternError::Large,
+        ),
+        ("a{4097}", "", PatternError::Large),
+        ("(){0,4097}", "", PatternError::Large),
+        ("(a{64}){65}", "", PatternError::Large),
+    ];
+    for (pattern, flags, want) in cases {
+        let found = search(rt.alloc(), pattern, flags, "")?;
+        assert_eq!(rt; found, Err(want), "{pattern} with {flags}");
+    }
+    Ok(())
+}
+
+#[test]
+fn what_is_no_pattern_is_refused(rt: HostRuntime) -> Result<(), Fail> {
+    let cases = [
+        "a**",
+        "^*",
+        "|*",
+        "a???",
+        "(?a)",
+        "((a)",
+        "a)",
+        "a]",
+        "{",
+        "a{,2}",
+        "a{2,1}",
+        "a{1",
+        "[",
+        "[]",
+        "[^]",
+        "[b-a]",
+        "[a--b]",
+        "[a-\\d]",
+        "[a-b-c]",
+        "[a-[b]",
+        "[a-[b]c]",
+        "\\",
+        "\\i",
+        "\\1",
+        "\\p{Cs}",
+        "\\p{IsGreek}",
+        "\\pL",
+    ];
+    for pattern in cases {
+        let found = search(rt.alloc(), pattern, "", "")?;
+        assert_eq!(rt; found, Err(PatternError::Syntax), "{pattern}");
+    }
     Ok(())
 }
 
 #[test]
 fn as_many_positions_as_the_limit_are_read(rt: HostRuntime) -> Result<(), Fail> {
-    // `(a{64}){64}` and `(a{64}){65}`.
-    for (times, number, want) in [
-        (64, 4096, Some(true)),
-        (64, 4095, Some(false)),
-        (65, 0, None),
-    ] {
-        let inner = repeat(rt.alloc(), item(Item::Char('a')), 64, Some(64))?;
-        let e = repeat(rt.alloc(), inner, times, Some(times))?;
-        let text = letters(rt.alloc(), number)?;
-        assert_eq!(rt; is_found(rt.alloc(), e, PLAIN, text.as_str())?, want);
+    for (number, want) in [(4096, true), (4095, false)] {
+        let text = repeated(rt.alloc(), "a", number)?;
+        let found = search(rt.alloc(), "(a{64}){64}", "", text.as_str())?;
+        assert_eq!(rt; found, Ok(want));
+    }
+    // With flag `q` each character is a position.
+    for (number, want) in [(4096, Ok(false)), (4097, Err(PatternError::Large))] {
+        let text = repeated(rt.alloc(), ".", number)?;
+        assert_eq!(rt; search(rt.alloc(), text.as_str(), "q", "")?, want);
+    }
+    Ok(())
+}
+
+#[test]
+fn groups_and_classes_nest_as_deep_as_the_limit(rt: HostRuntime) -> Result<(), Fail> {
+    for (number, want) in [(64, Ok(true)), (65, Err(PatternError::Large))] {
+        let groups = nested(rt.alloc(), "(", "b", ")", number)?;
+        assert_eq!(rt; search(rt.alloc(), groups.as_str(), "", "b")?, want);
+        let classes = nested(rt.alloc(), "[b-", "[a]", "]", number - 1)?;
+        assert_eq!(rt; search(rt.alloc(), classes.as_str(), "", "b")?, want);
+        let both = nested(rt.alloc(), "(", "[b]", ")", number - 1)?;
+        assert_eq!(rt; search(rt.alloc(), both.as_str(), "", "b")?, want);
     }
     Ok(())
 }
 
 #[test]
 fn nested_repetitions_are_answered_at_once(rt: HostRuntime) -> Result<(), Fail> {
-    // `(a*)*b` in 100,000 letters, and no character 4,096 times, 4,096 times.
-    let star = repeat(rt.alloc(), item(Item::Char('a')), 0, None)?;
-    let stars = repeat(rt.alloc(), star, 0, None)?;
-    let e = branch(rt.alloc(), stars, item(Item::Char('b')))?;
-    let text = letters(rt.alloc(), 100_000)?;
-    assert_eq!(rt; is_found(rt.alloc(), e, PLAIN, text.as_str())?, Some(false));
-    let empty = Expression::Branch(Vec::new(rt.alloc()));
-    let inner = repeat(rt.alloc(), empty, 4096, Some(4096))?;
-    let outer = repeat(rt.alloc(), inner, 4096, Some(4096))?;
-    assert_eq!(rt; is_found(rt.alloc(), outer, PLAIN, "")?, Some(true));
+    let text = repeated(rt.alloc(), "a", 100_000)?;
+    let found = search(rt.alloc(), "(a*)*b", "", text.as_str())?;
+    assert_eq!(rt; found, Ok(false));
     Ok(())
 }
 
-fn letter() -> Token {
-    Token::One(Set::Item(Item::Char('a')))
-}
-
 #[test]
-fn quantifiers_follow_atoms_alone(rt: HostRuntime) -> Result<(), Fail> {
-    // `((a)|)*`, `^*` and `a)`, each from its last token to its first.
-    let group = vec![in rt.alloc();
-        Token::Times(0, None),
-        Token::Close,
-        Token::Bar,
-        Token::Close,
-        letter(),
-        Token::Open,
-        Token::Open,
-    ]?;
-    let e = pattern_of(rt.alloc(), group)?;
-    assert!(rt; e.is_some_and(|e| Pattern::new(e, PLAIN).is_some()));
-    let anchor = vec![in rt.alloc(); Token::Times(0, None), Token::Start]?;
-    assert!(rt; pattern_of(rt.alloc(), anchor)?.is_none());
-    let unopened = vec![in rt.alloc(); Token::Close, letter()]?;
-    assert!(rt; pattern_of(rt.alloc(), unopened)?.is_none());
-    // `((a)` is none, and has two groups in one another.
-    let unclosed = vec![in rt.alloc(); Token::Open, Token::Open, letter(), Token::Close]?;
-    assert!(rt; !is_pattern(&unclosed));
-    assert_eq!(rt; nesting(&unclosed), 2);
+fn a_tree_is_a_pattern(rt: HostRuntime) -> Result<(), Fail> {
+    let flags = Flags {
+        dot_all: false,
+        ignore_case: false,
+    };
+    match Pattern::new(Expression::Start, flags) {
+        Some(pattern) => assert!(rt; pattern.found(rt.alloc(), "a")?),
+        None => assert!(rt; false),
+    }
     Ok(())
 }

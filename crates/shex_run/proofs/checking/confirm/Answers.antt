@@ -16,7 +16,7 @@ result_map-requires c = λ a h.
 
 pub returns-in-Ok-result_map-clause-confirmed : goal.returns-in-Ok-result_map-clause-confirmed
 returns-in-Ok-result_map-clause-confirmed c =
-    let (doc, lines, is) = c.requires.base in
+    let (doc, triples, is) = c.requires.base in
     let terms = c.check-checked.new.terms in
     let found : IsAcceptedAs one_stratum c.args.base.schema c.args.base.terms terms c.args.base.graph c.args.proof.now c.in-Ok.answers =
     subst (λ ts. IsAcceptedAs one_stratum c.args.base.schema c.args.base.terms terms ts c.args.proof.now c.in-Ok.answers) c.triples.ensures.items c.in-Ok.ensures.accepted in
@@ -26,6 +26,6 @@ returns-in-Ok-result_map-clause-confirmed c =
       terms = terms;
       answers = c.in-Ok.answers;
       accepted = accepted;
-      truth = is_true doc lines c.args.base is terms c.check-checked.ensures.kept c.typing_is_one.ensures.exists c.accepted_is_true.ensures c.args.proof.now c.in-Ok.answers accepted;
+      truth = is_true doc triples c.args.base is terms c.check-checked.ensures.kept c.typing_is_one.ensures.exists c.accepted_is_true.ensures c.args.proof.now c.in-Ok.answers accepted;
       text_is = c.in-Ok-result_map.ensures ∙ ap (λ xs. result_text terms xs) c.as_slice.ensures;
     }

@@ -15,4 +15,4 @@ returns-in-Ok-read-clause-cause g c = (
 
 pub returns-in-Err-NotBuilt-clause-cause : goal.returns-in-Err-NotBuilt-clause-cause
 returns-in-Err-NotBuilt-clause-cause g c =
-    (tt, (c.in-Ok.bytes.items, c.in-Ok.ensures.bytes, subst IsNoSchemaText c.as_slice.ensures.value (c.in-Err-NotBuilt.ensures.not_built (ap Err c.in-Err-NotBuilt.field-0-is))))
+    (c.in-Ok.bytes.items, c.in-Ok.ensures.bytes, subst IsNoSchemaText c.as_slice.ensures.value (c.in-Err-NotBuilt.ensures.not_built (ap Err c.in-Err-NotBuilt.field-0-is)))

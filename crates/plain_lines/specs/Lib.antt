@@ -1,4 +1,0 @@
-pub mod Graphs
-pub mod Laws
-pub mod Lent
-pub mod Lines

@@ -1,0 +1,4 @@
+pub mod Streams
+pub mod Places
+pub mod Moves
+pub mod Meanings

@@ -1,0 +1,16 @@
+-- The place at which a text was refused.
+use Rattle.std.specs.Prelude.{◌≡◌, ℕ, ◌<◌, List, ◌∷◌, ◌++◌, length, drop}
+use Rattle.std.specs.Str.{chars}
+use Rattle.rdf_lex.specs.declared.kinds.Mode.{Mode}
+use Rattle.rdf_lex.specs.Tokens.{Spelled, Between, IsFirst, IsSkipped, BeginsNone, Tokens}
+
+-- Which tokens spell which document is given. From the place on, no document goes on as the text does.
+pub data IsFaultPlace {A : Type 0} (Spells : A → List Spelled → Type 0) (m : Mode) (source : List ℕ) (at : ℕ) : Type 0 where
+  -- a token stands there, and no document's tokens begin with the tokens up to that one
+  at_token : (front : List Spelled) (from : ℕ) (t : Spelled) → Between m source 0 front from → IsFirst m source from t.kind t.text at
+      → ((x : A) (more : List Spelled) → ¬ Spells x (front ++ t ∷ more)) → IsFaultPlace Spells m source at
+  -- behind some tokens the characters form no token there: none spells a prefix of the rest
+  at_characters : (front : List Spelled) (from : ℕ) → Between m source 0 front from → IsSkipped m source from at → at < length source → BeginsNone m (chars (drop at source))
+      → IsFaultPlace Spells m source at
+  -- the text ends there, and its tokens spell no document
+  at_end : (ts : List Spelled) → Tokens m source ts → at ≡ length source → ((x : A) → ¬ Spells x ts) → IsFaultPlace Spells m source at

@@ -1,0 +1,5 @@
+pub mod Ahead
+pub mod Readers
+pub mod Phrases
+pub mod Properties
+pub mod Laws
