@@ -1,5 +1,5 @@
 -- Two readers of one form agree but for faults that the first answers alone.
-use Rattle.std.proofs.Common.{◌≡◌, ℕ, zero, suc, ◌≤◌, ◌<◌, Bool, true, false, cond, Result, Ok, Err, refl, sym, ap, subst, ◌∙◌, arith, ◌⊎◌, inl, inr}
+use Rattle.std.proofs.Common.{◌≡◌, ℕ, zero, suc, ◌≤◌, Bool, true, false, cond, Result, Ok, Err, refl, sym, ap, subst, arith, ◌⊎◌, inl, inr}
 use Rattle.token_readers.specs.Ahead.{Ahead, finished, broken, token, count, next_is}
 use Rattle.token_readers.specs.Readers.{Answer, Reader, and_then, ◌>>=◌, give, taken, one, either, loop, finish}
 use Rattle.token_readers.specs.Properties.{Consumes, AgreesAt, Agrees}

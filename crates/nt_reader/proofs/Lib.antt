@@ -1,0 +1,11 @@
+pub mod Texts
+pub mod Datatypes
+pub mod Places
+pub mod Limits
+pub mod Terminals
+pub mod Quotes
+pub mod Judged
+pub mod Sound
+pub mod Complete
+pub mod Turns
+pub mod Endings
