@@ -30,12 +30,12 @@ use Rattle.turtle_reader.specs.declared.faults.Fault.{Fault}
 use Rattle.turtle_reader.specs.declared.faults.Fault.TheVariants as faults
 use Rattle.turtle_reader.specs.declared.reader.Refusal.{Refusal}
 use Rattle.turtle_reader.specs.declared.reader.Refusal.TheVariants as refusal
-use Rattle.turtle_reader.specs.Documents.{inner_depth, IsDocument, SpellsAny, IsLimitPlace, IsOverfull, AreLast, Explains, ReadsTo, IsRead}
+use Rattle.turtle_reader.specs.Documents.{inner_depth, IsDocument, SpellsAny, IsLimitPlace, IsOverfull, IsCausedAt, AreLast, Explains, ReadsTo, IsRead}
 use Rattle.turtle_reader.specs.Grammar.{Behind, Document}
 use Rattle.turtle_reader.specs.Reading as r
 use Rattle.turtle_reader.specs.States.{Scope}
 use Rattle.turtle_reader.specs.States as states
-use Rattle.turtle_reader.specs.Steps.{Fills, Overflows, Ends, error_of}
+use Rattle.turtle_reader.specs.Steps.{Fills, Overflows, Stopped, Ends, error_of}
 use Rattle.turtle_reader.specs.Symbols.{is_any}
 use Rattle.turtle_reader.proofs.Complete.{document_read, further_read, further_loop_read}
 use Rattle.turtle_reader.proofs.Limits.{Common, AnyDocument, blocked_any}
@@ -111,15 +111,34 @@ module _ (base source : List ℕ) (u : IsUtf8 source) where
         no_room = o.fills.no_room;
       }
 
+  caused : (f : Fault) (rest : Ahead Spelled) (at : ℕ) → Stopped v ahead f rest → Stands Turtle source rest at → IsCausedAt base source f at
+  caused f rest at h s =
+      let front = many_front (v, []) (h.scope, h.so_far) ahead h.mid h.statements in
+      let whole : ahead ≡ prepend (front.0 ++ h.inside) rest = front.1 ∙ ap (prepend front.0) h.parts ∙ sym (prepend-append front.0 h.inside rest) in
+      let to = found Turtle source u 0 (front.0 ++ h.inside) rest (start Turtle source u) whole in
+      record {
+        scope = h.scope;
+        so_far = h.so_far;
+        front = front.0;
+        inside = h.inside;
+        rest = rest;
+        from = to.to;
+        passed = to.passed;
+        statements = subst (λ (m : Ahead Spelled). Many (Behind true inner_depth) (v, []) (h.scope, h.so_far) (prepend front.0 m) m) h.parts
+            (subst (λ (ts : Ahead Spelled). Many (Behind true inner_depth) (v, []) (h.scope, h.so_far) ts h.mid) front.1 h.statements);
+        stands = s;
+        cause = h.cause;
+      }
+
   pub explains : (e : Refusal) (at : ℕ) (w : Scope) (rest : Ahead Spelled) (terms new_terms : List Term) (graph new_graph : List Triple) → Ends (Err e) v ahead w rest terms graph new_terms new_graph → Stands Turtle source rest at
       → Explains base (error_of e at) source terms graph
   explains refusal.Memory at w rest terms new_terms graph new_graph h s = tt
   explains refusal.Full at w rest terms new_terms graph new_graph h s = inl (overfull terms graph h)
-  explains (refusal.Fault faults.Syntax) at w rest terms new_terms graph new_graph h s = any_place faults.Syntax rest at tt h s
-  explains (refusal.Fault faults.Prefix) at w rest terms new_terms graph new_graph h s = any_place faults.Prefix rest at tt h s
-  explains (refusal.Fault faults.Deep) at w rest terms new_terms graph new_graph h s = (at, limit_place faults.Deep rest at h s)
-  explains (refusal.Fault faults.Long) at w rest terms new_terms graph new_graph h s = limit_place faults.Long rest at h s
-  explains (refusal.Fault faults.Full) at w rest terms new_terms graph new_graph h s = inr (at, limit_place faults.Full rest at h s)
+  explains (refusal.Fault faults.Syntax) at w rest terms new_terms graph new_graph h s = any_place faults.Syntax rest at tt h.refused s
+  explains (refusal.Fault faults.Prefix) at w rest terms new_terms graph new_graph h s = (any_place faults.Prefix rest at tt h.refused s, caused faults.Prefix rest at h s)
+  explains (refusal.Fault faults.Deep) at w rest terms new_terms graph new_graph h s = (at, limit_place faults.Deep rest at h.refused s, caused faults.Deep rest at h s)
+  explains (refusal.Fault faults.Long) at w rest terms new_terms graph new_graph h s = (limit_place faults.Long rest at h.refused s, caused faults.Long rest at h s)
+  explains (refusal.Fault faults.Full) at w rest terms new_terms graph new_graph h s = inr (at, limit_place faults.Full rest at h.refused s)
 
   not_full : (terms a : List Term) (graph b : List Triple) (x : Scope × List TermTriple) → AreDistinct terms → IsDocument base source x → Loads terms graph x.1 a b → IsWithin a b → Overflows v ahead terms graph → ⊥
   not_full terms a graph b x dis doc loads within o =
@@ -142,11 +161,11 @@ module _ (base source : List ℕ) (u : IsUtf8 source) where
       → Loads terms graph ts a b → IsWithin a b → Ends (Err e) v ahead w rest terms graph new_terms new_graph → ReadsTo (Err (error_of e at)) z a b left_terms left_graph
   reads_err refusal.Memory at w z rest terms new_terms a left_terms graph new_graph b left_graph ts dis doc loads within h = tt
   reads_err refusal.Full at w z rest terms new_terms a left_terms graph new_graph b left_graph ts dis doc loads within h = not_full terms a graph b (z, ts) dis doc loads within h
-  reads_err (refusal.Fault faults.Syntax) at w z rest terms new_terms a left_terms graph new_graph b left_graph ts dis doc loads within h = no_fault (z, ts) faults.Syntax rest doc h
-  reads_err (refusal.Fault faults.Prefix) at w z rest terms new_terms a left_terms graph new_graph b left_graph ts dis doc loads within h = no_fault (z, ts) faults.Prefix rest doc h
-  reads_err (refusal.Fault faults.Deep) at w z rest terms new_terms a left_terms graph new_graph b left_graph ts dis doc loads within h = no_fault (z, ts) faults.Deep rest doc h
-  reads_err (refusal.Fault faults.Long) at w z rest terms new_terms a left_terms graph new_graph b left_graph ts dis doc loads within h = no_fault (z, ts) faults.Long rest doc h
-  reads_err (refusal.Fault faults.Full) at w z rest terms new_terms a left_terms graph new_graph b left_graph ts dis doc loads within h = no_fault (z, ts) faults.Full rest doc h
+  reads_err (refusal.Fault faults.Syntax) at w z rest terms new_terms a left_terms graph new_graph b left_graph ts dis doc loads within h = no_fault (z, ts) faults.Syntax rest doc h.refused
+  reads_err (refusal.Fault faults.Prefix) at w z rest terms new_terms a left_terms graph new_graph b left_graph ts dis doc loads within h = no_fault (z, ts) faults.Prefix rest doc h.refused
+  reads_err (refusal.Fault faults.Deep) at w z rest terms new_terms a left_terms graph new_graph b left_graph ts dis doc loads within h = no_fault (z, ts) faults.Deep rest doc h.refused
+  reads_err (refusal.Fault faults.Long) at w z rest terms new_terms a left_terms graph new_graph b left_graph ts dis doc loads within h = no_fault (z, ts) faults.Long rest doc h.refused
+  reads_err (refusal.Fault faults.Full) at w z rest terms new_terms a left_terms graph new_graph b left_graph ts dis doc loads within h = no_fault (z, ts) faults.Full rest doc h.refused
 
   pub reads_ok : (p : Prefixes) (w z : Scope) (rest : Ahead Spelled) (terms new_terms a : List Term) (graph new_graph b : List Triple) (ts : List TermTriple) → AreDistinct terms → IsDocument base source (z, ts) → Loads terms graph ts a b
       → Ends (Ok tt) v ahead w rest terms graph new_terms new_graph → AreLast p w → ReadsTo (Ok p) z a b new_terms new_graph

@@ -3,9 +3,11 @@ use Rattle.std.proofs.Common.{append_assoc, ◌≡◌, ℕ, true, false, List, [
 use Rattle.std.proofs.lemmas.List.{append-nil}
 use Rattle.rdf_terms.specs.declared.terms.Term.{Term}
 use Rattle.rdf_terms.specs.declared.terms.Triple.{Triple}
-use Rattle.token_readers.specs.Ahead.{Ahead, finished, broken, token, count, next_is}
+use Rattle.token_readers.specs.Ahead.{Ahead, finished, broken, token, prepend, count, next_is}
 use Rattle.token_readers.specs.Phrases.{Phrase, Many, none, more}
-use Rattle.token_readers.specs.Readers.{Answer, and_then, loop, finish}
+use Rattle.token_readers.specs.Readers.{Answer, Reader, and_then, loop, finish}
+use Rattle.token_readers.specs.Properties.{IsLocalAt}
+use Rattle.token_readers.proofs.Answers.{err_is}
 use Rattle.token_readers.proofs.Loops.{loop_goes, loop_fails, loop_ends}
 use Rattle.rdf_lex.specs.Tokens.{Spelled}
 use Rattle.graph_loading.specs.declared.triples.LoadError.{LoadError}
@@ -24,9 +26,11 @@ use Rattle.turtle_reader.specs.Gives.{StopsAs}
 use Rattle.turtle_reader.specs.Grammar.{Behind, Document}
 use Rattle.turtle_reader.specs.Reading.{statement, further, document}
 use Rattle.turtle_reader.specs.States.{Scope, begun}
-use Rattle.turtle_reader.specs.Steps.{from_stop, from_load, Fills, LoadsAll, Steps, Comes, Overflows, Ends}
+use Rattle.turtle_reader.specs.Steps.{from_stop, from_load, Fills, LoadsAll, Steps, Comes, Overflows, Stopped, Ends}
 use Rattle.turtle_reader.specs.Symbols.{is_any}
-use Rattle.turtle_reader.proofs.Places.{consumes_statement, consumes_further}
+use Rattle.turtle_reader.specs.Causes.{bare, Causes}
+use Rattle.turtle_reader.proofs.Causes.{statement_tells}
+use Rattle.turtle_reader.proofs.Places.{local_statement, consumes_statement, consumes_further}
 use Rattle.turtle_reader.proofs.Sound.{further_meets}
 
 -- one phrase more, behind those so far
@@ -54,6 +58,11 @@ fills_behind terms mid_terms graph mid_graph so ts l f = record {
   loaded = loads_append terms mid_terms f.mid_terms graph mid_graph f.mid_graph so f.before l f.loaded;
   no_room = f.no_room;
 }
+
+-- the tokens that were passed before a fault
+front_err : {A : Type 0} (p : Reader Spelled Fault A) (ts : Ahead Spelled) (a : Answer Spelled Fault A) (f : Fault) (rest : Ahead Spelled) → a ≡ Err (f, rest) → IsLocalAt p ts a → (front : List Spelled) × (ts ≡ prepend front rest)
+front_err p ts (Ok y) f rest e l = absurd cc
+front_err p ts (Err y) f rest e l = (l.0, l.1 ∙ ap (λ (v : Fault × Ahead Spelled). prepend l.0 v.1) (err_is y (f, rest) e))
 
 pub begins : (v : Scope) (ahead : Ahead Spelled) (terms : List Term) (graph : List Triple) → Comes v ahead terms graph v ahead terms graph
 begins v ahead terms graph = record { so_far = []; goes = refl; statements = none; loaded = nothing }
@@ -99,7 +108,22 @@ module _ (v : Scope) (ahead : Ahead Spelled) (terms : List Term) (graph : List T
     fills = fills_behind terms now_terms graph now_graph c.so_far u.triples c.loaded f;
   }
   stops w x y rest mid now_terms new_terms now_graph new_graph (refusal.Fault f) c n s =
-      fault_ends (f, mid) (loop_fails is_any (further true inner_depth) (consumes_further true inner_depth) (w, c.so_far) rest (f, mid) (loop is_any (further true inner_depth) (v, []) ahead) n (step_err w c.so_far rest (f, mid) s) c.goes)
+      let front = front_err (statement true inner_depth w) rest (statement true inner_depth w rest) f mid s (local_statement true inner_depth w rest) in
+      record {
+        refused = fault_ends (f, mid) (loop_fails is_any (further true inner_depth) (consumes_further true inner_depth) (w, c.so_far) rest (f, mid) (loop is_any (further true inner_depth) (v, []) ahead) n (step_err w c.so_far rest (f, mid) s) c.goes);
+        so_far = c.so_far;
+        scope = w;
+        mid = rest;
+        statements = c.statements;
+        inside = front.0;
+        parts = front.1;
+        cause = (statement_tells inner_depth w rest).bad (f, mid) s;
+      }
+
+  finish_syntax : (rest : Ahead Spelled) (f : Fault × Ahead Spelled) → Path (Answer Spelled Fault (Unit {0})) (finish Syntax tt rest) (Err f) → Syntax ≡ f.0
+  finish_syntax finished f e = absurd cc
+  finish_syntax broken f e = ap (λ (z : Fault × Ahead Spelled). z.0) (err_is (Syntax, broken) f e)
+  finish_syntax (token t ts) f e = ap (λ (z : Fault × Ahead Spelled). z.0) (err_is (Syntax, token t ts) f e)
 
   finish_same : {A : Type 0} (x : A) (rest : Ahead Spelled) (f : Fault × Ahead Spelled) → Path (Answer Spelled Fault (Unit {0})) (finish Syntax tt rest) (Err f) → Path (Answer Spelled Fault A) (finish Syntax x rest) (Err f)
   finish_same x finished f e = absurd cc
@@ -119,8 +143,17 @@ module _ (v : Scope) (ahead : Ahead Spelled) (terms : List Term) (graph : List T
   pub ends_badly : (w y : Scope) (rest : Ahead Spelled) (e : Stop) (r : Refusal) (new_terms : List Term) (new_graph : List Triple) → Comes v ahead terms graph w rest new_terms new_graph → next_is is_any rest ≡ false
       → StopsAs {Y = Unit {0}} e rest (finish Syntax tt rest) → r ≡ from_stop e → Ends (Err r) v ahead y rest terms graph new_terms new_graph
   ends_badly w y rest stop.Memory r new_terms new_graph c n s is = subst (λ (z : Refusal). Ends (Err z) v ahead y rest terms graph new_terms new_graph) (sym is) tt
-  ends_badly w y rest (stop.Fault f) r new_terms new_graph c n s is = subst (λ (z : Refusal). Ends (Err z) v ahead y rest terms graph new_terms new_graph) (sym is)
-      (end_fault (w, c.so_far) rest (f, rest) (loop_ends is_any (further true inner_depth) (consumes_further true inner_depth) (w, c.so_far) rest (loop is_any (further true inner_depth) (v, []) ahead) n c.goes) (finish_same (w, c.so_far) rest (f, rest) s))
+  ends_badly w y rest (stop.Fault f) r new_terms new_graph c n s is =
+      subst (λ (z : Refusal). Ends (Err z) v ahead y rest terms graph new_terms new_graph) (sym is) (record {
+        refused = end_fault (w, c.so_far) rest (f, rest) (loop_ends is_any (further true inner_depth) (consumes_further true inner_depth) (w, c.so_far) rest (loop is_any (further true inner_depth) (v, []) ahead) n c.goes) (finish_same (w, c.so_far) rest (f, rest) s);
+        so_far = c.so_far;
+        scope = w;
+        mid = rest;
+        statements = c.statements;
+        inside = [];
+        parts = refl;
+        cause = subst (λ (g : Fault). Causes (bare w) g rest) (finish_syntax rest (f, rest) s) tt;
+      })
 
 -- one statement
 pub statement_stops : (v w : Scope) (ahead rest : Ahead Spelled) (e : Stop) (r : Refusal) (terms : List Term) (graph : List Triple) → StopsAs e rest (statement true inner_depth v ahead) → r ≡ from_stop e → Steps (Err r) v ahead w rest terms graph terms graph

@@ -13,7 +13,11 @@ use Rattle.rdf_lex.specs.declared.kinds.Mode.TheVariants.{Turtle}
 use Rattle.rdf_lex.specs.declared.prefixes.Prefixes.{Prefixes}
 use Rattle.rdf_lex.specs.Prefixes.{base_of, iri_under}
 use Rattle.rdf_lex.specs.Tokens.{Spelled, Between, Tokens}
+use Rattle.rdf_cursor.specs.Lent.{Stands}
 use Rattle.rdf_cursor.specs.Places.{IsFaultPlace}
+use Rattle.turtle_reader.specs.declared.faults.Fault.{Fault}
+use Rattle.turtle_reader.specs.declared.faults.Fault.TheVariants as faults
+use Rattle.turtle_reader.specs.Causes.{bare, Causes}
 use Rattle.turtle_reader.specs.States.{Scope, start}
 use Rattle.turtle_reader.specs.Grammar.{Document, Behind}
 
@@ -63,13 +67,26 @@ pub record IsOverfull (base source : List ℕ) (terms : List Term) (graph : List
 abbrev pub IsLimitPlace : List ℕ → List ℕ → ℕ → Type 0
 IsLimitPlace base source at = IsFaultPlace (Spells base) Turtle source at
 
+-- behind some statements, in the scope in which they end, the token at this place has a fault
+pub record IsCausedAt (base source : List ℕ) (f : Fault) (at : ℕ) : Type 0 where
+  pub scope : Scope
+  pub so_far : List TermTriple
+  pub front : List Spelled
+  pub inside : List Spelled
+  pub rest : Ahead Spelled
+  pub from : ℕ
+  pub passed : Between Turtle source 0 (front ++ inside) from
+  pub statements : Many (Behind true inner_depth) (start base, []) (scope, so_far) (prepend front (prepend inside rest)) (prepend inside rest)
+  pub stands : Stands Turtle source rest at
+  pub cause : Causes (bare scope) f rest
+
 -- what has to be there for each refusal
 abbrev pub Explains : List ℕ → ReadError → List ℕ → List Term → List Triple → Type 0
 Explains base error.NotUtf8 source terms graph = ¬ IsUtf8 source
 Explains base (error.Syntax at) source terms graph = IsFaultPlace (SpellsAny base) Turtle source at
-Explains base (error.Prefix at) source terms graph = IsFaultPlace (SpellsAny base) Turtle source at
-Explains base (error.Long at) source terms graph = IsLimitPlace base source at
-Explains base error.Deep source terms graph = (at : ℕ) × IsLimitPlace base source at
+Explains base (error.Prefix at) source terms graph = IsFaultPlace (SpellsAny base) Turtle source at × IsCausedAt base source faults.Prefix at
+Explains base (error.Long at) source terms graph = IsLimitPlace base source at × IsCausedAt base source faults.Long at
+Explains base error.Deep source terms graph = (at : ℕ) × IsLimitPlace base source at × IsCausedAt base source faults.Deep at
 Explains base error.Full source terms graph = IsOverfull base source terms graph ⊎ ((at : ℕ) × IsLimitPlace base source at)
 Explains base error.Memory source terms graph = Unit {0}
 

@@ -1,6 +1,6 @@
 -- How the functions inside the crate end.
 use Rattle.std.specs.Prelude.{◌≡◌, ℕ, true, ◌++◌, List, [], ◌∷◌, Result, Ok, Err}
-use Rattle.token_readers.specs.Ahead.{Ahead, finished}
+use Rattle.token_readers.specs.Ahead.{Ahead, finished, prepend}
 use Rattle.token_readers.specs.Phrases.{Many}
 use Rattle.token_readers.specs.Readers.{loop}
 use Rattle.rdf_terms.specs.declared.terms.Term.{Term}
@@ -12,11 +12,13 @@ use Rattle.graph_loading.specs.declared.triples.LoadError.{LoadError}
 use Rattle.graph_loading.specs.declared.triples.LoadError.TheVariants as load
 use Rattle.graph_loading.specs.declared.triples.TermTriple.{TermTriple}
 use Rattle.graph_loading.specs.Loading.{Loads, FindsNoRoom}
+use Rattle.turtle_reader.specs.declared.faults.Fault as kind
 use Rattle.turtle_reader.specs.declared.faults.Fault.TheVariants as faults
 use Rattle.turtle_reader.specs.declared.faults.Stop.{Stop}
 use Rattle.turtle_reader.specs.declared.faults.Stop.TheVariants as stop
 use Rattle.turtle_reader.specs.declared.reader.Refusal.{Refusal}
 use Rattle.turtle_reader.specs.declared.reader.Refusal.TheVariants.{Memory, Full, Fault}
+use Rattle.turtle_reader.specs.Causes.{bare, Causes}
 use Rattle.turtle_reader.specs.Documents.{inner_depth}
 use Rattle.turtle_reader.specs.Grammar.{Behind, Document}
 use Rattle.turtle_reader.specs.Reading.{statement, further, document}
@@ -71,12 +73,23 @@ pub record Overflows (v : Scope) (ahead : Ahead Spelled) (terms : List Term) (gr
   pub statements : Many (Behind true inner_depth) (v, []) (scope, so_far) ahead rest
   pub fills : Fills terms graph so_far
 
+-- some statements so far, and behind them a fault at the next token
+pub record Stopped (v : Scope) (ahead : Ahead Spelled) (f : kind.Fault) (rest : Ahead Spelled) : Type 0 where
+  pub refused : document true inner_depth v ahead ≡ Err (f, rest)
+  pub so_far : List TermTriple
+  pub scope : Scope
+  pub mid : Ahead Spelled
+  pub statements : Many (Behind true inner_depth) (v, []) (scope, so_far) ahead mid
+  pub inside : List Spelled
+  pub parts : mid ≡ prepend inside rest
+  pub cause : Causes (bare scope) f rest
+
 -- all statements
 abbrev pub Ends : Result (Unit {0}) Refusal → Scope → Ahead Spelled → Scope → Ahead Spelled → List Term → List Triple → List Term → List Triple → Type 0
 Ends (Ok x) v ahead w rest terms graph new_terms new_graph = (ts : List TermTriple) × Document true inner_depth v (w, ts) ahead × Loads terms graph ts new_terms new_graph
 Ends (Err Memory) v ahead w rest terms graph new_terms new_graph = Unit {0}
 Ends (Err Full) v ahead w rest terms graph new_terms new_graph = Overflows v ahead terms graph
-Ends (Err (Fault f)) v ahead w rest terms graph new_terms new_graph = document true inner_depth v ahead ≡ Err (f, rest)
+Ends (Err (Fault f)) v ahead w rest terms graph new_terms new_graph = Stopped v ahead f rest
 
 -- the answer for a refusal at a place
 abbrev pub error_of : Refusal → ℕ → ReadError
