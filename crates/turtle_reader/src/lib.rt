@@ -7,6 +7,8 @@ mod reader;
 mod state;
 mod symbols;
 mod terms;
+#[cfg(test)]
+mod tests;
 mod tokens;
 
 pub use reader::read;
