@@ -1,0 +1,377 @@
+-- What each fault came from: the next token, in the base and the prefixes of the statement.
+use Rattle.std.proofs.Common.{◌≡◌, ◌<◌, Bool, true, false, cond, ℕ, zero, suc, List, [], ◌∷◌, ◌++◌, Option, Some, None, length, Result, Ok, Err, refl, sym, ap, subst, ◌∙◌, ◌⊎◌, inl, inr, encode_utf8_all}
+use Rattle.std.specs.Prelude.{nat_lt}
+use Rattle.std.specs.List.{after_first}
+use Rattle.std.specs.Str.{chars}
+use Rattle.std.proofs.lemmas.Bool.{ltb-true}
+use Rattle.iri_resolve.specs.Resolution.{resolved_text}
+use Rattle.rdf_terms.specs.Literals.{rdf_lang_string}
+use Rattle.rdf_terms.specs.Texts.{same_text}
+use Rattle.rdf_terms.specs.declared.terms.Term.{Term}
+use Rattle.token_readers.specs.Ahead.{Ahead, finished, broken, token, count, next_is}
+use Rattle.token_readers.specs.Readers.{Answer, Reader, and_then, ◌>>=◌, give, refuse, taken, one, either, loop_within, loop}
+use Rattle.token_readers.proofs.Answers.{then_ok, apart, ok_is, err_is}
+use Rattle.rdf_lex.specs.declared.kinds.Mode.TheVariants.{Turtle}
+use Rattle.rdf_lex.specs.Tokens.{Spelled}
+use Rattle.rdf_cursor.specs.Meanings.{text_of}
+use Rattle.graph_loading.specs.declared.triples.TermTriple.{TermTriple}
+use Rattle.turtle_reader.specs.declared.faults.Fault.{Fault}
+use Rattle.turtle_reader.specs.declared.faults.Fault.TheVariants as faults
+use Rattle.turtle_reader.specs.declared.symbols.Symbol.{Symbol}
+use Rattle.turtle_reader.specs.declared.symbols.Symbol.TheVariants as symbol
+use Rattle.turtle_reader.specs.Causes.{bare, brackets, IsLong, by_iri, by_label, by_string, by_number, Causes}
+use Rattle.turtle_reader.specs.Meanings.{max_text, max_anonymous, is_colon, resolved, joined, iri_ref_of, iri_of, blank_of, lexical, string_of, typed, typed_by, typed_of, tagged_of, shorthand_of, numbered, prefix_of}
+use Rattle.turtle_reader.specs.Reading.{R, Terms, mark, settled, next_node, iri_ref, iri, datatyped, literal, resource, simple, verb, one_object, comma, objects, pair, semicolon, predicates, node, in_cell, member, next_member, cells, collection, object, subject, about_subject, listed, about_node, triples, ended, prefix_declaration, base_declaration, behind, statement}
+use Rattle.turtle_reader.specs.States.{Scope, added, anonymous, counted}
+use Rattle.turtle_reader.specs.Symbols.{is_symbol, is_among, names, tags, shorthands}
+use Rattle.turtle_reader.specs.Vocabulary.{rdf_rest}
+use Rattle.turtle_reader.proofs.Nexts.{nexts, no_next, first_of}
+
+-- what a reader's value and its fault satisfy
+pub record Tells {A : Type 0} (p : R A) (Q : A → Type 0) (P : Fault → Ahead Spelled → Type 0) (ts : Ahead Spelled) : Type 0 where
+  pub good : (y : A × Ahead Spelled) → p ts ≡ Ok y → Q y.0
+  pub bad : (e : Fault × Ahead Spelled) → p ts ≡ Err e → P e.0 e.1
+
+then_err : {A B : Type 0} (a : Answer Spelled Fault A) (f : A → R B) (e : Fault × Ahead Spelled) → and_then a f ≡ Err e → (a ≡ Err e) ⊎ ((x : A × Ahead Spelled) × (a ≡ Ok x) × (f x.0 x.1 ≡ Err e))
+then_err (Ok x) f e is = inr (x, refl, is)
+then_err (Err d) f e is = inl (ap Err (err_is d e is))
+
+tells_give : {A : Type 0} {x : A} {Q : A → Type 0} {P : Fault → Ahead Spelled → Type 0} {ts : Ahead Spelled} → Q x → Tells (give x) Q P ts
+tells_give {A = A} {x = x} {Q = Q} {ts = ts} h = record {
+  good = λ y e. subst (λ (v : A × Ahead Spelled). Q v.0) (ok_is (x, ts) y e) h;
+  bad = λ e is. absurd (apart (x, ts) e is);
+}
+
+tells_refuse : {A : Type 0} {f : Fault} {Q : A → Type 0} {P : Fault → Ahead Spelled → Type 0} {ts : Ahead Spelled} → P f ts → Tells (refuse f) Q P ts
+tells_refuse {A = A} {f = f} {P = P} {ts = ts} h = record {
+  good = λ y e. absurd (apart y (f, ts) (sym e));
+  bad = λ e is. subst (λ (v : Fault × Ahead Spelled). P v.0 v.1) (err_is (f, ts) e is) h;
+}
+
+one_good : {A : Type 0} (f : Fault) (class : Spelled → Result A Fault) (Q : A → Type 0) → ((t : Spelled) (x : A) → class t ≡ Ok x → Q x) → (ts : Ahead Spelled) (y : A × Ahead Spelled) → one f class ts ≡ Ok y → Q y.0
+one_good f class Q h finished y e = absurd (apart y (f, finished) (sym e))
+one_good f class Q h broken y e = absurd (apart y (f, broken) (sym e))
+one_good {A = A} f class Q h (token t ts) y e = by (class t) refl e
+  where
+    by : (c : Result A Fault) → class t ≡ c → taken c (token t ts) ts ≡ Ok y → Q y.0
+    by (Ok x) is e = subst (λ (v : A × Ahead Spelled). Q v.0) (ok_is (x, ts) y e) (h t x is)
+    by (Err d) is e = absurd (apart y (d, token t ts) (sym e))
+
+one_bad : {A : Type 0} (class : Spelled → Result A Fault) (P : Fault → Ahead Spelled → Type 0) → ((ts : Ahead Spelled) → P faults.Syntax ts) → ((t : Spelled) (rest : Ahead Spelled) (f : Fault) → class t ≡ Err f → P f (token t rest))
+    → (ts : Ahead Spelled) (e : Fault × Ahead Spelled) → one faults.Syntax class ts ≡ Err e → P e.0 e.1
+one_bad class P s h finished e is = subst (λ (v : Fault × Ahead Spelled). P v.0 v.1) (err_is (faults.Syntax, finished) e is) (s finished)
+one_bad class P s h broken e is = subst (λ (v : Fault × Ahead Spelled). P v.0 v.1) (err_is (faults.Syntax, broken) e is) (s broken)
+one_bad {A = A} class P s h (token t ts) e is = by (class t) refl is
+  where
+    by : (c : Result A Fault) → class t ≡ c → taken c (token t ts) ts ≡ Err e → P e.0 e.1
+    by (Ok x) k is = absurd (apart (x, ts) e is)
+    by (Err d) k is = subst (λ (v : Fault × Ahead Spelled). P v.0 v.1) (err_is (d, token t ts) e is) (h t ts d k)
+
+tells_one : {A : Type 0} {class : Spelled → Result A Fault} {Q : A → Type 0} {P : Fault → Ahead Spelled → Type 0} {ts : Ahead Spelled} → ((ts : Ahead Spelled) → P faults.Syntax ts)
+    → ((t : Spelled) (x : A) → class t ≡ Ok x → Q x) → ((t : Spelled) (rest : Ahead Spelled) (f : Fault) → class t ≡ Err f → P f (token t rest)) → Tells (one faults.Syntax class) Q P ts
+tells_one {class = class} {Q = Q} {P = P} {ts = ts} s h k = record { good = λ y e. one_good faults.Syntax class Q h ts y e; bad = λ e is. one_bad class P s k ts e is }
+
+tells_bind : {A B : Type 0} {p : R A} {f : A → R B} {Q : A → Type 0} {S : B → Type 0} {P : Fault → Ahead Spelled → Type 0} {ts : Ahead Spelled} → Tells p Q P ts
+    → ((x : A) (r : Ahead Spelled) → Q x → Tells (f x) S P r) → Tells (p >>= f) S P ts
+tells_bind {A = A} {B = B} {p = p} {f = f} {S = S} {P = P} {ts = ts} a h = record {
+  good = λ y e. let c = then_ok (p ts) f y e in (h c.0.0 c.0.1 (a.good c.0 c.1)).good y c.2;
+  bad = λ e is. by e (then_err (p ts) f e is);
+}
+  where
+    by : (e : Fault × Ahead Spelled) → (p ts ≡ Err e) ⊎ ((x : A × Ahead Spelled) × (p ts ≡ Ok x) × (f x.0 x.1 ≡ Err e)) → P e.0 e.1
+    by e (inl is) = a.bad e is
+    by e (inr (x, is, k)) = (h x.0 x.1 (a.good x is)).bad e k
+
+tells_chosen : {A : Type 0} (b : Bool) (p q : R A) (Q : A → Type 0) (P : Fault → Ahead Spelled → Type 0) (ts : Ahead Spelled) → (b ≡ true → Tells p Q P ts) → (b ≡ false → Tells q Q P ts)
+    → ((y : A × Ahead Spelled) → cond b (p ts) (q ts) ≡ Ok y → Q y.0) × ((e : Fault × Ahead Spelled) → cond b (p ts) (q ts) ≡ Err e → P e.0 e.1)
+tells_chosen true p q Q P ts a b = ((a refl).good, (a refl).bad)
+tells_chosen false p q Q P ts a b = ((b refl).good, (b refl).bad)
+
+tells_either : {A : Type 0} {class : Spelled → Bool} {p q : R A} {Q : A → Type 0} {P : Fault → Ahead Spelled → Type 0} {ts : Ahead Spelled} → (next_is class ts ≡ true → Tells p Q P ts) → (next_is class ts ≡ false → Tells q Q P ts)
+    → Tells (either class p q) Q P ts
+tells_either {class = class} {p = p} {q = q} {Q = Q} {P = P} {ts = ts} a b = let c = tells_chosen (next_is class ts) p q Q P ts a b in record { good = c.0; bad = c.1 }
+
+tells_within : {S : Type 0} (class : Spelled → Bool) (step : S → R S) (Q : S → Type 0) (P : Fault → Ahead Spelled → Type 0) → ((s : S) (ts : Ahead Spelled) → Q s → Tells (step s) Q P ts)
+    → (n : ℕ) (s : S) (ts : Ahead Spelled) → Q s → Tells (loop_within n class step s) Q P ts
+tells_within class step Q P h zero s ts q = let t : Tells (give s) Q P ts = tells_give q in record { good = t.good; bad = t.bad }
+tells_within class step Q P h (suc n) s ts q =
+    let c = tells_chosen (next_is class ts) (step s >>= loop_within n class step) (give s) Q P ts (λ _. tells_bind (h s ts q) (λ x r k. tells_within class step Q P h n x r k)) (λ _. tells_give q) in
+    record { good = c.0; bad = c.1 }
+
+tells_loop : {S : Type 0} (class : Spelled → Bool) (step : S → R S) (Q : S → Type 0) (P : Fault → Ahead Spelled → Type 0) → ((s : S) (ts : Ahead Spelled) → Q s → Tells (step s) Q P ts)
+    → (s : S) (ts : Ahead Spelled) → Q s → Tells (loop class step s) Q P ts
+unfolding loop
+tells_loop class step Q P h s ts q = let w = tells_within class step Q P h (count ts) s ts q in record { good = w.good; bad = w.bad }
+
+-- classes
+syntax_only : (v : Scope) (t : Spelled) (rest : Ahead Spelled) (f : Fault) → faults.Syntax ≡ f → Causes v f (token t rest)
+syntax_only v t rest f e = subst (λ (g : Fault). Causes v g (token t rest)) e tt
+
+err_of : {A : Type 0} (a b : Fault) → Path (Result A Fault) (Err a) (Err b) → a ≡ b
+err_of a b e = cc
+
+no_err : {A : Type 0} (x : A) (f : Fault) → Path (Result A Fault) (Ok x) (Err f) → ⊥
+no_err x f e = cc
+
+limited_cause : {A : Type 0} (v : Scope) (t : Spelled) (rest : Ahead Spelled) (bytes : List ℕ) (x : A) (b : Bool) (f : Fault) → nat_lt max_text (length bytes) ≡ b → (max_text < length bytes → IsLong v t) → cond b (Err faults.Long) (Ok x) ≡ Err f → Causes v f (token t rest)
+limited_cause v t rest bytes x true f l long e = subst (λ (g : Fault). Causes v g (token t rest)) (err_of faults.Long f e) (t, rest, refl, long (ltb-true max_text (length bytes) l))
+limited_cause v t rest bytes x false f l long e = absurd (no_err x f e)
+
+cond_cause : {A : Type 0} (v : Scope) (t : Spelled) (rest : Ahead Spelled) (b c : Bool) (x : Result A Fault) (f : Fault) → b ≡ c → (b ≡ true → x ≡ Err f → Causes v f (token t rest)) → cond c x (Err faults.Syntax) ≡ Err f → Causes v f (token t rest)
+cond_cause v t rest b true x f is h e = h is e
+cond_cause v t rest b false x f is h e = syntax_only v t rest f (err_of faults.Syntax f e)
+
+module _ (v : Scope) where
+  abbrev Kept : Scope → Type 0
+  Kept w = bare w ≡ bare v
+
+  abbrev P : Fault → Ahead Spelled → Type 0
+  P f ts = Causes (bare v) f ts
+
+  syntax_told : (ts : Ahead Spelled) → P faults.Syntax ts
+  syntax_told ts = tt
+
+  resolved_cause : (t : Spelled) (rest : Ahead Spelled) (f : Fault) (o : Option (List ℕ)) → text_of Turtle t ≡ o → ((iri : List ℕ) → resolved false v o ≡ Ok iri → max_text < length iri → IsLong (bare v) t) → resolved true v o ≡ Err f → P f (token t rest)
+  resolved_cause t rest f None e long is = syntax_only (bare v) t rest f (err_of faults.Syntax f is)
+  resolved_cause t rest f (Some text) e long is =
+      let iri = resolved_text v.base (encode_utf8_all text) in limited_cause (bare v) t rest iri iri (nat_lt max_text (length iri)) f refl (long iri refl) is
+
+  cond_true : {A : Type 0} (b : Bool) (x y : A) → b ≡ true → cond b x y ≡ x
+  cond_true b x y e = rw e refl
+
+  cond_false : {A : Type 0} (b : Bool) (x y : A) → b ≡ false → cond b x y ≡ y
+  cond_false b x y e = rw e refl
+
+  iri_ref_cause : (t : Spelled) (rest : Ahead Spelled) (f : Fault) → is_among names t ≡ false → iri_ref_of true v t ≡ Err f → P f (token t rest)
+  unfolding iri_ref_of iri_of
+  iri_ref_cause t rest f n e =
+      cond_cause (bare v) t rest (is_symbol symbol.IriRef t) (is_symbol symbol.IriRef t) (resolved true v (text_of Turtle t)) f refl
+      (λ is k. resolved_cause t rest f (text_of Turtle t) refl
+      (λ iri got l. by_iri iri (cond_false (is_among names t) _ _ n ∙ cond_true (is_symbol symbol.IriRef t) _ _ is ∙ got) l) k) e
+
+  joined_cause : (t : Spelled) (rest : Ahead Spelled) (f : Fault) (o p : Option (List ℕ)) → is_among names t ≡ true → p ≡ v.prefixes (prefix_of t)
+      → ((iri : List ℕ) → joined false o p ≡ Ok iri → max_text < length iri → IsLong (bare v) t) → joined true o p ≡ Err f → P f (token t rest)
+  joined_cause t rest f None p n e long is = syntax_only (bare v) t rest f (err_of faults.Syntax f is)
+  joined_cause t rest f (Some local) None n e long is = subst (λ (g : Fault). P g (token t rest)) (err_of faults.Prefix f is) (t, rest, refl, n, sym e)
+  joined_cause t rest f (Some local) (Some iri) n e long is =
+      let whole = iri ++ encode_utf8_all local in limited_cause (bare v) t rest whole whole (nat_lt max_text (length whole)) f refl (long whole refl) is
+
+  iri_by_cause : (t : Spelled) (rest : Ahead Spelled) (f : Fault) (b : Bool) → is_among names t ≡ b → cond b (joined true (text_of Turtle t) (v.prefixes (prefix_of t))) (iri_ref_of true v t) ≡ Err f → P f (token t rest)
+  unfolding iri_of
+  iri_by_cause t rest f true n e = joined_cause t rest f (text_of Turtle t) (v.prefixes (prefix_of t)) n refl (λ iri got l. by_iri iri (cond_true (is_among names t) _ _ n ∙ got) l) e
+  iri_by_cause t rest f false n e = iri_ref_cause t rest f n e
+
+  iri_cause : (t : Spelled) (rest : Ahead Spelled) (f : Fault) → iri_of true v t ≡ Err f → P f (token t rest)
+  unfolding iri_of
+  iri_cause t rest f e = iri_by_cause t rest f (is_among names t) refl e
+
+  ref_by_cause : (t : Spelled) (rest : Ahead Spelled) (f : Fault) (b : Bool) → is_symbol symbol.IriRef t ≡ b → iri_ref_of true v t ≡ Err f → P f (token t rest)
+  unfolding iri_ref_of
+  ref_by_cause t rest f false n e = syntax_only (bare v) t rest f (err_of faults.Syntax f (sym (cond_false (is_symbol symbol.IriRef t) _ _ n) ∙ e))
+  ref_by_cause t rest f true n e = iri_ref_cause t rest f (not_name t n) e
+    where
+      not_name : (t : Spelled) → is_symbol symbol.IriRef t ≡ true → is_among names t ≡ false
+      not_name t h = no_next (symbol.IriRef ∷ []) names (token t finished) refl (first_of symbol.IriRef (token t finished) h)
+
+  ref_cause : (t : Spelled) (rest : Ahead Spelled) (f : Fault) → iri_ref_of true v t ≡ Err f → P f (token t rest)
+  ref_cause t rest f e = ref_by_cause t rest f (is_symbol symbol.IriRef t) refl e
+
+  blank_cause : (t : Spelled) (rest : Ahead Spelled) (f : Fault) → blank_of true t ≡ Err f → P f (token t rest)
+  unfolding blank_of
+  blank_cause t rest f e = cond_cause (bare v) t rest (is_symbol symbol.BlankLabel t) (is_symbol symbol.BlankLabel t) _ f refl
+      (λ is k. limited_cause (bare v) t rest (after_first is_colon t.text) _ (nat_lt max_text (length (after_first is_colon t.text))) f refl (λ l. by_label is l) k) e
+
+  lexical_cause : (t : Spelled) (rest : Ahead Spelled) (f : Fault) (o : Option (List ℕ)) → is_symbol symbol.Str t ≡ true → text_of Turtle t ≡ o → lexical true o ≡ Err f → P f (token t rest)
+  lexical_cause t rest f None n e is = syntax_only (bare v) t rest f (err_of faults.Syntax f is)
+  lexical_cause t rest f (Some text) n e is = limited_cause (bare v) t rest (encode_utf8_all text) text (nat_lt max_text (length (encode_utf8_all text))) f refl (λ l. by_string n text e l) is
+
+  string_cause : (t : Spelled) (rest : Ahead Spelled) (f : Fault) → string_of true t ≡ Err f → P f (token t rest)
+  unfolding string_of
+  string_cause t rest f e = cond_cause (bare v) t rest (is_symbol symbol.Str t) (is_symbol symbol.Str t) _ f refl (λ is k. lexical_cause t rest f (text_of Turtle t) is refl k) e
+
+  typed_by_cause : (t : Spelled) (rest : Ahead Spelled) (f : Fault) (lex : List ℕ) (c : Result (List ℕ) Fault) → iri_of true v t ≡ c → typed_by lex c ≡ Err f → P f (token t rest)
+  typed_by_cause t rest f lex (Err d) e is = subst (λ (g : Fault). P g (token t rest)) (err_of d f is) (iri_cause t rest d e)
+  typed_by_cause t rest f lex (Ok iri) e is = by (same_text (chars iri) rdf_lang_string) is
+    where
+      by : (b : Bool) → cond b (Err faults.Syntax) (Ok (typed lex (chars iri))) ≡ Err f → P f (token t rest)
+      by true k = syntax_only (bare v) t rest f (err_of faults.Syntax f k)
+      by false k = absurd (no_err (typed lex (chars iri)) f k)
+
+  typed_cause : (lex : List ℕ) (t : Spelled) (rest : Ahead Spelled) (f : Fault) → typed_of true v lex t ≡ Err f → P f (token t rest)
+  unfolding typed_of
+  typed_cause lex t rest f e = typed_by_cause t rest f lex (iri_of true v t) refl e
+
+  ok_cause : {A : Type 0} (t : Spelled) (rest : Ahead Spelled) (f : Fault) (b : Bool) (x : A) → cond b (Ok x) (Err faults.Syntax) ≡ Err f → P f (token t rest)
+  ok_cause t rest f true x e = absurd (no_err x f e)
+  ok_cause t rest f false x e = syntax_only (bare v) t rest f (err_of faults.Syntax f e)
+
+  tagged_cause : (lex : List ℕ) (t : Spelled) (rest : Ahead Spelled) (f : Fault) → tagged_of lex t ≡ Err f → P f (token t rest)
+  unfolding tagged_of
+  tagged_cause lex t rest f e = ok_cause t rest f (is_among tags t) _ e
+
+  shorthand_cause : (t : Spelled) (rest : Ahead Spelled) (f : Fault) → shorthand_of true t ≡ Err f → P f (token t rest)
+  unfolding shorthand_of
+  shorthand_cause t rest f e = cond_cause (bare v) t rest (is_among shorthands t) (is_among shorthands t) _ f refl
+      (λ is k. limited_cause (bare v) t rest t.text _ (nat_lt max_text (length t.text)) f refl (λ l. by_number is l) k) e
+
+  mark_tells : (a : Symbol) (ts : Ahead Spelled) → Tells (mark a) (λ _. Unit {0}) P ts
+  mark_tells a ts = tells_one syntax_told (λ t x e. tt) (λ t rest f e. ok_cause t rest f (is_symbol a t) t e)
+
+  settled_tells : (b : Bool) (x : Term × Scope) (ts : Ahead Spelled) → Kept x.1 → Tells (settled (cond b (Err faults.Full) (Ok x))) (λ y. Kept y.1) P ts
+  settled_tells true x ts h = tells_refuse tt
+  settled_tells false x ts h = tells_give h
+
+  next_tells : (ts : Ahead Spelled) → Tells (next_node true v) (λ y. Kept y.1) P ts
+  unfolding next_node numbered
+  next_tells ts = settled_tells (nat_lt max_anonymous v.next) (anonymous v.next, counted v) ts refl
+
+  iri_tells : (ts : Ahead Spelled) → Tells (iri true v) (λ _. Unit {0}) P ts
+  unfolding iri
+  iri_tells ts = tells_one syntax_told (λ t x e. tt) iri_cause
+
+  literal_tells : (ts : Ahead Spelled) → Tells (literal true v) (λ _. Unit {0}) P ts
+  unfolding literal datatyped
+  literal_tells ts = tells_bind (tells_one {Q = λ _. Unit {0}} syntax_told (λ t x e. tt) string_cause) (λ lex m q. tells_either (λ _. tells_one syntax_told (λ t x e. tt) (tagged_cause lex))
+      (λ _. tells_either (λ _. tells_bind (mark_tells symbol.Carets m) (λ w n u. tells_one syntax_told (λ t x e. tt) (typed_cause lex))) (λ _. tells_give tt)))
+
+  resource_tells : (ts : Ahead Spelled) → Tells (resource true v) (λ _. Unit {0}) P ts
+  unfolding resource
+  resource_tells ts = tells_either (λ _. tells_one syntax_told (λ t x e. tt) blank_cause) (λ _. tells_bind (iri_tells ts) (λ i m q. tells_give tt))
+
+  simple_tells : (ts : Ahead Spelled) → Tells (simple true v) (λ _. Unit {0}) P ts
+  unfolding simple
+  simple_tells ts = tells_either (λ _. literal_tells ts) (λ _. tells_either (λ _. tells_one syntax_told (λ t x e. tt) shorthand_cause) (λ _. resource_tells ts))
+
+  verb_tells : (ts : Ahead Spelled) → Tells (verb true v) (λ _. Unit {0}) P ts
+  unfolding verb
+  verb_tells ts = tells_either (λ _. tells_bind (mark_tells symbol.A ts) (λ w m u. tells_give tt)) (λ _. iri_tells ts)
+
+-- from the scope that stays
+moved : {A : Type 0} (p : R A) (Q : A → Type 0) (v w : Scope) (ts : Ahead Spelled) → bare w ≡ bare v → Tells p Q (λ f r. Causes (bare w) f r) ts → Tells p Q (λ f r. Causes (bare v) f r) ts
+moved p Q v w ts e t = subst (λ (u : Scope). Tells p Q (λ f r. Causes u f r) ts) e t
+
+kept_moved : {A : Type 0} (p : R (A × Scope)) (v w : Scope) (ts : Ahead Spelled) → bare w ≡ bare v → Tells p (λ y. bare y.1 ≡ bare w) (λ f r. Causes (bare w) f r) ts → Tells p (λ y. bare y.1 ≡ bare v) (λ f r. Causes (bare v) f r) ts
+kept_moved p v w ts e t = subst (λ (u : Scope). Tells p (λ y. bare y.1 ≡ u) (λ f r. Causes u f r) ts) e t
+
+stay : (p : R Scope) (v w : Scope) (ts : Ahead Spelled) → bare w ≡ bare v → Tells p (λ y. bare y ≡ bare w) (λ f r. Causes (bare w) f r) ts → Tells p (λ y. bare y ≡ bare v) (λ f r. Causes (bare v) f r) ts
+stay p v w ts e t = subst (λ (u : Scope). Tells p (λ y. bare y ≡ u) (λ f r. Causes u f r) ts) e t
+
+any_value : {A : Type 0} {p : R A} {Q : A → Type 0} {P : Fault → Ahead Spelled → Type 0} {ts : Ahead Spelled} → Tells p Q P ts → Tells p (λ _. Unit {0}) P ts
+any_value a = record { good = λ y e. tt; bad = λ e is. a.bad e is }
+
+abbrev Goes : R Scope → Scope → Ahead Spelled → Type 0
+Goes p v ts = Tells p (λ w. bare w ≡ bare v) (λ f r. Causes (bare v) f r) ts
+
+abbrev Finds : R (Term × Scope) → Scope → Ahead Spelled → Type 0
+Finds p v ts = Tells p (λ y. bare y.1 ≡ bare v) (λ f r. Causes (bare v) f r) ts
+
+module _ (obj : Terms) (each : (v : Scope) (ts : Ahead Spelled) → Finds (obj v) v ts) where
+  one_tells : (s : Term) (p : List ℕ) (v : Scope) (ts : Ahead Spelled) → Goes (one_object true obj s p v) v ts
+  unfolding one_object
+  one_tells s p v ts = tells_bind (each v ts) (λ x m q. tells_give q)
+
+  comma_tells : (s : Term) (p : List ℕ) (v : Scope) (ts : Ahead Spelled) → Goes (comma true obj s p v) v ts
+  unfolding comma
+  comma_tells s p v ts = tells_bind (mark_tells v symbol.Comma ts) (λ w m u. one_tells s p v m)
+
+  objects_tells : (s : Term) (p : List ℕ) (v : Scope) (ts : Ahead Spelled) → Goes (objects true obj s p v) v ts
+  unfolding objects
+  objects_tells s p v ts = tells_bind (one_tells s p v ts) (λ u m q. tells_loop _ (comma true obj s p) _ _ (λ w r k. stay _ v w r k (comma_tells s p w r)) u m q)
+
+  pair_tells : (s : Term) (v : Scope) (ts : Ahead Spelled) → Goes (pair true obj s v) v ts
+  unfolding pair
+  pair_tells s v ts = tells_bind (verb_tells v ts) (λ p m u. objects_tells s p v m)
+
+  semicolon_tells : (s : Term) (v : Scope) (ts : Ahead Spelled) → Goes (semicolon true obj s v) v ts
+  unfolding semicolon
+  semicolon_tells s v ts = tells_bind (mark_tells v symbol.Semicolon ts) (λ w m u. tells_either (λ _. pair_tells s v m) (λ _. tells_give refl))
+
+  predicates_tells : (s : Term) (v : Scope) (ts : Ahead Spelled) → Goes (predicates true obj s v) v ts
+  unfolding predicates
+  predicates_tells s v ts = tells_bind (pair_tells s v ts) (λ u m q. tells_loop _ (semicolon true obj s) _ _ (λ w r k. stay _ v w r k (semicolon_tells s w r)) u m q)
+
+  node_tells : (v : Scope) (ts : Ahead Spelled) → Finds (node true obj v) v ts
+  unfolding node
+  node_tells v ts = tells_bind (mark_tells v symbol.OpenBracket ts) (λ w m u. tells_bind (next_tells v m) (λ x n q.
+      tells_bind {Q = λ y. bare y ≡ bare v} (tells_either (λ _. tells_give q) (λ _. stay _ v x.1 n q (predicates_tells x.0 x.1 n))) (λ y l k. tells_bind (mark_tells v symbol.CloseBracket l) (λ z r i. tells_give k))))
+
+  cell_tells : (cell : Term) (v : Scope) (ts : Ahead Spelled) → Finds (in_cell true obj cell v) v ts
+  unfolding in_cell
+  cell_tells cell v ts = tells_bind (each v ts) (λ x m q. tells_give q)
+
+  member_tells : (v : Scope) (ts : Ahead Spelled) → Finds (member true obj v) v ts
+  unfolding member
+  member_tells v ts = tells_bind (next_tells v ts) (λ x m q. kept_moved _ v x.1 m q (cell_tells x.0 x.1 m))
+
+  next_member_tells : (a : Term × Scope) (ts : Ahead Spelled) → Finds (next_member true obj a) a.1 ts
+  unfolding next_member
+  next_member_tells a ts = tells_bind (next_tells a.1 ts) (λ x m q. kept_moved _ a.1 (added a.0 rdf_rest x.0 x.1) m q (cell_tells x.0 (added a.0 rdf_rest x.0 x.1) m))
+
+  cells_tells : (v : Scope) (ts : Ahead Spelled) → Finds (cells true obj v) v ts
+  unfolding cells
+  cells_tells v ts = tells_bind (member_tells v ts) (λ f m q. tells_bind (tells_loop _ (next_member true obj) (λ a. bare a.1 ≡ bare v) _ (λ a r k. kept_moved _ v a.1 r k (next_member_tells a r)) f m q) (λ l n k.
+      tells_bind (mark_tells v symbol.CloseParenthesis n) (λ z r i. tells_give k)))
+
+  collection_tells : (v : Scope) (ts : Ahead Spelled) → Finds (collection true obj v) v ts
+  unfolding collection
+  collection_tells v ts = tells_bind (mark_tells v symbol.OpenParenthesis ts) (λ w m u. tells_either (λ _. tells_bind (mark_tells v symbol.CloseParenthesis m) (λ z r i. tells_give refl)) (λ _. cells_tells v m))
+
+object_tells : (d : ℕ) (v : Scope) (ts : Ahead Spelled) → Finds (object true d v) v ts
+unfolding object
+object_tells zero v ts = tells_either (λ n. tells_refuse (nexts (symbol.OpenBracket ∷ []) brackets ts refl (first_of symbol.OpenBracket ts n)))
+    (λ _. tells_either (λ n. tells_refuse (nexts (symbol.OpenParenthesis ∷ []) brackets ts refl (first_of symbol.OpenParenthesis ts n))) (λ _. tells_bind (simple_tells v ts) (λ x m u. tells_give refl)))
+object_tells (suc d) v ts = tells_either (λ _. node_tells (object true d) (object_tells d) v ts)
+    (λ _. tells_either (λ _. collection_tells (object true d) (object_tells d) v ts) (λ _. tells_bind (simple_tells v ts) (λ x m u. tells_give refl)))
+
+module _ (d : ℕ) where
+  within_tells : (s : Term) (v : Scope) (ts : Ahead Spelled) → Goes (predicates true (object true d) s v) v ts
+  within_tells s v ts = predicates_tells (object true d) (object_tells d) s v ts
+
+  outside_tells : (s : Term) (v : Scope) (ts : Ahead Spelled) → Goes (predicates true (object true (suc d)) s v) v ts
+  outside_tells s v ts = predicates_tells (object true (suc d)) (object_tells (suc d)) s v ts
+
+  subject_tells : (v : Scope) (ts : Ahead Spelled) → Finds (subject true d v) v ts
+  unfolding subject
+  subject_tells v ts = tells_either (λ _. collection_tells (object true d) (object_tells d) v ts) (λ _. tells_bind (resource_tells v ts) (λ x m u. tells_give refl))
+
+  about_subject_tells : (v : Scope) (ts : Ahead Spelled) → Goes (about_subject true d v) v ts
+  unfolding about_subject
+  about_subject_tells v ts = tells_bind (subject_tells v ts) (λ x m q. stay _ v x.1 m q (outside_tells x.0 x.1 m))
+
+  listed_tells : (s : Term) (v : Scope) (ts : Ahead Spelled) → Goes (listed true d s v) v ts
+  unfolding listed
+  listed_tells s v ts = tells_bind (within_tells s v ts) (λ w m q. tells_bind (mark_tells v symbol.CloseBracket m) (λ z n u. tells_either (λ _. stay _ v w n q (outside_tells s w n)) (λ _. tells_give q)))
+
+  about_node_tells : (v : Scope) (ts : Ahead Spelled) → Goes (about_node true d v) v ts
+  unfolding about_node
+  about_node_tells v ts = tells_bind (mark_tells v symbol.OpenBracket ts) (λ z m u. tells_bind (next_tells v m) (λ x n q.
+      tells_either (λ _. tells_bind (mark_tells v symbol.CloseBracket n) (λ y l i. stay _ v x.1 l q (outside_tells x.0 x.1 l))) (λ _. stay _ v x.1 n q (listed_tells x.0 x.1 n))))
+
+  triples_tells : (v : Scope) (ts : Ahead Spelled) → Goes (triples true d v) v ts
+  unfolding triples
+  triples_tells v ts = tells_either (λ _. about_node_tells v ts) (λ _. about_subject_tells v ts)
+
+abbrev Ends : R Scope → Scope → Ahead Spelled → Type 0
+Ends p v ts = Tells p (λ w. Unit {0}) (λ f r. Causes (bare v) f r) ts
+
+ended_tells : (p : Scope → R Scope) (v : Scope) (ts : Ahead Spelled) → Ends (p v) v ts → Ends (ended true p v) v ts
+unfolding ended
+ended_tells p v ts h = tells_bind h (λ w m u. tells_bind (mark_tells v symbol.Dot m) (λ z r i. tells_give tt))
+
+prefix_tells : (v : Scope) (ts : Ahead Spelled) → Ends (prefix_declaration true v) v ts
+unfolding prefix_declaration iri_ref
+prefix_tells v ts = tells_bind (mark_tells v symbol.PnameNs ts) (λ t m u. tells_bind (tells_one {Q = λ _. Unit {0}} (syntax_told v) (λ t x e. tt) (ref_cause v)) (λ i r k. tells_give tt))
+
+base_tells : (v : Scope) (ts : Ahead Spelled) → Ends (base_declaration true v) v ts
+unfolding base_declaration iri_ref
+base_tells v ts = tells_bind (tells_one {Q = λ _. Unit {0}} (syntax_told v) (λ t x e. tt) (ref_cause v)) (λ i r k. tells_give tt)
+
+behind_tells : (a : Symbol) (p : Scope → R Scope) (v : Scope) (ts : Ahead Spelled) → ((m : Ahead Spelled) → Ends (p v) v m) → Ends (behind true a p v) v ts
+unfolding behind
+behind_tells a p v ts h = tells_bind (mark_tells v a ts) (λ z m u. h m)
+
+pub statement_tells : (d : ℕ) (v : Scope) (ts : Ahead Spelled) → Ends (statement true d v) v ts
+unfolding statement
+statement_tells d v ts =
+    tells_either (λ _. behind_tells _ _ v ts (λ m. ended_tells _ v m (prefix_tells v m))) (λ _. tells_either (λ _. behind_tells _ _ v ts (λ m. ended_tells _ v m (base_tells v m)))
+    (λ _. tells_either (λ _. behind_tells _ _ v ts (λ m. prefix_tells v m)) (λ _. tells_either (λ _. behind_tells _ _ v ts (λ m. base_tells v m)) (λ _. ended_tells _ v ts (any_value (triples_tells d v ts))))))

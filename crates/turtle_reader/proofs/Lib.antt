@@ -1,0 +1,10 @@
+pub mod Texts
+pub mod Nexts
+pub mod Places
+pub mod Failing
+pub mod Sound
+pub mod Complete
+pub mod Limits
+pub mod Turns
+pub mod Endings
+pub mod Causes

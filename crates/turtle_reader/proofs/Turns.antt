@@ -1,0 +1,192 @@
+-- How the loop over statements goes on and ends.
+use Rattle.std.proofs.Common.{append_assoc, ◌≡◌, ℕ, true, false, List, [], ◌∷◌, ◌++◌, Result, Ok, Err, refl, sym, ap, subst, ◌∙◌}
+use Rattle.std.proofs.lemmas.List.{append-nil}
+use Rattle.rdf_terms.specs.declared.terms.Term.{Term}
+use Rattle.rdf_terms.specs.declared.terms.Triple.{Triple}
+use Rattle.token_readers.specs.Ahead.{Ahead, finished, broken, token, prepend, count, next_is}
+use Rattle.token_readers.specs.Phrases.{Phrase, Many, none, more}
+use Rattle.token_readers.specs.Readers.{Answer, Reader, and_then, loop, finish}
+use Rattle.token_readers.specs.Properties.{IsLocalAt}
+use Rattle.token_readers.proofs.Answers.{err_is}
+use Rattle.token_readers.proofs.Loops.{loop_goes, loop_fails, loop_ends}
+use Rattle.rdf_lex.specs.Tokens.{Spelled}
+use Rattle.graph_loading.specs.declared.triples.LoadError.{LoadError}
+use Rattle.graph_loading.specs.declared.triples.LoadError.TheVariants as load
+use Rattle.graph_loading.specs.declared.triples.TermTriple.{TermTriple}
+use Rattle.graph_loading.specs.Loading.{Loads, nothing, FindsNoRoom}
+use Rattle.graph_loading.proofs.Loading.{loads_append, loads_grow}
+use Rattle.turtle_reader.specs.declared.faults.Fault.{Fault}
+use Rattle.turtle_reader.specs.declared.faults.Fault.TheVariants.{Syntax}
+use Rattle.turtle_reader.specs.declared.faults.Stop.{Stop}
+use Rattle.turtle_reader.specs.declared.faults.Stop.TheVariants as stop
+use Rattle.turtle_reader.specs.declared.reader.Refusal.{Refusal}
+use Rattle.turtle_reader.specs.declared.reader.Refusal.TheVariants as refusal
+use Rattle.turtle_reader.specs.Documents.{inner_depth}
+use Rattle.turtle_reader.specs.Gives.{StopsAs}
+use Rattle.turtle_reader.specs.Grammar.{Behind, Document}
+use Rattle.turtle_reader.specs.Reading.{statement, further, document}
+use Rattle.turtle_reader.specs.States.{Scope, begun}
+use Rattle.turtle_reader.specs.Steps.{from_stop, from_load, Fills, LoadsAll, Steps, Comes, Overflows, Stopped, Ends}
+use Rattle.turtle_reader.specs.Symbols.{is_any}
+use Rattle.turtle_reader.specs.Causes.{bare, Causes}
+use Rattle.turtle_reader.proofs.Causes.{statement_tells}
+use Rattle.turtle_reader.proofs.Places.{local_statement, consumes_statement, consumes_further}
+use Rattle.turtle_reader.proofs.Sound.{further_meets}
+
+-- one phrase more, behind those so far
+pub many_more : {S : Type 0} (One : S → S → Phrase Spelled) (a b c : S) (ts mid rest : Ahead Spelled) → Many One a b ts mid → One b c mid rest → Many One a c ts rest
+many_more One a b c ts mid rest none h = more h none
+many_more One a b c ts mid rest (more {x = x} {mid = m} o others) h = more o (many_more One x b c m mid rest others h)
+
+step_ok : (v u : Scope) (before : List TermTriple) (ts rest : Ahead Spelled) → statement true inner_depth v ts ≡ Ok (u, rest) → further true inner_depth (v, before) ts ≡ Ok ((begun u, before ++ u.triples), rest)
+unfolding further
+step_ok v u before ts rest e = rw e refl
+
+step_err : (v : Scope) (before : List TermTriple) (ts : Ahead Spelled) (f : Fault × Ahead Spelled) → statement true inner_depth v ts ≡ Err f → further true inner_depth (v, before) ts ≡ Err f
+unfolding further
+step_err v before ts f e = rw e refl
+
+-- triples behind others
+fills_behind : (terms mid_terms : List Term) (graph mid_graph : List Triple) (so ts : List TermTriple) → Loads terms graph so mid_terms mid_graph → Fills mid_terms mid_graph ts → Fills terms graph (so ++ ts)
+fills_behind terms mid_terms graph mid_graph so ts l f = record {
+  before = so ++ f.before;
+  last = f.last;
+  behind = f.behind;
+  parts = ap (λ (v : List TermTriple). so ++ v) f.parts ∙ sym (append_assoc so f.before (f.last ∷ f.behind));
+  mid_terms = f.mid_terms;
+  mid_graph = f.mid_graph;
+  loaded = loads_append terms mid_terms f.mid_terms graph mid_graph f.mid_graph so f.before l f.loaded;
+  no_room = f.no_room;
+}
+
+-- the tokens that were passed before a fault
+front_err : {A : Type 0} (p : Reader Spelled Fault A) (ts : Ahead Spelled) (a : Answer Spelled Fault A) (f : Fault) (rest : Ahead Spelled) → a ≡ Err (f, rest) → IsLocalAt p ts a → (front : List Spelled) × (ts ≡ prepend front rest)
+front_err p ts (Ok y) f rest e l = absurd cc
+front_err p ts (Err y) f rest e l = (l.0, l.1 ∙ ap (λ (v : Fault × Ahead Spelled). prepend l.0 v.1) (err_is y (f, rest) e))
+
+pub begins : (v : Scope) (ahead : Ahead Spelled) (terms : List Term) (graph : List Triple) → Comes v ahead terms graph v ahead terms graph
+begins v ahead terms graph = record { so_far = []; goes = refl; statements = none; loaded = nothing }
+
+pub smaller : (v w : Scope) (ts rest : Ahead Spelled) (terms new_terms : List Term) (graph new_graph : List Triple) → Steps (Ok tt) v ts w rest terms graph new_terms new_graph → (u : Scope) × (statement true inner_depth v ts ≡ Ok (u, rest))
+smaller v w ts rest terms new_terms graph new_graph (u, e, s, l) = (u, e)
+
+module _ (v : Scope) (ahead : Ahead Spelled) (terms : List Term) (graph : List Triple) where
+  one_more : (w u : Scope) (rest mid : Ahead Spelled) (so : List TermTriple) → next_is is_any rest ≡ true → statement true inner_depth w rest ≡ Ok (u, mid)
+      → loop is_any (further true inner_depth) (w, so) rest ≡ loop is_any (further true inner_depth) (v, []) ahead
+      → loop is_any (further true inner_depth) (begun u, so ++ u.triples) mid ≡ loop is_any (further true inner_depth) (v, []) ahead
+  one_more w u rest mid so n e goes =
+      loop_goes is_any (further true inner_depth) (consumes_further true inner_depth) (w, so) rest (begun u, so ++ u.triples) mid (loop is_any (further true inner_depth) (v, []) ahead) n (step_ok w u so rest mid e) goes
+
+  more_statements : (w u : Scope) (rest mid : Ahead Spelled) (so : List TermTriple) → statement true inner_depth w rest ≡ Ok (u, mid) → Many (Behind true inner_depth) (v, []) (w, so) ahead rest
+      → Many (Behind true inner_depth) (v, []) (begun u, so ++ u.triples) ahead mid
+  more_statements w u rest mid so e m =
+      many_more (Behind true inner_depth) (v, []) (w, so) (begun u, so ++ u.triples) ahead rest mid m ((further_meets true inner_depth (w, so) rest).holds ((begun u, so ++ u.triples), mid) (step_ok w u so rest mid e))
+
+  pub comes_on : (w x : Scope) (rest mid : Ahead Spelled) (now_terms new_terms : List Term) (now_graph new_graph : List Triple) → Comes v ahead terms graph w rest now_terms now_graph → next_is is_any rest ≡ true
+      → Steps (Ok tt) w rest x mid now_terms now_graph new_terms new_graph → Comes v ahead terms graph x mid new_terms new_graph
+  comes_on w x rest mid now_terms new_terms now_graph new_graph c n (u, e, is, l) =
+      subst (λ (s : Scope). Comes v ahead terms graph s mid new_terms new_graph) (sym is) (record {
+        so_far = c.so_far ++ u.triples;
+        goes = one_more w u rest mid c.so_far n e c.goes;
+        statements = more_statements w u rest mid c.so_far e c.statements;
+        loaded = loads_append terms now_terms new_terms graph now_graph new_graph c.so_far u.triples c.loaded l;
+      })
+
+  fault_ends : (f : Fault × Ahead Spelled) → loop is_any (further true inner_depth) (v, []) ahead ≡ Err f → document true inner_depth v ahead ≡ Err f
+  unfolding document
+  fault_ends f e = rw e refl
+
+  pub stops : (w x y : Scope) (rest mid : Ahead Spelled) (now_terms new_terms : List Term) (now_graph new_graph : List Triple) (e : Refusal) → Comes v ahead terms graph w rest now_terms now_graph → next_is is_any rest ≡ true
+      → Steps (Err e) w rest x mid now_terms now_graph new_terms new_graph → Ends (Err e) v ahead y mid terms graph new_terms new_graph
+  stops w x y rest mid now_terms new_terms now_graph new_graph refusal.Memory c n s = tt
+  stops w x y rest mid now_terms new_terms now_graph new_graph refusal.Full c n (u, e, f) = record {
+    so_far = c.so_far ++ u.triples;
+    scope = begun u;
+    rest = mid;
+    goes = one_more w u rest mid c.so_far n e c.goes;
+    statements = more_statements w u rest mid c.so_far e c.statements;
+    fills = fills_behind terms now_terms graph now_graph c.so_far u.triples c.loaded f;
+  }
+  stops w x y rest mid now_terms new_terms now_graph new_graph (refusal.Fault f) c n s =
+      let front = front_err (statement true inner_depth w) rest (statement true inner_depth w rest) f mid s (local_statement true inner_depth w rest) in
+      record {
+        refused = fault_ends (f, mid) (loop_fails is_any (further true inner_depth) (consumes_further true inner_depth) (w, c.so_far) rest (f, mid) (loop is_any (further true inner_depth) (v, []) ahead) n (step_err w c.so_far rest (f, mid) s) c.goes);
+        so_far = c.so_far;
+        scope = w;
+        mid = rest;
+        statements = c.statements;
+        inside = front.0;
+        parts = front.1;
+        cause = (statement_tells inner_depth w rest).bad (f, mid) s;
+      }
+
+  finish_syntax : (rest : Ahead Spelled) (f : Fault × Ahead Spelled) → Path (Answer Spelled Fault (Unit {0})) (finish Syntax tt rest) (Err f) → Syntax ≡ f.0
+  finish_syntax finished f e = absurd cc
+  finish_syntax broken f e = ap (λ (z : Fault × Ahead Spelled). z.0) (err_is (Syntax, broken) f e)
+  finish_syntax (token t ts) f e = ap (λ (z : Fault × Ahead Spelled). z.0) (err_is (Syntax, token t ts) f e)
+
+  finish_same : {A : Type 0} (x : A) (rest : Ahead Spelled) (f : Fault × Ahead Spelled) → Path (Answer Spelled Fault (Unit {0})) (finish Syntax tt rest) (Err f) → Path (Answer Spelled Fault A) (finish Syntax x rest) (Err f)
+  finish_same x finished f e = absurd cc
+  finish_same x broken f e = ap Err (err_same (Syntax, broken) f e)
+    where
+      err_same : (a b : Fault × Ahead Spelled) → Path (Answer Spelled Fault (Unit {0})) (Err a) (Err b) → a ≡ b
+      err_same a b e = cc
+  finish_same x (token t ts) f e = ap Err (err_same (Syntax, token t ts) f e)
+    where
+      err_same : (a b : Fault × Ahead Spelled) → Path (Answer Spelled Fault (Unit {0})) (Err a) (Err b) → a ≡ b
+      err_same a b e = cc
+
+  end_fault : (x : Scope × List TermTriple) (rest : Ahead Spelled) (f : Fault × Ahead Spelled) → loop is_any (further true inner_depth) (v, []) ahead ≡ Ok (x, rest) → finish Syntax x rest ≡ Err f → document true inner_depth v ahead ≡ Err f
+  unfolding document
+  end_fault x rest f e g = rw e g
+
+  pub ends_badly : (w y : Scope) (rest : Ahead Spelled) (e : Stop) (r : Refusal) (new_terms : List Term) (new_graph : List Triple) → Comes v ahead terms graph w rest new_terms new_graph → next_is is_any rest ≡ false
+      → StopsAs {Y = Unit {0}} e rest (finish Syntax tt rest) → r ≡ from_stop e → Ends (Err r) v ahead y rest terms graph new_terms new_graph
+  ends_badly w y rest stop.Memory r new_terms new_graph c n s is = subst (λ (z : Refusal). Ends (Err z) v ahead y rest terms graph new_terms new_graph) (sym is) tt
+  ends_badly w y rest (stop.Fault f) r new_terms new_graph c n s is =
+      subst (λ (z : Refusal). Ends (Err z) v ahead y rest terms graph new_terms new_graph) (sym is) (record {
+        refused = end_fault (w, c.so_far) rest (f, rest) (loop_ends is_any (further true inner_depth) (consumes_further true inner_depth) (w, c.so_far) rest (loop is_any (further true inner_depth) (v, []) ahead) n c.goes) (finish_same (w, c.so_far) rest (f, rest) s);
+        so_far = c.so_far;
+        scope = w;
+        mid = rest;
+        statements = c.statements;
+        inside = [];
+        parts = refl;
+        cause = subst (λ (g : Fault). Causes (bare w) g rest) (finish_syntax rest (f, rest) s) tt;
+      })
+
+-- one statement
+pub statement_stops : (v w : Scope) (ahead rest : Ahead Spelled) (e : Stop) (r : Refusal) (terms : List Term) (graph : List Triple) → StopsAs e rest (statement true inner_depth v ahead) → r ≡ from_stop e → Steps (Err r) v ahead w rest terms graph terms graph
+statement_stops v w ahead rest stop.Memory r terms graph s is = subst (λ (z : Refusal). Steps (Err z) v ahead w rest terms graph terms graph) (sym is) tt
+statement_stops v w ahead rest (stop.Fault f) r terms graph s is = subst (λ (z : Refusal). Steps (Err z) v ahead w rest terms graph terms graph) (sym is) s
+
+pub loads_stop : (v u w : Scope) (ahead rest : Ahead Spelled) (ts : List TermTriple) (e : LoadError) (r : Refusal) (terms new_terms : List Term) (graph new_graph : List Triple) → statement true inner_depth v ahead ≡ Ok (u, rest) → ts ≡ u.triples
+    → LoadsAll (Err e) terms graph ts new_terms new_graph → r ≡ from_load e → Steps (Err r) v ahead w rest terms graph new_terms new_graph
+loads_stop v u w ahead rest ts load.Memory r terms new_terms graph new_graph s same l is = subst (λ (z : Refusal). Steps (Err z) v ahead w rest terms graph new_terms new_graph) (sym is) tt
+loads_stop v u w ahead rest ts load.Full r terms new_terms graph new_graph s same l is =
+    subst (λ (z : Refusal). Steps (Err z) v ahead w rest terms graph new_terms new_graph) (sym is) (u, s, subst (Fills terms graph) same l)
+
+pub statement_steps : (v u w : Scope) (ahead rest : Ahead Spelled) (ts : List TermTriple) (terms new_terms : List Term) (graph new_graph : List Triple) → statement true inner_depth v ahead ≡ Ok (u, rest) → ts ≡ u.triples → w ≡ begun u
+    → Loads terms graph ts new_terms new_graph → Steps (Ok tt) v ahead w rest terms graph new_terms new_graph
+statement_steps v u w ahead rest ts terms new_terms graph new_graph s same is l = (u, s, is, subst (λ (z : List TermTriple). Loads terms graph z new_terms new_graph) same l)
+
+-- loading
+pub fills_at : (terms now_terms : List Term) (graph now_graph : List Triple) (all so rest : List TermTriple) (t : TermTriple) → all ≡ so ++ t ∷ rest → Loads terms graph so now_terms now_graph → FindsNoRoom now_terms now_graph t → Fills terms graph all
+fills_at terms now_terms graph now_graph all so rest t e l n = record { before = so; last = t; behind = rest; parts = e; mid_terms = now_terms; mid_graph = now_graph; loaded = l; no_room = n }
+
+pub load_fails : (terms now_terms new_terms : List Term) (graph now_graph new_graph : List Triple) (all so rest : List TermTriple) (t : TermTriple) (e : LoadError) → all ≡ so ++ t ∷ rest → Loads terms graph so now_terms now_graph
+    → (Path (Result (Unit {0}) LoadError) (Err e) (Err load.Full) → FindsNoRoom now_terms now_graph t) → LoadsAll (Err e) terms graph all new_terms new_graph
+load_fails terms now_terms new_terms graph now_graph new_graph all so rest t load.Memory e l n = tt
+load_fails terms now_terms new_terms graph now_graph new_graph all so rest t load.Full e l n = fills_at terms now_terms graph now_graph all so rest t e l (n refl)
+
+pub same_grown : {X : Type 0} (xs : List X) → (more : List X) × (xs ≡ xs ++ more)
+same_grown xs = ([], sym (append-nil xs))
+
+pub is_grown : {X : Type 0} (xs ys : List X) → ys ≡ xs → (more : List X) × (ys ≡ xs ++ more)
+is_grown xs ys e = ([], e ∙ sym (append-nil xs))
+
+pub grown_on : {X : Type 0} (xs ys zs : List X) → ((more : List X) × (ys ≡ xs ++ more)) → ((more : List X) × (zs ≡ ys ++ more)) → (more : List X) × (zs ≡ xs ++ more)
+grown_on xs ys zs (a, e) (b, f) = (a ++ b, f ∙ ap (λ (v : List _). v ++ b) e ∙ append_assoc xs a b)
+
+pub yields_on : {X : Type 0} (all yielded rest behind : List X) (x : X) → all ≡ yielded ++ rest → rest ≡ x ∷ behind → all ≡ (yielded ++ x ∷ []) ++ behind
+yields_on all yielded rest behind x e f = e ∙ ap (λ (v : List _). yielded ++ v) f ∙ sym (append_assoc yielded (x ∷ []) behind)

@@ -1,0 +1,4 @@
+use Rattle.turtle_reader.proofs.reader.read.Goals as goal
+
+pub returns-in-Err-clause-complete : goal.returns-in-Err-clause-complete
+returns-in-Err-clause-complete c = λ v ts terms graph doc loads within. c.in-Err.ensures.cases.0 doc.1

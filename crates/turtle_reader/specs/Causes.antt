@@ -1,0 +1,38 @@
+-- What is wrong with the next token, by the base and the prefixes in force (RDF 1.1 Turtle, section 7.1).
+use Rattle.std.specs.Prelude.{◌≡◌, ◌<◌, true, false, ℕ, List, [], ◌∷◌, length, Some, None, Ok, encode_utf8_all}
+use Rattle.std.specs.List.{after_first}
+use Rattle.token_readers.specs.Ahead.{Ahead, token, next_is}
+use Rattle.rdf_lex.specs.declared.kinds.Mode.TheVariants.{Turtle}
+use Rattle.rdf_lex.specs.Tokens.{Spelled}
+use Rattle.rdf_cursor.specs.Meanings.{text_of}
+use Rattle.turtle_reader.specs.declared.faults.Fault.{Fault}
+use Rattle.turtle_reader.specs.declared.faults.Fault.TheVariants as faults
+use Rattle.turtle_reader.specs.declared.symbols.Symbol.{Symbol}
+use Rattle.turtle_reader.specs.declared.symbols.Symbol.TheVariants as symbol
+use Rattle.turtle_reader.specs.Meanings.{max_text, is_colon, iri_of, prefix_of}
+use Rattle.turtle_reader.specs.States.{Scope}
+use Rattle.turtle_reader.specs.Symbols.{is_symbol, is_among, names, shorthands}
+
+-- the base and the prefixes of a scope, which stay through a statement
+abbrev pub bare : Scope → Scope
+bare v = record v { next = 0; triples = [] }
+
+-- the token stands for an IRI or a lexical form, or has a label, of too many bytes
+pub data IsLong (v : Scope) (t : Spelled) : Type 0 where
+  by_iri : (iri : List ℕ) → iri_of false v t ≡ Ok iri → max_text < length iri → IsLong v t
+  by_label : is_symbol symbol.BlankLabel t ≡ true → max_text < length (after_first is_colon t.text) → IsLong v t
+  by_string : is_symbol symbol.Str t ≡ true → (text : List ℕ) → text_of Turtle t ≡ Some text → max_text < length (encode_utf8_all text) → IsLong v t
+  by_number : is_among shorthands t ≡ true → max_text < length t.text → IsLong v t
+
+-- the brackets that open
+abbrev pub brackets : List Symbol
+brackets = symbol.OpenBracket ∷ symbol.OpenParenthesis ∷ []
+
+-- what the next token has to be for each fault but `Syntax`: a bracket that opens, a token of a text that is too long, a name whose prefix is
+-- not declared
+abbrev pub Causes : Scope → Fault → Ahead Spelled → Type 0
+Causes v faults.Syntax rest = Unit {0}
+Causes v faults.Deep rest = next_is (is_among brackets) rest ≡ true
+Causes v faults.Long rest = (t : Spelled) × (more : Ahead Spelled) × (rest ≡ token t more) × IsLong v t
+Causes v faults.Prefix rest = (t : Spelled) × (more : Ahead Spelled) × (rest ≡ token t more) × (is_among names t ≡ true) × (v.prefixes (prefix_of t) ≡ None)
+Causes v faults.Full rest = Unit {0}

@@ -1,0 +1,46 @@
+//! Why reading stopped.
+
+ghost use Rattle.std.specs.Prelude.{◌≡◌};
+ghost use Rattle.turtle_reader.specs.declared.faults.Stop.TheVariants.{Memory};
+
+use std::alloc::{AllocError, AllocFailed};
+
+/// What is wrong at the next token.
+#[derive(Clone, Copy, Debug, PartialEq, Eq)]
+pub enum Fault {
+    /// No document has this token there, or the text may not end there.
+    Syntax,
+    /// Brackets nest too deep.
+    Deep,
+    /// The text of a term is too long.
+    Long,
+    /// The prefix is not declared.
+    Prefix,
+    /// No number is left for an anonymous node.
+    Full,
+}
+
+/// Why reading stopped at the next token.
+#[derive(Debug, Drop)]
+pub enum Stop {
+    /// Memory ran out.
+    Memory,
+    /// A fault at the next token.
+    Fault(Fault),
+}
+
+impl From<AllocError> for Stop {
+    ghost from_gives = { λ _ e. e ≡ Memory };
+
+    fn from(_error: AllocError) -> Stop {
+        Stop::Memory
+    }
+}
+
+impl<T: Drop> From<AllocFailed<T>> for Stop {
+    ghost from_gives = { λ _ e. e ≡ Memory };
+
+    fn from(_error: AllocFailed<T>) -> Stop {
+        Stop::Memory
+    }
+}

@@ -1,0 +1,633 @@
+//! The rules of the grammar (RDF 1.1 Turtle, section 6.5).
+
+ghost use Rattle.std.specs.Prelude.{◌≡◌, true, string_bytes};
+ghost use Rattle.std.specs.Result.{IfOk};
+ghost use Rattle.std.specs.Option.{IsSome};
+ghost use Rattle.iri_resolve.specs.Reference.{scheme_of};
+ghost use Rattle.token_readers.specs.Ahead.{next_is};
+ghost use Rattle.token_readers.specs.Readers.{one, loop};
+ghost use Rattle.turtle_reader.specs.declared.faults.Fault.TheVariants.{Syntax};
+ghost use Rattle.turtle_reader.specs.declared.symbols.Symbol.TheVariants.{AtPrefix, AtBase, SparqlPrefix, SparqlBase, Comma, Semicolon, CloseParenthesis};
+ghost use Rattle.turtle_reader.specs.Gives.{Gives, ahead, source_in};
+ghost use Rattle.turtle_reader.specs.Meanings.{blank_of, string_of, tagged_of, shorthand_of};
+ghost use Rattle.turtle_reader.specs.Reading.{iri_ref, iri, datatyped, literal, resource, simple, verb, one_object, comma, objects, pair, semicolon, predicates, node, in_cell, member, next_member, cells, collection, object, subject, about_subject, listed, about_node, triples, ended, prefix_declaration, base_declaration, behind, statement};
+ghost use Rattle.turtle_reader.specs.States.{scope_of, term_of, anonymous};
+ghost use Rattle.turtle_reader.specs.Symbols.{is_symbol, is_other, is_among, verbs, tags, shorthands};
+
+use crate::faults::{Fault, Stop};
+use crate::state::{Resource, State};
+use crate::symbols::Symbol;
+use crate::terms;
+use crate::tokens::Tokens;
+use rdf_terms::terms::{Literal, Name, Term};
+use rdf_terms::text::Text;
+
+const RDF_TYPE: &str = "http://www.w3.org/1999/02/22-rdf-syntax-ns#type";
+
+/// How deep blank node property lists and collections nest at most.
+const MAX_DEPTH: u32 = 64;
+
+#[tactic(auto, unfolding(crate::specs::Reading::iri_ref))]
+fn iri_ref(c: &mut Tokens<'_>, state: &State) -> Result<String, Stop>
+    ensures gives { Gives string_bytes result (ahead c.new) (iri_ref true (scope_of state.now) (ahead c.old)) }
+    ensures scheme { IfOk result (λ iri. IsSome (scheme_of (string_bytes iri))) }
+    ensures source { source_in c.new ≡ source_in c.old }
+{
+    let Some(token) = c.peek() else {
+        return Err(Stop::Fault(Fault::Syntax));
+    };
+    let iri = terms::iri_ref(state, token)?;
+    c.advance();
+    Ok(iri)
+}
+
+/// An IRI [135s].
+#[tactic(auto, unfolding(crate::specs::Reading::iri))]
+fn iri(c: &mut Tokens<'_>, state: &State) -> Result<String, Stop>
+    ensures gives { Gives string_bytes result (ahead c.new) (iri true (scope_of state.now) (ahead c.old)) }
+    ensures source { source_in c.new ≡ source_in c.old }
+{
+    let Some(token) = c.peek() else {
+        return Err(Stop::Fault(Fault::Syntax));
+    };
+    let iri = terms::iri(state, token)?;
+    c.advance();
+    Ok(iri)
+}
+
+/// A labelled blank node [141s].
+fn blank(c: &mut Tokens<'_>, state: &State) -> Result<Resource, Stop>
+    ensures gives { Gives term_of result (ahead c.new) (one Syntax (blank_of true) (ahead c.old)) }
+    ensures source { source_in c.new ≡ source_in c.old }
+{
+    let Some(token) = c.peek() else {
+        return Err(Stop::Fault(Fault::Syntax));
+    };
+    let blank = terms::blank(state.alloc, token)?;
+    c.advance();
+    Ok(blank)
+}
+
+/// The lexical form of a string [17].
+fn string(c: &mut Tokens<'_>, state: &State) -> Result<Text, Stop>
+    ensures gives { Gives (λ x. x) result (ahead c.new) (one Syntax (string_of true) (ahead c.old)) }
+    ensures source { source_in c.new ≡ source_in c.old }
+{
+    let Some(token) = c.peek() else {
+        return Err(Stop::Fault(Fault::Syntax));
+    };
+    let text = terms::string(state.alloc, token)?;
+    c.advance();
+    Ok(text)
+}
+
+/// `^^` and a datatype behind a lexical form.
+#[tactic(auto, unfolding(crate::specs::Reading::datatyped))]
+fn datatyped(c: &mut Tokens<'_>, state: &State, lex: Text) -> Result<Term, Stop>
+    ensures gives { Gives (λ x. x) result (ahead c.new) (datatyped true (scope_of state.now) lex (ahead c.old)) }
+    ensures source { source_in c.new ≡ source_in c.old }
+{
+    c.take(Symbol::Carets)?;
+    let Some(token) = c.peek() else {
+        return Err(Stop::Fault(Fault::Syntax));
+    };
+    let term = terms::typed(state, lex, token)?;
+    c.advance();
+    Ok(term)
+}
+
+/// A language tag behind a lexical form.
+fn tagged(c: &mut Tokens<'_>, state: &State, lex: Text) -> Result<Term, Stop>
+    ensures gives { Gives (λ x. x) result (ahead c.new) (one Syntax (tagged_of lex) (ahead c.old)) }
+    ensures source { source_in c.new ≡ source_in c.old }
+{
+    let Some(token) = c.peek() else {
+        return Err(Stop::Fault(Fault::Syntax));
+    };
+    let term = terms::tagged(state.alloc, lex, token)?;
+    c.advance();
+    Ok(term)
+}
+
+/// A number or a truth value.
+fn shorthand(c: &mut Tokens<'_>, state: &State) -> Result<Term, Stop>
+    ensures gives { Gives (λ x. x) result (ahead c.new) (one Syntax (shorthand_of true) (ahead c.old)) }
+    ensures source { source_in c.new ≡ source_in c.old }
+{
+    let Some(token) = c.peek() else {
+        return Err(Stop::Fault(Fault::Syntax));
+    };
+    let term = terms::shorthand(state.alloc, token)?;
+    c.advance();
+    Ok(term)
+}
+
+#[tactic(auto, unfolding(crate::specs::Symbols::is_among))]
+fn at_tag(c: &Tokens<'_>) -> bool
+    ensures { result ≡ next_is (is_among tags) (ahead c.now) }
+{
+    match c.peek() {
+        Some(token) => terms::is_tag(token),
+        None => false,
+    }
+}
+
+#[tactic(auto, unfolding(crate::specs::Symbols::is_among))]
+fn at_shorthand(c: &Tokens<'_>) -> bool
+    ensures { result ≡ next_is (is_among shorthands) (ahead c.now) }
+{
+    match c.peek() {
+        Some(token) => terms::is_shorthand(token),
+        None => false,
+    }
+}
+
+#[tactic(auto, unfolding(crate::specs::Symbols::is_among))]
+fn at_verb(c: &Tokens<'_>) -> bool
+    ensures { result ≡ next_is (is_among verbs) (ahead c.now) }
+{
+    match c.peek() {
+        Some(token) => terms::is_verb(token),
+        None => false,
+    }
+}
+
+/// Whether a token is next that does not close a collection.
+#[tactic(auto, unfolding(crate::specs::Symbols::is_other))]
+fn at_member(c: &Tokens<'_>) -> bool
+    ensures { result ≡ next_is (is_other CloseParenthesis) (ahead c.now) }
+{
+    c.has_next() && !c.is_at(Symbol::CloseParenthesis)
+}
+
+/// A literal that begins with a string [128s].
+#[tactic(auto, unfolding(crate::specs::Reading::literal))]
+fn literal(c: &mut Tokens<'_>, state: &State) -> Result<Term, Stop>
+    ensures gives { Gives (λ x. x) result (ahead c.new) (literal true (scope_of state.now) (ahead c.old)) }
+    ensures source { source_in c.new ≡ source_in c.old }
+{
+    let lex = string(c, state)?;
+    if at_tag(c) {
+        tagged(c, state, lex)
+    } else if c.is_at(Symbol::Carets) {
+        datatyped(c, state, lex)
+    } else {
+        Ok(Term::Lit(Literal::plain(state.alloc, lex)?))
+    }
+}
+
+/// An IRI or a labelled blank node.
+#[tactic(auto, unfolding(crate::specs::Reading::resource))]
+fn resource(c: &mut Tokens<'_>, state: &State) -> Result<Resource, Stop>
+    ensures gives { Gives term_of result (ahead c.new) (resource true (scope_of state.now) (ahead c.old)) }
+    ensures source { source_in c.new ≡ source_in c.old }
+{
+    if c.is_at(Symbol::BlankLabel) {
+        blank(c, state)
+    } else {
+        let iri = iri(c, state)?;
+        Ok(Resource::Iri(Text::from_string(iri)))
+    }
+}
+
+/// A term without brackets.
+#[tactic(auto, unfolding(crate::specs::Reading::simple))]
+fn simple(c: &mut Tokens<'_>, state: &State) -> Result<Term, Stop>
+    ensures gives { Gives (λ x. x) result (ahead c.new) (simple true (scope_of state.now) (ahead c.old)) }
+    ensures source { source_in c.new ≡ source_in c.old }
+{
+    if c.is_at(Symbol::Str) {
+        literal(c, state)
+    } else if at_shorthand(c) {
+        shorthand(c, state)
+    } else {
+        let resource = resource(c, state)?;
+        Ok(resource.into_term())
+    }
+}
+
+/// A verb [9].
+#[tactic(auto, unfolding(crate::specs::Reading::verb))]
+fn verb(c: &mut Tokens<'_>, state: &State) -> Result<String, Stop>
+    ensures gives { Gives string_bytes result (ahead c.new) (verb true (scope_of state.now) (ahead c.old)) }
+    ensures source { source_in c.new ≡ source_in c.old }
+{
+    if c.is_at(Symbol::A) {
+        c.take(Symbol::A)?;
+        Ok(String::from_str(state.alloc, RDF_TYPE)?)
+    } else {
+        iri(c, state)
+    }
+}
+
+/// An anonymous node.
+fn anonymous_node(number: u32) -> Resource
+    ensures { term_of result ≡ anonymous number }
+{
+    Resource::Blank(Name::Fresh(number))
+}
+
+/// An object of a subject and a predicate.
+#[cycle(grammar)]
+#[tactic(auto, unfolding(crate::specs::Reading::one_object))]
+fn one_object(
+    c: &mut Tokens<'_>,
+    state: &mut State,
+    depth: u32,
+    subject: &Resource,
+    predicate: &str,
+) -> Result<(), Stop>
+    ensures gives { Gives (λ x. scope_of state.new) result (ahead c.new) (one_object true (object true depth) (term_of subject.now) predicate.now (scope_of state.old) (ahead c.old)) }
+    ensures source { source_in c.new ≡ source_in c.old }
+{
+    let term = object(c, state, depth)?;
+    state.add(subject, predicate, term)?;
+    Ok(())
+}
+
+/// A further object, behind its comma.
+#[cycle(grammar)]
+#[tactic(auto, unfolding(crate::specs::Reading::comma))]
+fn comma(
+    c: &mut Tokens<'_>,
+    state: &mut State,
+    depth: u32,
+    subject: &Resource,
+    predicate: &str,
+) -> Result<(), Stop>
+    ensures gives { Gives (λ x. scope_of state.new) result (ahead c.new) (comma true (object true depth) (term_of subject.now) predicate.now (scope_of state.old) (ahead c.old)) }
+    ensures source { source_in c.new ≡ source_in c.old }
+{
+    c.take(Symbol::Comma)?;
+    one_object(c, state, depth, subject, predicate)
+}
+
+/// All further objects.
+#[cycle(grammar)]
+fn commas(
+    c: &mut Tokens<'_>,
+    state: &mut State,
+    depth: u32,
+    subject: &Resource,
+    predicate: &str,
+) -> Result<(), Stop>
+    ensures gives { Gives (λ x. scope_of state.new) result (ahead c.new) (loop (is_symbol Comma) (comma true (object true depth) (term_of subject.now) predicate.now) (scope_of state.old) (ahead c.old)) }
+    ensures source { source_in c.new ≡ source_in c.old }
+{
+    while c.is_at(Symbol::Comma) {
+        comma(c, state, depth, subject, predicate)?;
+    }
+    Ok(())
+}
+
+/// A verb and its objects [8].
+#[cycle(grammar)]
+#[tactic(auto, unfolding(crate::specs::Reading::pair, crate::specs::Reading::objects))]
+fn pair(c: &mut Tokens<'_>, state: &mut State, depth: u32, subject: &Resource) -> Result<(), Stop>
+    ensures gives { Gives (λ x. scope_of state.new) result (ahead c.new) (pair true (object true depth) (term_of subject.now) (scope_of state.old) (ahead c.old)) }
+    ensures source { source_in c.new ≡ source_in c.old }
+{
+    let predicate = verb(c, state)?;
+    one_object(c, state, depth, subject, predicate.as_str())?;
+    commas(c, state, depth, subject, predicate.as_str())
+}
+
+/// What follows a semicolon: a verb and its objects, or nothing.
+#[cycle(grammar)]
+#[tactic(auto, unfolding(crate::specs::Reading::semicolon))]
+fn semicolon(
+    c: &mut Tokens<'_>,
+    state: &mut State,
+    depth: u32,
+    subject: &Resource,
+) -> Result<(), Stop>
+    ensures gives { Gives (λ x. scope_of state.new) result (ahead c.new) (semicolon true (object true depth) (term_of subject.now) (scope_of state.old) (ahead c.old)) }
+    ensures source { source_in c.new ≡ source_in c.old }
+{
+    c.take(Symbol::Semicolon)?;
+    if at_verb(c) {
+        pair(c, state, depth, subject)
+    } else {
+        Ok(())
+    }
+}
+
+/// All that follows by semicolons.
+#[cycle(grammar)]
+fn semicolons(
+    c: &mut Tokens<'_>,
+    state: &mut State,
+    depth: u32,
+    subject: &Resource,
+) -> Result<(), Stop>
+    ensures gives { Gives (λ x. scope_of state.new) result (ahead c.new) (loop (is_symbol Semicolon) (semicolon true (object true depth) (term_of subject.now)) (scope_of state.old) (ahead c.old)) }
+    ensures source { source_in c.new ≡ source_in c.old }
+{
+    while c.is_at(Symbol::Semicolon) {
+        semicolon(c, state, depth, subject)?;
+    }
+    Ok(())
+}
+
+/// The verbs and objects of a subject [7].
+#[cycle(grammar)]
+#[tactic(auto, unfolding(crate::specs::Reading::predicates))]
+fn predicates(
+    c: &mut Tokens<'_>,
+    state: &mut State,
+    depth: u32,
+    subject: &Resource,
+) -> Result<(), Stop>
+    ensures gives { Gives (λ x. scope_of state.new) result (ahead c.new) (predicates true (object true depth) (term_of subject.now) (scope_of state.old) (ahead c.old)) }
+    ensures source { source_in c.new ≡ source_in c.old }
+{
+    pair(c, state, depth, subject)?;
+    semicolons(c, state, depth, subject)
+}
+
+/// An anonymous node in brackets [14], whose number is that of its opening bracket.
+#[cycle(grammar)]
+#[tactic(auto, unfolding(crate::specs::Reading::node, crate::specs::Reading::next_node))]
+fn node(c: &mut Tokens<'_>, state: &mut State, depth: u32) -> Result<u32, Stop>
+    ensures gives { Gives (λ n. (anonymous n, scope_of state.new)) result (ahead c.new) (node true (object true depth) (scope_of state.old) (ahead c.old)) }
+    ensures source { source_in c.new ≡ source_in c.old }
+{
+    c.take(Symbol::OpenBracket)?;
+    let number = state.number()?;
+    if c.is_at(Symbol::CloseBracket) {
+        c.take(Symbol::CloseBracket)?;
+        return Ok(number);
+    }
+    predicates(c, state, depth, &anonymous_node(number))?;
+    c.take(Symbol::CloseBracket)?;
+    Ok(number)
+}
+
+/// A member of a collection, in its cell.
+#[cycle(grammar)]
+#[tactic(auto, unfolding(crate::specs::Reading::in_cell))]
+fn in_cell(c: &mut Tokens<'_>, state: &mut State, depth: u32, cell: u32) -> Result<u32, Stop>
+    ensures gives { Gives (λ n. (anonymous n, scope_of state.new)) result (ahead c.new) (in_cell true (object true depth) (anonymous cell) (scope_of state.old) (ahead c.old)) }
+    ensures source { source_in c.new ≡ source_in c.old }
+{
+    let term = object(c, state, depth)?;
+    state.add_first(cell, term)?;
+    Ok(cell)
+}
+
+/// The first member of a collection, whose cell takes its number before it.
+#[cycle(grammar)]
+#[tactic(auto, unfolding(crate::specs::Reading::member, crate::specs::Reading::next_node))]
+fn member(c: &mut Tokens<'_>, state: &mut State, depth: u32) -> Result<u32, Stop>
+    ensures gives { Gives (λ n. (anonymous n, scope_of state.new)) result (ahead c.new) (member true (object true depth) (scope_of state.old) (ahead c.old)) }
+    ensures source { source_in c.new ≡ source_in c.old }
+{
+    let cell = state.number()?;
+    in_cell(c, state, depth, cell)
+}
+
+/// A further member, whose cell is the rest of the last one.
+#[cycle(grammar)]
+#[tactic(auto, unfolding(crate::specs::Reading::next_member, crate::specs::Reading::next_node))]
+fn next_member(c: &mut Tokens<'_>, state: &mut State, depth: u32, last: u32) -> Result<u32, Stop>
+    ensures gives { Gives (λ n. (anonymous n, scope_of state.new)) result (ahead c.new) (next_member true (object true depth) (anonymous last, scope_of state.old) (ahead c.old)) }
+    ensures source { source_in c.new ≡ source_in c.old }
+{
+    let cell = state.number()?;
+    state.add_rest(last, anonymous_node(cell))?;
+    in_cell(c, state, depth, cell)
+}
+
+/// All further members; the answer is the last cell.
+#[cycle(grammar)]
+fn members(c: &mut Tokens<'_>, state: &mut State, depth: u32, first: u32) -> Result<u32, Stop>
+    ensures gives { Gives (λ n. (anonymous n, scope_of state.new)) result (ahead c.new) (loop (is_other CloseParenthesis) (next_member true (object true depth)) (anonymous first, scope_of state.old) (ahead c.old)) }
+    ensures source { source_in c.new ≡ source_in c.old }
+{
+    let mut last = first;
+    while at_member(c) {
+        last = next_member(c, state, depth, last)?;
+    }
+    Ok(last)
+}
+
+/// The members of a collection that has some; the answer is the first cell.
+#[cycle(grammar)]
+#[tactic(auto, unfolding(crate::specs::Reading::cells))]
+fn cells(c: &mut Tokens<'_>, state: &mut State, depth: u32) -> Result<u32, Stop>
+    ensures gives { Gives (λ n. (anonymous n, scope_of state.new)) result (ahead c.new) (cells true (object true depth) (scope_of state.old) (ahead c.old)) }
+    ensures source { source_in c.new ≡ source_in c.old }
+{
+    let first = member(c, state, depth)?;
+    let last = members(c, state, depth, first)?;
+    c.take(Symbol::CloseParenthesis)?;
+    let nil = state.nil()?;
+    state.add_rest(last, nil)?;
+    Ok(first)
+}
+
+/// A collection [15].
+#[cycle(grammar)]
+#[tactic(auto, unfolding(crate::specs::Reading::collection))]
+fn collection(c: &mut Tokens<'_>, state: &mut State, depth: u32) -> Result<Resource, Stop>
+    ensures gives { Gives (λ x. (term_of x, scope_of state.new)) result (ahead c.new) (collection true (object true depth) (scope_of state.old) (ahead c.old)) }
+    ensures source { source_in c.new ≡ source_in c.old }
+{
+    c.take(Symbol::OpenParenthesis)?;
+    if c.is_at(Symbol::CloseParenthesis) {
+        c.take(Symbol::CloseParenthesis)?;
+        Ok(state.nil()?)
+    } else {
+        let first = cells(c, state, depth)?;
+        Ok(anonymous_node(first))
+    }
+}
+
+/// An object [12], in which brackets nest so deep at most.
+#[cycle(grammar)]
+#[tactic(auto, unfolding(crate::specs::Reading::object))]
+fn object(c: &mut Tokens<'_>, state: &mut State, depth: u32) -> Result<Term, Stop>
+    ensures gives { Gives (λ x. (x, scope_of state.new)) result (ahead c.new) (object true depth (scope_of state.old) (ahead c.old)) }
+    ensures source { source_in c.new ≡ source_in c.old }
+{
+    if c.is_at(Symbol::OpenBracket) {
+        if depth == 0 {
+            return Err(Stop::Fault(Fault::Deep));
+        }
+        let number = node(c, state, depth - 1)?;
+        Ok(anonymous_node(number).into_term())
+    } else if c.is_at(Symbol::OpenParenthesis) {
+        if depth == 0 {
+            return Err(Stop::Fault(Fault::Deep));
+        }
+        let first = collection(c, state, depth - 1)?;
+        Ok(first.into_term())
+    } else {
+        simple(c, state)
+    }
+}
+
+/// A subject [10], but for anonymous nodes.
+#[tactic(auto, unfolding(crate::specs::Reading::subject))]
+fn subject(c: &mut Tokens<'_>, state: &mut State) -> Result<Resource, Stop>
+    ensures gives { Gives (λ x. (term_of x, scope_of state.new)) result (ahead c.new) (subject true 63 (scope_of state.old) (ahead c.old)) }
+    ensures source { source_in c.new ≡ source_in c.old }
+{
+    if c.is_at(Symbol::OpenParenthesis) {
+        collection(c, state, MAX_DEPTH - 1)
+    } else {
+        resource(c, state)
+    }
+}
+
+/// A subject and its verbs and objects.
+#[tactic(auto, unfolding(crate::specs::Reading::about_subject))]
+fn about_subject(c: &mut Tokens<'_>, state: &mut State) -> Result<(), Stop>
+    ensures gives { Gives (λ x. scope_of state.new) result (ahead c.new) (about_subject true 63 (scope_of state.old) (ahead c.old)) }
+    ensures source { source_in c.new ≡ source_in c.old }
+{
+    let subject = subject(c, state)?;
+    predicates(c, state, MAX_DEPTH, &subject)
+}
+
+/// The verbs and objects in the brackets of an anonymous node, and further ones behind them.
+#[tactic(auto, unfolding(crate::specs::Reading::listed))]
+fn listed(c: &mut Tokens<'_>, state: &mut State, subject: &Resource) -> Result<(), Stop>
+    ensures gives { Gives (λ x. scope_of state.new) result (ahead c.new) (listed true 63 (term_of subject.now) (scope_of state.old) (ahead c.old)) }
+    ensures source { source_in c.new ≡ source_in c.old }
+{
+    predicates(c, state, MAX_DEPTH - 1, subject)?;
+    c.take(Symbol::CloseBracket)?;
+    if at_verb(c) {
+        predicates(c, state, MAX_DEPTH, subject)
+    } else {
+        Ok(())
+    }
+}
+
+/// Triples that begin with an anonymous node in brackets.
+#[tactic(auto, unfolding(crate::specs::Reading::about_node, crate::specs::Reading::next_node))]
+fn about_node(c: &mut Tokens<'_>, state: &mut State) -> Result<(), Stop>
+    ensures gives { Gives (λ x. scope_of state.new) result (ahead c.new) (about_node true 63 (scope_of state.old) (ahead c.old)) }
+    ensures source { source_in c.new ≡ source_in c.old }
+{
+    c.take(Symbol::OpenBracket)?;
+    let number = state.number()?;
+    let subject = anonymous_node(number);
+    if c.is_at(Symbol::CloseBracket) {
+        c.take(Symbol::CloseBracket)?;
+        predicates(c, state, MAX_DEPTH, &subject)
+    } else {
+        listed(c, state, &subject)
+    }
+}
+
+/// Triples [6] and their dot.
+#[tactic(auto, unfolding(crate::specs::Reading::triples, crate::specs::Reading::ended))]
+fn ended_triples(c: &mut Tokens<'_>, state: &mut State) -> Result<(), Stop>
+    ensures gives { Gives (λ x. scope_of state.new) result (ahead c.new) (ended true (triples true 63) (scope_of state.old) (ahead c.old)) }
+    ensures source { source_in c.new ≡ source_in c.old }
+{
+    triples(c, state)?;
+    c.take(Symbol::Dot)?;
+    Ok(())
+}
+
+/// Triples [6].
+#[tactic(auto, unfolding(crate::specs::Reading::triples))]
+fn triples(c: &mut Tokens<'_>, state: &mut State) -> Result<(), Stop>
+    ensures gives { Gives (λ x. scope_of state.new) result (ahead c.new) (triples true 63 (scope_of state.old) (ahead c.old)) }
+    ensures source { source_in c.new ≡ source_in c.old }
+{
+    if c.is_at(Symbol::OpenBracket) {
+        about_node(c, state)
+    } else {
+        about_subject(c, state)
+    }
+}
+
+/// A prefix and its IRI.
+#[tactic(auto, unfolding(crate::specs::Reading::prefix_declaration))]
+fn prefix_declaration(c: &mut Tokens<'_>, state: &mut State) -> Result<(), Stop>
+    ensures gives { Gives (λ x. scope_of state.new) result (ahead c.new) (prefix_declaration true (scope_of state.old) (ahead c.old)) }
+    ensures source { source_in c.new ≡ source_in c.old }
+{
+    let token = c.take(Symbol::PnameNs)?;
+    let iri = iri_ref(c, state)?;
+    state.declare(terms::before_colon(token.text), iri.as_str())?;
+    Ok(())
+}
+
+/// An IRI as the base.
+#[tactic(auto, unfolding(crate::specs::Reading::base_declaration))]
+fn base_declaration(c: &mut Tokens<'_>, state: &mut State) -> Result<(), Stop>
+    ensures gives { Gives (λ x. scope_of state.new) result (ahead c.new) (base_declaration true (scope_of state.old) (ahead c.old)) }
+    ensures source { source_in c.new ≡ source_in c.old }
+{
+    let iri = iri_ref(c, state)?;
+    state.rebase(iri.as_str())?;
+    Ok(())
+}
+
+/// `@prefix` and its declaration [4].
+#[tactic(auto, unfolding(crate::specs::Reading::behind, crate::specs::Reading::ended))]
+fn prefix_id(c: &mut Tokens<'_>, state: &mut State) -> Result<(), Stop>
+    ensures gives { Gives (λ x. scope_of state.new) result (ahead c.new) (behind true AtPrefix (ended true (prefix_declaration true)) (scope_of state.old) (ahead c.old)) }
+    ensures source { source_in c.new ≡ source_in c.old }
+{
+    c.take(Symbol::AtPrefix)?;
+    prefix_declaration(c, state)?;
+    c.take(Symbol::Dot)?;
+    Ok(())
+}
+
+/// `@base` and its declaration [5].
+#[tactic(auto, unfolding(crate::specs::Reading::behind, crate::specs::Reading::ended))]
+fn base(c: &mut Tokens<'_>, state: &mut State) -> Result<(), Stop>
+    ensures gives { Gives (λ x. scope_of state.new) result (ahead c.new) (behind true AtBase (ended true (base_declaration true)) (scope_of state.old) (ahead c.old)) }
+    ensures source { source_in c.new ≡ source_in c.old }
+{
+    c.take(Symbol::AtBase)?;
+    base_declaration(c, state)?;
+    c.take(Symbol::Dot)?;
+    Ok(())
+}
+
+/// `PREFIX` and its declaration [6s].
+#[tactic(auto, unfolding(crate::specs::Reading::behind))]
+fn sparql_prefix(c: &mut Tokens<'_>, state: &mut State) -> Result<(), Stop>
+    ensures gives { Gives (λ x. scope_of state.new) result (ahead c.new) (behind true SparqlPrefix (prefix_declaration true) (scope_of state.old) (ahead c.old)) }
+    ensures source { source_in c.new ≡ source_in c.old }
+{
+    c.take(Symbol::SparqlPrefix)?;
+    prefix_declaration(c, state)
+}
+
+/// `BASE` and its declaration [5s].
+#[tactic(auto, unfolding(crate::specs::Reading::behind))]
+fn sparql_base(c: &mut Tokens<'_>, state: &mut State) -> Result<(), Stop>
+    ensures gives { Gives (λ x. scope_of state.new) result (ahead c.new) (behind true SparqlBase (base_declaration true) (scope_of state.old) (ahead c.old)) }
+    ensures source { source_in c.new ≡ source_in c.old }
+{
+    c.take(Symbol::SparqlBase)?;
+    base_declaration(c, state)
+}
+
+/// A statement [2].
+#[tactic(auto, unfolding(crate::specs::Reading::statement))]
+pub fn statement(c: &mut Tokens<'_>, state: &mut State) -> Result<(), Stop>
+    ensures gives { Gives (λ x. scope_of state.new) result (ahead c.new) (statement true 63 (scope_of state.old) (ahead c.old)) }
+    ensures source { source_in c.new ≡ source_in c.old }
+{
+    if c.is_at(Symbol::AtPrefix) {
+        prefix_id(c, state)
+    } else if c.is_at(Symbol::AtBase) {
+        base(c, state)
+    } else if c.is_at(Symbol::SparqlPrefix) {
+        sparql_prefix(c, state)
+    } else if c.is_at(Symbol::SparqlBase) {
+        sparql_base(c, state)
+    } else {
+        ended_triples(c, state)
+    }
+}

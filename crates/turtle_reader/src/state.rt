@@ -1,0 +1,176 @@
+//! What a statement is read with.
+
+ghost use Rattle.std.specs.Prelude.{◌≡◌, IfOk, OnOk, IsSome};
+ghost use Rattle.iri_resolve.specs.Reference.{scheme_of};
+ghost use Rattle.rdf_lex.specs.Prefixes.{base_of};
+
+use crate::faults::{Fault, Stop};
+use graph_loading::TermTriple;
+use rdf_lex::Prefixes;
+use rdf_terms::terms::{Name, Term};
+use rdf_terms::text::Text;
+use std::alloc::{AllocError, Global};
+use std::mem;
+
+const RDF_FIRST: &str = "http://www.w3.org/1999/02/22-rdf-syntax-ns#first";
+
+const RDF_REST: &str = "http://www.w3.org/1999/02/22-rdf-syntax-ns#rest";
+
+const RDF_NIL: &str = "http://www.w3.org/1999/02/22-rdf-syntax-ns#nil";
+
+/// What a triple may be about: an IRI or a blank node (RDF 1.1 Concepts, section 3.1).
+#[derive(Debug, Drop)]
+pub enum Resource {
+    /// An IRI.
+    Iri(Text),
+    /// A blank node.
+    Blank(Name),
+}
+
+impl Resource {
+    ghost use Rattle.turtle_reader.specs.States.{term_of};
+
+    /// The term, without taking memory.
+    pub fn into_term(self) -> Term
+        ensures { result ≡ term_of self }
+    {
+        match self {
+            Resource::Iri(iri) => Term::Iri(iri),
+            Resource::Blank(name) => Term::Blank(name),
+        }
+    }
+
+    /// A copy of the term.
+    pub fn to_term(&self, alloc: Global) -> Result<Term, AllocError>
+        ensures { IfOk result (λ t. t ≡ term_of self.now) }
+    {
+        match self {
+            Resource::Iri(iri) => Ok(Term::Iri(iri.try_clone(alloc)?)),
+            Resource::Blank(Name::Label(label)) => {
+                Ok(Term::Blank(Name::Label(label.try_clone(alloc)?)))
+            }
+            Resource::Blank(Name::Fresh(number)) => Ok(Term::Blank(Name::Fresh(*number))),
+        }
+    }
+}
+
+/// The state of the parser (RDF 1.1 Turtle, section 7.1): the base and the prefixes, the number of the next anonymous
+/// node, and the triples of the statement that is being read.
+#[derive(Drop)]
+pub struct State {
+    pub alloc: Global,
+    pub prefixes: Prefixes,
+    pub next: u64,
+    pub triples: Vec<TermTriple>,
+    ghost absolute: { IsSome (scheme_of (base_of prefixes)) },
+}
+
+impl State {
+    ghost use Rattle.std.specs.Prelude.{true};
+    ghost use Rattle.turtle_reader.specs.Gives.{Answers};
+    ghost use Rattle.turtle_reader.specs.Meanings.{numbered};
+    ghost use Rattle.turtle_reader.specs.States.{anonymous, scope_of, term_of, iri_term, added, begun, declared, rebased, start};
+    ghost use Rattle.turtle_reader.specs.Documents.{AreLast};
+    ghost use Rattle.turtle_reader.specs.Vocabulary.{rdf_first, rdf_rest, rdf_nil};
+
+    /// The state before the first statement of a document with this base, which has a scheme.
+    pub fn new(alloc: Global, base: &str) -> Result<State, AllocError>
+        requires { IsSome (scheme_of base.now) }
+        ensures { IfOk result (λ s. scope_of s ≡ start base.now) }
+    {
+        Ok(State {
+            alloc,
+            prefixes: Prefixes::new(alloc, base)?,
+            next: 1,
+            triples: Vec::new(alloc),
+        })
+    }
+
+    /// Lets a prefix stand for an IRI from here on.
+    pub fn declare(&mut self, prefix: &str, iri: &str) -> Result<(), AllocError>
+        ensures { OnOk result (scope_of self.new ≡ declared prefix.now iri.now (scope_of self.old)) }
+    {
+        self.prefixes.set(prefix, iri)
+    }
+
+    /// Sets the base, which has a scheme.
+    pub fn rebase(&mut self, base: &str) -> Result<(), AllocError>
+        requires { IsSome (scheme_of base.now) }
+        ensures { OnOk result (scope_of self.new ≡ rebased base.now (scope_of self.old)) }
+    {
+        self.prefixes.rebase(base)
+    }
+
+    /// Adds a triple to those of the statement.
+    pub fn add(
+        &mut self,
+        subject: &Resource,
+        predicate: &str,
+        object: Term,
+    ) -> Result<(), AllocError>
+        ensures { OnOk result (scope_of self.new ≡ added (term_of subject.now) predicate.now object (scope_of self.old)) }
+    {
+        let triple = TermTriple {
+            subject: subject.to_term(self.alloc)?,
+            predicate: Term::Iri(Text::from_str(self.alloc, predicate)?),
+            object,
+        };
+        self.triples.push(triple)?;
+        Ok(())
+    }
+
+    /// Adds the triple of a cell of a collection and its member (RDF 1.1 Turtle, section 2.8).
+    pub fn add_first(&mut self, cell: u32, member: Term) -> Result<(), AllocError>
+        ensures { OnOk result (scope_of self.new ≡ added (anonymous cell) rdf_first member (scope_of self.old)) }
+    {
+        self.add(&Resource::Blank(Name::Fresh(cell)), RDF_FIRST, member)
+    }
+
+    /// Adds the triple of a cell of a collection and the rest of the collection (RDF 1.1 Turtle, section 2.8).
+    pub fn add_rest(&mut self, cell: u32, rest: Resource) -> Result<(), AllocError>
+        ensures { OnOk result (scope_of self.new ≡ added (anonymous cell) rdf_rest (term_of rest) (scope_of self.old)) }
+    {
+        self.add(
+            &Resource::Blank(Name::Fresh(cell)),
+            RDF_REST,
+            rest.into_term(),
+        )
+    }
+
+    /// The collection without a member, rdf:nil.
+    pub fn nil(&self) -> Result<Resource, AllocError>
+        ensures { IfOk result (λ r. term_of r ≡ iri_term rdf_nil) }
+    {
+        Ok(Resource::Iri(Text::from_str(self.alloc, RDF_NIL)?))
+    }
+
+    /// The triples of the statement that was read, which are taken away.
+    pub fn take_triples(&mut self) -> Vec<TermTriple>
+        ensures triples { result.items ≡ (scope_of self.old).triples }
+        ensures rest { scope_of self.new ≡ begun (scope_of self.old) }
+    {
+        let alloc = self.alloc;
+        mem::replace(&mut self.triples, Vec::new(alloc))
+    }
+
+    /// The base and the prefixes.
+    pub fn into_prefixes(self) -> Prefixes
+        ensures { AreLast result (scope_of self) }
+    {
+        self.prefixes
+    }
+
+    /// The number of the next anonymous node; `Full` where no number is left.
+    #[tactic(auto, unfolding(crate::specs::Meanings::numbered))]
+    pub fn number(&mut self) -> Result<u32, Stop>
+        ensures { Answers (λ n. (anonymous n, scope_of self.new)) result (numbered true (scope_of self.old)) }
+    {
+        match u32::try_from(self.next) {
+            Ok(number) => {
+                self.next += 1;
+                Ok(number)
+            }
+            Err(_) => Err(Stop::Fault(Fault::Full)),
+        }
+    }
+}
