@@ -1,4 +1,4 @@
-// Laws of loading, for callers' proofs.
+//! Laws of loading, for callers' proofs.
 
 ghost use Rattle.graph_loading.specs.Laws.{LoadingHolds, LoadingIsOne, LoadingKeeps};
 

@@ -1,4 +1,4 @@
-// Triples of terms.
+//! Triples of terms.
 
 ghost use Rattle.std.specs.Prelude.{◌≡◌, List, [], ◌∷◌, ◌++◌, ◌≤◌, length, slice_get, Some, IfOk, OnOk, OnErr, Contains};
 ghost use Rattle.rdf_terms.specs.Lists.{Adds, AreDistinct};
@@ -33,7 +33,7 @@ pub enum LoadError {
     Memory,
 }
 
-// The number of a term, which goes last where it is new.
+/// The number of a term, which goes last where it is new.
 fn number(terms: &mut TermTable, term: Term) -> Result<TermId, LoadError>
     ensures number { IfOk result (λ id. slice_get terms.new id.0 ≡ Some term) }
     ensures added { OnOk result (Adds terms.old term terms.new) }
@@ -48,7 +48,7 @@ fn number(terms: &mut TermTable, term: Term) -> Result<TermId, LoadError>
     }
 }
 
-// The numbers of the terms of a triple, which go last where they are new.
+/// The numbers of the terms of a triple, which go last where they are new.
 fn number_all(terms: &mut TermTable, triple: TermTriple) -> Result<Triple, LoadError>
     ensures added { OnOk result (AddsAll terms.old (terms_of triple) terms.new) }
     ensures numbered { IfOk result (λ n. IsNumbered terms.new triple n) }

@@ -167,6 +167,13 @@ module _ (source : List ℕ) (u : IsUtf8 source) where
       by (inl (c, f)) = cc
       by (inr (f, l)) = cc
 
+  no_number : (rest : Ahead Spelled) → r.document true ahead ≡ Err (faults.Full, rest) → ⊥
+  no_number rest e = by (agreed faults.Full rest e)
+    where
+      by : (Common faults.Full × (r.document false ahead ≡ Err (faults.Full, rest))) ⊎ LongNext faults.Full rest → ⊥
+      by (inl (c, f)) = cc
+      by (inr (f, l)) = cc
+
   overfull : (terms : List Term) (graph : List Triple) (rest : Ahead Spelled) → Fills ahead terms graph rest → IsOverfull source terms graph
   overfull terms graph rest f =
       let front = lines_front (f.before ++ f.last ∷ []) ahead rest f.lines in
@@ -193,6 +200,7 @@ module _ (source : List ℕ) (u : IsUtf8 source) where
   explains (refusal.Fault faults.Prefix) at rest terms new_terms graph new_graph h s = absurd (no_prefix rest h)
   explains (refusal.Fault faults.Deep) at rest terms new_terms graph new_graph h s = absurd (no_deep rest h)
   explains (refusal.Fault faults.Long) at rest terms new_terms graph new_graph h s = long_place rest at h s
+  explains (refusal.Fault faults.Full) at rest terms new_terms graph new_graph h s = absurd (no_number rest h)
 
   document_is_read : (xs : List TermTriple) → IsDocument IsShort source xs → r.document true ahead ≡ Ok (xs, finished)
   document_is_read xs (ts, utf8, tokens, h) = read_short xs ahead (subst (λ (v : Ahead Spelled). Lines IsShort xs v finished) (sym (from_tokens NTriples source u ts tokens)) h)
@@ -205,6 +213,9 @@ module _ (source : List ℕ) (u : IsUtf8 source) where
 
   pub one_document : (xs ys : List TermTriple) → IsDocument IsAny source xs → IsDocument IsAny source ys → xs ≡ ys
   one_document xs ys h k = same_read false xs ys (any_is_read xs h) (any_is_read ys k)
+
+  pub one_short_document : (xs ys : List TermTriple) → IsDocument IsShort source xs → IsDocument IsShort source ys → xs ≡ ys
+  one_short_document xs ys h k = same_read true xs ys (document_is_read xs h) (document_is_read ys k)
 
   not_full : (terms tt_terms : List Term) (graph tt_graph : List Triple) (rest : Ahead Spelled) (xs : List TermTriple) → AreDistinct terms → IsDocument IsShort source xs → Loads terms graph xs tt_terms tt_graph → IsWithin tt_terms tt_graph
       → Fills ahead terms graph rest → ⊥
@@ -231,6 +242,7 @@ module _ (source : List ℕ) (u : IsUtf8 source) where
   reads_err (refusal.Fault faults.Prefix) at terms new_terms tt_terms left_terms graph new_graph tt_graph left_graph rest xs dis doc loads within h = no_fault xs faults.Prefix rest doc h
   reads_err (refusal.Fault faults.Deep) at terms new_terms tt_terms left_terms graph new_graph tt_graph left_graph rest xs dis doc loads within h = no_fault xs faults.Deep rest doc h
   reads_err (refusal.Fault faults.Long) at terms new_terms tt_terms left_terms graph new_graph tt_graph left_graph rest xs dis doc loads within h = no_fault xs faults.Long rest doc h
+  reads_err (refusal.Fault faults.Full) at terms new_terms tt_terms left_terms graph new_graph tt_graph left_graph rest xs dis doc loads within h = no_fault xs faults.Full rest doc h
 
 -- from what lies ahead of a reader of lines at first
 module _ (source : List ℕ) (u : IsUtf8 source) (first : Ahead Spelled) (begins : first ≡ stream_from NTriples source 0) where

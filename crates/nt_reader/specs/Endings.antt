@@ -68,3 +68,7 @@ ReadsTo (Err error.Deep) wanted_terms wanted_graph terms graph = ⊥
 -- the bytes are a document of one list of triples at most
 abbrev pub DocumentsAreOne : Type 0
 DocumentsAreOne = (source : List ℕ) (xs ys : List TermTriple) → IsDocument IsAny source xs → IsDocument IsAny source ys → xs ≡ ys
+
+-- so within the limits
+abbrev pub ShortDocumentsAreOne : Type 0
+ShortDocumentsAreOne = (source : List ℕ) (xs ys : List TermTriple) → IsDocument IsShort source xs → IsDocument IsShort source ys → xs ≡ ys

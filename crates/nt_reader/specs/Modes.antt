@@ -5,7 +5,7 @@ use Rattle.rdf_lex.specs.declared.kinds.Mode.{Mode}
 use Rattle.rdf_lex.specs.declared.kinds.Mode.TheVariants.{NTriples, Turtle, Map}
 use Rattle.rdf_cursor.specs.Meanings.{text_of}
 use Rattle.rdf_cursor.specs.declared.stops.Fault.{Fault}
-use Rattle.rdf_cursor.specs.declared.stops.Fault.TheVariants.{Syntax, Prefix, Deep, Long}
+use Rattle.rdf_cursor.specs.declared.stops.Fault.TheVariants.{Syntax, Prefix, Deep, Long, Full}
 use Rattle.rdf_cursor.specs.declared.stops.Stop.{Stop}
 use Rattle.rdf_cursor.specs.declared.stops.Stop.TheVariants as stop
 
@@ -22,6 +22,7 @@ MeansText kind text (Err (stop.Fault Syntax)) = text_of NTriples (record { kind 
 MeansText kind text (Err (stop.Fault Prefix)) = ⊥
 MeansText kind text (Err (stop.Fault Deep)) = ⊥
 MeansText kind text (Err (stop.Fault Long)) = ⊥
+MeansText kind text (Err (stop.Fault Full)) = ⊥
 
 -- why a token is no such thing
 abbrev pub IsStop : {A : Type 0} → Stop → Result A Fault → Type 0

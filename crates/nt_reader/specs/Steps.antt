@@ -68,3 +68,4 @@ error_of (Fault faults.Syntax) at = error.Syntax at
 error_of (Fault faults.Prefix) at = error.Prefix at
 error_of (Fault faults.Deep) at = error.Deep
 error_of (Fault faults.Long) at = error.Long at
+error_of (Fault faults.Full) at = error.Full

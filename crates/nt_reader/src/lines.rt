@@ -1,4 +1,4 @@
-// Lines of N-Triples, token by token.
+//! Lines of N-Triples, token by token.
 
 ghost use Rattle.std.specs.Prelude.{◌≡◌, nat_lt, length, encode_utf8_all, true, is_some};
 ghost use Rattle.std.specs.Str.{chars};
@@ -33,7 +33,7 @@ pub struct LineReader<'a> {
     ghost mode: { is_ntriples (mode_of cursor) ≡ true },
 }
 
-// Whether a text has more bytes than it may.
+/// Whether a text has more bytes than it may.
 fn is_long(text: &str) -> bool
     ensures chars { result ≡ nat_lt max_bytes (length (encode_utf8_all (chars text.now))) }
     ensures bytes { result ≡ nat_lt max_bytes (length text.now) }
@@ -41,21 +41,21 @@ fn is_long(text: &str) -> bool
     text.len() > MAX_BYTES
 }
 
-// Whether an IRI has a scheme.
+/// Whether an IRI has a scheme.
 fn is_absolute(iri: &str) -> bool
     ensures { result ≡ is_some (scheme_of (encode_utf8_all (chars iri.now))) }
 {
     split(iri).scheme.is_some()
 }
 
-// Whether a text stands in `"` on one line.
+/// Whether a text stands in `"` on one line.
 fn is_plain_quote(text: &str) -> bool
     ensures { result ≡ is_plain_quote (chars text.now) }
 {
     text.starts_with("\"") && !text.starts_with("\"\"\"")
 }
 
-// The characters that a token stands for.
+/// The characters that a token stands for.
 fn meaning(alloc: Global, token: Token<'_>) -> Result<Text, Stop>
     requires { Spells (Spelling NTriples token.kind) (chars token.text.now) }
     ensures { MeansText token.entry.kind token.entry.text.now result }
@@ -70,7 +70,7 @@ fn meaning(alloc: Global, token: Token<'_>) -> Result<Text, Stop>
     }
 }
 
-// The IRI of a token.
+/// The IRI of a token.
 fn iri_of(alloc: Global, token: Token<'_>) -> Result<Text, Stop>
     requires { Spells (Spelling NTriples token.kind) (chars token.text.now) }
     ensures { Judges (λ x. x) result (iri_of true (spelled token.entry)) }
@@ -88,7 +88,7 @@ fn iri_of(alloc: Global, token: Token<'_>) -> Result<Text, Stop>
     Ok(iri)
 }
 
-// The IRI of a token that is a datatype, which is not rdf:langString.
+/// The IRI of a token that is a datatype, which is not rdf:langString.
 fn datatype_of(alloc: Global, token: Token<'_>) -> Result<Text, Stop>
     requires { Spells (Spelling NTriples token.kind) (chars token.text.now) }
     ensures { Judges (λ x. x) result (datatype_by (iri_of true (spelled token.entry))) }
@@ -100,7 +100,7 @@ fn datatype_of(alloc: Global, token: Token<'_>) -> Result<Text, Stop>
     Ok(iri)
 }
 
-// The label of a blank node in a token, without `_:`.
+/// The label of a blank node in a token, without `_:`.
 fn label_of(token: Token<'_>) -> Result<&str, Stop>
     ensures { Judges (λ x. x.now) result (label_of true (spelled token.entry)) }
 {
@@ -116,7 +116,7 @@ fn label_of(token: Token<'_>) -> Result<&str, Stop>
     Ok(label)
 }
 
-// The lexical form of a token.
+/// The lexical form of a token.
 fn lexical_of(alloc: Global, token: Token<'_>) -> Result<Text, Stop>
     requires { Spells (Spelling NTriples token.kind) (chars token.text.now) }
     ensures { Judges (λ x. x) result (lexical_of true (spelled token.entry)) }
@@ -134,7 +134,7 @@ fn lexical_of(alloc: Global, token: Token<'_>) -> Result<Text, Stop>
     Ok(lex)
 }
 
-// The language tag of a token, as it is written.
+/// The language tag of a token, as it is written.
 fn tag_of(token: Token<'_>) -> Result<&str, Stop>
     ensures { Judges (λ x. chars x.now) result (tag_of (spelled token.entry)) }
 {

@@ -1,11 +1,11 @@
-// The reader of a whole text.
+//! The reader of a whole text.
 
 ghost use Rattle.std.specs.Prelude.{◌≡◌, ◌++◌, List, OnOk, OnErr, IfErr};
 ghost use Rattle.std.specs.Str.{IsUtf8};
 ghost use Rattle.rdf_terms.specs.Lists.{AreDistinct};
 ghost use Rattle.graph_loading.specs.declared.triples.TermTriple.{TermTriple};
 ghost use Rattle.graph_loading.specs.Loading.{Loads, IsWithin};
-ghost use Rattle.nt_reader.specs.Endings.{DocumentsAreOne, Explains, ReadsTo};
+ghost use Rattle.nt_reader.specs.Endings.{DocumentsAreOne, ShortDocumentsAreOne, Explains, ReadsTo};
 ghost use Rattle.nt_reader.specs.Grammar.{IsDocument, IsShort};
 ghost use Rattle.rdf_terms.specs.declared.terms.Term.{Term};
 ghost use Rattle.rdf_terms.specs.declared.terms.Triple.{Triple};
@@ -53,7 +53,7 @@ impl From<LoadError> for Refusal {
     }
 }
 
-// Reads one line, and loads its triple.
+/// Reads one line, and loads its triple.
 fn load_line(
     lines: &mut LineReader<'_>,
     terms: &mut TermTable,
@@ -73,7 +73,7 @@ fn load_line(
     }
 }
 
-// Reads all lines, and loads their triples.
+/// Reads all lines, and loads their triples.
 fn load_lines(
     lines: &mut LineReader<'_>,
     terms: &mut TermTable,
@@ -91,7 +91,7 @@ fn load_lines(
     Ok(())
 }
 
-// The answer for a refusal at a place.
+/// The answer for a refusal at a place.
 fn error(refusal: Refusal, at: u64) -> ReadError
     ensures { result ≡ error_of refusal at }
 {
@@ -102,10 +102,11 @@ fn error(refusal: Refusal, at: u64) -> ReadError
         Refusal::Fault(Fault::Prefix) => ReadError::Prefix(at),
         Refusal::Fault(Fault::Deep) => ReadError::Deep,
         Refusal::Fault(Fault::Long) => ReadError::Long(at),
+        Refusal::Fault(Fault::Full) => ReadError::Full,
     }
 }
 
-// Reads a text; the triples of one that is refused are taken back.
+/// Reads a text; the triples of one that is refused are taken back.
 fn read_text(
     alloc: Global,
     text: &str,
@@ -162,7 +163,8 @@ pub fn read(
     }
 }
 
-/// The law that the bytes are a document of one list of triples at most.
+/// The law that the bytes are a document of one list of triples at most, of whatever lengths and so within the limits too.
 pub fn documents_are_one()
-    ensures { DocumentsAreOne }
+    ensures any { DocumentsAreOne }
+    ensures short { ShortDocumentsAreOne }
 {}

@@ -1,4 +1,4 @@
-// Rows with values from the published grammar and the rules above, and calls with ample memory.
+//! Rows with values from the published grammar and the rules above, and calls with ample memory.
 
 use super::read;
 use graph_index::graph::Graph;
@@ -10,7 +10,7 @@ use std::alloc::Global;
 use std::process::Abort;
 use std::test::Fail;
 
-// What a document of these bytes is answered, with an empty table and graph, and how many triples there are then.
+/// What a document of these bytes is answered, with an empty table and graph, and how many triples there are then.
 fn answer(alloc: Global, source: &[u8]) -> (Result<(), ReadError>, u64) {
     let mut terms = TermTable::new(alloc);
     let mut graph = Graph::new(alloc);
@@ -118,7 +118,7 @@ fn a_refusal_takes_its_triples_back(rt: HostRuntime) -> Result<(), Fail> {
     Ok(())
 }
 
-// Lines of as many triples.
+/// Lines of as many triples.
 fn made(alloc: Global, count: u32) -> Result<String, Fail> {
     let mut text = String::new(alloc);
     for number in 0..count {
@@ -137,7 +137,7 @@ fn a_hundred_thousand_lines_are_read(rt: HostRuntime) -> Result<(), Fail> {
     Ok(())
 }
 
-// A triple whose object has so many bytes.
+/// A triple whose object has so many bytes.
 fn long(alloc: Global, bytes: u32) -> Result<String, Fail> {
     let mut text = String::new(alloc);
     text.push_str("<a:s> <a:p> \"")?;

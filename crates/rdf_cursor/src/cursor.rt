@@ -1,4 +1,4 @@
-// A place among the tokens of a text.
+//! A place among the tokens of a text.
 
 ghost use Rattle.std.specs.Prelude.{◌≡◌, ◌+◌, length};
 ghost use Rattle.std.specs.Str.{IsCharBoundary, IsUtf8};
@@ -19,7 +19,7 @@ pub struct Cursor<'a> {
     ghost reached: { ∥ IsReached mode source.now next ∥₁ },
 }
 
-// The place behind a token of a text.
+/// The place behind a token of a text.
 fn end_of(source: &str, token: Token<'_>) -> u64
     requires { IsCharBoundary source.now (token.at + length token.text.now) }
     ensures { result ≡ token.entry.at + length token.entry.text.now }

@@ -1,4 +1,4 @@
-// Laws of what lies ahead of a cursor, for those that read.
+//! Laws of what lies ahead of a cursor, for those that read.
 
 ghost use Rattle.rdf_cursor.specs.Laws.{StreamsAreTokens};
 

@@ -1,4 +1,4 @@
-// Why reading stopped.
+//! Why reading stopped.
 
 ghost use Rattle.std.specs.Prelude.{◌≡◌};
 ghost use Rattle.rdf_cursor.specs.declared.stops.Stop.TheVariants.{Memory};
@@ -16,6 +16,8 @@ pub enum Fault {
     Deep,
     /// The text of a term is too long.
     Long,
+    /// No number is left for an anonymous node.
+    Full,
 }
 
 /// Why reading stopped at the next token.

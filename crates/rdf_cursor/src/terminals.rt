@@ -1,4 +1,4 @@
-// The terminals of the grammars.
+//! The terminals of the grammars.
 
 ghost use Rattle.std.specs.Prelude.{◌≡◌};
 ghost use Rattle.rdf_cursor.specs.Terminals.{mark_of, terminal_of, same_terminal};
@@ -92,7 +92,7 @@ impl Terminal {
     }
 }
 
-// Which mark a text is.
+/// Which mark a text is.
 fn mark(text: &str) -> Terminal
     ensures { result ≡ mark_of text.now }
 {

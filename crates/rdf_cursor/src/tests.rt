@@ -1,4 +1,4 @@
-// What no clause says: the terminals of texts from the grammars, and a walk over a text.
+//! What no clause says: the terminals of texts from the grammars, and a walk over a text.
 
 use super::*;
 use rdf_lex::Mode;

@@ -1,5 +1,5 @@
 -- What each fault came from: the next token, in the base and the prefixes of the statement.
-use Rattle.std.proofs.Common.{◌≡◌, ◌<◌, Bool, true, false, cond, ℕ, zero, suc, List, [], ◌∷◌, ◌++◌, Option, Some, None, length, Result, Ok, Err, refl, sym, ap, subst, ◌∙◌, ◌⊎◌, inl, inr, encode_utf8_all}
+use Rattle.std.proofs.Common.{◌≡◌, ◌<◌, Bool, true, false, cond, ℕ, zero, suc, List, [], ◌∷◌, ◌++◌, Option, Some, None, length, Result, Ok, Err, refl, sym, subst, ◌∙◌, encode_utf8_all}
 use Rattle.std.specs.Prelude.{nat_lt}
 use Rattle.std.specs.List.{after_first}
 use Rattle.std.specs.Str.{chars}
@@ -8,15 +8,13 @@ use Rattle.iri_resolve.specs.Resolution.{resolved_text}
 use Rattle.rdf_terms.specs.Literals.{rdf_lang_string}
 use Rattle.rdf_terms.specs.Texts.{same_text}
 use Rattle.rdf_terms.specs.declared.terms.Term.{Term}
-use Rattle.token_readers.specs.Ahead.{Ahead, finished, broken, token, count, next_is}
-use Rattle.token_readers.specs.Readers.{Answer, Reader, and_then, ◌>>=◌, give, refuse, taken, one, either, loop_within, loop}
-use Rattle.token_readers.proofs.Answers.{then_ok, apart, ok_is, err_is}
+use Rattle.token_readers.specs.Ahead.{Ahead, finished, token}
+use Rattle.token_readers.specs.Readers.{one}
 use Rattle.rdf_lex.specs.declared.kinds.Mode.TheVariants.{Turtle}
 use Rattle.rdf_lex.specs.Tokens.{Spelled}
 use Rattle.rdf_cursor.specs.Meanings.{text_of}
-use Rattle.graph_loading.specs.declared.triples.TermTriple.{TermTriple}
-use Rattle.turtle_reader.specs.declared.faults.Fault.{Fault}
-use Rattle.turtle_reader.specs.declared.faults.Fault.TheVariants as faults
+use Rattle.rdf_cursor.specs.declared.stops.Fault.{Fault}
+use Rattle.rdf_cursor.specs.declared.stops.Fault.TheVariants as faults
 use Rattle.turtle_reader.specs.declared.symbols.Symbol.{Symbol}
 use Rattle.turtle_reader.specs.declared.symbols.Symbol.TheVariants as symbol
 use Rattle.turtle_reader.specs.Causes.{bare, brackets, IsLong, by_iri, by_label, by_string, by_number, Causes}
@@ -26,82 +24,7 @@ use Rattle.turtle_reader.specs.States.{Scope, added, anonymous, counted}
 use Rattle.turtle_reader.specs.Symbols.{is_symbol, is_among, names, tags, shorthands}
 use Rattle.turtle_reader.specs.Vocabulary.{rdf_rest}
 use Rattle.turtle_reader.proofs.Nexts.{nexts, no_next, first_of}
-
--- what a reader's value and its fault satisfy
-pub record Tells {A : Type 0} (p : R A) (Q : A → Type 0) (P : Fault → Ahead Spelled → Type 0) (ts : Ahead Spelled) : Type 0 where
-  pub good : (y : A × Ahead Spelled) → p ts ≡ Ok y → Q y.0
-  pub bad : (e : Fault × Ahead Spelled) → p ts ≡ Err e → P e.0 e.1
-
-then_err : {A B : Type 0} (a : Answer Spelled Fault A) (f : A → R B) (e : Fault × Ahead Spelled) → and_then a f ≡ Err e → (a ≡ Err e) ⊎ ((x : A × Ahead Spelled) × (a ≡ Ok x) × (f x.0 x.1 ≡ Err e))
-then_err (Ok x) f e is = inr (x, refl, is)
-then_err (Err d) f e is = inl (ap Err (err_is d e is))
-
-tells_give : {A : Type 0} {x : A} {Q : A → Type 0} {P : Fault → Ahead Spelled → Type 0} {ts : Ahead Spelled} → Q x → Tells (give x) Q P ts
-tells_give {A = A} {x = x} {Q = Q} {ts = ts} h = record {
-  good = λ y e. subst (λ (v : A × Ahead Spelled). Q v.0) (ok_is (x, ts) y e) h;
-  bad = λ e is. absurd (apart (x, ts) e is);
-}
-
-tells_refuse : {A : Type 0} {f : Fault} {Q : A → Type 0} {P : Fault → Ahead Spelled → Type 0} {ts : Ahead Spelled} → P f ts → Tells (refuse f) Q P ts
-tells_refuse {A = A} {f = f} {P = P} {ts = ts} h = record {
-  good = λ y e. absurd (apart y (f, ts) (sym e));
-  bad = λ e is. subst (λ (v : Fault × Ahead Spelled). P v.0 v.1) (err_is (f, ts) e is) h;
-}
-
-one_good : {A : Type 0} (f : Fault) (class : Spelled → Result A Fault) (Q : A → Type 0) → ((t : Spelled) (x : A) → class t ≡ Ok x → Q x) → (ts : Ahead Spelled) (y : A × Ahead Spelled) → one f class ts ≡ Ok y → Q y.0
-one_good f class Q h finished y e = absurd (apart y (f, finished) (sym e))
-one_good f class Q h broken y e = absurd (apart y (f, broken) (sym e))
-one_good {A = A} f class Q h (token t ts) y e = by (class t) refl e
-  where
-    by : (c : Result A Fault) → class t ≡ c → taken c (token t ts) ts ≡ Ok y → Q y.0
-    by (Ok x) is e = subst (λ (v : A × Ahead Spelled). Q v.0) (ok_is (x, ts) y e) (h t x is)
-    by (Err d) is e = absurd (apart y (d, token t ts) (sym e))
-
-one_bad : {A : Type 0} (class : Spelled → Result A Fault) (P : Fault → Ahead Spelled → Type 0) → ((ts : Ahead Spelled) → P faults.Syntax ts) → ((t : Spelled) (rest : Ahead Spelled) (f : Fault) → class t ≡ Err f → P f (token t rest))
-    → (ts : Ahead Spelled) (e : Fault × Ahead Spelled) → one faults.Syntax class ts ≡ Err e → P e.0 e.1
-one_bad class P s h finished e is = subst (λ (v : Fault × Ahead Spelled). P v.0 v.1) (err_is (faults.Syntax, finished) e is) (s finished)
-one_bad class P s h broken e is = subst (λ (v : Fault × Ahead Spelled). P v.0 v.1) (err_is (faults.Syntax, broken) e is) (s broken)
-one_bad {A = A} class P s h (token t ts) e is = by (class t) refl is
-  where
-    by : (c : Result A Fault) → class t ≡ c → taken c (token t ts) ts ≡ Err e → P e.0 e.1
-    by (Ok x) k is = absurd (apart (x, ts) e is)
-    by (Err d) k is = subst (λ (v : Fault × Ahead Spelled). P v.0 v.1) (err_is (d, token t ts) e is) (h t ts d k)
-
-tells_one : {A : Type 0} {class : Spelled → Result A Fault} {Q : A → Type 0} {P : Fault → Ahead Spelled → Type 0} {ts : Ahead Spelled} → ((ts : Ahead Spelled) → P faults.Syntax ts)
-    → ((t : Spelled) (x : A) → class t ≡ Ok x → Q x) → ((t : Spelled) (rest : Ahead Spelled) (f : Fault) → class t ≡ Err f → P f (token t rest)) → Tells (one faults.Syntax class) Q P ts
-tells_one {class = class} {Q = Q} {P = P} {ts = ts} s h k = record { good = λ y e. one_good faults.Syntax class Q h ts y e; bad = λ e is. one_bad class P s k ts e is }
-
-tells_bind : {A B : Type 0} {p : R A} {f : A → R B} {Q : A → Type 0} {S : B → Type 0} {P : Fault → Ahead Spelled → Type 0} {ts : Ahead Spelled} → Tells p Q P ts
-    → ((x : A) (r : Ahead Spelled) → Q x → Tells (f x) S P r) → Tells (p >>= f) S P ts
-tells_bind {A = A} {B = B} {p = p} {f = f} {S = S} {P = P} {ts = ts} a h = record {
-  good = λ y e. let c = then_ok (p ts) f y e in (h c.0.0 c.0.1 (a.good c.0 c.1)).good y c.2;
-  bad = λ e is. by e (then_err (p ts) f e is);
-}
-  where
-    by : (e : Fault × Ahead Spelled) → (p ts ≡ Err e) ⊎ ((x : A × Ahead Spelled) × (p ts ≡ Ok x) × (f x.0 x.1 ≡ Err e)) → P e.0 e.1
-    by e (inl is) = a.bad e is
-    by e (inr (x, is, k)) = (h x.0 x.1 (a.good x is)).bad e k
-
-tells_chosen : {A : Type 0} (b : Bool) (p q : R A) (Q : A → Type 0) (P : Fault → Ahead Spelled → Type 0) (ts : Ahead Spelled) → (b ≡ true → Tells p Q P ts) → (b ≡ false → Tells q Q P ts)
-    → ((y : A × Ahead Spelled) → cond b (p ts) (q ts) ≡ Ok y → Q y.0) × ((e : Fault × Ahead Spelled) → cond b (p ts) (q ts) ≡ Err e → P e.0 e.1)
-tells_chosen true p q Q P ts a b = ((a refl).good, (a refl).bad)
-tells_chosen false p q Q P ts a b = ((b refl).good, (b refl).bad)
-
-tells_either : {A : Type 0} {class : Spelled → Bool} {p q : R A} {Q : A → Type 0} {P : Fault → Ahead Spelled → Type 0} {ts : Ahead Spelled} → (next_is class ts ≡ true → Tells p Q P ts) → (next_is class ts ≡ false → Tells q Q P ts)
-    → Tells (either class p q) Q P ts
-tells_either {class = class} {p = p} {q = q} {Q = Q} {P = P} {ts = ts} a b = let c = tells_chosen (next_is class ts) p q Q P ts a b in record { good = c.0; bad = c.1 }
-
-tells_within : {S : Type 0} (class : Spelled → Bool) (step : S → R S) (Q : S → Type 0) (P : Fault → Ahead Spelled → Type 0) → ((s : S) (ts : Ahead Spelled) → Q s → Tells (step s) Q P ts)
-    → (n : ℕ) (s : S) (ts : Ahead Spelled) → Q s → Tells (loop_within n class step s) Q P ts
-tells_within class step Q P h zero s ts q = let t : Tells (give s) Q P ts = tells_give q in record { good = t.good; bad = t.bad }
-tells_within class step Q P h (suc n) s ts q =
-    let c = tells_chosen (next_is class ts) (step s >>= loop_within n class step) (give s) Q P ts (λ _. tells_bind (h s ts q) (λ x r k. tells_within class step Q P h n x r k)) (λ _. tells_give q) in
-    record { good = c.0; bad = c.1 }
-
-tells_loop : {S : Type 0} (class : Spelled → Bool) (step : S → R S) (Q : S → Type 0) (P : Fault → Ahead Spelled → Type 0) → ((s : S) (ts : Ahead Spelled) → Q s → Tells (step s) Q P ts)
-    → (s : S) (ts : Ahead Spelled) → Q s → Tells (loop class step s) Q P ts
-unfolding loop
-tells_loop class step Q P h s ts q = let w = tells_within class step Q P h (count ts) s ts q in record { good = w.good; bad = w.bad }
+use Rattle.turtle_reader.proofs.Tells.{Tells, tells_give, tells_refuse, tells_one, tells_bind, tells_either, tells_loop}
 
 -- classes
 syntax_only : (v : Scope) (t : Spelled) (rest : Ahead Spelled) (f : Fault) → faults.Syntax ≡ f → Causes v f (token t rest)
@@ -128,8 +51,8 @@ module _ (v : Scope) where
   abbrev P : Fault → Ahead Spelled → Type 0
   P f ts = Causes (bare v) f ts
 
-  syntax_told : (ts : Ahead Spelled) → P faults.Syntax ts
-  syntax_told ts = tt
+  class_tells : {A : Type 0} {class : Spelled → Result A Fault} {ts : Ahead Spelled} → ((t : Spelled) (rest : Ahead Spelled) (f : Fault) → class t ≡ Err f → P f (token t rest)) → Tells (one faults.Syntax class) (λ _ r. Unit {0}) P ts
+  class_tells h = tells_one tt (λ t rest x is e. tt) (λ t rest f is e. h t rest f e)
 
   resolved_cause : (t : Spelled) (rest : Ahead Spelled) (f : Fault) (o : Option (List ℕ)) → text_of Turtle t ≡ o → ((iri : List ℕ) → resolved false v o ≡ Ok iri → max_text < length iri → IsLong (bare v) t) → resolved true v o ≡ Err f → P f (token t rest)
   resolved_cause t rest f None e long is = syntax_only (bare v) t rest f (err_of faults.Syntax f is)
@@ -214,56 +137,53 @@ module _ (v : Scope) where
   shorthand_cause t rest f e = cond_cause (bare v) t rest (is_among shorthands t) (is_among shorthands t) _ f refl
       (λ is k. limited_cause (bare v) t rest t.text _ (nat_lt max_text (length t.text)) f refl (λ l. by_number is l) k) e
 
-  mark_tells : (a : Symbol) (ts : Ahead Spelled) → Tells (mark a) (λ _. Unit {0}) P ts
-  mark_tells a ts = tells_one syntax_told (λ t x e. tt) (λ t rest f e. ok_cause t rest f (is_symbol a t) t e)
+  mark_tells : (a : Symbol) (ts : Ahead Spelled) → Tells (mark a) (λ _ r. Unit {0}) P ts
+  mark_tells a ts = class_tells (λ t rest f e. ok_cause t rest f (is_symbol a t) t e)
 
-  settled_tells : (b : Bool) (x : Term × Scope) (ts : Ahead Spelled) → Kept x.1 → Tells (settled (cond b (Err faults.Full) (Ok x))) (λ y. Kept y.1) P ts
+  settled_tells : (b : Bool) (x : Term × Scope) (ts : Ahead Spelled) → Kept x.1 → Tells (settled (cond b (Err faults.Full) (Ok x))) (λ y r. Kept y.1) P ts
   settled_tells true x ts h = tells_refuse tt
   settled_tells false x ts h = tells_give h
 
-  next_tells : (ts : Ahead Spelled) → Tells (next_node true v) (λ y. Kept y.1) P ts
+  next_tells : (ts : Ahead Spelled) → Tells (next_node true v) (λ y r. Kept y.1) P ts
   unfolding next_node numbered
   next_tells ts = settled_tells (nat_lt max_anonymous v.next) (anonymous v.next, counted v) ts refl
 
-  iri_tells : (ts : Ahead Spelled) → Tells (iri true v) (λ _. Unit {0}) P ts
+  iri_tells : (ts : Ahead Spelled) → Tells (iri true v) (λ _ r. Unit {0}) P ts
   unfolding iri
-  iri_tells ts = tells_one syntax_told (λ t x e. tt) iri_cause
+  iri_tells ts = class_tells iri_cause
 
-  literal_tells : (ts : Ahead Spelled) → Tells (literal true v) (λ _. Unit {0}) P ts
+  literal_tells : (ts : Ahead Spelled) → Tells (literal true v) (λ _ r. Unit {0}) P ts
   unfolding literal datatyped
-  literal_tells ts = tells_bind (tells_one {Q = λ _. Unit {0}} syntax_told (λ t x e. tt) string_cause) (λ lex m q. tells_either (λ _. tells_one syntax_told (λ t x e. tt) (tagged_cause lex))
-      (λ _. tells_either (λ _. tells_bind (mark_tells symbol.Carets m) (λ w n u. tells_one syntax_told (λ t x e. tt) (typed_cause lex))) (λ _. tells_give tt)))
+  literal_tells ts = tells_bind (class_tells string_cause) (λ lex m q. tells_either (λ _. class_tells (tagged_cause lex))
+      (λ _. tells_either (λ _. tells_bind (mark_tells symbol.Carets m) (λ w n u. class_tells (typed_cause lex))) (λ _. tells_give tt)))
 
-  resource_tells : (ts : Ahead Spelled) → Tells (resource true v) (λ _. Unit {0}) P ts
+  resource_tells : (ts : Ahead Spelled) → Tells (resource true v) (λ _ r. Unit {0}) P ts
   unfolding resource
-  resource_tells ts = tells_either (λ _. tells_one syntax_told (λ t x e. tt) blank_cause) (λ _. tells_bind (iri_tells ts) (λ i m q. tells_give tt))
+  resource_tells ts = tells_either (λ _. class_tells blank_cause) (λ _. tells_bind (iri_tells ts) (λ i m q. tells_give tt))
 
-  simple_tells : (ts : Ahead Spelled) → Tells (simple true v) (λ _. Unit {0}) P ts
+  simple_tells : (ts : Ahead Spelled) → Tells (simple true v) (λ _ r. Unit {0}) P ts
   unfolding simple
-  simple_tells ts = tells_either (λ _. literal_tells ts) (λ _. tells_either (λ _. tells_one syntax_told (λ t x e. tt) shorthand_cause) (λ _. resource_tells ts))
+  simple_tells ts = tells_either (λ _. literal_tells ts) (λ _. tells_either (λ _. class_tells shorthand_cause) (λ _. resource_tells ts))
 
-  verb_tells : (ts : Ahead Spelled) → Tells (verb true v) (λ _. Unit {0}) P ts
+  verb_tells : (ts : Ahead Spelled) → Tells (verb true v) (λ _ r. Unit {0}) P ts
   unfolding verb
   verb_tells ts = tells_either (λ _. tells_bind (mark_tells symbol.A ts) (λ w m u. tells_give tt)) (λ _. iri_tells ts)
 
 -- from the scope that stays
-moved : {A : Type 0} (p : R A) (Q : A → Type 0) (v w : Scope) (ts : Ahead Spelled) → bare w ≡ bare v → Tells p Q (λ f r. Causes (bare w) f r) ts → Tells p Q (λ f r. Causes (bare v) f r) ts
-moved p Q v w ts e t = subst (λ (u : Scope). Tells p Q (λ f r. Causes u f r) ts) e t
+kept_moved : {A : Type 0} (p : R (A × Scope)) (v w : Scope) (ts : Ahead Spelled) → bare w ≡ bare v → Tells p (λ y r. bare y.1 ≡ bare w) (λ f r. Causes (bare w) f r) ts → Tells p (λ y r. bare y.1 ≡ bare v) (λ f r. Causes (bare v) f r) ts
+kept_moved p v w ts e t = subst (λ (u : Scope). Tells p (λ y r. bare y.1 ≡ u) (λ f r. Causes u f r) ts) e t
 
-kept_moved : {A : Type 0} (p : R (A × Scope)) (v w : Scope) (ts : Ahead Spelled) → bare w ≡ bare v → Tells p (λ y. bare y.1 ≡ bare w) (λ f r. Causes (bare w) f r) ts → Tells p (λ y. bare y.1 ≡ bare v) (λ f r. Causes (bare v) f r) ts
-kept_moved p v w ts e t = subst (λ (u : Scope). Tells p (λ y. bare y.1 ≡ u) (λ f r. Causes u f r) ts) e t
+stay : (p : R Scope) (v w : Scope) (ts : Ahead Spelled) → bare w ≡ bare v → Tells p (λ y r. bare y ≡ bare w) (λ f r. Causes (bare w) f r) ts → Tells p (λ y r. bare y ≡ bare v) (λ f r. Causes (bare v) f r) ts
+stay p v w ts e t = subst (λ (u : Scope). Tells p (λ y r. bare y ≡ u) (λ f r. Causes u f r) ts) e t
 
-stay : (p : R Scope) (v w : Scope) (ts : Ahead Spelled) → bare w ≡ bare v → Tells p (λ y. bare y ≡ bare w) (λ f r. Causes (bare w) f r) ts → Tells p (λ y. bare y ≡ bare v) (λ f r. Causes (bare v) f r) ts
-stay p v w ts e t = subst (λ (u : Scope). Tells p (λ y. bare y ≡ u) (λ f r. Causes u f r) ts) e t
-
-any_value : {A : Type 0} {p : R A} {Q : A → Type 0} {P : Fault → Ahead Spelled → Type 0} {ts : Ahead Spelled} → Tells p Q P ts → Tells p (λ _. Unit {0}) P ts
+any_value : {A : Type 0} {p : R A} {Q : A → Ahead Spelled → Type 0} {P : Fault → Ahead Spelled → Type 0} {ts : Ahead Spelled} → Tells p Q P ts → Tells p (λ _ r. Unit {0}) P ts
 any_value a = record { good = λ y e. tt; bad = λ e is. a.bad e is }
 
 abbrev Goes : R Scope → Scope → Ahead Spelled → Type 0
-Goes p v ts = Tells p (λ w. bare w ≡ bare v) (λ f r. Causes (bare v) f r) ts
+Goes p v ts = Tells p (λ w r. bare w ≡ bare v) (λ f r. Causes (bare v) f r) ts
 
 abbrev Finds : R (Term × Scope) → Scope → Ahead Spelled → Type 0
-Finds p v ts = Tells p (λ y. bare y.1 ≡ bare v) (λ f r. Causes (bare v) f r) ts
+Finds p v ts = Tells p (λ y r. bare y.1 ≡ bare v) (λ f r. Causes (bare v) f r) ts
 
 module _ (obj : Terms) (each : (v : Scope) (ts : Ahead Spelled) → Finds (obj v) v ts) where
   one_tells : (s : Term) (p : List ℕ) (v : Scope) (ts : Ahead Spelled) → Goes (one_object true obj s p v) v ts
@@ -293,7 +213,7 @@ module _ (obj : Terms) (each : (v : Scope) (ts : Ahead Spelled) → Finds (obj v
   node_tells : (v : Scope) (ts : Ahead Spelled) → Finds (node true obj v) v ts
   unfolding node
   node_tells v ts = tells_bind (mark_tells v symbol.OpenBracket ts) (λ w m u. tells_bind (next_tells v m) (λ x n q.
-      tells_bind {Q = λ y. bare y ≡ bare v} (tells_either (λ _. tells_give q) (λ _. stay _ v x.1 n q (predicates_tells x.0 x.1 n))) (λ y l k. tells_bind (mark_tells v symbol.CloseBracket l) (λ z r i. tells_give k))))
+      tells_bind {Q = λ y r. bare y ≡ bare v} (tells_either (λ _. tells_give q) (λ _. stay _ v x.1 n q (predicates_tells x.0 x.1 n))) (λ y l k. tells_bind (mark_tells v symbol.CloseBracket l) (λ z r i. tells_give k))))
 
   cell_tells : (cell : Term) (v : Scope) (ts : Ahead Spelled) → Finds (in_cell true obj cell v) v ts
   unfolding in_cell
@@ -309,7 +229,7 @@ module _ (obj : Terms) (each : (v : Scope) (ts : Ahead Spelled) → Finds (obj v
 
   cells_tells : (v : Scope) (ts : Ahead Spelled) → Finds (cells true obj v) v ts
   unfolding cells
-  cells_tells v ts = tells_bind (member_tells v ts) (λ f m q. tells_bind (tells_loop _ (next_member true obj) (λ a. bare a.1 ≡ bare v) _ (λ a r k. kept_moved _ v a.1 r k (next_member_tells a r)) f m q) (λ l n k.
+  cells_tells v ts = tells_bind (member_tells v ts) (λ f m q. tells_bind (tells_loop _ (next_member true obj) (λ a r. bare a.1 ≡ bare v) _ (λ a r k. kept_moved _ v a.1 r k (next_member_tells a r)) f m q) (λ l n k.
       tells_bind (mark_tells v symbol.CloseParenthesis n) (λ z r i. tells_give k)))
 
   collection_tells : (v : Scope) (ts : Ahead Spelled) → Finds (collection true obj v) v ts
@@ -352,7 +272,7 @@ module _ (d : ℕ) where
   triples_tells v ts = tells_either (λ _. about_node_tells v ts) (λ _. about_subject_tells v ts)
 
 abbrev Ends : R Scope → Scope → Ahead Spelled → Type 0
-Ends p v ts = Tells p (λ w. Unit {0}) (λ f r. Causes (bare v) f r) ts
+Ends p v ts = Tells p (λ w r. Unit {0}) (λ f r. Causes (bare v) f r) ts
 
 ended_tells : (p : Scope → R Scope) (v : Scope) (ts : Ahead Spelled) → Ends (p v) v ts → Ends (ended true p v) v ts
 unfolding ended
@@ -360,11 +280,11 @@ ended_tells p v ts h = tells_bind h (λ w m u. tells_bind (mark_tells v symbol.D
 
 prefix_tells : (v : Scope) (ts : Ahead Spelled) → Ends (prefix_declaration true v) v ts
 unfolding prefix_declaration iri_ref
-prefix_tells v ts = tells_bind (mark_tells v symbol.PnameNs ts) (λ t m u. tells_bind (tells_one {Q = λ _. Unit {0}} (syntax_told v) (λ t x e. tt) (ref_cause v)) (λ i r k. tells_give tt))
+prefix_tells v ts = tells_bind (mark_tells v symbol.PnameNs ts) (λ t m u. tells_bind (class_tells v (ref_cause v)) (λ i r k. tells_give tt))
 
 base_tells : (v : Scope) (ts : Ahead Spelled) → Ends (base_declaration true v) v ts
 unfolding base_declaration iri_ref
-base_tells v ts = tells_bind (tells_one {Q = λ _. Unit {0}} (syntax_told v) (λ t x e. tt) (ref_cause v)) (λ i r k. tells_give tt)
+base_tells v ts = tells_bind (class_tells v (ref_cause v)) (λ i r k. tells_give tt)
 
 behind_tells : (a : Symbol) (p : Scope → R Scope) (v : Scope) (ts : Ahead Spelled) → ((m : Ahead Spelled) → Ends (p v) v m) → Ends (behind true a p v) v ts
 unfolding behind

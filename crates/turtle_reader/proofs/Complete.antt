@@ -1,25 +1,25 @@
 -- What is spelled is read.
-use Rattle.std.proofs.Common.{◌≡◌, ℕ, zero, suc, Bool, true, false, cond, List, [], ◌∷◌, ◌++◌, Result, Ok, Err, refl, sym, ap, subst, ◌∙◌, ◌⊎◌, inl, inr, ◌||◌}
-use Rattle.token_readers.specs.Ahead.{Ahead, finished, broken, token, next_is}
-use Rattle.token_readers.specs.Phrases.{Is, Phrase, Many, none, more}
-use Rattle.token_readers.specs.Readers.{loop, one}
+use Rattle.std.proofs.Common.{◌≡◌, ℕ, zero, suc, Bool, true, false, cond, List, [], ◌∷◌, Result, Ok, Err, refl, ◌∙◌, inl, inr, ◌||◌}
+use Rattle.token_readers.specs.Ahead.{Ahead, finished, next_is}
+use Rattle.token_readers.specs.Phrases.{Is, Many}
+use Rattle.token_readers.specs.Readers.{loop}
 use Rattle.token_readers.proofs.Completeness.{one_read, loop_read, many_follows, elements_follow, elements_read}
 use Rattle.rdf_lex.specs.Tokens.{Spelled}
 use Rattle.rdf_lex.specs.declared.kinds.Mode.TheVariants.{Turtle}
 use Rattle.rdf_cursor.specs.Meanings.{text_of}
 use Rattle.rdf_terms.specs.declared.terms.Term.{Term}
 use Rattle.graph_loading.specs.declared.triples.TermTriple.{TermTriple}
-use Rattle.turtle_reader.specs.declared.faults.Fault.{Fault}
-use Rattle.turtle_reader.specs.declared.faults.Fault.TheVariants.{Syntax}
+use Rattle.rdf_cursor.specs.declared.stops.Fault.{Fault}
+use Rattle.rdf_cursor.specs.declared.stops.Fault.TheVariants.{Syntax}
 use Rattle.turtle_reader.specs.declared.symbols.Symbol.{Symbol}
 use Rattle.turtle_reader.specs.declared.symbols.Symbol.TheVariants as symbol
-use Rattle.turtle_reader.specs.Meanings.{numbered, iri_ref_of, iri_of, blank_of, string_of, typed_of, tagged_of, shorthand_of, resolved, joined, lexical, prefix_of}
-use Rattle.turtle_reader.specs.Reading.{R, Terms, mark, settled, next_node, iri_ref, iri, datatyped, literal, resource, simple, verb, one_object, comma, objects, pair, semicolon, predicates, node, in_cell, member, next_member, cells, collection, object, subject, about_subject, listed, about_node, triples, ended, prefix_declaration, base_declaration, behind, statement, further, document}
+use Rattle.turtle_reader.specs.Meanings.{iri_ref_of, iri_of, blank_of, string_of, typed_of, tagged_of, shorthand_of, resolved, joined, lexical, prefix_of}
+use Rattle.turtle_reader.specs.Reading.{R, mark, next_node, iri_ref, iri, datatyped, literal, resource, simple, verb, one_object, comma, objects, pair, semicolon, predicates, node, in_cell, member, next_member, cells, collection, object, subject, about_subject, listed, about_node, triples, ended, prefix_declaration, base_declaration, behind, statement, further, document}
 use Rattle.turtle_reader.specs.States.{Scope, added}
-use Rattle.turtle_reader.specs.Symbols.{symbol_of, same_symbol, is_symbol, is_other, is_among, is_any, of_symbol, verbs, names, tags, shorthands}
+use Rattle.turtle_reader.specs.Symbols.{symbol_of, same_symbol, is_symbol, is_other, is_among, is_any, of_symbol, verbs, tags, shorthands}
 use Rattle.turtle_reader.specs.Vocabulary.{rdf_rest}
 use Rattle.turtle_reader.specs.Grammar as g
-use Rattle.turtle_reader.proofs.Nexts.{Next, nexts, no_next, no_symbol, begins, first, first_of, single, outside, guarded, guarded_one, other_next, same_next, any_next}
+use Rattle.turtle_reader.proofs.Nexts.{Next, nexts, no_next, no_symbol, begins, first, first_of, single, guarded, guarded_one, other_next, same_next, any_next}
 use Rattle.turtle_reader.proofs.Places.{local_object, consumes_object, consumes_comma, consumes_semicolon, consumes_next_member, consumes_further}
 
 took : (a : Symbol) (w : Spelled) (ts r : Ahead Spelled) → Is (of_symbol a) w ts r → mark a ts ≡ Ok (w, r)
@@ -33,7 +33,7 @@ abbrev after_objects : List Symbol
 after_objects = symbol.Semicolon ∷ closing
 
 -- what begins
-abbrev iris : List Symbol
+abbrev pub iris : List Symbol
 iris = symbol.PnameNs ∷ symbol.PnameLn ∷ symbol.IriRef ∷ []
 
 abbrev resources : List Symbol
@@ -67,7 +67,7 @@ module _ (k : Bool) where
       let s = symbol_of t.kind t.text in
       iri_bits (same_symbol s symbol.PnameNs) (same_symbol s symbol.PnameLn) (same_symbol s symbol.IriRef) (joined k (text_of Turtle t) (v.prefixes (prefix_of t))) (resolved k v (text_of Turtle t)) x e
 
-  iri_begins : (v : Scope) (x : List ℕ) (ts r : Ahead Spelled) → Is (iri_of k v) x ts r → Next iris ts
+  pub iri_begins : (v : Scope) (x : List ℕ) (ts r : Ahead Spelled) → Is (iri_of k v) x ts r → Next iris ts
   iri_begins v x ts r h = rw h.1 (iri_class v x h.0 h.2)
 
   iri_read : (v : Scope) (x : List ℕ) (ts r : Ahead Spelled) → Is (iri_of k v) x ts r → iri k v ts ≡ Ok (x, r)
@@ -82,19 +82,19 @@ module _ (k : Bool) where
   unfolding next_node
   next_read v x u ts e = rw e refl
 
-  string_begins : (x : List ℕ) (ts r : Ahead Spelled) → Is (string_of k) x ts r → Next (symbol.Str ∷ []) ts
+  pub string_begins : (x : List ℕ) (ts r : Ahead Spelled) → Is (string_of k) x ts r → Next (symbol.Str ∷ []) ts
   unfolding string_of
   string_begins x ts r h = guarded_one symbol.Str (string_of k) (λ t. lexical k (text_of Turtle t)) (λ t. refl) x ts r h
 
-  tagged_begins : (lex : List ℕ) (x : Term) (ts r : Ahead Spelled) → Is (tagged_of lex) x ts r → Next tags ts
+  pub tagged_begins : (lex : List ℕ) (x : Term) (ts r : Ahead Spelled) → Is (tagged_of lex) x ts r → Next tags ts
   unfolding tagged_of
   tagged_begins lex x ts r h = guarded tags (tagged_of lex) _ (λ t. refl) x ts r h
 
-  shorthand_begins : (x : Term) (ts r : Ahead Spelled) → Is (shorthand_of k) x ts r → Next shorthands ts
+  pub shorthand_begins : (x : Term) (ts r : Ahead Spelled) → Is (shorthand_of k) x ts r → Next shorthands ts
   unfolding shorthand_of
   shorthand_begins x ts r h = guarded shorthands (shorthand_of k) _ (λ t. refl) x ts r h
 
-  blank_begins : (x : Term) (ts r : Ahead Spelled) → Is (blank_of k) x ts r → Next (symbol.BlankLabel ∷ []) ts
+  pub blank_begins : (x : Term) (ts r : Ahead Spelled) → Is (blank_of k) x ts r → Next (symbol.BlankLabel ∷ []) ts
   unfolding blank_of
   blank_begins x ts r h = guarded_one symbol.BlankLabel (blank_of k) _ (λ t. refl) x ts r h
 

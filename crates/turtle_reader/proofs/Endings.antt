@@ -1,16 +1,15 @@
 -- What the ends of the statements say of the bytes.
-use Rattle.std.proofs.Common.{◌≡◌, ◌≤◌, ℕ, Bool, true, false, List, [], ◌∷◌, ◌++◌, length, take, Result, Ok, Err, refl, sym, ap, subst, ◌∙◌, ◌⊎◌, inl, inr, append_assoc, arith}
+use Rattle.std.proofs.Common.{◌≡◌, ℕ, true, List, [], ◌∷◌, ◌++◌, Result, Ok, Err, refl, sym, ap, subst, ◌∙◌, inl, inr, append_assoc}
 use Rattle.std.specs.Str.{IsUtf8}
 use Rattle.std.proofs.lemmas.List.{append-nil}
 use Rattle.rdf_terms.specs.Lists.{AreDistinct}
 use Rattle.rdf_terms.specs.declared.terms.Term.{Term}
 use Rattle.rdf_terms.specs.declared.terms.Triple.{Triple}
 use Rattle.graph_index.specs.declared.read_error.ReadError.{ReadError}
-use Rattle.graph_index.specs.declared.read_error.ReadError.TheVariants as error
-use Rattle.token_readers.specs.Ahead.{Ahead, finished, token, prepend}
+use Rattle.token_readers.specs.Ahead.{Ahead, finished, prepend}
 use Rattle.token_readers.specs.Phrases.{Many, none, more}
 use Rattle.token_readers.specs.Properties.{IsLocalAt}
-use Rattle.token_readers.specs.Readers.{Answer, Reader, loop}
+use Rattle.token_readers.specs.Readers.{Answer, Reader}
 use Rattle.token_readers.proofs.Answers.{apart, ok_is}
 use Rattle.token_readers.proofs.Blocking.{blocked}
 use Rattle.token_readers.proofs.Locality.{prepend-append}
@@ -26,19 +25,19 @@ use Rattle.rdf_cursor.proofs.Streams.{to_tokens, from_tokens, found, start}
 use Rattle.graph_loading.specs.declared.triples.TermTriple.{TermTriple}
 use Rattle.graph_loading.specs.Loading.{Loads, IsWithin}
 use Rattle.graph_loading.proofs.Loading.{loads_one, no_room_behind}
-use Rattle.turtle_reader.specs.declared.faults.Fault.{Fault}
-use Rattle.turtle_reader.specs.declared.faults.Fault.TheVariants as faults
+use Rattle.rdf_cursor.specs.declared.stops.Fault.{Fault}
+use Rattle.rdf_cursor.specs.declared.stops.Fault.TheVariants as faults
 use Rattle.turtle_reader.specs.declared.reader.Refusal.{Refusal}
 use Rattle.turtle_reader.specs.declared.reader.Refusal.TheVariants as refusal
-use Rattle.turtle_reader.specs.Documents.{inner_depth, IsDocument, SpellsAny, IsLimitPlace, IsOverfull, IsCausedAt, AreLast, Explains, ReadsTo, IsRead}
+use Rattle.turtle_reader.specs.Documents.{inner_depth, IsDocument, IsAnyDocument, SpellsAny, IsLimitPlace, IsOverfull, IsCausedAt, AreLast, Explains, ReadsTo, IsRead}
 use Rattle.turtle_reader.specs.Grammar.{Behind, Document}
 use Rattle.turtle_reader.specs.Reading as r
 use Rattle.turtle_reader.specs.States.{Scope}
 use Rattle.turtle_reader.specs.States as states
-use Rattle.turtle_reader.specs.Steps.{Fills, Overflows, Stopped, Ends, error_of}
+use Rattle.turtle_reader.specs.Steps.{Overflows, Stopped, Ends, error_of}
 use Rattle.turtle_reader.specs.Symbols.{is_any}
 use Rattle.turtle_reader.proofs.Complete.{document_read, further_read, further_loop_read}
-use Rattle.turtle_reader.proofs.Limits.{Common, AnyDocument, blocked_any}
+use Rattle.turtle_reader.proofs.Limits.{Common, AnyDocument, blocked_any, one_any, any_of_limited}
 use Rattle.turtle_reader.proofs.Places.{local_document, local_further, consumes_further}
 use Rattle.turtle_reader.proofs.Sound.{further_meets}
 
@@ -128,6 +127,7 @@ module _ (base source : List ℕ) (u : IsUtf8 source) where
             (subst (λ (ts : Ahead Spelled). Many (Behind true inner_depth) (v, []) (h.scope, h.so_far) ts h.mid) front.1 h.statements);
         stands = s;
         cause = h.cause;
+        limit = h.limit;
       }
 
   pub explains : (e : Refusal) (at : ℕ) (w : Scope) (rest : Ahead Spelled) (terms new_terms : List Term) (graph new_graph : List Triple) → Ends (Err e) v ahead w rest terms graph new_terms new_graph → Stands Turtle source rest at
@@ -138,7 +138,7 @@ module _ (base source : List ℕ) (u : IsUtf8 source) where
   explains (refusal.Fault faults.Prefix) at w rest terms new_terms graph new_graph h s = (any_place faults.Prefix rest at tt h.refused s, caused faults.Prefix rest at h s)
   explains (refusal.Fault faults.Deep) at w rest terms new_terms graph new_graph h s = (at, limit_place faults.Deep rest at h.refused s, caused faults.Deep rest at h s)
   explains (refusal.Fault faults.Long) at w rest terms new_terms graph new_graph h s = (limit_place faults.Long rest at h.refused s, caused faults.Long rest at h s)
-  explains (refusal.Fault faults.Full) at w rest terms new_terms graph new_graph h s = inr (at, limit_place faults.Full rest at h.refused s)
+  explains (refusal.Fault faults.Full) at w rest terms new_terms graph new_graph h s = inr (at, limit_place faults.Full rest at h.refused s, caused faults.Full rest at h s)
 
   not_full : (terms a : List Term) (graph b : List Triple) (x : Scope × List TermTriple) → AreDistinct terms → IsDocument base source x → Loads terms graph x.1 a b → IsWithin a b → Overflows v ahead terms graph → ⊥
   not_full terms a graph b x dis doc loads within o =
@@ -177,6 +177,16 @@ module _ (base source : List ℕ) (u : IsUtf8 source) where
   pub is_read : (p : Prefixes) (w : Scope) (rest : Ahead Spelled) (terms new_terms : List Term) (graph new_graph : List Triple) → Ends (Ok tt) v ahead w rest terms graph new_terms new_graph → AreLast p w
       → IsRead base source p terms graph new_terms new_graph
   is_read p w rest terms new_terms graph new_graph (ts, h, own) last = record { scope = w; triples = ts; document = found_document (w, ts) h; loaded = own; last = last }
+
+  -- the laws of documents
+  any_ahead : (x : Scope × List TermTriple) → IsAnyDocument base source x → AnyDocument v x ahead
+  any_ahead x (ts, utf8, tokens, h) = subst (λ (ts : Ahead Spelled). AnyDocument v x ts) (sym (from_tokens Turtle source u ts tokens)) h
+
+  pub one_document : (x y : Scope × List TermTriple) → IsAnyDocument base source x → IsAnyDocument base source y → x ≡ y
+  one_document x y h k = one_any v x y ahead (any_ahead x h) (any_ahead y k)
+
+  pub any_document : (x : Scope × List TermTriple) → IsDocument base source x → IsAnyDocument base source x
+  any_document x (ts, utf8, tokens, h) = (ts, utf8, tokens, any_of_limited v x (prepend ts finished) h)
 
 -- from what lies ahead of the tokens at first, and the scope at first
 module _ (base source : List ℕ) (u : IsUtf8 source) (first : Ahead Spelled) (begins : first ≡ stream_from Turtle source 0) (at_first : Scope) (starts : at_first ≡ states.start base) where

@@ -1,14 +1,14 @@
 -- A step's fault is the loop's.
-use Rattle.std.proofs.Common.{◌≡◌, Bool, true, Ok, Err}
+use Rattle.std.proofs.Common.{◌≡◌, Bool, true}
 use Rattle.token_readers.specs.Ahead.{Ahead, next_is}
 use Rattle.token_readers.specs.Properties.{Consumes}
 use Rattle.token_readers.specs.Readers.{Answer, Reader, loop}
 use Rattle.token_readers.proofs.Loops.{loop_fails}
 use Rattle.rdf_lex.specs.Tokens.{Spelled}
-use Rattle.turtle_reader.specs.declared.faults.Fault.{Fault}
-use Rattle.turtle_reader.specs.declared.faults.Stop.{Stop}
-use Rattle.turtle_reader.specs.declared.faults.Stop.TheVariants as stop
-use Rattle.turtle_reader.specs.Gives.{StopsAs}
+use Rattle.rdf_cursor.specs.declared.stops.Fault.{Fault}
+use Rattle.rdf_cursor.specs.declared.stops.Stop.{Stop}
+use Rattle.rdf_cursor.specs.declared.stops.Stop.TheVariants as stop
+use Rattle.rdf_cursor.specs.Stops.{StopsAs}
 
 pub fails_loop : {S : Type 0} (class : Spelled → Bool) (step : S → Reader Spelled Fault S) (consumes : (s : S) → Consumes (step s)) (e : Stop) (s : S) (ts r : Ahead Spelled) (total : Answer Spelled Fault S)
     → next_is class ts ≡ true → StopsAs e r (step s ts) → loop class step s ts ≡ total → StopsAs e r total

@@ -7,4 +7,6 @@ pub mod Complete
 pub mod Limits
 pub mod Turns
 pub mod Endings
+pub mod Tells
 pub mod Causes
+pub mod Depths

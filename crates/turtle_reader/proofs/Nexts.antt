@@ -5,8 +5,8 @@ use Rattle.std.proofs.lemmas.Bool.{eqb-true}
 use Rattle.token_readers.specs.Ahead.{Ahead, finished, broken, token, next_is}
 use Rattle.token_readers.specs.Phrases.{Is}
 use Rattle.rdf_lex.specs.Tokens.{Spelled}
-use Rattle.turtle_reader.specs.declared.faults.Fault.{Fault}
-use Rattle.turtle_reader.specs.declared.faults.Fault.TheVariants.{Syntax}
+use Rattle.rdf_cursor.specs.declared.stops.Fault.{Fault}
+use Rattle.rdf_cursor.specs.declared.stops.Fault.TheVariants.{Syntax}
 use Rattle.turtle_reader.specs.declared.symbols.Symbol.{Symbol}
 use Rattle.turtle_reader.specs.Symbols.{symbol_of, number, same_symbol, has, is_symbol, is_other, is_among, is_any, of_symbol}
 

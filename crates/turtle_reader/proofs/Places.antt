@@ -1,17 +1,15 @@
 -- Each rule looks no further than the next token, and takes one where it has to.
-use Rattle.std.proofs.Common.{◌≡◌, Bool, ℕ, zero, suc, List, [], ◌∷◌, ◌++◌, Result, Ok, Err}
-use Rattle.token_readers.specs.Readers.{Reader, ◌>>=◌, give, one, either, loop, finish}
+use Rattle.std.proofs.Common.{Bool, ℕ, zero, suc, List, [], Result, Ok, Err}
 use Rattle.token_readers.specs.Properties.{IsLocal, Consumes}
 use Rattle.token_readers.proofs.Consuming.{consumes_one, consumes_bind, consumes_then, consumes_either, consumes_refuse}
 use Rattle.token_readers.proofs.Locality.{local_give, local_refuse, local_one, local_bind, local_either, local_finish}
 use Rattle.token_readers.proofs.Loops.{local_loop}
-use Rattle.rdf_lex.specs.Tokens.{Spelled}
 use Rattle.rdf_terms.specs.declared.terms.Term.{Term}
 use Rattle.graph_loading.specs.declared.triples.TermTriple.{TermTriple}
-use Rattle.turtle_reader.specs.declared.faults.Fault.{Fault}
+use Rattle.rdf_cursor.specs.declared.stops.Fault.{Fault}
 use Rattle.turtle_reader.specs.declared.symbols.Symbol.{Symbol}
 use Rattle.turtle_reader.specs.Meanings.{numbered}
-use Rattle.turtle_reader.specs.Reading.{R, Terms, mark, settled, next_node, iri_ref, iri, datatyped, literal, resource, simple, verb, one_object, comma, objects, pair, semicolon, predicates, node, in_cell, member, next_member, cells, collection, object, subject, about_subject, listed, about_node, triples, ended, prefix_declaration, base_declaration, behind, statement, further, document}
+use Rattle.turtle_reader.specs.Reading.{R, Terms, settled, next_node, iri_ref, iri, datatyped, literal, resource, simple, verb, one_object, comma, objects, pair, semicolon, predicates, node, in_cell, member, next_member, cells, collection, object, subject, about_subject, listed, about_node, triples, ended, prefix_declaration, base_declaration, behind, statement, further, document}
 use Rattle.turtle_reader.specs.States.{Scope}
 use Rattle.turtle_reader.specs.Symbols.{is_any}
 

@@ -1,18 +1,18 @@
 -- What is read is spelled so.
-use Rattle.std.proofs.Common.{◌≡◌, Bool, ℕ, zero, suc, List, [], ◌∷◌, ◌++◌, Result, Ok, Err, refl, sym, ap, subst, ◌∙◌, ◌⊎◌, inl, inr}
-use Rattle.token_readers.specs.Ahead.{Ahead, finished}
+use Rattle.std.proofs.Common.{◌≡◌, Bool, ℕ, zero, suc, List, [], Result, Ok, Err, refl, subst, inl, inr}
+use Rattle.token_readers.specs.Ahead.{Ahead}
 use Rattle.token_readers.specs.Phrases.{Is, Many}
 use Rattle.token_readers.specs.Readers.{give, either}
 use Rattle.token_readers.proofs.Soundness.{Meets, meets_give, meets_one, meets_bind, meets_either, meets_finish, meets_rule, meets_refuse, meets_loop}
 use Rattle.rdf_lex.specs.Tokens.{Spelled}
 use Rattle.rdf_terms.specs.declared.terms.Term.{Term}
 use Rattle.graph_loading.specs.declared.triples.TermTriple.{TermTriple}
-use Rattle.turtle_reader.specs.declared.faults.Fault.{Fault}
+use Rattle.rdf_cursor.specs.declared.stops.Fault.{Fault}
 use Rattle.turtle_reader.specs.declared.symbols.Symbol.{Symbol}
 use Rattle.turtle_reader.specs.declared.symbols.Symbol.TheVariants as symbol
 use Rattle.turtle_reader.specs.Meanings.{numbered, iri_of}
-use Rattle.turtle_reader.specs.Reading.{R, Terms, mark, settled, next_node, iri_ref, iri, datatyped, literal, resource, simple, verb, one_object, comma, objects, pair, semicolon, predicates, node, in_cell, member, next_member, cells, collection, object, subject, about_subject, listed, about_node, triples, ended, prefix_declaration, base_declaration, behind, statement, further, document}
-use Rattle.turtle_reader.specs.States.{Scope, iri_term, added}
+use Rattle.turtle_reader.specs.Reading.{R, settled, next_node, iri_ref, iri, datatyped, literal, resource, simple, verb, one_object, comma, objects, pair, semicolon, predicates, node, in_cell, member, next_member, cells, collection, object, subject, about_subject, listed, about_node, triples, ended, prefix_declaration, base_declaration, behind, statement, further, document}
+use Rattle.turtle_reader.specs.States.{Scope, added}
 use Rattle.turtle_reader.specs.Symbols.{is_symbol, is_any}
 use Rattle.turtle_reader.specs.Vocabulary.{rdf_rest}
 use Rattle.turtle_reader.specs.Grammar as g

@@ -1,31 +1,25 @@
 -- What single tokens stand for, as the code finds it.
-use Rattle.std.proofs.Common.{◌≡◌, ℕ, Bool, true, false, cond, List, [], ◌∷◌, ◌++◌, length, Option, Some, None, IsSome, IsNone, Result, Ok, Err, IfOk, refl, sym, ap, subst, ◌∙◌, string_bytes, encode_utf8_all, true≢false, nat_eq}
-use Rattle.std.specs.Prelude.{nat_lt, String}
+use Rattle.std.proofs.Common.{◌≡◌, ℕ, Bool, true, false, cond, List, ◌++◌, length, Option, Some, None, IsSome, IsNone, Result, Ok, Err, IfOk, refl, sym, ap, subst, ◌∙◌, string_bytes, encode_utf8_all, true≢false, nat_eq}
+use Rattle.std.specs.Prelude.{String}
 use Rattle.std.specs.declared.alloc.Global.{Global}
 use Rattle.std.specs.Option.{option_or}
 use Rattle.std.specs.Str.{chars, IsUtf8}
 use Rattle.std.proofs.lemmas.Str.{encodes-chars, IsUtf8-string_bytes}
-use Rattle.token_readers.specs.Ahead.{Ahead, finished, broken, token}
-use Rattle.token_readers.specs.Readers.{finish, one}
 use Rattle.iri_resolve.specs.Reference.{scheme_of}
 use Rattle.iri_resolve.specs.Resolution.{resolved_text}
 use Rattle.rdf_terms.specs.Literals.{LiteralParts, rdf_lang_string}
 use Rattle.rdf_terms.specs.Sameness.{text_decides}
 use Rattle.rdf_terms.specs.Texts.{same_text}
-use Rattle.rdf_terms.specs.declared.terms.Term.{Term}
 use Rattle.rdf_terms.specs.declared.terms.Term.TheVariants.{Lit}
 use Rattle.rdf_lex.specs.declared.kinds.Mode.TheVariants.{Turtle}
 use Rattle.rdf_lex.specs.Tokens.{Spelled}
-use Rattle.rdf_cursor.specs.Lent.{behind_next}
 use Rattle.rdf_cursor.specs.Meanings.{text_of}
-use Rattle.turtle_reader.specs.declared.faults.Fault.{Fault}
-use Rattle.turtle_reader.specs.declared.faults.Fault.TheVariants.{Syntax, Long}
-use Rattle.turtle_reader.specs.declared.faults.Stop.{Stop}
-use Rattle.turtle_reader.specs.declared.faults.Stop.TheVariants as stop
+use Rattle.rdf_cursor.specs.declared.stops.Fault.{Fault}
+use Rattle.rdf_cursor.specs.declared.stops.Stop.{Stop}
 use Rattle.turtle_reader.specs.declared.symbols.Symbol.{Symbol}
 use Rattle.turtle_reader.specs.declared.symbols.Symbol.TheVariants as symbol
-use Rattle.turtle_reader.specs.Gives.{Gives, StopsAs, FailsAs, Answers}
-use Rattle.turtle_reader.specs.Meanings.{limited, iri_of, resolved, joined, string_of, typed, typed_by, typed_of}
+use Rattle.turtle_reader.specs.Gives.{Answers}
+use Rattle.turtle_reader.specs.Meanings.{limited, iri_of, joined, string_of, typed, typed_by, typed_of}
 use Rattle.turtle_reader.specs.States.{Scope}
 use Rattle.turtle_reader.specs.Symbols.{is_symbol, same_symbol}
 use Rattle.turtle_reader.specs.Vocabulary.{xsd_integer, xsd_decimal, xsd_double, xsd_boolean, shorthand_datatype}

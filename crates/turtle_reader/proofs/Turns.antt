@@ -1,12 +1,11 @@
 -- How the loop over statements goes on and ends.
-use Rattle.std.proofs.Common.{append_assoc, ◌≡◌, ℕ, true, false, List, [], ◌∷◌, ◌++◌, Result, Ok, Err, refl, sym, ap, subst, ◌∙◌}
+use Rattle.std.proofs.Common.{append_assoc, ◌≡◌, true, false, List, [], ◌∷◌, ◌++◌, Result, Ok, Err, refl, sym, ap, subst, ◌∙◌}
 use Rattle.std.proofs.lemmas.List.{append-nil}
 use Rattle.rdf_terms.specs.declared.terms.Term.{Term}
 use Rattle.rdf_terms.specs.declared.terms.Triple.{Triple}
-use Rattle.token_readers.specs.Ahead.{Ahead, finished, broken, token, prepend, count, next_is}
+use Rattle.token_readers.specs.Ahead.{Ahead, finished, broken, token, next_is}
 use Rattle.token_readers.specs.Phrases.{Phrase, Many, none, more}
-use Rattle.token_readers.specs.Readers.{Answer, Reader, and_then, loop, finish}
-use Rattle.token_readers.specs.Properties.{IsLocalAt}
+use Rattle.token_readers.specs.Readers.{Answer, loop, finish}
 use Rattle.token_readers.proofs.Answers.{err_is}
 use Rattle.token_readers.proofs.Loops.{loop_goes, loop_fails, loop_ends}
 use Rattle.rdf_lex.specs.Tokens.{Spelled}
@@ -14,23 +13,24 @@ use Rattle.graph_loading.specs.declared.triples.LoadError.{LoadError}
 use Rattle.graph_loading.specs.declared.triples.LoadError.TheVariants as load
 use Rattle.graph_loading.specs.declared.triples.TermTriple.{TermTriple}
 use Rattle.graph_loading.specs.Loading.{Loads, nothing, FindsNoRoom}
-use Rattle.graph_loading.proofs.Loading.{loads_append, loads_grow}
-use Rattle.turtle_reader.specs.declared.faults.Fault.{Fault}
-use Rattle.turtle_reader.specs.declared.faults.Fault.TheVariants.{Syntax}
-use Rattle.turtle_reader.specs.declared.faults.Stop.{Stop}
-use Rattle.turtle_reader.specs.declared.faults.Stop.TheVariants as stop
+use Rattle.graph_loading.proofs.Loading.{loads_append}
+use Rattle.rdf_cursor.specs.declared.stops.Fault.{Fault}
+use Rattle.rdf_cursor.specs.declared.stops.Fault.TheVariants.{Syntax}
+use Rattle.rdf_cursor.specs.declared.stops.Stop.{Stop}
+use Rattle.rdf_cursor.specs.declared.stops.Stop.TheVariants as stop
 use Rattle.turtle_reader.specs.declared.reader.Refusal.{Refusal}
 use Rattle.turtle_reader.specs.declared.reader.Refusal.TheVariants as refusal
 use Rattle.turtle_reader.specs.Documents.{inner_depth}
-use Rattle.turtle_reader.specs.Gives.{StopsAs}
-use Rattle.turtle_reader.specs.Grammar.{Behind, Document}
+use Rattle.rdf_cursor.specs.Stops.{StopsAs}
+use Rattle.turtle_reader.specs.Grammar.{Behind}
 use Rattle.turtle_reader.specs.Reading.{statement, further, document}
 use Rattle.turtle_reader.specs.States.{Scope, begun}
-use Rattle.turtle_reader.specs.Steps.{from_stop, from_load, Fills, LoadsAll, Steps, Comes, Overflows, Stopped, Ends}
+use Rattle.turtle_reader.specs.Steps.{from_stop, from_load, Fills, LoadsAll, Steps, Comes, Ends}
 use Rattle.turtle_reader.specs.Symbols.{is_any}
-use Rattle.turtle_reader.specs.Causes.{bare, Causes}
+use Rattle.turtle_reader.specs.Causes.{bare, Causes, IsAtLimit}
 use Rattle.turtle_reader.proofs.Causes.{statement_tells}
-use Rattle.turtle_reader.proofs.Places.{local_statement, consumes_statement, consumes_further}
+use Rattle.turtle_reader.proofs.Depths.{statement_fails}
+use Rattle.turtle_reader.proofs.Places.{consumes_further}
 use Rattle.turtle_reader.proofs.Sound.{further_meets}
 
 -- one phrase more, behind those so far
@@ -58,11 +58,6 @@ fills_behind terms mid_terms graph mid_graph so ts l f = record {
   loaded = loads_append terms mid_terms f.mid_terms graph mid_graph f.mid_graph so f.before l f.loaded;
   no_room = f.no_room;
 }
-
--- the tokens that were passed before a fault
-front_err : {A : Type 0} (p : Reader Spelled Fault A) (ts : Ahead Spelled) (a : Answer Spelled Fault A) (f : Fault) (rest : Ahead Spelled) → a ≡ Err (f, rest) → IsLocalAt p ts a → (front : List Spelled) × (ts ≡ prepend front rest)
-front_err p ts (Ok y) f rest e l = absurd cc
-front_err p ts (Err y) f rest e l = (l.0, l.1 ∙ ap (λ (v : Fault × Ahead Spelled). prepend l.0 v.1) (err_is y (f, rest) e))
 
 pub begins : (v : Scope) (ahead : Ahead Spelled) (terms : List Term) (graph : List Triple) → Comes v ahead terms graph v ahead terms graph
 begins v ahead terms graph = record { so_far = []; goes = refl; statements = none; loaded = nothing }
@@ -108,16 +103,17 @@ module _ (v : Scope) (ahead : Ahead Spelled) (terms : List Term) (graph : List T
     fills = fills_behind terms now_terms graph now_graph c.so_far u.triples c.loaded f;
   }
   stops w x y rest mid now_terms new_terms now_graph new_graph (refusal.Fault f) c n s =
-      let front = front_err (statement true inner_depth w) rest (statement true inner_depth w rest) f mid s (local_statement true inner_depth w rest) in
+      let fails = statement_fails inner_depth refl w rest mid f s in
       record {
         refused = fault_ends (f, mid) (loop_fails is_any (further true inner_depth) (consumes_further true inner_depth) (w, c.so_far) rest (f, mid) (loop is_any (further true inner_depth) (v, []) ahead) n (step_err w c.so_far rest (f, mid) s) c.goes);
         so_far = c.so_far;
         scope = w;
         mid = rest;
         statements = c.statements;
-        inside = front.0;
-        parts = front.1;
+        inside = fails.front;
+        parts = fails.parts;
         cause = (statement_tells inner_depth w rest).bad (f, mid) s;
+        limit = fails.limit;
       }
 
   finish_syntax : (rest : Ahead Spelled) (f : Fault × Ahead Spelled) → Path (Answer Spelled Fault (Unit {0})) (finish Syntax tt rest) (Err f) → Syntax ≡ f.0
@@ -153,6 +149,7 @@ module _ (v : Scope) (ahead : Ahead Spelled) (terms : List Term) (graph : List T
         inside = [];
         parts = refl;
         cause = subst (λ (g : Fault). Causes (bare w) g rest) (finish_syntax rest (f, rest) s) tt;
+        limit = subst (λ (g : Fault). IsAtLimit w g []) (finish_syntax rest (f, rest) s) tt;
       })
 
 -- one statement

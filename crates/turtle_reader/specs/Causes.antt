@@ -1,15 +1,15 @@
 -- What is wrong with the next token, by the base and the prefixes in force (RDF 1.1 Turtle, section 7.1).
-use Rattle.std.specs.Prelude.{◌≡◌, ◌<◌, true, false, ℕ, List, [], ◌∷◌, length, Some, None, Ok, encode_utf8_all}
+use Rattle.std.specs.Prelude.{◌≡◌, ◌<◌, ◌+◌, true, false, ℕ, List, [], ◌∷◌, length, count_by, Some, None, Ok, encode_utf8_all}
 use Rattle.std.specs.List.{after_first}
 use Rattle.token_readers.specs.Ahead.{Ahead, token, next_is}
 use Rattle.rdf_lex.specs.declared.kinds.Mode.TheVariants.{Turtle}
 use Rattle.rdf_lex.specs.Tokens.{Spelled}
 use Rattle.rdf_cursor.specs.Meanings.{text_of}
-use Rattle.turtle_reader.specs.declared.faults.Fault.{Fault}
-use Rattle.turtle_reader.specs.declared.faults.Fault.TheVariants as faults
+use Rattle.rdf_cursor.specs.declared.stops.Fault.{Fault}
+use Rattle.rdf_cursor.specs.declared.stops.Fault.TheVariants as faults
 use Rattle.turtle_reader.specs.declared.symbols.Symbol.{Symbol}
 use Rattle.turtle_reader.specs.declared.symbols.Symbol.TheVariants as symbol
-use Rattle.turtle_reader.specs.Meanings.{max_text, is_colon, iri_of, prefix_of}
+use Rattle.turtle_reader.specs.Meanings.{max_text, max_anonymous, is_colon, iri_of, prefix_of}
 use Rattle.turtle_reader.specs.States.{Scope}
 use Rattle.turtle_reader.specs.Symbols.{is_symbol, is_among, names, shorthands}
 
@@ -24,9 +24,29 @@ pub data IsLong (v : Scope) (t : Spelled) : Type 0 where
   by_string : is_symbol symbol.Str t ≡ true → (text : List ℕ) → text_of Turtle t ≡ Some text → max_text < length (encode_utf8_all text) → IsLong v t
   by_number : is_among shorthands t ≡ true → max_text < length t.text → IsLong v t
 
--- the brackets that open
+-- the brackets that open, and those that close
 abbrev pub brackets : List Symbol
 brackets = symbol.OpenBracket ∷ symbol.OpenParenthesis ∷ []
+
+abbrev pub closing_brackets : List Symbol
+closing_brackets = symbol.CloseBracket ∷ symbol.CloseParenthesis ∷ []
+
+-- how deep brackets nest at most
+abbrev pub max_depth : ℕ
+max_depth = 64
+
+-- so many brackets are open behind the tokens: those that opened, less those that closed
+abbrev pub AreOpen : ℕ → List Spelled → Type 0
+AreOpen n ts = count_by (is_among brackets) ts ≡ n + count_by (is_among closing_brackets) ts
+
+-- which limit the tokens of a statement have come to, for each fault that counts them: as many brackets are open as may be; or there are at
+-- least as many tokens as numbers were left for nodes before the statement
+abbrev pub IsAtLimit : Scope → Fault → List Spelled → Type 0
+IsAtLimit v faults.Syntax inside = Unit {0}
+IsAtLimit v faults.Deep inside = AreOpen max_depth inside
+IsAtLimit v faults.Long inside = Unit {0}
+IsAtLimit v faults.Prefix inside = Unit {0}
+IsAtLimit v faults.Full inside = max_anonymous < v.next + length inside
 
 -- what the next token has to be for each fault but `Syntax`: a bracket that opens, a token of a text that is too long, a name whose prefix is
 -- not declared

@@ -1,5 +1,5 @@
 -- What the bytes of a document spell, and what the answers of the reader say of them, of the table and of the graph.
-use Rattle.std.specs.Prelude.{◌≡◌, Bool, true, false, ℕ, ◌≤◌, List, [], ◌∷◌, ◌++◌, ◌⊎◌, Option, Result, Ok, Err}
+use Rattle.std.specs.Prelude.{◌≡◌, true, false, ℕ, ◌≤◌, List, [], ◌∷◌, ◌++◌, ◌⊎◌, Result, Ok, Err}
 use Rattle.std.specs.Str.{IsUtf8}
 use Rattle.token_readers.specs.Ahead.{Ahead, finished, prepend}
 use Rattle.token_readers.specs.Phrases.{Many}
@@ -15,9 +15,9 @@ use Rattle.rdf_lex.specs.Prefixes.{base_of, iri_under}
 use Rattle.rdf_lex.specs.Tokens.{Spelled, Between, Tokens}
 use Rattle.rdf_cursor.specs.Lent.{Stands}
 use Rattle.rdf_cursor.specs.Places.{IsFaultPlace}
-use Rattle.turtle_reader.specs.declared.faults.Fault.{Fault}
-use Rattle.turtle_reader.specs.declared.faults.Fault.TheVariants as faults
-use Rattle.turtle_reader.specs.Causes.{bare, Causes}
+use Rattle.rdf_cursor.specs.declared.stops.Fault.{Fault}
+use Rattle.rdf_cursor.specs.declared.stops.Fault.TheVariants as faults
+use Rattle.turtle_reader.specs.Causes.{bare, Causes, IsAtLimit}
 use Rattle.turtle_reader.specs.States.{Scope, start}
 use Rattle.turtle_reader.specs.Grammar.{Document, Behind}
 
@@ -67,7 +67,7 @@ pub record IsOverfull (base source : List ℕ) (terms : List Term) (graph : List
 abbrev pub IsLimitPlace : List ℕ → List ℕ → ℕ → Type 0
 IsLimitPlace base source at = IsFaultPlace (Spells base) Turtle source at
 
--- behind some statements, in the scope in which they end, the token at this place has a fault
+-- behind some statements, in the scope in which they end, and behind tokens of a further one, the token at this place has a fault
 pub record IsCausedAt (base source : List ℕ) (f : Fault) (at : ℕ) : Type 0 where
   pub scope : Scope
   pub so_far : List TermTriple
@@ -79,6 +79,7 @@ pub record IsCausedAt (base source : List ℕ) (f : Fault) (at : ℕ) : Type 0 w
   pub statements : Many (Behind true inner_depth) (start base, []) (scope, so_far) (prepend front (prepend inside rest)) (prepend inside rest)
   pub stands : Stands Turtle source rest at
   pub cause : Causes (bare scope) f rest
+  pub limit : IsAtLimit scope f inside
 
 -- what has to be there for each refusal
 abbrev pub Explains : List ℕ → ReadError → List ℕ → List Term → List Triple → Type 0
@@ -87,7 +88,7 @@ Explains base (error.Syntax at) source terms graph = IsFaultPlace (SpellsAny bas
 Explains base (error.Prefix at) source terms graph = IsFaultPlace (SpellsAny base) Turtle source at × IsCausedAt base source faults.Prefix at
 Explains base (error.Long at) source terms graph = IsLimitPlace base source at × IsCausedAt base source faults.Long at
 Explains base error.Deep source terms graph = (at : ℕ) × IsLimitPlace base source at × IsCausedAt base source faults.Deep at
-Explains base error.Full source terms graph = IsOverfull base source terms graph ⊎ ((at : ℕ) × IsLimitPlace base source at)
+Explains base error.Full source terms graph = IsOverfull base source terms graph ⊎ ((at : ℕ) × IsLimitPlace base source at × IsCausedAt base source faults.Full at)
 Explains base error.Memory source terms graph = Unit {0}
 
 -- unless memory ran out, the table and the graph became these, and the base and the prefixes are those of the scope
@@ -108,3 +109,16 @@ pub record IsRead (base source : List ℕ) (p : Prefixes) (terms : List Term) (g
   pub document : IsDocument base source (scope, triples)
   pub loaded : Loads terms graph triples new_terms new_graph
   pub last : AreLast p scope
+
+-- with one base the bytes are one document at most, of whatever lengths and depth: one list of triples, and one base and the same prefixes
+-- at the end
+abbrev pub DocumentsAreOne : Type 0
+DocumentsAreOne = (base source : List ℕ) (x y : Scope × List TermTriple) → IsAnyDocument base source x → IsAnyDocument base source y → x ≡ y
+
+-- so within the limits
+abbrev pub LimitedDocumentsAreOne : Type 0
+LimitedDocumentsAreOne = (base source : List ℕ) (x y : Scope × List TermTriple) → IsDocument base source x → IsDocument base source y → x ≡ y
+
+-- what is a document within the limits is that document without them
+abbrev pub LimitedDocumentsAreDocuments : Type 0
+LimitedDocumentsAreDocuments = (base source : List ℕ) (x : Scope × List TermTriple) → IsDocument base source x → IsAnyDocument base source x

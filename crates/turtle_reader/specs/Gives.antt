@@ -1,15 +1,14 @@
--- What a function of the reader gives, by the reader on lists that it follows.
+-- What lies ahead of the reader, and what a token gives.
 use Rattle.std.specs.Prelude.{◌≡◌, ℕ, List, Result, Ok, Err, Option, Some, None, String, string_bytes}
 use Rattle.std.specs.declared.alloc.Global.{Global}
 use Rattle.std.specs.Str.{chars}
 use Rattle.token_readers.specs.Ahead.{Ahead}
-use Rattle.token_readers.specs.Readers.{Answer}
 use Rattle.rdf_lex.specs.Tokens.{Spelled}
 use Rattle.rdf_cursor.specs.Cursors as cursor
-use Rattle.turtle_reader.specs.declared.faults.Fault.{Fault}
-use Rattle.turtle_reader.specs.declared.faults.Fault.TheVariants.{Syntax}
-use Rattle.turtle_reader.specs.declared.faults.Stop.{Stop}
-use Rattle.turtle_reader.specs.declared.faults.Stop.TheVariants as stop
+use Rattle.rdf_cursor.specs.declared.stops.Fault.{Fault}
+use Rattle.rdf_cursor.specs.declared.stops.Fault.TheVariants.{Syntax}
+use Rattle.rdf_cursor.specs.declared.stops.Stop.{Stop}
+use Rattle.rdf_cursor.specs.declared.stops.Stop.TheVariants as stop
 use Rattle.turtle_reader.specs.declared.tokens.Tokens.{Tokens}
 
 -- what lies ahead, and the text's bytes
@@ -19,17 +18,7 @@ ahead c = cursor.ahead c.cursor
 abbrev pub source_in : Tokens → List ℕ
 source_in c = cursor.source_of c.cursor
 
--- a fault is that of the reader, and what lies ahead is what it left; of want of memory nothing is said
-abbrev pub StopsAs : {Y : Type 0} → Stop → Ahead Spelled → Answer Spelled Fault Y → Type 0
-StopsAs stop.Memory rest answer = Unit {0}
-StopsAs (stop.Fault f) rest answer = answer ≡ Err (f, rest)
-
--- a value, as it is seen, is that of the reader
-abbrev pub Gives : {X Y : Type 0} → (X → Y) → Result X Stop → Ahead Spelled → Answer Spelled Fault Y → Type 0
-Gives view (Ok x) rest answer = answer ≡ Ok (view x, rest)
-Gives view (Err e) rest answer = StopsAs e rest answer
-
--- the same of what a token, or the scope alone, stands for
+-- what a token, or the scope alone, stands for, or what is wrong with it; of want of memory nothing is said
 abbrev pub FailsAs : {Y : Type 0} → Stop → Result Y Fault → Type 0
 FailsAs stop.Memory answer = Unit {0}
 FailsAs (stop.Fault f) answer = answer ≡ Err f

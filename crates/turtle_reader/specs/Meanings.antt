@@ -1,11 +1,11 @@
 -- What tokens stand for in a scope, or what is wrong with them (RDF 1.1 Turtle, section 7.2). With the flag, what is too long is a fault, and
 -- so is a node that has no number.
-use Rattle.std.specs.Prelude.{ℕ, Bool, true, false, ◌&&◌, List, [], ◌++◌, length, map, Option, Some, None, Result, Ok, Err, nat_eq, nat_lt, if◌then◌else◌, encode_utf8_all}
+use Rattle.std.specs.Prelude.{ℕ, Bool, ◌&&◌, List, ◌++◌, length, map, Option, Some, None, Result, Ok, Err, nat_eq, nat_lt, if◌then◌else◌, encode_utf8_all}
 use Rattle.std.specs.Char.{to_ascii_lowercase}
 use Rattle.std.specs.List.{before_first, after_first}
 use Rattle.std.specs.Str.{chars}
 use Rattle.iri_resolve.specs.Resolution.{resolved_text}
-use Rattle.rdf_terms.specs.Literals.{xsd_string, rdf_lang_string}
+use Rattle.rdf_terms.specs.Literals.{rdf_lang_string}
 use Rattle.rdf_terms.specs.Texts.{same_text}
 use Rattle.rdf_terms.specs.declared.terms.Name.TheVariants.{Label}
 use Rattle.rdf_terms.specs.declared.terms.Term.{Term}
@@ -13,8 +13,8 @@ use Rattle.rdf_terms.specs.declared.terms.Term.TheVariants.{Blank, Lit}
 use Rattle.rdf_lex.specs.declared.kinds.Mode.TheVariants.{Turtle}
 use Rattle.rdf_lex.specs.Tokens.{Spelled}
 use Rattle.rdf_cursor.specs.Meanings.{text_of}
-use Rattle.turtle_reader.specs.declared.faults.Fault.{Fault}
-use Rattle.turtle_reader.specs.declared.faults.Fault.TheVariants.{Syntax, Long, Prefix, Full}
+use Rattle.rdf_cursor.specs.declared.stops.Fault.{Fault}
+use Rattle.rdf_cursor.specs.declared.stops.Fault.TheVariants.{Syntax, Long, Prefix, Full}
 use Rattle.turtle_reader.specs.declared.symbols.Symbol.TheVariants as symbol
 use Rattle.turtle_reader.specs.States.{Scope, anonymous, counted}
 use Rattle.turtle_reader.specs.Symbols.{symbol_of, is_symbol, is_among, names, tags, shorthands}

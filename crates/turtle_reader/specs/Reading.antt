@@ -1,12 +1,12 @@
 -- What is read from the front of a list of tokens: one small definition for each rule of the grammar.
-use Rattle.std.specs.Prelude.{Bool, ℕ, zero, suc, List, [], ◌∷◌, ◌++◌, Result, Ok, Err}
+use Rattle.std.specs.Prelude.{Bool, ℕ, zero, suc, List, [], ◌++◌, Result, Ok, Err}
 use Rattle.token_readers.specs.Readers.{Reader, ◌>>=◌, give, refuse, one, either, loop, finish}
 use Rattle.rdf_terms.specs.Literals.{xsd_string}
 use Rattle.rdf_terms.specs.declared.terms.Term.{Term}
 use Rattle.rdf_lex.specs.Tokens.{Spelled}
 use Rattle.graph_loading.specs.declared.triples.TermTriple.{TermTriple}
-use Rattle.turtle_reader.specs.declared.faults.Fault.{Fault}
-use Rattle.turtle_reader.specs.declared.faults.Fault.TheVariants.{Syntax, Deep}
+use Rattle.rdf_cursor.specs.declared.stops.Fault.{Fault}
+use Rattle.rdf_cursor.specs.declared.stops.Fault.TheVariants.{Syntax, Deep}
 use Rattle.turtle_reader.specs.declared.symbols.Symbol.{Symbol}
 use Rattle.turtle_reader.specs.declared.symbols.Symbol.TheVariants as symbol
 use Rattle.turtle_reader.specs.Meanings.{iri_ref_of, iri_of, prefix_of, blank_of, string_of, typed, typed_of, tagged_of, shorthand_of, numbered}

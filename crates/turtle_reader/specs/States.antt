@@ -1,10 +1,9 @@
 -- What a statement is read with (RDF 1.1 Turtle, section 7.1, parser state).
-use Rattle.std.specs.Prelude.{ℕ, ◌+◌, List, [], ◌∷◌, ◌++◌, Option, Some, None, if◌then◌else◌, suc}
+use Rattle.std.specs.Prelude.{ℕ, ◌+◌, List, [], ◌∷◌, ◌++◌, Option, Some, None, if◌then◌else◌}
 use Rattle.std.specs.Str.{chars, bytes_eq}
-use Rattle.rdf_terms.specs.declared.terms.Name.{Name}
-use Rattle.rdf_terms.specs.declared.terms.Name.TheVariants.{Label, Fresh}
+use Rattle.rdf_terms.specs.declared.terms.Name.TheVariants.{Fresh}
 use Rattle.rdf_terms.specs.declared.terms.Term.{Term}
-use Rattle.rdf_terms.specs.declared.terms.Term.TheVariants.{Iri, Blank, Lit}
+use Rattle.rdf_terms.specs.declared.terms.Term.TheVariants.{Iri, Blank}
 use Rattle.rdf_lex.specs.Prefixes.{base_of, iri_under}
 use Rattle.graph_loading.specs.declared.triples.TermTriple.{TermTriple}
 use Rattle.turtle_reader.specs.declared.state.State.{State}

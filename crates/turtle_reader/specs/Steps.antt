@@ -1,6 +1,6 @@
 -- How the functions inside the crate end.
 use Rattle.std.specs.Prelude.{◌≡◌, ℕ, true, ◌++◌, List, [], ◌∷◌, Result, Ok, Err}
-use Rattle.token_readers.specs.Ahead.{Ahead, finished, prepend}
+use Rattle.token_readers.specs.Ahead.{Ahead, prepend}
 use Rattle.token_readers.specs.Phrases.{Many}
 use Rattle.token_readers.specs.Readers.{loop}
 use Rattle.rdf_terms.specs.declared.terms.Term.{Term}
@@ -12,13 +12,13 @@ use Rattle.graph_loading.specs.declared.triples.LoadError.{LoadError}
 use Rattle.graph_loading.specs.declared.triples.LoadError.TheVariants as load
 use Rattle.graph_loading.specs.declared.triples.TermTriple.{TermTriple}
 use Rattle.graph_loading.specs.Loading.{Loads, FindsNoRoom}
-use Rattle.turtle_reader.specs.declared.faults.Fault as kind
-use Rattle.turtle_reader.specs.declared.faults.Fault.TheVariants as faults
-use Rattle.turtle_reader.specs.declared.faults.Stop.{Stop}
-use Rattle.turtle_reader.specs.declared.faults.Stop.TheVariants as stop
+use Rattle.rdf_cursor.specs.declared.stops.Fault as kind
+use Rattle.rdf_cursor.specs.declared.stops.Fault.TheVariants as faults
+use Rattle.rdf_cursor.specs.declared.stops.Stop.{Stop}
+use Rattle.rdf_cursor.specs.declared.stops.Stop.TheVariants as stop
 use Rattle.turtle_reader.specs.declared.reader.Refusal.{Refusal}
 use Rattle.turtle_reader.specs.declared.reader.Refusal.TheVariants.{Memory, Full, Fault}
-use Rattle.turtle_reader.specs.Causes.{bare, Causes}
+use Rattle.turtle_reader.specs.Causes.{bare, Causes, IsAtLimit}
 use Rattle.turtle_reader.specs.Documents.{inner_depth}
 use Rattle.turtle_reader.specs.Grammar.{Behind, Document}
 use Rattle.turtle_reader.specs.Reading.{statement, further, document}
@@ -83,6 +83,7 @@ pub record Stopped (v : Scope) (ahead : Ahead Spelled) (f : kind.Fault) (rest : 
   pub inside : List Spelled
   pub parts : mid ≡ prepend inside rest
   pub cause : Causes (bare scope) f rest
+  pub limit : IsAtLimit scope f inside
 
 -- all statements
 abbrev pub Ends : Result (Unit {0}) Refusal → Scope → Ahead Spelled → Scope → Ahead Spelled → List Term → List Triple → List Term → List Triple → Type 0

@@ -6,19 +6,20 @@ ghost use Rattle.std.specs.Option.{IsSome};
 ghost use Rattle.iri_resolve.specs.Reference.{scheme_of};
 ghost use Rattle.token_readers.specs.Ahead.{next_is};
 ghost use Rattle.token_readers.specs.Readers.{one, loop};
-ghost use Rattle.turtle_reader.specs.declared.faults.Fault.TheVariants.{Syntax};
+ghost use Rattle.rdf_cursor.specs.declared.stops.Fault.TheVariants.{Syntax};
 ghost use Rattle.turtle_reader.specs.declared.symbols.Symbol.TheVariants.{AtPrefix, AtBase, SparqlPrefix, SparqlBase, Comma, Semicolon, CloseParenthesis};
-ghost use Rattle.turtle_reader.specs.Gives.{Gives, ahead, source_in};
+ghost use Rattle.rdf_cursor.specs.Stops.{Gives};
+ghost use Rattle.turtle_reader.specs.Gives.{ahead, source_in};
 ghost use Rattle.turtle_reader.specs.Meanings.{blank_of, string_of, tagged_of, shorthand_of};
 ghost use Rattle.turtle_reader.specs.Reading.{iri_ref, iri, datatyped, literal, resource, simple, verb, one_object, comma, objects, pair, semicolon, predicates, node, in_cell, member, next_member, cells, collection, object, subject, about_subject, listed, about_node, triples, ended, prefix_declaration, base_declaration, behind, statement};
 ghost use Rattle.turtle_reader.specs.States.{scope_of, term_of, anonymous};
 ghost use Rattle.turtle_reader.specs.Symbols.{is_symbol, is_other, is_among, verbs, tags, shorthands};
 
-use crate::faults::{Fault, Stop};
 use crate::state::{Resource, State};
 use crate::symbols::Symbol;
 use crate::terms;
 use crate::tokens::Tokens;
+use rdf_cursor::{Fault, Stop};
 use rdf_terms::terms::{Literal, Name, Term};
 use rdf_terms::text::Text;
 

@@ -1,8 +1,8 @@
 //! Reading Turtle into a table of terms and a graph (RDF 1.1 Turtle).
 #![tactic(auto)]
 
-mod faults;
 mod grammar;
+mod laws;
 mod reader;
 mod state;
 mod symbols;
@@ -11,4 +11,5 @@ mod terms;
 mod tests;
 mod tokens;
 
+pub use laws::documents_are_one;
 pub use reader::read;

@@ -13,13 +13,13 @@ ghost use Rattle.turtle_reader.specs.Gives.{ahead, source_in};
 ghost use Rattle.turtle_reader.specs.States.{Scope, scope_of};
 ghost use Rattle.turtle_reader.specs.Steps.{from_stop, from_load, error_of, LoadsAll, Steps, Ends};
 
-use crate::faults::{Fault, Stop};
 use crate::grammar::statement;
 use crate::state::State;
 use crate::tokens::Tokens;
 use graph_index::graph::Graph;
 use graph_index::read_error::ReadError;
 use graph_loading::{LoadError, TermTriple, load};
+use rdf_cursor::{Fault, Stop};
 use rdf_lex::Prefixes;
 use rdf_terms::table::TermTable;
 use std::alloc::Global;

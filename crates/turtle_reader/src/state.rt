@@ -4,8 +4,8 @@ ghost use Rattle.std.specs.Prelude.{◌≡◌, IfOk, OnOk, IsSome};
 ghost use Rattle.iri_resolve.specs.Reference.{scheme_of};
 ghost use Rattle.rdf_lex.specs.Prefixes.{base_of};
 
-use crate::faults::{Fault, Stop};
 use graph_loading::TermTriple;
+use rdf_cursor::{Fault, Stop};
 use rdf_lex::Prefixes;
 use rdf_terms::terms::{Name, Term};
 use rdf_terms::text::Text;

@@ -17,10 +17,10 @@ ghost use Rattle.turtle_reader.specs.States.{scope_of, term_of};
 ghost use Rattle.turtle_reader.specs.Symbols.{is_symbol, is_among, verbs, tags, shorthands};
 ghost use Rattle.turtle_reader.specs.Vocabulary.{shorthand_datatype};
 
-use crate::faults::{Fault, Stop};
 use crate::state::{Resource, State};
 use crate::symbols::Symbol;
 use iri_resolve::{IriError, resolve};
+use rdf_cursor::{Fault, Stop};
 use rdf_lex::{LexError, Token, unescape};
 use rdf_terms::terms::{Literal, Name, Term};
 use rdf_terms::text::Text;

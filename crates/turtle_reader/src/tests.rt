@@ -1,4 +1,4 @@
-// Rows with values from the published grammar and the rules above, and calls with ample memory.
+//! Rows with values from the published grammar and the rules above, and calls with ample memory.
 
 use super::read;
 use graph_index::graph::Graph;
@@ -12,7 +12,7 @@ use std::test::Fail;
 
 const BASE: &str = "http://localhost/";
 
-// The kind of an answer, with an empty table and graph, and how many triples there are then.
+/// The kind of an answer, with an empty table and graph, and how many triples there are then.
 fn answer(alloc: Global, source: &[u8]) -> (Option<ReadError>, u64) {
     let mut terms = TermTable::new(alloc);
     let mut graph = Graph::new(alloc);
@@ -30,7 +30,7 @@ fn is_refused(rt: &(impl Abort + AllocGlobal), source: &[u8], wanted: ReadError)
     assert!(rt; error == Some(wanted) && len == 0);
 }
 
-// Appends the text of a term and a space.
+/// Appends the text of a term and a space.
 fn append(
     alloc: Global,
     terms: &TermTable,
@@ -55,7 +55,7 @@ fn append_triple(
     out.extend_from_slice(b".\n")
 }
 
-// The triples of a document, in the order in which they are read; nothing where it is refused.
+/// The triples of a document, in the order in which they are read; nothing where it is refused.
 fn printed(alloc: Global, source: &str) -> Result<Vec<u8>, AllocError> {
     let mut terms = TermTable::new(alloc);
     let mut graph = Graph::new(alloc);
@@ -161,39 +161,71 @@ fn a_fault_is_named_with_its_place(rt: HostRuntime) {
     is_refused(&rt, b"<n> <p> 1 . <n> <p> ex:o .", ReadError::Prefix(20));
 }
 
-// So many opening brackets in the place of an object, and as many that close.
-fn nested(alloc: Global, open: &str, close: &str, depth: u32) -> Result<String, AllocError> {
-    let mut text = String::from_str(alloc, "<s> <p> ")?;
-    for _ in 0..depth {
+/// A text with so many opening brackets, 1 inside, and as many that close.
+fn nested(
+    alloc: Global,
+    front: &str,
+    open: &str,
+    close: &str,
+    back: &str,
+    times: u32,
+) -> Result<String, AllocError> {
+    let mut text = String::from_str(alloc, front)?;
+    for _ in 0..times {
         text.push_str(open)?;
     }
     text.push_str("1")?;
-    for _ in 0..depth {
+    for _ in 0..times {
         text.push_str(close)?;
     }
-    text.push_str(" .")?;
+    text.push_str(back)?;
     Ok(text)
 }
 
-#[test]
-fn brackets_nest_up_to_64_deep(rt: HostRuntime) -> Result<(), Fail> {
+/// The text with so many brackets is read, and one with one more of them is too deep.
+fn nests(
+    rt: &(impl Abort + AllocGlobal),
+    front: &str,
+    open: &str,
+    close: &str,
+    back: &str,
+    times: u8,
+    count: u64,
+) -> Result<(), Fail> {
     let alloc = rt.alloc();
-    is_read(&rt, nested(alloc, "[ <p> ", "]", 64)?.as_str(), 65);
-    is_refused(
-        &rt,
-        nested(alloc, "[ <p> ", "]", 65)?.as_bytes(),
-        ReadError::Deep,
+    is_read(
+        rt,
+        nested(alloc, front, open, close, back, u32::from(times))?.as_str(),
+        count,
     );
-    is_read(&rt, nested(alloc, "(", ")", 64)?.as_str(), 129);
     is_refused(
-        &rt,
-        nested(alloc, "(", ")", 65)?.as_bytes(),
+        rt,
+        nested(alloc, front, open, close, back, u32::from(times) + 1)?.as_bytes(),
         ReadError::Deep,
     );
     Ok(())
 }
 
-// A text, and a part of it so many times between.
+#[test]
+fn brackets_nest_up_to_64_deep(rt: HostRuntime) -> Result<(), Fail> {
+    // Lists and collections as an object, and as a subject.
+    nests(&rt, "<s> <p> ", "[ <p> ", "]", " .", 64, 65)?;
+    nests(&rt, "<s> <p> ", "(", ")", " .", 64, 129)?;
+    nests(&rt, "", "[ <p> ", "]", " .", 64, 64)?;
+    nests(&rt, "", "(", ")", " <p> 1 .", 64, 129)?;
+
+    // Both in turn, and one more around or inside them.
+    nests(&rt, "<s> <p> ", "[ <p> (", ")]", " .", 32, 97)?;
+    nests(&rt, "<s> <p> (", "[ <p> (", ")]", ") .", 31, 96)?;
+    nests(&rt, "[ <p> ", "( [ <p> ", "])", "] <q> <r> .", 31, 95)?;
+
+    // Those that are closed count no more.
+    nests(&rt, "[] <p> [], ( () [] ), ", "(", ")", " .", 64, 135)?;
+    nests(&rt, "[ <p> () ] <p> ", "[ <p> ", "]", " .", 64, 66)?;
+    nests(&rt, "<s> <p> (()) . [] <p> ", "(", ")", " .", 64, 132)
+}
+
+/// A text, and a part of it so many times between.
 fn repeated(
     alloc: Global,
     front: &str,
@@ -210,27 +242,27 @@ fn repeated(
 }
 
 #[test]
-fn long_documents_are_loops(rt: HostRuntime) -> Result<(), Fail> {
-    let alloc = rt.alloc();
-    is_read(
-        &rt,
-        repeated(alloc, "<s> <p> (", " 1", 100_000, " ) .")?.as_str(),
-        200_001,
-    );
-    is_read(
-        &rt,
-        repeated(alloc, "", "[] <p> 1 .\n", 100_000, "")?.as_str(),
-        100_000,
-    );
-    is_read(
-        &rt,
-        repeated(alloc, "<s> <p> 0", ", []", 100_000, " .")?.as_str(),
-        100_001,
-    );
+fn a_collection_of_100000_members_is_read(rt: HostRuntime) -> Result<(), Fail> {
+    let text = repeated(rt.alloc(), "<s> <p> (", " 1", 100_000, " ) .")?;
+    is_read(&rt, text.as_str(), 200_001);
     Ok(())
 }
 
-// A clinical record.
+#[test]
+fn a_document_of_100000_statements_is_read(rt: HostRuntime) -> Result<(), Fail> {
+    let text = repeated(rt.alloc(), "", "[] <p> 1 .\n", 100_000, "")?;
+    is_read(&rt, text.as_str(), 100_000);
+    Ok(())
+}
+
+#[test]
+fn a_list_of_100000_objects_is_read(rt: HostRuntime) -> Result<(), Fail> {
+    let text = repeated(rt.alloc(), "<s> <p> 0", ", []", 100_000, " .")?;
+    is_read(&rt, text.as_str(), 100_001);
+    Ok(())
+}
+
+/// A clinical record.
 const CLINICAL: &str =
     "@prefix ex: <http://ex.example/> .\n@prefix xsd: <http://www.w3.org/2001/XMLSchema#> .\n# three patients\nex:p1 a ex:Patient ; ex:name \"Ann\" ; ex:born \"1980-02-29T00:00:00Z\"^^xsd:dateTime ;\n  ex:seen [ ex:by ex:d1 ] ; ex:notes ( \"a\" \"b\" ) .\nex:p2 a ex:Patient ; ex:name \"Bob\" ; ex:born \"1981-02-29T00:00:00Z\"^^xsd:dateTime .\nex:p3 a ex:Patient ; ex:name \"Cy\" .\nex:d1 ex:name \"Dr Dee\" .\n";
 

@@ -4,9 +4,8 @@ ghost use Rattle.std.specs.Prelude.{◌≡◌};
 ghost use Rattle.rdf_lex.specs.declared.kinds.Mode.TheVariants.{Turtle};
 ghost use Rattle.rdf_cursor.specs.Cursors.{mode_of};
 
-use crate::faults::{Fault, Stop};
 use crate::symbols::Symbol;
-use rdf_cursor::Cursor;
+use rdf_cursor::{Cursor, Fault, Stop};
 use rdf_lex::{Mode, Token};
 
 /// A place among the tokens of a text in Turtle.
@@ -21,8 +20,9 @@ impl<'a> Tokens<'a> {
     ghost use Rattle.token_readers.specs.Readers.{one, finish};
     ghost use Rattle.rdf_cursor.specs.Lent.{Lends, Stands, behind_next, spelled};
     ghost use Rattle.rdf_cursor.specs.Streams.{stream_from};
-    ghost use Rattle.turtle_reader.specs.declared.faults.Fault.TheVariants.{Syntax};
-    ghost use Rattle.turtle_reader.specs.Gives.{Gives, ahead, source_in};
+    ghost use Rattle.rdf_cursor.specs.declared.stops.Fault.TheVariants.{Syntax};
+    ghost use Rattle.rdf_cursor.specs.Stops.{Gives};
+    ghost use Rattle.turtle_reader.specs.Gives.{ahead, source_in};
     ghost use Rattle.turtle_reader.specs.Symbols.{is_symbol, is_any, of_symbol};
 
     /// The place before the first token of a text.
@@ -95,10 +95,6 @@ impl<'a> Tokens<'a> {
     pub fn end(&self) -> Result<(), Stop>
         ensures { Gives (λ x. x) result (ahead self.now) (finish Syntax tt (ahead self.now)) }
     {
-        match self.cursor.end() {
-            Ok(()) => Ok(()),
-            Err(rdf_cursor::Stop::Memory) => Err(Stop::Memory),
-            Err(rdf_cursor::Stop::Fault(_)) => Err(Stop::Fault(Fault::Syntax)),
-        }
+        self.cursor.end()
     }
 }

@@ -1,4 +1,4 @@
-use Rattle.std.proofs.Common.{◌≡◌, sym, refl, ◌∙◌, arith, true}
+use Rattle.std.proofs.Common.{sym, ◌∙◌, true}
 use Rattle.std.proofs.lemmas.Result.{err_from_is_err_and}
 use Rattle.token_readers.proofs.Loops.{loop_goes, loop_ends}
 use Rattle.turtle_reader.specs.Gives.{ahead}
