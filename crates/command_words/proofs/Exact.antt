@@ -1,0 +1,86 @@
+-- Words ask for one command or have one first fault.
+use Rattle.std.proofs.Common.{◌≡◌, ◌∙◌, List, [], true, refl, sym, ap, subst}
+use Rattle.std.specs.Prelude.{IfErr, IfOk, IsErrAnd, MatchResult, Result, Ok, Err}
+use Rattle.clap.specs.Words.{Text}
+use Rattle.command_words.specs.declared.command.Command.{Command as LentCommand}
+use Rattle.command_words.specs.declared.error.WordsError.{WordsError}
+use Rattle.command_words.specs.declared.error.WordsError.TheVariants as Error
+use Rattle.command_words.specs.Asked.{Command, IsAsked, IsFirstFault, command_by, failing, unasked}
+use Rattle.command_words.specs.Checks.{Fault, Import, IsRequestFault, AreImports, HasEndings, HasImports, IsImportFault, Passes, arguments, import_words, is_data_name, is_schema_name}
+use Rattle.command_words.specs.Requests.{Asks, Request}
+use Rattle.command_words.specs.Lent.{Because, command_of}
+use Rattle.command_words.proofs.Once.{no_request_fault, one_list, one_request_fault}
+use Rattle.command_words.proofs.Requested.{one_request}
+
+pub one_command : (words : List Text) (c d : Command) → IsAsked words c → IsAsked words d → c ≡ d
+one_command words c d a b =
+    let requests : a.request ≡ b.request = one_request words a.request b.request a.asks b.asks in
+    let passes : Passes a.request d.imports = subst (λ (r : Request). Passes r d.imports) (sym requests) b.passes in
+    let imports : c.imports ≡ d.imports = one_list _ a.request.import_words c.imports d.imports a.passes.bases.inputs.imports_given passes.bases.inputs.imports_given in
+    a.leads ∙ ap (λ (r : Request). command_by r c.imports) requests ∙ ap (command_by b.request) imports ∙ sym b.leads
+
+pub no_fault : (words : List Text) (c : Command) (f : Fault) → IsAsked words c → IsFirstFault words f → ⊥
+no_fault words c _ a (unasked none) = none a.request a.asks
+no_fault words c _ a (failing r asks f h) =
+    no_request_fault r c.imports f (subst (λ (s : Request). Passes s c.imports) (one_request words a.request r a.asks asks) a.passes) h
+
+pub one_fault : (words : List Text) (f g : Fault) → IsFirstFault words f → IsFirstFault words g → f ≡ g
+one_fault words _ _ (unasked none) (unasked more) = refl
+one_fault words _ _ (unasked none) (failing r asks g h) = absurd (none r asks)
+one_fault words _ _ (failing r asks f h) (unasked none) = absurd (none r asks)
+one_fault words _ _ (failing r asks f h) (failing s other g k) =
+    one_request_fault r f g h (subst (λ (x : Request). IsRequestFault x g) (one_request words s r other asks) k)
+
+pub because : (P Q : Fault → Type 0) (e : WordsError) → ((f : Fault) → P f → Q f) → Because P e → Because Q e
+because P Q Error.Arguments h p = h _ p
+because P Q (Error.Ending name) h p = h _ p
+because P Q (Error.Import word) h p = h _ p
+because P Q (Error.Base iri) h p = h _ p
+because P Q (Error.Same name) h p = h _ p
+because P Q Error.Memory h p = p
+
+pub completely : (words : List Text) (r : Result LentCommand WordsError) → IfOk r (λ c. IsAsked words (command_of c)) → IfErr r (Because (IsFirstFault words))
+    → (c : Command) → IsAsked words c → MatchResult r (λ d. command_of d ≡ c) (Because (λ f. ⊥))
+completely words (Ok d) asked refused c a = one_command words (command_of d) c asked a
+completely words (Err e) asked refused c a = because (IsFirstFault words) (λ f. ⊥) e (λ f h. no_fault words c f a h) refused
+
+pub refusing : (words : List Text) (r : Result LentCommand WordsError) → IfOk r (λ c. IsAsked words (command_of c)) → IfErr r (Because (IsFirstFault words))
+    → (f : Fault) → IsFirstFault words f → IsErrAnd r (Because (λ g. g ≡ f))
+refusing words (Ok d) asked refused f h = no_fault words (command_of d) f asked h
+refusing words (Err e) asked refused f h = because (IsFirstFault words) (λ g. g ≡ f) e (λ g k. one_fault words g f k h) refused
+
+-- what an answer says, by what is known of its parts
+pub record IsExact (words : List Text) (r : Result LentCommand WordsError) : Type 0 where
+  pub asked : IfOk r (λ c. IsAsked words (command_of c))
+  pub complete : (c : Command) → IsAsked words c → MatchResult r (λ d. command_of d ≡ c) (Because (λ f. ⊥))
+  pub refused : IfErr r (Because (IsFirstFault words))
+  pub refuses : (f : Fault) → IsFirstFault words f → IsErrAnd r (Because (λ g. g ≡ f))
+
+exact_by : (words : List Text) (r : Result LentCommand WordsError) → IfOk r (λ c. IsAsked words (command_of c)) → IfErr r (Because (IsFirstFault words)) → IsExact words r
+exact_by words r asked refused = record { asked = asked; complete = completely words r asked refused; refused = refused; refuses = refusing words r asked refused }
+
+-- where the words ask for no request
+pub exact_unasked : (words : List Text) (r : Result LentCommand WordsError) (e : WordsError) → IsErrAnd r (λ x. x ≡ e)
+    → Because (λ f. (f ≡ arguments) × ((q : Request) → ¬ Asks words q)) e → IsExact words r
+exact_unasked words (Ok c) e h because_of = absurd h
+exact_unasked words (Err x) e h because_of =
+    exact_by words (Err x) tt
+    (because (λ f. (f ≡ arguments) × ((q : Request) → ¬ Asks words q)) (IsFirstFault words) x (λ f (is, none). subst (IsFirstFault words) (sym is) (unasked none))
+    (subst (Because (λ f. (f ≡ arguments) × ((q : Request) → ¬ Asks words q))) (sym h) because_of))
+
+-- where they ask for one
+pub exact_asked : (words : List Text) (q : Request) (r : Result LentCommand WordsError) → Asks words q
+    → IfOk r (λ c. command_of c ≡ command_by q (command_of c).imports) → IfOk r (λ c. Passes q (command_of c).imports) → IfErr r (Because (IsRequestFault q)) → IsExact words r
+exact_asked words q (Ok c) asks leads passes fault = exact_by words (Ok c) (record { request = q; asks = asks; passes = passes; leads = leads }) tt
+exact_asked words q (Err e) asks leads passes fault = exact_by words (Err e) tt (because (IsRequestFault q) (IsFirstFault words) e (λ f h. failing q asks f h) fault)
+
+-- the import words of a request are at fault
+pub imports_failed : (q : Request) (ws : List Text) (r : Result LentCommand WordsError) (e : WordsError) → IsErrAnd r (λ x. x ≡ e) → HasEndings q → ws ≡ q.import_words → Because (IsImportFault [] ws) e
+    → IfErr r (Because (IsRequestFault q))
+imports_failed q ws (Ok c) e h endings same fault = tt
+imports_failed q ws (Err x) e h endings same fault =
+    because (IsImportFault [] ws) (IsRequestFault q) x (λ f bad. import_words f endings (subst (λ (all : List Text). IsImportFault [] all f) same bad))
+    (subst (Because (IsImportFault [] ws)) (sym h) fault)
+
+pub with_imports : (q : Request) (ws : List Text) (imports : List Import) → is_schema_name q.schema ≡ true → is_data_name q.data_file ≡ true → ws ≡ q.import_words → AreImports [] ws imports → HasImports q imports
+with_imports q ws imports s d same given = record { endings = record { schema = s; data_file = d }; imports_given = subst (λ (all : List Text). AreImports [] all imports) same given }

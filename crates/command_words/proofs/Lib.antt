@@ -1,0 +1,9 @@
+pub mod Exact
+pub mod Divided
+pub mod Found
+pub mod Going
+pub mod Named
+pub mod Decimals
+pub mod Once
+pub mod Requested
+pub mod Seen

@@ -1,0 +1,73 @@
+-- Words ask for one request.
+use Rattle.std.proofs.Common.{◌≡◌, ◌∙◌, ℕ, List, ◌∷◌, refl, sym, ap, subst, length, codes, arith}
+use Rattle.std.specs.Prelude.{Option, Some, None}
+use Rattle.std.proofs.lemmas.Fmt.{digits_value-decimal}
+use Rattle.std.proofs.lemmas.Str.Parse.{IsNumeralModel, numerals_by_value, tells_digits}
+use Rattle.std.specs.Str.Parse.{AllDigits, digits_value}
+use Rattle.clap.specs.Words.{App, Row, Text}
+use Rattle.command_words.specs.Commands.{check, rows, validate}
+use Rattle.command_words.specs.Requests.{Asks, IsBudget, IsGiven, IsTask, Request, Task, checking, command_for, name_of, validation}
+
+pub own : IsNumeralModel (AllDigits 10) (digits_value 10)
+own = numerals_by_value (AllDigits 10) tells_digits
+
+eight_five : (a b : ℕ) → a ≡ 8 → b ≡ 5 → a ≡ b → ⊥
+eight_five a b p q e = omega arith
+
+pub names_differ : codes "validate" ≡ codes "check" → ⊥
+names_differ e = eight_five (length (codes "validate")) (length (codes "check")) refl refl (ap length e)
+
+one_value : {X : Type 0} (o : Option X) (x y : X) → o ≡ Some x → o ≡ Some y → x ≡ y
+one_value o x y p q = let e : Some x ≡ Some y = sym p ∙ q in cc
+
+one_budget : (o : Option Text) (m n : ℕ) → IsBudget o m → IsBudget o n → m ≡ n
+one_budget None m n p q = p ∙ sym q
+one_budget (Some text) m n (p, a, b) (q, c, d) =
+    sym (digits_value-decimal own m (omega arith)) ∙ ap (digits_value 10) (sym p ∙ q) ∙ digits_value-decimal own n (omega arith)
+
+one_task : (found : List Row) (t u : Task) → name_of t ≡ name_of u → IsTask found t → IsTask found u → t ≡ u
+one_task found (validation m p n) (validation k q o) e a b =
+    let maps : m ≡ k = one_value _ m k a.map_file b.map_file in
+    let proofs : p ≡ q = sym a.proof ∙ b.proof in
+    let budgets : n ≡ o = one_budget _ n o a.budget b.budget in
+    cc
+one_task found (validation m p n) (checking q) e a b = absurd (names_differ e)
+one_task found (checking p) (validation k q o) e a b = absurd (names_differ (sym e))
+one_task found (checking p) (checking q) e a b = ap checking (one_value _ p q a b)
+
+same_command : (t u : Task) → name_of t ≡ name_of u → command_for t ≡ command_for u
+same_command (validation m p n) (validation k q o) e = refl
+same_command (validation m p n) (checking q) e = absurd (names_differ e)
+same_command (checking p) (validation k q o) e = absurd (names_differ (sym e))
+same_command (checking p) (checking q) e = refl
+
+one_given : (found : List Row) (r s : Request) → IsGiven found r → IsGiven found s → r.task ≡ s.task → r ≡ s
+one_given found r s a b tasks = λ k. record {
+  schema = one_value _ r.schema s.schema a.schema b.schema k;
+  data_file = one_value _ r.data_file s.data_file a.data_file b.data_file k;
+  schema_base = (sym a.schema_base ∙ b.schema_base) k;
+  data_base = (sym a.data_base ∙ b.data_base) k;
+  import_words = (sym a.import_words ∙ b.import_words) k;
+  task = tasks k;
+}
+
+heads : {x y : Text} {xs ys : List Text} → x ∷ xs ≡ y ∷ ys → x ≡ y
+heads e = cc
+
+tails : {x y : Text} {xs ys : List Text} → x ∷ xs ≡ y ∷ ys → xs ≡ ys
+tails e = cc
+
+pub one_request : (words : List Text) (r s : Request) → Asks words r → Asks words s → r ≡ s
+one_request words r s a b = one_given (rows (command_for r.task) a.behind) r s a.found.given given tasks
+  where
+    whole : name_of r.task ∷ a.behind ≡ name_of s.task ∷ b.behind
+    whole = sym a.named ∙ b.named
+
+    kinds : rows (command_for s.task) b.behind ≡ rows (command_for r.task) a.behind
+    kinds = ap (λ (app : App). rows app b.behind) (same_command s.task r.task (sym (heads whole))) ∙ ap (rows (command_for r.task)) (sym (tails whole))
+
+    given : IsGiven (rows (command_for r.task) a.behind) s
+    given = subst (λ (found : List Row). IsGiven found s) kinds b.found.given
+
+    tasks : r.task ≡ s.task
+    tasks = one_task (rows (command_for r.task) a.behind) r.task s.task (heads whole) a.found.asked (subst (λ (found : List Row). IsTask found s.task) kinds b.found.asked)

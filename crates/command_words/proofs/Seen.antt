@@ -1,0 +1,106 @@
+-- What words ask for behind a command's name.
+use Rattle.std.proofs.Common.{◌≡◌, ◌≢◌, ◌∙◌, ◌≤◌, ◌-◌, List, [], ◌∷◌, arith, codes, drop, get_or, length, map, refl, sym, ap, subst, take}
+use Rattle.std.specs.Prelude.{Result, Ok, Err, IfErr, IfOk, IsErrAnd}
+use Rattle.clap.specs.Words.{App, Row, Text}
+use Rattle.command_words.specs.declared.error.WordsError.{WordsError}
+use Rattle.command_words.specs.declared.requests.Request.{Request as LentRequest}
+use Rattle.command_words.specs.Checks.{arguments}
+use Rattle.command_words.specs.Lent.{Because, request_of, task_of}
+use Rattle.command_words.proofs.Exact.{because}
+use Rattle.command_words.specs.Commands.{check, faults, rows, validate}
+use Rattle.command_words.specs.Requests.{Asks, IsFound, IsGiven, IsTask, Request, Task, checking, command_for, name_of, validation}
+use Rattle.command_words.proofs.Requested.{names_differ}
+
+pub to_validate : (t : Task) → name_of t ≡ codes "validate" → command_for t ≡ validate
+to_validate (validation m p n) e = refl
+to_validate (checking p) e = absurd (names_differ (sym e))
+
+pub to_check : (t : Task) → name_of t ≡ codes "check" → command_for t ≡ check
+to_check (validation m p n) e = absurd (names_differ e)
+to_check (checking p) e = refl
+
+-- the command b is that of the tasks with the name n
+module _ (n : Text) (a b : App) (owns : (t : Task) → name_of t ≡ n → command_for t ≡ a) (e : b ≡ a) (words : List Text) where
+  command_is : (t : Task) → name_of t ≡ n → b ≡ command_for t
+  command_is t named = e ∙ sym (owns t named)
+
+  pub found_for : (seen : List Row) (r : Request) (t : Task) → faults b words ≡ [] → seen ≡ rows b words → IsGiven seen r → r.task ≡ t → IsTask seen t → name_of t ≡ n → IsFound words r
+  found_for seen r t taken same given is asked named =
+      let app : b ≡ command_for r.task = command_is r.task (ap name_of is ∙ named) in
+      let all : seen ≡ rows (command_for r.task) words = same ∙ ap (λ (x : App). rows x words) app in
+      record {
+        taken = sym (ap (λ (x : App). faults x words) app) ∙ taken;
+        given = subst (λ (s : List Row). IsGiven s r) all given;
+        asked = subst (λ (s : List Row). IsTask s r.task) all (subst (IsTask seen) (sym is) asked);
+      }
+
+  pub not_taken : faults b words ≢ [] → (r : Request) → name_of r.task ≡ n → ¬ IsFound words r
+  not_taken refused r named h = refused (ap (λ (x : App). faults x words) (command_is r.task named) ∙ h.taken)
+
+  same_seen : (seen : List Row) (r : Request) → seen ≡ rows b words → name_of r.task ≡ n → rows (command_for r.task) words ≡ seen
+  same_seen seen r same named = sym (same ∙ ap (λ (x : App). rows x words) (command_is r.task named))
+
+  pub no_task : (seen : List Row) → seen ≡ rows b words → ((t : Task) → name_of t ≡ n → ¬ IsTask seen t) → (r : Request) → name_of r.task ≡ n → ¬ IsFound words r
+  no_task seen same none r named h = none r.task named (subst (λ (s : List Row). IsTask s r.task) (same_seen seen r same named) h.asked)
+
+  pub not_given : (seen : List Row) → seen ≡ rows b words → ((r : Request) → ¬ IsGiven seen r) → (r : Request) → name_of r.task ≡ n → ¬ IsFound words r
+  not_given seen same none r named h = none r (subst (λ (s : List Row). IsGiven s r) (same_seen seen r same named) h.given)
+
+  -- an error that is handed on
+  pub not_requested : (seen : List Row) (r : Result LentRequest WordsError) (x : WordsError) → IsErrAnd r (λ y. y ≡ x) → seen ≡ rows b words
+      → Because (λ f. (f ≡ arguments) × ((q : Request) → ¬ IsGiven seen q)) x → IfErr r (Because (λ f. (f ≡ arguments) × ((q : Request) → name_of q.task ≡ n → ¬ IsFound words q)))
+  not_requested seen (Ok q) x h same fault = tt
+  not_requested seen (Err y) x h same fault =
+      because (λ f. (f ≡ arguments) × ((q : Request) → ¬ IsGiven seen q)) (λ f. (f ≡ arguments) × ((q : Request) → name_of q.task ≡ n → ¬ IsFound words q)) y
+      (λ f (is, none). (is, not_given seen same none))
+      (subst (Because (λ f. (f ≡ arguments) × ((q : Request) → ¬ IsGiven seen q))) (sym h) fault)
+
+-- no words, or a first word that is no command's name
+pub no_words : (r : Request) → ¬ Asks [] r
+no_words r a = absurd (let e : [] ≡ name_of r.task ∷ a.behind = a.named in cc)
+
+pub heads : {x y : Text} {xs ys : List Text} → x ∷ xs ≡ y ∷ ys → x ≡ y
+heads e = cc
+
+pub tails : {x y : Text} {xs ys : List Text} → x ∷ xs ≡ y ∷ ys → xs ≡ ys
+tails e = cc
+
+named_one : (t : Task) → (name_of t ≡ codes "validate" → ⊥) → (name_of t ≡ codes "check" → ⊥) → ⊥
+named_one (validation m p n) a b = a refl
+named_one (checking p) a b = b refl
+
+pub no_name : (name : Text) (behind : List Text) → name ≢ codes "validate" → name ≢ codes "check" → (r : Request) → ¬ Asks (name ∷ behind) r
+no_name name behind a b r asks = named_one r.task (λ e. a (heads asks.named ∙ e)) (λ e. b (heads asks.named ∙ e))
+
+-- behind a command's name
+pub asks_behind : (words behind : List Text) (n : Text) (r : Request) → words ≡ n ∷ behind → IsFound behind r → name_of r.task ≡ n → Asks words r
+asks_behind words behind n r e found named = record { behind = behind; named = e ∙ ap (λ (x : Text). x ∷ behind) (sym named); found = found }
+
+pub asks_not_behind : (words behind : List Text) (n : Text) → words ≡ n ∷ behind → ((r : Request) → name_of r.task ≡ n → ¬ IsFound behind r) → (r : Request) → ¬ Asks words r
+asks_not_behind words behind n e none r asks =
+    let whole : n ∷ behind ≡ name_of r.task ∷ asks.behind = sym e ∙ asks.named in
+    none r (sym (heads whole)) (subst (λ (ws : List Text). IsFound ws r) (sym (tails whole)) asks.found)
+
+take_all : {X : Type 0} (ys : List X) → take (length ys) ys ≡ ys
+take_all [] = refl
+take_all (y ∷ ys) = ap (λ z. y ∷ z) (take_all ys)
+
+-- the first word and the others
+pub first_and_rest : {X Y : Type 0} (f : X → Y) (ws : List X) (x : X) → 1 ≤ length ws → x ≡ get_or ws 0 x → map f ws ≡ f x ∷ map f (take (length ws - 1) (drop 1 ws))
+first_and_rest f [] x l e = absurd (omega arith)
+first_and_rest f (w ∷ ws) x l e =
+    let n : length (w ∷ ws) - 1 ≡ length ws = omega arith in
+    ap (λ z. z ∷ map f ws) (ap f (sym e)) ∙ ap (λ z. f x ∷ map f z) (sym (ap (λ k. take k ws) n ∙ take_all ws))
+
+-- a request behind a command's name is one of all words
+pub requested : (words behind : List Text) (n : Text) (r : Result LentRequest WordsError) → words ≡ n ∷ behind → IfOk r (λ q. IsFound behind (request_of q)) → IfOk r (λ q. name_of (task_of q.task) ≡ n)
+    → IfOk r (λ q. Asks words (request_of q))
+requested words behind n (Ok q) e found named = asks_behind words behind n (request_of q) e found named
+requested words behind n (Err x) e found named = tt
+
+pub unrequested : (words behind : List Text) (n : Text) (r : Result LentRequest WordsError) → words ≡ n ∷ behind
+    → IfErr r (Because (λ f. (f ≡ arguments) × ((q : Request) → name_of q.task ≡ n → ¬ IsFound behind q))) → IfErr r (Because (λ f. (f ≡ arguments) × ((q : Request) → ¬ Asks words q)))
+unrequested words behind n (Ok q) e fault = tt
+unrequested words behind n (Err x) e fault =
+    because (λ f. (f ≡ arguments) × ((q : Request) → name_of q.task ≡ n → ¬ IsFound behind q)) (λ f. (f ≡ arguments) × ((q : Request) → ¬ Asks words q)) x
+    (λ f (is, none). (is, asks_not_behind words behind n e none)) fault

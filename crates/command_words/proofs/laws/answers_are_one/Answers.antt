@@ -1,0 +1,5 @@
+use Rattle.command_words.proofs.Exact.{no_fault, one_command, one_fault}
+use Rattle.command_words.proofs.laws.answers_are_one.Goals as goal
+
+pub returns : goal.returns
+returns c = record { commands = one_command; faults = one_fault; apart = no_fault }

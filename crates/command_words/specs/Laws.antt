@@ -1,0 +1,11 @@
+-- Laws of what words ask for.
+use Rattle.std.specs.Prelude.{◌≡◌, List}
+use Rattle.clap.specs.Words.{Text}
+use Rattle.command_words.specs.Asked.{Command, IsAsked, IsFirstFault}
+use Rattle.command_words.specs.Checks.{Fault}
+
+-- words ask for one command at most, or have one first fault at most, and never both
+pub record AnswersAreOne : Type 0 where
+  pub commands : (words : List Text) (c d : Command) → IsAsked words c → IsAsked words d → c ≡ d
+  pub faults : (words : List Text) (f g : Fault) → IsFirstFault words f → IsFirstFault words g → f ≡ g
+  pub apart : (words : List Text) (c : Command) (f : Fault) → IsAsked words c → ¬ IsFirstFault words f

@@ -1,0 +1,55 @@
+-- The commands and the errors as they are lent from the words.
+use Rattle.std.specs.Prelude.{map, option_map, ⊤}
+use Rattle.command_words.specs.declared.command.Command.{Command as LentCommand}
+use Rattle.command_words.specs.declared.command.Command.TheVariants as Lent
+use Rattle.command_words.specs.declared.command.Import.{Import as LentImport}
+use Rattle.command_words.specs.declared.command.Inputs.{Inputs}
+use Rattle.command_words.specs.declared.error.WordsError.{WordsError}
+use Rattle.command_words.specs.declared.error.WordsError.TheVariants as Error
+use Rattle.command_words.specs.declared.requests.Request.{Request as LentRequest}
+use Rattle.command_words.specs.declared.requests.Task.{Task as LentTask}
+use Rattle.command_words.specs.declared.requests.Task.TheVariants as Tasks
+use Rattle.command_words.specs.Requests.{Request, Task, checking, validation}
+use Rattle.command_words.specs.Checks.{Fault, Import, arguments, base, ending, import_word, same}
+use Rattle.command_words.specs.Asked.{Command}
+
+abbrev pub import_of : LentImport → Import
+import_of i = record { iri = i.iri.now; file = i.file.now }
+
+abbrev pub task_of : LentTask → Task
+task_of (Tasks.Validate map_file proof budget) = validation map_file.now (option_map (λ s. s.now) proof) budget
+task_of (Tasks.Check proof) = checking proof.now
+
+abbrev pub request_of : LentRequest → Request
+request_of r = record {
+  schema = r.schema.now;
+  data_file = r.data.now;
+  schema_base = r.schema_base.now;
+  data_base = r.data_base.now;
+  import_words = map (λ s. s.now) r.import_words.items;
+  task = task_of r.task;
+}
+
+-- a command of these inputs and this task
+abbrev pub command_with : Inputs → Task → Command
+command_with inputs task = record {
+  schema = inputs.schema.now;
+  data_file = inputs.data.now;
+  schema_base = inputs.schema_base.now;
+  data_base = inputs.data_base.now;
+  imports = map import_of inputs.imports.items;
+  task = task;
+}
+
+abbrev pub command_of : LentCommand → Command
+command_of (Lent.Validate v) = command_with v.inputs (validation v.map.now (option_map (λ s. s.now) v.proof) v.budget)
+command_of (Lent.Check c) = command_with c.inputs (checking c.proof.now)
+
+-- the fault that an error names has a property; of want of memory nothing is said
+abbrev pub Because : (Fault → Type 0) → WordsError → Type 0
+Because P Error.Arguments = P arguments
+Because P (Error.Ending name) = P (ending name.now)
+Because P (Error.Import word) = P (import_word word.now)
+Because P (Error.Base iri) = P (base iri.now)
+Because P (Error.Same name) = P (same name.now)
+Because P Error.Memory = ⊤

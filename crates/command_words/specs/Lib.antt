@@ -1,0 +1,6 @@
+pub mod Commands
+pub mod Requests
+pub mod Checks
+pub mod Asked
+pub mod Lent
+pub mod Laws

@@ -1,0 +1,84 @@
+-- What words ask for, by `clap`'s definition of the matches, before it is checked.
+use Rattle.std.specs.Prelude.{◌≡◌, ◌≤◌, ℕ, List, [], ◌∷◌, Option, Some, None, codes, unwrap_or}
+use Rattle.std.specs.Fmt.{decimal}
+use Rattle.clap.specs.Words.{App, Row, Text, all_of, first_of}
+use Rattle.command_words.specs.Commands.{check, faults, rows, validate}
+
+-- what is asked of the schema and the data: to validate the associations of the map in a file, with the name under which the proof is to be stored, if it is, and the budget; or to check the proof in a file
+pub data Task : Type 0 where
+  validation : Text → Option Text → ℕ → Task
+  checking : Text → Task
+
+-- the values of the options, and the import words
+pub record Request : Type 0 where
+  pub schema : Text
+  pub data_file : Text
+  pub schema_base : Text
+  pub data_base : Text
+  pub import_words : List Text
+  pub task : Task
+
+-- the base of schema and data where none is given (own)
+abbrev pub default_base : Text
+default_base = codes "http://localhost/"
+
+-- the budget where none is given, and the greatest one (own)
+abbrev pub default_budget : ℕ
+default_budget = 1048576
+
+abbrev pub max_budget : ℕ
+max_budget = 1099511627776
+
+-- the budget that is given, in decimal digits without a sign and without zeros in front, from 1 to the greatest one
+abbrev pub IsBudget : Option Text → ℕ → Type 0
+IsBudget None n = n ≡ default_budget
+IsBudget (Some text) n = (text ≡ decimal n) × (1 ≤ n) × (n ≤ max_budget)
+
+-- the values, among those that `clap` finds, of what every command is given
+pub record IsGiven (found : List Row) (r : Request) : Type 0 where
+  pub schema : first_of (codes "schema") found ≡ Some r.schema
+  pub data_file : first_of (codes "data") found ≡ Some r.data_file
+  pub schema_base : unwrap_or (first_of (codes "schema-base") found) default_base ≡ r.schema_base
+  pub data_base : unwrap_or (first_of (codes "data-base") found) default_base ≡ r.data_base
+  pub import_words : unwrap_or (all_of (codes "imports") found) [] ≡ r.import_words
+
+-- of what only `validate` is given
+pub record IsValidation (found : List Row) (map_name : Text) (proof_name : Option Text) (steps : ℕ) : Type 0 where
+  pub map_file : first_of (codes "map") found ≡ Some map_name
+  pub proof : first_of (codes "proof") found ≡ proof_name
+  pub budget : IsBudget (first_of (codes "budget") found) steps
+
+-- of what only the command for this task is given
+abbrev pub IsTask : List Row → Task → Type 0
+IsTask found (validation map_name proof_name steps) = IsValidation found map_name proof_name steps
+IsTask found (checking proof_name) = first_of (codes "proof") found ≡ Some proof_name
+
+-- the command for a task, and its name
+abbrev pub command_for : Task → App
+command_for (validation map_name proof_name steps) = validate
+command_for (checking proof_name) = check
+
+abbrev pub name_of : Task → Text
+name_of (validation map_name proof_name steps) = codes "validate"
+name_of (checking proof_name) = codes "check"
+
+-- `clap` takes the words behind the command's name, and finds these values
+pub record IsFound (words : List Text) (r : Request) : Type 0 where
+  pub taken : faults (command_for r.task) words ≡ []
+  pub given : IsGiven (rows (command_for r.task) words) r
+  pub asked : IsTask (rows (command_for r.task) words) r.task
+
+-- the words are a command's name, and behind it words by which `clap` finds these values
+pub record Asks (words : List Text) (r : Request) : Type 0 where
+  pub behind : List Text
+  pub named : words ≡ name_of r.task ∷ behind
+  pub found : IsFound behind r
+
+-- the name of the proof, if there is one, and the name of the map, if there is one
+abbrev pub proof_of : Task → Option Text
+proof_of (validation map_name proof_name steps) = proof_name
+proof_of (checking proof_name) = Some proof_name
+
+abbrev pub map_names : Task → List Text
+map_names (validation map_name proof_name steps) = map_name ∷ []
+map_names (checking proof_name) = []

@@ -1,0 +1,56 @@
+// What words ask for.
+
+/// A file for the document that is imported by an IRI.
+#[derive(Clone, Copy, Debug, PartialEq, Eq)]
+pub struct Import<'a> {
+    /// The IRI.
+    pub iri: &'a str,
+    /// The name of the file.
+    pub file: &'a str,
+}
+
+/// What every command is given.
+#[derive(Debug, Drop, PartialEq, Eq)]
+pub struct Inputs<'a> {
+    /// The name of the schema file.
+    pub schema: &'a str,
+    /// The name of the data file.
+    pub data: &'a str,
+    /// The base of the schema, by default `http://localhost/`.
+    pub schema_base: &'a str,
+    /// The base of the data, by default `http://localhost/`.
+    pub data_base: &'a str,
+    /// The files for imported documents, in the order of the words, each IRI once.
+    pub imports: Vec<Import<'a>>,
+}
+
+/// What `validate` asks for.
+#[derive(Debug, Drop, PartialEq, Eq)]
+pub struct Validation<'a> {
+    /// The schema and the data.
+    pub inputs: Inputs<'a>,
+    /// The name of the file with the shape map.
+    pub map: &'a str,
+    /// The name under which the proof of the answers is to be stored, if it is.
+    pub proof: Option<&'a str>,
+    /// The greatest width of a pair that is looked into, from 1 to 1,099,511,627,776 and by default 1,048,576.
+    pub budget: u64,
+}
+
+/// What `check` asks for.
+#[derive(Debug, Drop, PartialEq, Eq)]
+pub struct Checking<'a> {
+    /// The schema and the data.
+    pub inputs: Inputs<'a>,
+    /// The name of the file with the proof.
+    pub proof: &'a str,
+}
+
+/// What words ask for.
+#[derive(Debug, Drop, PartialEq, Eq)]
+pub enum Command<'a> {
+    /// To validate the associations of a map.
+    Validate(Validation<'a>),
+    /// To check a proof.
+    Check(Checking<'a>),
+}

@@ -1,0 +1,20 @@
+//! The words of the commands `validate` and `check`, read with `clap` and checked.
+#![tactic(auto)]
+
+mod checks;
+mod command;
+mod commands;
+mod error;
+mod imports;
+mod laws;
+mod matches;
+mod numbers;
+mod requests;
+#[cfg(test)]
+mod tests;
+mod words;
+
+pub use command::{Checking, Command, Import, Inputs, Validation};
+pub use error::{WordsError, text};
+pub use laws::answers_are_one;
+pub use words::read;

@@ -1,0 +1,63 @@
+// What `clap` finds in words.
+
+ghost use Rattle.std.specs.Prelude.{◌≡◌, ◌≢◌, IfErr, IfOk, IfSome, IsNone, [], map, option_map, string_bytes, unwrap_or};
+ghost use Rattle.clap.specs.Words.{all_of, app_of, first_of, found_of, rows_of};
+ghost use Rattle.command_words.specs.Commands.{IsCovered, faults, rows};
+
+use crate::error::WordsError;
+use clap::error::ErrorKind;
+use clap::{ArgMatches, Command};
+use std::alloc::{AllocError, Global};
+
+// What the command finds in the words, or `None` where `clap` refuses them.
+pub fn matches_of<'a>(
+    command: Command<'a>,
+    words: &'a [String],
+) -> Result<Option<ArgMatches<'a>>, WordsError<'a>>
+    requires { IsCovered (app_of command) }
+    ensures some { IfOk result (λ o. IfSome o (λ m. (faults (app_of command.entry) (map string_bytes words.entry.now) ≡ []) × (rows_of (found_of m) ≡ rows (app_of command.entry) (map string_bytes words.entry.now)))) }
+    ensures none { IfOk result (λ o. IsNone o → faults (app_of command.entry) (map string_bytes words.entry.now) ≢ []) }
+    ensures err { IfErr result (λ e. e ≡ WordsError.Memory) }
+{
+    match command.try_get_matches_from(words) {
+        Ok(matches) => Ok(Some(matches)),
+        Err(error) => match error.kind() {
+            ErrorKind::OutOfMemory => Err(WordsError::Memory),
+            _ => Ok(None),
+        },
+    }
+}
+
+// The value of an option, if it is given.
+pub fn value_of<'a>(matches: &ArgMatches<'a>, name: &str) -> Option<&'a str>
+    ensures { option_map (λ s. s.now) result ≡ first_of name.now (rows_of (found_of matches.now)) }
+{
+    matches.get_str(name)
+}
+
+// The value of an option, or this one where none is given.
+pub fn value_or<'a>(matches: &ArgMatches<'a>, name: &str, default: &'a str) -> &'a str
+    ensures { result.now ≡ unwrap_or (first_of name.now (rows_of (found_of matches.now))) default.entry.now }
+{
+    match value_of(matches, name) {
+        Some(value) => value,
+        None => default,
+    }
+}
+
+// All values of an argument.
+pub fn values_of<'a>(
+    alloc: Global,
+    matches: &ArgMatches<'a>,
+    name: &str,
+) -> Result<Vec<&'a str>, AllocError>
+    ensures { IfOk result (λ v. map (λ s. s.now) v.items ≡ unwrap_or (all_of name.now (rows_of (found_of matches.now))) []) }
+{
+    match matches.get_strs(name) {
+        Some(values) => {
+            let all = values.to_vec(alloc)?;
+            Ok(all)
+        }
+        None => Ok(Vec::new(alloc)),
+    }
+}

@@ -1,0 +1,146 @@
+// What words ask for, before it is checked.
+
+ghost use Rattle.std.specs.Prelude.{◌≡◌, IfErr, IfOk, IfSome, IsNone, codes, map, string_bytes};
+ghost use Rattle.clap.specs.Words.{found_of, rows_of};
+ghost use Rattle.command_words.specs.Checks.{arguments};
+ghost use Rattle.command_words.specs.Lent.{Because, request_of, task_of};
+ghost use Rattle.command_words.specs.Requests.{Asks, IsFound, IsGiven, IsTask, Request as Requested, Task as Asked, name_of};
+
+use crate::commands::{check, validate};
+use crate::error::WordsError;
+use crate::matches::{matches_of, value_of, value_or, values_of};
+use crate::numbers::budget;
+use clap::ArgMatches;
+use std::alloc::Global;
+
+// The base of schema and data where none is given.
+const DEFAULT_BASE: &str = "http://localhost/";
+
+// What is asked of the schema and the data.
+#[derive(Clone, Copy)]
+pub enum Task<'a> {
+    // To validate the associations of a map.
+    Validate {
+        map: &'a str,
+        proof: Option<&'a str>,
+        budget: u64,
+    },
+    // To check a proof.
+    Check {
+        proof: &'a str,
+    },
+}
+
+// The values of the options, and the import words.
+#[derive(Drop)]
+pub struct Request<'a> {
+    pub schema: &'a str,
+    pub data: &'a str,
+    pub schema_base: &'a str,
+    pub data_base: &'a str,
+    pub import_words: Vec<&'a str>,
+    pub task: Task<'a>,
+}
+
+// What is asked with this task, by what `clap` finds of the values that every command is given.
+fn request_for<'a>(
+    alloc: Global,
+    matches: &ArgMatches<'a>,
+    task: Task<'a>,
+) -> Result<Request<'a>, WordsError<'a>>
+    ensures ok { IfOk result (λ r. IsGiven (rows_of (found_of matches.now)) (request_of r)) }
+    ensures task { IfOk result (λ r. task_of r.task ≡ task_of task.entry) }
+    ensures fault { IfErr result (Because (λ f. (f ≡ arguments) × ((r : Requested) → ¬ IsGiven (rows_of (found_of matches.now)) r))) }
+{
+    let Some(schema) = value_of(matches, "schema") else {
+        return Err(WordsError::Arguments);
+    };
+    let Some(data) = value_of(matches, "data") else {
+        return Err(WordsError::Arguments);
+    };
+    let import_words = values_of(alloc, matches, "imports")?;
+    Ok(Request {
+        schema,
+        data,
+        schema_base: value_or(matches, "schema-base", DEFAULT_BASE),
+        data_base: value_or(matches, "data-base", DEFAULT_BASE),
+        import_words,
+        task,
+    })
+}
+
+// What `validate` is given alone, by what `clap` finds, and `None` where that is nothing.
+fn validation<'a>(matches: &ArgMatches<'a>) -> Option<Task<'a>>
+    ensures found { IfSome result (λ t. IsTask (rows_of (found_of matches.now)) (task_of t)) }
+    ensures named { IfSome result (λ t. name_of (task_of t) ≡ codes "validate") }
+    ensures missed { IsNone result → (t : Asked) → name_of t ≡ codes "validate" → ¬ IsTask (rows_of (found_of matches.now)) t }
+{
+    let map = value_of(matches, "map")?;
+    let budget = budget(value_of(matches, "budget"))?;
+    Some(Task::Validate {
+        map,
+        proof: value_of(matches, "proof"),
+        budget,
+    })
+}
+
+// What `check` is given alone, by what `clap` finds, and `None` where that is nothing.
+fn checking<'a>(matches: &ArgMatches<'a>) -> Option<Task<'a>>
+    ensures found { IfSome result (λ t. IsTask (rows_of (found_of matches.now)) (task_of t)) }
+    ensures named { IfSome result (λ t. name_of (task_of t) ≡ codes "check") }
+    ensures missed { IsNone result → (t : Asked) → name_of t ≡ codes "check" → ¬ IsTask (rows_of (found_of matches.now)) t }
+{
+    let proof = value_of(matches, "proof")?;
+    Some(Task::Check { proof })
+}
+
+// What the words behind `validate` ask for.
+fn read_to_validate<'a>(alloc: Global, words: &'a [String]) -> Result<Request<'a>, WordsError<'a>>
+    ensures ok { IfOk result (λ r. IsFound (map string_bytes words.entry.now) (request_of r)) }
+    ensures named { IfOk result (λ r. name_of (task_of r.task) ≡ codes "validate") }
+    ensures fault { IfErr result (Because (λ f. (f ≡ arguments) × ((r : Requested) → name_of r.task ≡ codes "validate" → ¬ IsFound (map string_bytes words.entry.now) r))) }
+{
+    let command = validate(alloc)?;
+    let Some(matches) = matches_of(command, words)? else {
+        return Err(WordsError::Arguments);
+    };
+    let Some(task) = validation(&matches) else {
+        return Err(WordsError::Arguments);
+    };
+    let request = request_for(alloc, &matches, task)?;
+    Ok(request)
+}
+
+// What the words behind `check` ask for.
+fn read_to_check<'a>(alloc: Global, words: &'a [String]) -> Result<Request<'a>, WordsError<'a>>
+    ensures ok { IfOk result (λ r. IsFound (map string_bytes words.entry.now) (request_of r)) }
+    ensures named { IfOk result (λ r. name_of (task_of r.task) ≡ codes "check") }
+    ensures fault { IfErr result (Because (λ f. (f ≡ arguments) × ((r : Requested) → name_of r.task ≡ codes "check" → ¬ IsFound (map string_bytes words.entry.now) r))) }
+{
+    let command = check(alloc)?;
+    let Some(matches) = matches_of(command, words)? else {
+        return Err(WordsError::Arguments);
+    };
+    let Some(task) = checking(&matches) else {
+        return Err(WordsError::Arguments);
+    };
+    let request = request_for(alloc, &matches, task)?;
+    Ok(request)
+}
+
+// What the words ask for.
+pub fn read_request<'a>(alloc: Global, words: &'a [String]) -> Result<Request<'a>, WordsError<'a>>
+    ensures ok { IfOk result (λ r. Asks (map string_bytes words.entry.now) (request_of r)) }
+    ensures fault { IfErr result (Because (λ f. (f ≡ arguments) × ((r : Requested) → ¬ Asks (map string_bytes words.entry.now) r))) }
+{
+    let [name, behind @ ..] = words else {
+        return Err(WordsError::Arguments);
+    };
+    if name.as_str() == "validate" {
+        read_to_validate(alloc, behind)
+    } else if name.as_str() == "check" {
+        read_to_check(alloc, behind)
+    } else {
+        Err(WordsError::Arguments)
+    }
+}

@@ -1,0 +1,25 @@
+// The words of a call.
+
+ghost use Rattle.std.specs.Prelude.{◌≡◌, IfErr, IfOk, IsErrAnd, MatchResult, map, string_bytes};
+ghost use Rattle.command_words.specs.Asked.{Command as Asking, IsAsked, IsFirstFault};
+ghost use Rattle.command_words.specs.Checks.{Fault};
+ghost use Rattle.command_words.specs.Lent.{Because, command_of};
+
+use crate::checks::checked;
+use crate::command::Command;
+use crate::error::WordsError;
+use crate::requests::read_request;
+use std::alloc::Global;
+
+/// What the words behind the program's name ask for. It fails with the first thing that is wrong with them, in this order:
+/// `Arguments`; `Ending` of the schema's name, then of the data's; for each import word in turn `Import` and then `Ending` of
+/// its file's name; `Base` of the schema, then of the data; `Same`.
+pub fn read<'a>(alloc: Global, words: &'a [String]) -> Result<Command<'a>, WordsError<'a>>
+    ensures asked { IfOk result (λ c. IsAsked (map string_bytes words.entry.now) (command_of c)) }
+    ensures complete { (c : Asking) → IsAsked (map string_bytes words.entry.now) c → MatchResult result (λ d. command_of d ≡ c) (Because (λ f. ⊥)) }
+    ensures refused { IfErr result (Because (IsFirstFault (map string_bytes words.entry.now))) }
+    ensures refuses { (f : Fault) → IsFirstFault (map string_bytes words.entry.now) f → IsErrAnd result (Because (λ g. g ≡ f)) }
+{
+    let request = read_request(alloc, words)?;
+    checked(alloc, request)
+}
