@@ -29,7 +29,8 @@ use Rattle.shex_run.specs.declared.stop.Unread.{Unread}
 use Rattle.shex_run.specs.declared.stop.Unread.TheVariants as Causes
 use Rattle.shex_run.specs.Outcomes.{AreUnread, StopsLoading}
 use Rattle.shex_run.specs.Unreadable.{AreUnreadable, IsCauseFor, StopsReading}
-use Rattle.shex_run.specs.Inputs.{HasRoom, IsBase, IsBodyOf, IsValueOf, StandsFor, max_file}
+use Rattle.data_reader.specs.declared.format.Format.{Format}
+use Rattle.shex_run.specs.Inputs.{HasRoom, IsBase, IsBodyOf, IsValueOf, StandsFor}
 use Rattle.shex_run.specs.Loading.{IsArcOf, predicates_of, schema_of}
 use Rattle.shex_run.specs.Simple.{IsNodeValue, IsSimple, IsSimpleBody}
 use Rattle.shex_run.proofs.Standing.{stands}
@@ -130,8 +131,8 @@ few_first empty first (Some c) e (mid, adds, h) = go adds
     go (inl (held, same)) = let m : length mid ≡ length empty = ap length same in omega (arith, l, m, z)
     go (inr (fresh, same)) = let m : length mid ≡ length (empty ++ Terms.Iri c.predicate ∷ []) = ap length same in let k = length-append empty (Terms.Iri c.predicate ∷ []) in omega (arith, l, m, k, z)
 
-pub room : (b : Base) (source : ℕ) (first : ℕ) → source ≤ max_file → first ≤ 1 → length b.terms ≤ first + 3 * source → IsWithin b.terms b.graph → HasRoom b
-room b source first small one terms within = record { terms = omega (arith, small, one, terms); graph = let g = within.1 in omega (arith, g) }
+pub room : (b : Base) (first : ℕ) → first ≤ 1 → length b.terms ≤ first + 3 * length b.graph → IsWithin b.terms b.graph → HasRoom b
+room b first one terms within = let g = within.1 in record { terms = omega (arith, one, terms, g); graph = omega (arith, g) }
 
 -- ---- one base
 
@@ -166,19 +167,19 @@ one_base doc triples a b h k =
     λ i. record { terms = terms i; schema = schema i; graph = graph i }
 
 -- what is not read into the table of the predicate is not read
-module _ (doc : OneShape) (empty first : List Term) (bytes : List ℕ) (nothing : empty ≡ []) (takes : TakesUp empty (predicates_of doc.constraint) first) where
+module _ (format : Format) (doc : OneShape) (empty first : List Term) (bytes : List ℕ) (nothing : empty ≡ []) (takes : TakesUp empty (predicates_of doc.constraint) first) where
   from_none : TakesUp [] (predicates_of doc.constraint) first
   from_none = subst (λ ts. TakesUp ts (predicates_of doc.constraint) first) nothing takes
 
-  are_unread : (unread : Unread) → IsCauseFor first bytes unread → AreUnreadable first bytes → AreUnread doc bytes unread
+  are_unread : (unread : Unread) → IsCauseFor format first bytes unread → AreUnreadable format first bytes → AreUnread format doc bytes unread
   are_unread unread cause none = record {
     cause = (first, from_none, cause);
-    none = λ triples spelled b is.
+    none = λ last triples spelled b is.
         let same : is.first ≡ first = takes_one (predicates_of doc.constraint) [] is.first first is.predicates from_none in
-        none triples spelled b.terms b.graph (subst (λ ts. Loads ts [] triples b.terms b.graph) same is.graph) is.within;
+        none last triples spelled b.terms b.graph (subst (λ ts. Loads ts [] triples b.terms b.graph) same is.graph) is.within;
   }
 
-  pub stops_loading : (stop : Stop) → StopsReading first bytes stop → StopsLoading doc bytes stop
+  pub stops_loading : (stop : Stop) → StopsReading format first bytes stop → StopsLoading format doc bytes stop
   stops_loading (Stops.Refused (Refusals.Unread unread)) (cause, none) = are_unread unread cause none
   stops_loading (Stops.Refused (Refusals.Size source)) h = h
   stops_loading (Stops.Refused Refusals.NotBuilt) h = h

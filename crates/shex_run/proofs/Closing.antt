@@ -4,6 +4,7 @@ use Rattle.std.specs.Prelude.{Option, Some, None}
 use Rattle.rdf_terms.specs.Lists.{AreDistinct}
 use Rattle.rdf_terms.specs.declared.terms.Term.{Term}
 use Rattle.schema_tree.specs.declared.schema.Answer.{Answer}
+use Rattle.data_reader.specs.Endings.{DataAreOne}
 use Rattle.shex_io.specs.Faults.{Rose}
 use Rattle.shex_io.specs.Files.{Holds, HoldsPart, KeepsOthers, Told}
 use Rattle.shex_io.specs.Sinks.{GainsPrefix}
@@ -55,7 +56,7 @@ module _ (words : List (List ℕ)) (asked : Asked) (is_asked : IsAsked words ask
   not_refused line (inl (none, e)) = none asked is_asked.form
   not_refused line (inr (name, samed, e)) = is_asked.apart name (subst (λ a. IsSame a name) (one_form words samed.asked asked samed.form is_asked.form) samed.same)
 
-  module _ (files : FilesSeen) (out err : SinkSeen) (status : ℕ) (contents : List ℕ → Option (List ℕ)) (told : files.told ≡ Some contents) where
+  module _ (files : FilesSeen) (out err : SinkSeen) (status : ℕ) (contents : List ℕ → Option (List ℕ)) (told : files.told ≡ Some contents) (law : DataAreOne) where
     -- where the inputs are taken, the command concludes unless the call is interrupted
     pub taken_ends : (b : Base) → IsTaken files.told asked b → Ends words files out err status → Concludes asked.command status ⊎ IsInterrupted status
     taken_ends b taken (unasked line by left quiet prints) = absurd (not_refused line by)
@@ -80,17 +81,17 @@ module _ (words : List (List ℕ)) (asked : Asked) (is_asked : IsAsked words ask
       same_accepted : (c : Base) (x : List ℕ) (terms : List Term) (answers : List Answer) → IsGiven files.told asked c x → Accepted c x terms answers → Accepted b bytes terms answers
       same_accepted c x terms answers k h =
           subst (λ y. Accepted b y terms answers) (one_given files.told contents told asked c b x bytes k given)
-          (subst (λ z. Accepted z x terms answers) (one_taken files.told contents told asked c b k.taken given.taken) h)
+          (subst (λ z. Accepted z x terms answers) (one_taken files.told contents told asked law c b k.taken given.taken) h)
 
       same_rejects : (c : Base) (x : List ℕ) (r : Rejection) → IsGiven files.told asked c x → Rejects c x r → Rejects b bytes r
       same_rejects c x r k h =
           subst (λ y. Rejects b y r) (one_given files.told contents told asked c b x bytes k given)
-          (subst (λ z. Rejects z x r) (one_taken files.told contents told asked c b k.taken given.taken) h)
+          (subst (λ z. Rejects z x r) (one_taken files.told contents told asked law c b k.taken given.taken) h)
 
       same_full : IsFull files.told asked → IsFullFor b.terms bytes
       same_full (c, x, k, h) =
           subst (λ y. IsFullFor b.terms y) (one_given files.told contents told asked c b x bytes k given)
-          (subst (λ z. IsFullFor z.terms x) (one_taken files.told contents told asked c b k.taken given.taken) h)
+          (subst (λ z. IsFullFor z.terms x) (one_taken files.told contents told asked law c b k.taken given.taken) h)
 
       no_wish : (v : Validate) → asked.command ≡ validate v → ⊥
       no_wish v h = no_both v given.name (sym h ∙ given.is_check)

@@ -7,8 +7,10 @@ use Rattle.one_shape.specs.declared.OneShape.{OneShape}
 use Rattle.one_shape.proofs.Readings.{one_reading}
 use Rattle.one_shape.specs.Texts.{IsNoSchemaText, IsSchemaText}
 use Rattle.graph_loading.specs.declared.triples.TermTriple.{TermTriple}
-use Rattle.shex_run.proofs.Documents.{documents_once}
-use Rattle.shex_run.specs.Data.{IsData}
+use Rattle.data_reader.specs.Documents.{Context, IsData}
+use Rattle.data_reader.specs.Endings.{DataAreOne}
+use Rattle.data_reader.specs.Formats.{format_of}
+use Rattle.shex_run.specs.Data.{default_base}
 use Rattle.shex_run.specs.declared.inputs.Base.{Base}
 use Rattle.shex_run.specs.declared.stop.File.{File}
 use Rattle.shex_run.specs.declared.stop.File.TheVariants as Files
@@ -83,15 +85,18 @@ module _ (told : Told) (contents : List ℕ → Option (List ℕ)) (e : told ≡
   one_schema a b h k =
       one_reading h.bytes a b h.spelled (subst (λ bs. IsSchemaText b bs) (same_bytes told contents e asked.schema k.bytes h.bytes k.file.held h.file.held) k.spelled)
 
-  one_source : (a b : List TermTriple) → HoldsData told asked a → HoldsData told asked b → a ≡ b
-  one_source a b h k =
-      documents_once h.bytes a b h.spelled (subst (λ bs. IsData b bs) (same_bytes told contents e asked.data_file k.bytes h.bytes k.file.held h.file.held) k.spelled)
+  -- nor of two documents of data, by the law on these
+  one_source : DataAreOne → (a b : List TermTriple) → HoldsData told asked a → HoldsData told asked b → a ≡ b
+  one_source law a b h k =
+      let D : List ℕ → Type 0 = λ bs. IsData (format_of asked.data_file) default_base (k.last, b) bs in
+      let there : D h.bytes = subst D (same_bytes told contents e asked.data_file k.bytes h.bytes k.file.held h.file.held) k.spelled in
+      ap (λ (d : Context × List TermTriple). d.1) (law (format_of asked.data_file) default_base h.bytes (h.last, a) (k.last, b) h.spelled there)
 
   -- what is taken is one base
-  pub one_taken : (a b : Base) → IsTaken told asked a → IsTaken told asked b → a ≡ b
-  one_taken a b h k =
+  pub one_taken : DataAreOne → (a b : Base) → IsTaken told asked a → IsTaken told asked b → a ≡ b
+  one_taken law a b h k =
       let docs : h.doc ≡ k.doc = one_schema h.doc k.doc h.takes.schema k.takes.schema in
-      let triples : h.triples ≡ k.triples = one_source h.triples k.triples h.holds_data k.holds_data in
+      let triples : h.triples ≡ k.triples = one_source law h.triples k.triples h.holds_data k.holds_data in
       one_base k.doc k.triples a b (subst (λ ts. IsBase k.doc ts a) triples (subst (λ d. IsBase d h.triples a) docs h.base)) k.base
 
   -- and the proof's file holds one text
@@ -110,7 +115,7 @@ module _ (told : Told) (contents : List ℕ → Option (List ℕ)) (e : told ≡
   taken_not_refused b Refusals.NotBuilt taken (bytes, file, none) = absurd (not_formless taken.doc taken.takes.schema bytes file none)
   taken_not_refused b (Refusals.Unread cause) taken (doc, takes, (bytes, file, unread)) =
       absurd
-      (unread.none taken.triples (subst (λ bs. IsData taken.triples bs) (same_bytes told contents e asked.data_file taken.holds_data.bytes bytes taken.holds_data.file.held file.held) taken.holds_data.spelled) b
+      (unread.none taken.holds_data.last taken.triples (subst (λ bs. IsData (format_of asked.data_file) default_base (taken.holds_data.last, taken.triples) bs) (same_bytes told contents e asked.data_file taken.holds_data.bytes bytes taken.holds_data.file.held file.held) taken.holds_data.spelled) b
       (subst (λ d. IsBase d taken.triples b) (one_schema taken.doc doc taken.takes.schema takes.schema) taken.base))
   taken_not_refused b Refusals.Label taken (other, holds, unwanted) =
       absurd (unwanted (subst (λ d. IsWanted asked.command d) (sym (one_schema other taken.doc holds taken.takes.schema)) taken.takes.wanted))

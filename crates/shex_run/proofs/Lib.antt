@@ -3,13 +3,14 @@ pub mod Answering
 pub mod Based
 pub mod Closing
 pub mod Confirmed
+pub mod Counted
 pub mod Decided
 pub mod Documents
 pub mod Ended
 pub mod Evident
 pub mod Exclusive
 pub mod Fetched
-pub mod IriTexts
+pub mod Lacked
 pub mod Listed
 pub mod OneArc
 pub mod Said

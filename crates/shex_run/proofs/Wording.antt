@@ -4,7 +4,8 @@ use Rattle.std.specs.Prelude.{Option, Some, None, codes, encode_utf8_all, option
 use Rattle.std.specs.List.{list_all}
 use Rattle.std.specs.Str.{IsUtf8, chars}
 use Rattle.std.proofs.lemmas.Str.{chars-encodes, encodes-chars, scalars-chars}
-use Rattle.shex_run.specs.Iris.{IsIri, is_iri_char}
+use Rattle.rdf_lex.specs.Characters.{has, iri_char}
+use Rattle.shex_run.specs.Iris.{IsIri}
 use Rattle.shex_run.specs.Words.{Asked, Command, HasForms, IsForm, Validate, check, spelling, validate}
 
 -- lists with their items
@@ -50,13 +51,13 @@ module _ (schema source node label : List ℕ) (proof : Option (List ℕ)) (one 
   abbrev words : List (List ℕ)
   words = codes "validate" ∷ schema ∷ source ∷ node ∷ label ∷ option_to_list proof
 
-  pub asks : IsIri (chars node) → list_all is_iri_char (chars label) ≡ true → IsForm words said
+  pub asks : IsIri (chars node) → list_all (has iri_char) (chars label) ≡ true → IsForm words said
   asks iri all = record {
     spelled = λ i. codes "validate" ∷ schema ∷ source ∷ sym (encodes-chars node one) i ∷ sym (encodes-chars label other) i ∷ option_to_list proof;
     forms = record { node = iri; label = record { scalars = scalars-chars label other; passes = all } };
   }
 
-  pub asks_not : (IsIri (chars node) → list_all is_iri_char (chars label) ≡ true → ⊥) → (asked : Asked) → ¬ IsForm words asked
+  pub asks_not : (IsIri (chars node) → list_all (has iri_char) (chars label) ≡ true → ⊥) → (asked : Asked) → ¬ IsForm words asked
   asks_not refused asked h = go asked.command h.spelled h.forms
     where
       go : (c : Command) → words ≡ spelling asked.schema asked.data_file c → HasForms c → ⊥
@@ -66,7 +67,7 @@ module _ (schema source node label : List ℕ) (proof : Option (List ℕ)) (one 
           let own_node : chars node ≡ v.node = ap chars noded ∙ chars-encodes v.node forms.node.characters.scalars in
           let own_label : chars label ≡ v.label = ap chars labelled ∙ chars-encodes v.label forms.label.scalars in
           let I : List ℕ → Type 0 = λ x. IsIri x in
-          refused (subst I (sym own_node) forms.node) (ap (list_all is_iri_char) own_label ∙ forms.label.passes)
+          refused (subst I (sym own_node) forms.node) (ap (list_all (has iri_char)) own_label ∙ forms.label.passes)
       go (check name) same forms = let e : 118 ≡ 99 = ap (λ ws. get_or (get_or ws 0 []) 0 0) same in absurd (omega (arith, e))
 
 -- words behind validate are four or five

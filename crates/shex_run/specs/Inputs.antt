@@ -14,7 +14,9 @@ use Rattle.one_shape.specs.declared.Constraint.{Constraint}
 use Rattle.one_shape.specs.Texts.{IsSchemaText}
 use Rattle.graph_loading.specs.declared.triples.TermTriple.{TermTriple}
 use Rattle.graph_loading.specs.Loading.{IsWithin, Loads}
-use Rattle.shex_run.specs.Data.{IsData}
+use Rattle.data_reader.specs.Documents.{Context, IsData}
+use Rattle.data_reader.specs.Formats.{format_of}
+use Rattle.shex_run.specs.Data.{default_base}
 use Rattle.proof_checker.specs.Checks.{TakesUp}
 use Rattle.schema_tree.specs.declared.schema.Schema.{Schema}
 use Rattle.schema_tree.specs.declared.schema.Shape.{Shape}
@@ -64,11 +66,12 @@ pub record TakesSchema (told : Told) (asked : Asked) (doc : OneShape) : Type 0 w
   pub schema : HoldsSchema told asked doc
   pub wanted : IsWanted asked.command doc
 
--- the data file holds a document of these triples
+-- the data file holds a document of these triples, in the format of the file's name
 pub record HoldsData (told : Told) (asked : Asked) (triples : List TermTriple) : Type 0 where
   pub bytes : List ℕ
   pub file : IsFile told asked.data_file bytes
-  pub spelled : IsData triples bytes
+  pub last : Context
+  pub spelled : IsData (format_of asked.data_file) default_base (last, triples) bytes
 
 -- the value of an occurrence is the node constraint of this kind, or is absent where no kind is given
 abbrev pub IsValueOf : Schema → Option Kind4 → Option ExprId → Type 0
@@ -113,7 +116,7 @@ pub record IsBase (doc : OneShape) (triples : List TermTriple) (b : Base) : Type
   pub graph : Loads first [] triples b.terms b.graph
   pub within : IsWithin b.terms b.graph
 
--- the table can take up a term more, and the graph is no larger than the data can make it
+-- the table can take up a term more, and the triples of the graph can be counted in 31 bits
 pub record HasRoom (b : Base) : Type 0 where
   pub terms : length b.terms < max_terms
   pub graph : length b.graph < 2 ^ 31

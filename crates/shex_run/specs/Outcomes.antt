@@ -4,7 +4,10 @@ use Rattle.shex_io.specs.Files.{Told, Lacks}
 use Rattle.one_shape.specs.declared.OneShape.{OneShape}
 use Rattle.one_shape.specs.Texts.{IsNoSchemaText}
 use Rattle.graph_loading.specs.declared.triples.TermTriple.{TermTriple}
-use Rattle.shex_run.specs.Data.{IsData}
+use Rattle.data_reader.specs.declared.format.Format.{Format}
+use Rattle.data_reader.specs.Documents.{Context, IsData}
+use Rattle.data_reader.specs.Formats.{format_of}
+use Rattle.shex_run.specs.Data.{default_base}
 use Rattle.shex_run.specs.declared.inputs.Base.{Base}
 use Rattle.shex_run.specs.declared.stop.File.{File}
 use Rattle.shex_run.specs.declared.stop.File.TheVariants as Files
@@ -59,14 +62,14 @@ abbrev pub IsOfNoForm : Told → Asked → Type 0
 IsOfNoForm told asked = (bytes : List ℕ) × IsFile told asked.schema bytes × IsNoSchemaText bytes
 
 -- no table and graph are made of the schema document and a document that the bytes spell, and this is a cause
-pub record AreUnread (doc : OneShape) (bytes : List ℕ) (unread : Unread) : Type 0 where
-  pub cause : IsCause doc bytes unread
-  pub none : (triples : List TermTriple) → IsData triples bytes → (b : Base) → ¬ IsBase doc triples b
+pub record AreUnread (format : Format) (doc : OneShape) (bytes : List ℕ) (unread : Unread) : Type 0 where
+  pub cause : IsCause format doc bytes unread
+  pub none : (last : Context) (triples : List TermTriple) → IsData format default_base (last, triples) bytes → (b : Base) → ¬ IsBase doc triples b
 
 -- the schema is taken, and the data file's bytes, within the limit, are not read
 abbrev pub IsUnread : Told → Asked → Unread → Type 0
 IsUnread told asked unread =
-    (doc : OneShape) × TakesSchema told asked doc × ((bytes : List ℕ) × IsFile told asked.data_file bytes × AreUnread doc bytes unread)
+    (doc : OneShape) × TakesSchema told asked doc × ((bytes : List ℕ) × IsFile told asked.data_file bytes × AreUnread (format_of asked.data_file) doc bytes unread)
 
 -- the inputs are refused: the first that is not taken is too long, is not read, or has another label; or the table cannot
 -- take up the proof's node lines
@@ -108,10 +111,10 @@ FaultsAs asked before after blame act (Stops.Failed file) = Rose before after ×
 FaultsAs asked before after blame act stop = after ≡ before
 
 -- how the reading of data into the table of the schema document stops: the data are not read, or memory ran out
-abbrev pub StopsLoading : OneShape → List ℕ → Stop → Type 0
-StopsLoading doc bytes (Stops.Refused (Refusals.Unread unread)) = AreUnread doc bytes unread
-StopsLoading doc bytes Stops.Memory = ⊤
-StopsLoading doc bytes stop = ⊥
+abbrev pub StopsLoading : Format → OneShape → List ℕ → Stop → Type 0
+StopsLoading format doc bytes (Stops.Refused (Refusals.Unread unread)) = AreUnread format doc bytes unread
+StopsLoading format doc bytes Stops.Memory = ⊤
+StopsLoading format doc bytes stop = ⊥
 
 -- how a fetch of a file of the inputs stops: it is too long, it was not fetched, or memory ran out
 abbrev pub FetchStops : Told → List ℕ → Source → ℕ → ℕ → List ℕ → Act → Stop → Type 0

@@ -1,44 +1,45 @@
 -- Why data are not read.
 use Rattle.std.specs.Prelude.{ℕ, List, [], ⊤}
-use Rattle.std.specs.Str.{IsUtf8}
 use Rattle.rdf_terms.specs.declared.terms.Term.{Term}
 use Rattle.rdf_terms.specs.declared.terms.Triple.{Triple}
 use Rattle.one_shape.specs.declared.OneShape.{OneShape}
-use Rattle.rdf_lex.specs.declared.kinds.Mode.TheVariants.{NTriples}
-use Rattle.rdf_cursor.specs.Places.{IsFaultPlace}
 use Rattle.graph_index.specs.declared.read_error.ReadError.{ReadError}
 use Rattle.graph_index.specs.declared.read_error.ReadError.TheVariants as Errors
 use Rattle.graph_loading.specs.declared.triples.TermTriple.{TermTriple}
 use Rattle.graph_loading.specs.Loading.{IsWithin, Loads}
-use Rattle.nt_reader.specs.Endings.{IsLongAt, IsOverfull}
-use Rattle.nt_reader.specs.Grammar.{IsAny, Spells}
+use Rattle.data_reader.specs.declared.format.Format.{Format}
+use Rattle.data_reader.specs.Documents.{Context, IsData}
+use Rattle.data_reader.specs.Endings.{Explains}
 use Rattle.proof_checker.specs.Checks.{TakesUp}
 use Rattle.shex_run.specs.declared.stop.Refusal.TheVariants as Refusals
 use Rattle.shex_run.specs.declared.stop.Stop.{Stop}
 use Rattle.shex_run.specs.declared.stop.Stop.TheVariants as Stops
 use Rattle.shex_run.specs.declared.stop.Unread.{Unread}
 use Rattle.shex_run.specs.declared.stop.Unread.TheVariants as Causes
-use Rattle.shex_run.specs.Data.{IsData}
+use Rattle.shex_run.specs.Data.{default_base}
 use Rattle.shex_run.specs.Loading.{predicates_of}
 
--- the bytes are not UTF-8; or no document goes on as they do from the place on; or a term that is too long stands there; or
--- there are too many triples or terms, where the table has these
-abbrev pub IsCauseFor : List Term → List ℕ → Unread → Type 0
-IsCauseFor first bytes Causes.NotUtf8 = ¬ IsUtf8 bytes
-IsCauseFor first bytes (Causes.Syntax at) = IsFaultPlace (Spells IsAny) NTriples bytes at
-IsCauseFor first bytes (Causes.Prefix at) = ⊥
-IsCauseFor first bytes Causes.Deep = ⊥
-IsCauseFor first bytes (Causes.Long at) = IsLongAt bytes at
-IsCauseFor first bytes Causes.Full = IsOverfull bytes first []
+-- the reader's name for it
+abbrev pub error_of : Unread → ReadError
+error_of Causes.NotUtf8 = Errors.NotUtf8
+error_of (Causes.Syntax at) = Errors.Syntax at
+error_of (Causes.Prefix at) = Errors.Prefix at
+error_of Causes.Deep = Errors.Deep
+error_of (Causes.Long at) = Errors.Long at
+error_of Causes.Full = Errors.Full
+
+-- it stands in the bytes, as the format has it, where the table has these terms
+abbrev pub IsCauseFor : Format → List Term → List ℕ → Unread → Type 0
+IsCauseFor format first bytes unread = Explains format default_base (error_of unread) bytes first []
 
 -- the same where the table has the predicate of the schema document
-abbrev pub IsCause : OneShape → List ℕ → Unread → Type 0
-IsCause doc bytes unread = (first : List Term) × TakesUp [] (predicates_of doc.constraint) first × IsCauseFor first bytes unread
+abbrev pub IsCause : Format → OneShape → List ℕ → Unread → Type 0
+IsCause format doc bytes unread = (first : List Term) × TakesUp [] (predicates_of doc.constraint) first × IsCauseFor format first bytes unread
 
 -- no document that the bytes spell goes into the table and a graph within their limits
-abbrev pub AreUnreadable : List Term → List ℕ → Type 0
-AreUnreadable first bytes =
-    (triples : List TermTriple) → IsData triples bytes → (terms : List Term) (graph : List Triple) → Loads first [] triples terms graph → ¬ IsWithin terms graph
+abbrev pub AreUnreadable : Format → List Term → List ℕ → Type 0
+AreUnreadable format first bytes =
+    (last : Context) (triples : List TermTriple) → IsData format default_base (last, triples) bytes → (terms : List Term) (graph : List Triple) → Loads first [] triples terms graph → ¬ IsWithin terms graph
 
 -- why there is no answer where data are not read
 abbrev pub stop_of : ReadError → Stop
@@ -51,7 +52,7 @@ stop_of Errors.Full = Stops.Refused (Refusals.Unread Causes.Full)
 stop_of Errors.Memory = Stops.Memory
 
 -- how the reading of data into a table stops
-abbrev pub StopsReading : List Term → List ℕ → Stop → Type 0
-StopsReading first bytes (Stops.Refused (Refusals.Unread unread)) = IsCauseFor first bytes unread × AreUnreadable first bytes
-StopsReading first bytes Stops.Memory = ⊤
-StopsReading first bytes stop = ⊥
+abbrev pub StopsReading : Format → List Term → List ℕ → Stop → Type 0
+StopsReading format first bytes (Stops.Refused (Refusals.Unread unread)) = IsCauseFor format first bytes unread × AreUnreadable format first bytes
+StopsReading format first bytes Stops.Memory = ⊤
+StopsReading format first bytes stop = ⊥

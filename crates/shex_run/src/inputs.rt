@@ -1,12 +1,13 @@
 //! What the files hold, in the numbers of one table of terms.
 
-ghost use Rattle.std.specs.Prelude.{◌≡◌, ◌≤◌, ◌<◌, ◌+◌, ◌*◌, ◌↔◌, List, [], ℕ, IfOk, IfErr, OnOk, length, IsTrue};
+ghost use Rattle.std.specs.Prelude.{◌≡◌, ◌≤◌, ◌+◌, ◌*◌, ◌↔◌, List, [], IfOk, IfErr, OnOk, length, IsTrue};
 ghost use Rattle.std.specs.Str.{chars};
 ghost use Rattle.rdf_terms.specs.Lists.{AreDistinct};
 ghost use Rattle.graph_loading.specs.declared.triples.TermTriple.{TermTriple};
 ghost use Rattle.graph_loading.specs.Loading.{IsWithin, Loads};
-ghost use Rattle.shex_run.specs.Data.{IsData};
-ghost use Rattle.shex_run.specs.Inputs.{IsBase, IsFile, IsTaken, IsWanted, TakesSchema, HasRoom, max_file};
+ghost use Rattle.data_reader.specs.Documents.{Context, IsData};
+ghost use Rattle.shex_run.specs.Data.{default_base};
+ghost use Rattle.shex_run.specs.Inputs.{IsBase, IsFile, IsTaken, IsWanted, TakesSchema, HasRoom};
 ghost use Rattle.shex_run.specs.Lent.{asked_of, command_of};
 ghost use Rattle.shex_run.specs.Outcomes.{Explains, FaultsAs, FetchStops, StopsLoading};
 ghost use Rattle.shex_run.specs.Unreadable.{StopsReading, stop_of};
@@ -14,6 +15,7 @@ ghost use Rattle.shex_run.specs.Unreadable.{StopsReading, stop_of};
 use crate::load::{arc_of, make_schema};
 use crate::stop::{File, Refusal, Source, Stop, Unread};
 use crate::words::{Asked, Command};
+use data_reader::Format;
 use graph_index::graph::Graph;
 use graph_index::read_error::ReadError;
 use one_shape::{OneShape, SchemaError};
@@ -27,6 +29,9 @@ use std::marker::Model;
 
 /// How many bytes a schema file or a data file has at most.
 pub const MAX_FILE: u64 = 67_108_864;
+
+/// The base of a document of data.
+const BASE: &str = "http://localhost/";
 
 /// A schema and a graph in the numbers of one table of terms.
 #[derive(Drop)]
@@ -79,37 +84,41 @@ fn stop_of(error: ReadError) -> Stop
     Stop::Refused(Refusal::Unread(cause))
 }
 
-/// The graph of a source, whose terms the table takes up.
-fn read_data(alloc: Global, source: &[u8], terms: &mut TermTable) -> Result<DataGraph, Stop>
-    ensures read { IfOk result (λ g. (triples : List TermTriple) × IsData triples source.now × Loads terms.old [] triples terms.new g) }
-    ensures few { OnOk result (length terms.new ≤ length terms.old + 3 * length source.now) }
+/// The graph of a source in a format, whose terms the table takes up.
+fn read_data(
+    alloc: Global,
+    format: Format,
+    source: &[u8],
+    terms: &mut TermTable,
+) -> Result<DataGraph, Stop>
+    ensures read { IfOk result (λ g. (last : Context) × (triples : List TermTriple) × IsData format default_base (last, triples) source.now × Loads terms.old [] triples terms.new g) }
+    ensures few { IfOk result (λ g. length terms.new ≤ length terms.old + 3 * length g) }
     ensures within { IfOk result (λ g. IsWithin terms.new g) }
     ensures distinct { OnOk result (AreDistinct terms.new) }
-    ensures unread { IfErr result (StopsReading terms.old source.now) }
+    ensures unread { IfErr result (StopsReading format terms.old source.now) }
 {
     let mut graph = Graph::new(alloc);
-    let read = nt_reader::read(alloc, source, terms, &mut graph);
+    let read = data_reader::read(alloc, format, BASE, source, terms, &mut graph);
     // Their lengths tell contracts that they are within the limits.
     let _terms = terms.len();
     let _triples = graph.len();
     match read {
-        Ok(()) => Ok(DataGraph { graph }),
+        Ok(_) => Ok(DataGraph { graph }),
         Err(error) => Err(stop_of(error)),
     }
 }
 
-/// The schema of a document and the graph of a source.
-fn load(alloc: Global, doc: OneShape, source: &[u8]) -> Result<Base, Stop>
-    requires { length source.now ≤ max_file }
-    ensures read { IfOk result (λ b. (triples : List TermTriple) × IsData triples source.now × IsBase doc triples b) }
+/// The schema of a document and the graph of a source in a format.
+fn load(alloc: Global, doc: OneShape, format: Format, source: &[u8]) -> Result<Base, Stop>
+    ensures read { IfOk result (λ b. (last : Context) × (triples : List TermTriple) × IsData format default_base (last, triples) source.now × IsBase doc triples b) }
     ensures room { IfOk result HasRoom }
-    ensures unread { IfErr result (StopsLoading doc source.now) }
+    ensures unread { IfErr result (StopsLoading format doc source.now) }
 {
     let OneShape { label, constraint } = doc;
     let mut terms = TermTable::new(alloc);
     let arc = arc_of(constraint, &mut terms)?;
     let schema = make_schema(alloc, label, arc)?;
-    let graph = read_data(alloc, source, &mut terms)?;
+    let graph = read_data(alloc, format, source, &mut terms)?;
     Ok(Base {
         terms,
         schema,
@@ -196,5 +205,5 @@ pub fn read_base<F: Files>(alloc: Global, files: &mut F, asked: Asked<'_>) -> Re
         Ok(bytes) => bytes,
         Err(stop) => return Err(stop),
     };
-    load(alloc, doc, bytes.as_slice())
+    load(alloc, doc, Format::of_name(asked.data), bytes.as_slice())
 }

@@ -1,56 +1,32 @@
 //! IRIs among the words of a call.
 
-ghost use Rattle.std.specs.Prelude.{◌≡◌, ◌↔◌, IsTrue, not};
-ghost use Rattle.std.specs.List.{find, list_all};
+ghost use Rattle.std.specs.Prelude.{◌≡◌, ◌↔◌, IsTrue, is_some, encode_utf8_all};
+ghost use Rattle.std.specs.List.{list_all};
 ghost use Rattle.std.specs.Str.{chars};
-ghost use Rattle.shex_run.specs.Iris.{HasScheme, IsIri, begins_with_letter, is_iri_char, is_scheme_char};
+ghost use Rattle.iri_resolve.specs.Reference.{scheme_of};
+ghost use Rattle.rdf_lex.specs.Characters.{has, iri_char};
+ghost use Rattle.shex_run.specs.Iris.{IsIri};
 
-/// A letter, a digit, `+`, `-` or `.` (RFC 3986, section 3.1).
-#[tactic(auto, unfolding(crate::specs::Iris::is_scheme_char))]
-fn is_scheme_char(c: char) -> bool
-    ensures { result ≡ is_scheme_char c }
-{
-    c.is_ascii_alphanumeric() || c == '+' || c == '-' || c == '.'
-}
+use iri_resolve::split;
 
 /// A character that an IRI may have unescaped (RDF 1.1 Turtle, section 6.5, IRIREF).
-#[tactic(auto, unfolding(crate::specs::Iris::is_iri_char))]
+#[tactic(auto, unfolding(rdf_lex::specs::Characters::iri_char))]
 fn is_iri_char(c: char) -> bool
-    ensures { result ≡ is_iri_char c }
+    ensures { result ≡ has iri_char c }
 {
-    c > ' ' && !matches!(c, '<' | '>' | '"' | '{' | '}' | '|' | '^' | '`' | '\\')
-}
-
-/// Whether the text begins with a letter.
-fn begins_with_letter(text: &str) -> bool
-    ensures { result ≡ begins_with_letter (chars text.now) }
-{
-    match text.chars().next() {
-        Some(c) => c.is_ascii_alphabetic(),
-        None => false,
-    }
-}
-
-/// The first character that no scheme has.
-fn scheme_end(text: &str) -> Option<char>
-    ensures { result ≡ find (λ c. not (is_scheme_char c)) (chars text.now) }
-{
-    text.chars().find(|c| !is_scheme_char(*c))
+    !matches!(c, '\0'..=' ' | '<' | '>' | '"' | '{'..='}' | '^' | '`' | '\\')
 }
 
 /// Whether the text begins with a scheme and a colon (RFC 3986, section 3.1).
 fn has_scheme(text: &str) -> bool
-    ensures { IsTrue result ↔ HasScheme (chars text.now) }
+    ensures { result ≡ is_some (scheme_of (encode_utf8_all (chars text.now))) }
 {
-    match scheme_end(text) {
-        Some(end) => end == ':' && begins_with_letter(text),
-        None => false,
-    }
+    split(text).scheme.is_some()
 }
 
 /// Whether each character may stand in an IRI.
 pub fn has_iri_chars(text: &str) -> bool
-    ensures { result ≡ list_all is_iri_char (chars text.now) }
+    ensures { result ≡ list_all (has iri_char) (chars text.now) }
 {
     text.chars().all(|c| is_iri_char(c))
 }

@@ -12,21 +12,13 @@ use rdf_terms::table::TermTable;
 use rdf_terms::terms::{TermId, Triple};
 use schema_tree::schema::{Expr, ExprId, Occurrence, Schema, Shape};
 
-/// Whether predicate and direction of the occurrence agree with the triple at the node.
-fn fits(o: Occurrence, node: TermId, triple: Triple) -> bool
-    ensures { result ≡ fits o node triple }
-{
-    let near = if o.inverse { triple.o } else { triple.s };
-    o.predicate == triple.p && near == node
-}
-
 /// The only triple that the occurrence fits at the node, and `None` where there is none or more than one.
 fn only_arc(triples: &[Triple], node: TermId, o: Occurrence) -> Option<Triple>
     ensures { MatchOption result ((t : Triple) → ¬ (filter (fits o node) triples.now ≡ t ∷ [])) (λ t. filter (fits o node) triples.now ≡ t ∷ []) }
 {
     let mut only = None;
     for triple in triples {
-        if fits(o, node, *triple) {
+        if o.fits(node, *triple) {
             if only.is_some() {
                 return None;
             }

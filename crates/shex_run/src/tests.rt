@@ -1,5 +1,7 @@
 //! Calls over files and sinks in memory.
 
+mod turtle;
+
 use super::*;
 use shex_io::{MemFiles, MemSink};
 use std::alloc::Global;

@@ -155,5 +155,7 @@ pub fn run<F: Files, O: Sink, E: Sink>(
     ensures sink_fault { (O.faults out.old < O.faults out.new) ⊎ (E.faults err.old < E.faults err.new) →
         result ≡ 7 }
 {
+    // The law by which the data file holds one thing.
+    data_reader::data_are_one();
     end(alloc, words, files, out, err)
 }

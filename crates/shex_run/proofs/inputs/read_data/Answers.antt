@@ -1,14 +1,27 @@
 use Rattle.std.proofs.Common.{ap, sym, subst}
+use Rattle.data_reader.specs.Documents.{context_of}
+use Rattle.graph_loading.specs.Loading.{Loads}
 use Rattle.shex_run.specs.Unreadable.{StopsReading}
-use Rattle.shex_run.proofs.Documents.{few, reading_stops}
+use Rattle.shex_run.proofs.Counted.{few}
+use Rattle.shex_run.proofs.Documents.{reading_stops}
 use Rattle.shex_run.proofs.inputs.read_data.Goals as goal
+
+pub returns-in-Ok-clause-read : goal.returns-in-Ok-clause-read
+returns-in-Ok-clause-read c =
+    let found = c.in-Ok.ensures.found in (
+      context_of c.in-Ok.field-0,
+      found.triples,
+      found.spelled,
+      subst (λ g. Loads c.args.terms.now g found.triples c.read-read.new.terms c.read-read.new.graph.triples) (ap (λ g. g.triples) c.new-graph.ensures) found.loaded,
+    )
 
 pub returns-in-Ok-clause-few : goal.returns-in-Ok-clause-few
 returns-in-Ok-clause-few c =
-    let (triples, spelled, loads) = c.in-Ok.ensures.found in
-    few triples c.args.source.now c.args.terms.now c.read-read.new.terms c.new-graph.result.triples c.read-read.new.graph.triples spelled loads
+    let found = c.in-Ok.ensures.found in
+    few c.args.terms.now c.read-read.new.terms c.read-read.new.graph.triples found.triples
+    (subst (λ g. Loads c.args.terms.now g found.triples c.read-read.new.terms c.read-read.new.graph.triples) (ap (λ g. g.triples) c.new-graph.ensures) found.loaded)
 
 pub returns-in-Err-clause-unread : goal.returns-in-Err-clause-unread
 returns-in-Err-clause-unread c =
-    subst (λ s. StopsReading c.args.terms.now c.args.source.now s) (sym c.stop_of.ensures)
-    (reading_stops c.args.terms.now c.read-read.new.terms c.new-graph.result.triples c.read-read.new.graph.triples c.args.source.now (ap (λ g. g.triples) c.new-graph.ensures) c.in-Err.error c.in-Err.ensures.refused c.in-Err.ensures.complete)
+    subst (λ s. StopsReading c.args.format c.args.terms.now c.args.source.now s) (sym c.stop_of.ensures)
+    (reading_stops c.args.format c.args.terms.now c.new-graph.result.triples c.args.source.now (ap (λ g. g.triples) c.new-graph.ensures) c.in-Err.error c.in-Err.ensures.refused c.in-Err.ensures.complete)

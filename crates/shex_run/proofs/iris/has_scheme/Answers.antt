@@ -1,20 +1,15 @@
-use Rattle.std.proofs.Common.{◌∙◌, sym, ap, Some, true≢false}
-use Rattle.std.proofs.lemmas.Bool.{eqb-true}
-use Rattle.std.proofs.lemmas.Option.{same_Some, none-some}
-use Rattle.shex_run.proofs.IriTexts.{scheme_from, scheme_found, scheme_begins}
+use Rattle.std.proofs.Common.{◌≡◌, ◌∙◌, ℕ, Bool, List, Option, Some, None, is_some, refl, sym, ap, Bor, encode_utf8_all}
+use Rattle.std.specs.Option.{option_copied}
+use Rattle.std.specs.Str.{chars}
+use Rattle.std.proofs.lemmas.Str.{encodes-chars}
+use Rattle.iri_resolve.specs.Reference.{scheme_of}
 use Rattle.shex_run.proofs.iris.has_scheme.Goals as goal
 
-pub returns-then-end-eq58 : goal.returns-then-end-eq58
-returns-then-end-eq58 c = (
-  λ h. scheme_from _ (sym c.begins_with_letter.ensures ∙ h) (sym c.in-Some.ensures ∙ ap (λ z. Some z) c.if-end-eq58.true),
-  λ s. c.begins_with_letter.ensures ∙ scheme_begins _ s,
-)
+copied_some : (o : Option (Bor (List ℕ))) → is_some (option_copied o) ≡ is_some o
+copied_some None = refl
+copied_some (Some x) = refl
 
-pub returns-else-end-eq58 : goal.returns-else-end-eq58
-returns-else-end-eq58 c = (
-  λ h. absurd (c.if-end-eq58.false (eqb-true _ _ h)),
-  λ s. absurd (c.if-end-eq58.false (same_Some _ _ (c.in-Some.ensures ∙ scheme_found _ s))),
-)
-
-pub returns-in-None : goal.returns-in-None
-returns-in-None c = (λ h. absurd (true≢false (sym h)), λ s. absurd (none-some _ (c.in-None.ensures ∙ scheme_found _ s)))
+pub returns : goal.returns
+returns c =
+    c.is_some.ensures ∙ sym (copied_some c.split.result.scheme) ∙ ap is_some (ap (λ p. p.scheme) c.split.ensures.parts)
+    ∙ ap (λ (b : List ℕ). is_some (scheme_of b)) (sym (encodes-chars c.args.text.now c.utf8.text))

@@ -6,7 +6,7 @@ pub returns-then-has_iri_chars : goal.returns-then-has_iri_chars
 returns-then-has_iri_chars c = (
   λ h. record {
     characters = record { scalars = scalars-chars c.args.text.now c.utf8.text; passes = sym c.has_iri_chars.ensures ∙ c.if-has_iri_chars.true };
-    scheme = c.has_scheme.ensures.0 h;
+    scheme = sym c.has_scheme.ensures ∙ h;
   },
-  λ is. c.has_scheme.ensures.1 is.scheme,
+  λ is. c.has_scheme.ensures ∙ is.scheme,
 )

@@ -17,21 +17,21 @@ pub returns-clause-samed : goal.returns-clause-samed
 returns-clause-samed g c = λ name samed. samed_ends _ _ _ _ _ name samed c.end.ensures
 
 pub returns-clause-takes : goal.returns-clause-takes
-returns-clause-takes g c = λ contents asked b told is_asked taken. taken_ends _ asked is_asked _ _ _ _ contents told b taken c.end.ensures
+returns-clause-takes g c = λ contents asked b told is_asked taken. taken_ends _ asked is_asked _ _ _ _ contents told c.data_are_one.ensures b taken c.end.ensures
 
 pub returns-clause-accepts : goal.returns-clause-accepts
-returns-clause-accepts g c = λ contents asked b bytes terms answers told is_asked given accepted. accepted_ends _ asked is_asked _ _ _ _ contents told b bytes given terms answers accepted c.end.ensures
+returns-clause-accepts g c = λ contents asked b bytes terms answers told is_asked given accepted. accepted_ends _ asked is_asked _ _ _ _ contents told c.data_are_one.ensures b bytes given terms answers accepted c.end.ensures
 
 pub returns-clause-rejects : goal.returns-clause-rejects
-returns-clause-rejects g c = λ contents asked rejection told is_asked cause. rejected_ends _ asked is_asked _ _ _ _ contents told rejection cause c.end.ensures
+returns-clause-rejects g c = λ contents asked rejection told is_asked cause. rejected_ends _ asked is_asked _ _ _ _ contents told c.data_are_one.ensures rejection cause c.end.ensures
 
 pub returns-clause-refuses : goal.returns-clause-refuses
-returns-clause-refuses g c = λ contents asked refusal told is_asked cause. refused_ends _ asked is_asked _ _ _ _ contents told refusal cause c.end.ensures
+returns-clause-refuses g c = λ contents asked refusal told is_asked cause. refused_ends _ asked is_asked _ _ _ _ contents told c.data_are_one.ensures refusal cause c.end.ensures
 
 pub returns-clause-misses : goal.returns-clause-misses
-returns-clause-misses g c = λ contents asked file told is_asked absent. absent_ends _ asked is_asked _ _ _ _ contents told file absent c.end.ensures
+returns-clause-misses g c = λ contents asked file told is_asked absent. absent_ends _ asked is_asked _ _ _ _ contents told c.data_are_one.ensures file absent c.end.ensures
 
 pub returns-clause-ends : goal.returns-clause-ends
 returns-clause-ends g c = λ contents asked b told is_asked taken files out err.
     unfaulted _ _ _ _ _ (five_rose _ _ _ _ _ c.end.ensures) (seven_rose _ _ _ _ _ c.end.ensures) files out err
-    (taken_ends _ asked is_asked _ _ _ _ contents told b taken c.end.ensures)
+    (taken_ends _ asked is_asked _ _ _ _ contents told c.data_are_one.ensures b taken c.end.ensures)
