@@ -1,0 +1,4 @@
+mod Escapes
+mod Spellings
+pub mod TermReading
+pub mod TermTexts
