@@ -7,7 +7,7 @@ use Rattle.std.specs.Fmt.{decimal}
 use Rattle.std.specs.List.{AllByRecursion, Contains, flat_map, join_with_byte}
 use Rattle.rdf_terms.specs.Written.{iri_text, term_text}
 use Rattle.rdf_terms.specs.declared.terms.Term.{Term}
-use Rattle.rdf_terms.specs.declared.terms.Term.TheVariants as Terms
+use Rattle.term_reader.proofs.TermTexts.{term_same}
 use Rattle.schema_tree.specs.declared.labels.Label.TheVariants as Labels
 use Rattle.schema_tree.specs.declared.schema.Target.{Target}
 use Rattle.schema_tree.specs.declared.schema.Target.TheVariants as Targets
@@ -23,7 +23,7 @@ use Rattle.proof_file.specs.declared.line.Line.{Line}
 use Rattle.proof_file.specs.declared.line.Line.TheVariants as Lines
 use Rattle.proof_file.specs.Text.{place_text, kind_fields, kind_mark, claim_mark, record_fields, target_text, line_text, ended, lines_text, lines_of, section_lines, first_line, last_line, IsNumber, IsPlace, IsKind, IsLine, IsUnicode, HasNoFeed, ProofText}
 use Rattle.proof_file.specs.Reader.{IsGood}
-use Rattle.proof_file.specs.Reading.{fields}
+use Rattle.proof_file.specs.Reading.{fields, IsWhole}
 use Rattle.proof_file.proofs.Gathered.{cons_head, cons_tail, same_number}
 use Rattle.proof_file.proofs.Joined.{all_append, all_back}
 use Rattle.proof_file.proofs.Numbers.{digit_of}
@@ -126,13 +126,6 @@ claim_same b c h k e =
     let target = target_same b.target c.target rest.1 in
     λ i. record { holds = sign.0 i; node = node i; target = target i }
 
-node_same : (a b : Term) → IsLine (Lines.Node a) → IsLine (Lines.Node b) → term_text a ≡ term_text b → a ≡ b
-node_same (Terms.Iri a) (Terms.Iri b) h k e = ap (λ z. Terms.Iri z) (iri_same a b e)
-node_same (Terms.Iri a) (Terms.Blank b) h k e = absurd k
-node_same (Terms.Iri a) (Terms.Lit b) h k e = absurd k
-node_same (Terms.Blank a) b h k e = absurd h
-node_same (Terms.Lit a) b h k e = absurd h
-
 first_of_kind : (k : RecordKind) (xs : List ℕ) → (get_or (kind_mark k ++ xs) 0 0 ≤ 45)
 first_of_kind (Plus ps) xs = omega arith
 first_of_kind (Minus rank ss) xs = omega arith
@@ -157,11 +150,11 @@ first_is (Lines.Claim c) = first_of_claim c.holds (decimal c.node ++ (32 ∷ tar
 line_of_first : (l m : Line) → line_text l ≡ line_text m → first_byte l (get_or (line_text m) 0 0)
 line_of_first l m e = subst (λ z. first_byte l (get_or z 0 0)) e (first_is l)
 
-pub line_same : (l m : Line) → IsLine l → IsLine m → line_text l ≡ line_text m → l ≡ m
-line_same (Lines.Node a) (Lines.Node b) h k e = ap (λ z. Lines.Node z) (node_same a b h k (append_cancel_left (codes "n ") (term_text a) (term_text b) e))
-line_same (Lines.Section a) (Lines.Section b) h k e = ap (λ z. Lines.Section z) (same_number a b h k (append_cancel_left (codes "s ") (decimal a) (decimal b) e))
-line_same (Lines.Record a) (Lines.Record b) h k e = ap (λ z. Lines.Record z) (record_same a b h k e)
-line_same (Lines.Claim a) (Lines.Claim b) h k e = ap (λ z. Lines.Claim z) (claim_same a b h k e)
+pub line_same : (l m : Line) → IsWhole l → IsWhole m → line_text l ≡ line_text m → l ≡ m
+line_same (Lines.Node a) (Lines.Node b) h k e = ap (λ z. Lines.Node z) (term_same a b h k (append_cancel_left (codes "n ") (term_text a) (term_text b) e))
+line_same (Lines.Section a) (Lines.Section b) h k e = ap (λ z. Lines.Section z) (same_number a b h.0 k.0 (append_cancel_left (codes "s ") (decimal a) (decimal b) e))
+line_same (Lines.Record a) (Lines.Record b) h k e = ap (λ z. Lines.Record z) (record_same a b h.0 k.0 e)
+line_same (Lines.Claim a) (Lines.Claim b) h k e = ap (λ z. Lines.Claim z) (claim_same a b h.0 k.0 e)
 line_same (Lines.Node a) (Lines.Section b) h k e = absurd (omega (arith, ap (λ z. get_or z 0 0) e))
 line_same (Lines.Section a) (Lines.Node b) h k e = absurd (omega (arith, ap (λ z. get_or z 0 0) e))
 line_same (Lines.Node a) (Lines.Record b) h k e = absurd (omega (arith, line_of_first (Lines.Record b) (Lines.Node a) (sym e)))
@@ -192,6 +185,9 @@ not_end l e = by l (subst (λ z. first_byte l (get_or z 0 0)) e (first_is l))
 pub line_first : (l : List ℕ) (ls rest : List ℕ) → (ended l ++ ls) ++ rest ≡ l ++ 10 ∷ (ls ++ rest)
 line_first l ls rest = append_assoc (ended l) ls rest ∙ append_assoc l (10 ∷ []) (ls ++ rest)
 
+pub whole : (l : Line) → IsGood l → IsWhole l
+whole l h = (h.0, h.1.0)
+
 -- what the text of whole lines begins with is whole lines, and what follows them is the rest of the lines
 pub prefix : (ls ms : List Line) (tail rest : List ℕ) → AllByRecursion IsGood ls → AllByRecursion IsGood ms → lines_text ms ++ (last_line ++ tail) ≡ lines_text ls ++ rest →
     (more : List Line) × ((ms ≡ ls ++ more) × (rest ≡ lines_text more ++ (last_line ++ tail)))
@@ -202,7 +198,7 @@ prefix (l ∷ ls) [] tail rest (h, hs) k e =
 prefix (l ∷ ls) (m ∷ ms) tail rest (h, hs) (k, ks) e =
     let p = once 10 (line_text m) (line_text l) (lines_text ms ++ (last_line ++ tail)) (lines_text ls ++ rest) (clean_line m k) (clean_line l h)
     (sym (line_first (line_text m) (lines_text ms) (last_line ++ tail)) ∙ e ∙ line_first (line_text l) (lines_text ls) rest) in
-    let same = line_same m l k.0 h.0 p.0 in
+    let same = line_same m l (whole m k) (whole l h) p.0 in
     let q = prefix ls ms tail rest hs ks p.1 in
     (q.0, ((λ i. same i ∷ q.1.0 i), q.1.1))
 

@@ -8,7 +8,7 @@ use Rattle.std.specs.Fmt.{decimal}
 use Rattle.std.specs.List.{AllByRecursion, Contains, join_with_byte}
 use Rattle.std.specs.Str.{IsUtf8}
 use Rattle.rdf_terms.specs.Written.{term_text}
-use Rattle.rdf_terms.specs.declared.terms.Term.TheVariants as Terms
+use Rattle.term_reader.proofs.TermTexts.{term_utf8}
 use Rattle.schema_tree.specs.declared.labels.Label.TheVariants as Labels
 use Rattle.schema_tree.specs.declared.schema.Target.{Target}
 use Rattle.schema_tree.specs.declared.schema.Target.TheVariants as Targets
@@ -84,9 +84,7 @@ utf8_target (Targets.Label (Labels.Blank label)) h = IsUtf8-append (codes "_:") 
 
 pub utf8_line : (l : Line) → IsGood l → IsUtf8 (line_text l)
 unfolding encode
-utf8_line (Lines.Node (Terms.Iri iri)) (h, (u, f)) = IsUtf8-append (codes "n ") (60 ∷ (encode_utf8_all iri ++ 62 ∷ [])) (codes "n ", (refl, refl)) (utf8_iri iri (iri, (u, refl)))
-utf8_line (Lines.Node (Terms.Blank name)) (h, (u, f)) = absurd h
-utf8_line (Lines.Node (Terms.Lit literal)) (h, (u, f)) = absurd h
+utf8_line (Lines.Node t) (h, (u, f)) = IsUtf8-append (codes "n ") (term_text t) (codes "n ", (refl, refl)) (term_utf8 t h u)
 utf8_line (Lines.Section k) (h, (u, f)) = IsUtf8-append (codes "s ") (decimal k) (codes "s ", (refl, refl)) (utf8_number k h)
 utf8_line (Lines.Record r) (h, (u, f)) = IsUtf8-append (kind_mark r.kind) (join_with_byte 32 (record_fields r)) (utf8_mark r.kind)
     (utf8_join 32 (32 ∷ [], (refl, refl)) (record_fields r) (utf8_number r.node h.0, (utf8_number r.shape h.1.0, utf8_kind r.kind h.1.1)))

@@ -4,7 +4,8 @@ use Rattle.std.proofs.lemmas.Grind.{flat_map-append}
 use Rattle.std.proofs.lemmas.List.Folds.{flat_map-map}
 use Rattle.std.specs.Fmt.{decimal}
 use Rattle.std.specs.List.{AllByRecursion, flat_map, join_with_byte}
-use Rattle.proof_file.specs.Text.{ended, line_text, lines_text, section_lines, lines_of, first_line, last_line, text_of, IsUnicode, IsTextTerm, IsTextTarget}
+use Rattle.term_reader.specs.Values.{IsValue}
+use Rattle.proof_file.specs.Text.{ended, line_text, lines_text, section_lines, lines_of, first_line, last_line, text_of, IsUnicode, IsTextTarget}
 use Rattle.proof_file.specs.declared.Record.{Record}
 use Rattle.proof_file.specs.declared.Section.{Section}
 use Rattle.proof_file.specs.declared.Proof.{Proof}
@@ -91,7 +92,7 @@ sections_unicode : (xs : List Section) → AllByRecursion IsUnicode (flat_map se
 sections_unicode [] = tt
 sections_unicode (x ∷ xs) = all_append IsUnicode (section_lines x) (flat_map section_lines xs) (section_unicode x) (sections_unicode xs)
 
-pub proof_unicode : (p : Proof) → AllByRecursion IsTextTerm p.nodes → AllByRecursion (λ c. IsTextTarget c.target) p.claims → AllByRecursion IsUnicode (lines_of p)
+pub proof_unicode : (p : Proof) → AllByRecursion IsValue p.nodes → AllByRecursion (λ c. IsTextTarget c.target) p.claims → AllByRecursion IsUnicode (lines_of p)
 proof_unicode p nodes claims =
     all_append IsUnicode (map (λ t. Lines.Node t) p.nodes) (flat_map section_lines p.sections ++ map (λ c. Lines.Claim c) p.claims)
     (all_map IsUnicode (λ t. Lines.Node t) p.nodes nodes)

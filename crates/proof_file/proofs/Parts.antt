@@ -16,30 +16,13 @@ use Rattle.proof_file.specs.declared.RecordKind.TheVariants.{Plus, Minus}
 use Rattle.proof_file.specs.declared.Record.{Record}
 use Rattle.proof_file.specs.declared.Claim.{Claim}
 use Rattle.proof_file.specs.Text.{place_text, state_text, kind_fields, record_fields, target_text, IsNumber, IsPlace, IsState, IsKind, IsTextTarget, Rises, IsStateBefore}
-use Rattle.proof_file.specs.Reading.{Reads, fields, IsBracketed, IsScalars, IsPlus, IsMinus, IsPlusKind, IsMinusKind, IsClaim, claim_rest}
+use Rattle.proof_file.specs.Reading.{Reads, fields, IsScalars, IsPlus, IsMinus, IsPlusKind, IsMinusKind, IsClaim, claim_rest}
 use Rattle.proof_file.specs.declared.fields.Stop.{Stop}
 use Rattle.proof_file.proofs.Numbers.{digit_of}
 use Rattle.proof_file.proofs.Gathered.{blames, cons_head, cons_tail, same_number, cut_joined, clean_decimal, clean_decimals}
 use Rattle.proof_file.proofs.Joined.{joined_map}
 
--- ---- angle brackets
-
-pub bracketless : (text : List ℕ) (r : Option (Bor (List ℕ))) → MatchOption r (FindsCharPrefix 60 text None) (λ x. (n : ℕ) × FindsCharPrefix 60 text (Some n) × (x.now ≡ drop n text) × (length x.now + n ≡ length text)) →
-    r ≡ None → (iri : List ℕ) → text ≡ codes "<" ++ (iri ++ codes ">") → ⊥
-bracketless text r h is iri e =
-    (subst (λ o. MatchOption o ((rest : List ℕ) → text ≢ 60 ∷ rest) (λ x. text ≡ 60 ∷ x.now)) is (strip_prefix_char 60 text r h (lit< tt))) (iri ++ codes ">") e
-
-pub bracketed : (text rest : List ℕ) (r : Option (Bor (List ℕ))) (x : Bor (List ℕ)) → MatchOption r (FindsCharPrefix 60 text None) (λ x. (n : ℕ) × FindsCharPrefix 60 text (Some n) × (x.now ≡ drop n text) × (length x.now + n ≡ length text)) →
-    r ≡ Some x → x.now ≡ rest →
-    (o : Option (Bor (List ℕ))) → MatchOption o (FindsCharSuffix 62 rest None) (λ x. (n : ℕ) × FindsCharSuffix 62 rest (Some n) × (x.now ≡ take (length rest - n) rest) × (length x.now + n ≡ length rest)) → IsBracketed o text
-bracketed text rest r x h is same o k = by o (strip_suffix_char 62 rest o k (lit< tt))
-  where
-    front : text ≡ 60 ∷ rest
-    front = (subst (λ o. MatchOption o ((rest : List ℕ) → text ≢ 60 ∷ rest) (λ x. text ≡ 60 ∷ x.now)) is (strip_prefix_char 60 text r h (lit< tt))) ∙ ap (λ z. 60 ∷ z) same
-
-    by : (o : Option (Bor (List ℕ))) → MatchOption o ((front : List ℕ) → rest ≢ front ++ (62 ∷ [])) (λ x. rest ≡ x.now ++ (62 ∷ [])) → IsBracketed o text
-    by None none = λ iri e. none iri (cons_tail 60 60 rest (iri ++ 62 ∷ []) (sym front ∙ e))
-    by (Some y) some = front ∙ ap (λ z. 60 ∷ z) some
+-- ---- texts
 
 pub owned_text : (text copy : List ℕ) → IsUtf8 text → copy ≡ chars text → (text ≡ encode_utf8_all copy) × IsScalars copy
 owned_text text copy utf8 is = (sym (encodes-chars text utf8) ∙ ap encode_utf8_all (sym is), subst IsScalars (sym is) (scalars-chars text utf8))

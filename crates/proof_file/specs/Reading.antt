@@ -4,7 +4,6 @@ use Rattle.std.specs.Borrow.{Bor}
 use Rattle.std.specs.Fmt.{decimal}
 use Rattle.std.specs.List.{slice_split}
 use Rattle.std.specs.Str.{all_scalars}
-use Rattle.rdf_terms.specs.declared.terms.Term.{Term}
 use Rattle.proof_file.specs.declared.RecordKind.{RecordKind}
 use Rattle.proof_file.specs.declared.RecordKind.TheVariants.{Plus, Minus}
 use Rattle.proof_file.specs.declared.Record.{Record}
@@ -13,7 +12,7 @@ use Rattle.proof_file.specs.declared.line.Line.{Line}
 use Rattle.proof_file.specs.declared.line.Line.TheVariants as Lines
 use Rattle.proof_file.specs.declared.fields.Stop.{Stop}
 use Rattle.proof_file.specs.declared.fields.Stop.TheVariants.{Bad, Memory}
-use Rattle.proof_file.specs.Text.{IsNumber, IsLineTerm, IsTextTerm, IsLine, IsUnicode, IsTextTarget, target_text}
+use Rattle.proof_file.specs.Text.{IsNumber, IsLine, IsUnicode, IsTextTarget, target_text}
 
 -- the source is the text of what is read, which is as it has to be; or it is the text of nothing that is so
 abbrev pub Reads : {X T : Type 0} → (X → T) → (X → Type 0) → T → Result X Stop → Type 0
@@ -43,15 +42,6 @@ IsGiven (Some x) text = (x.now ≡ text) × (0 < length text)
 abbrev pub measure : Option (Bor (List ℕ)) → ℕ
 measure None = 0
 measure (Some x) = suc (length x.now)
-
--- an IRI between angle brackets
-abbrev pub IsBracketed : Option (Bor (List ℕ)) → List ℕ → Type 0
-IsBracketed None text = (iri : List ℕ) → ¬ (text ≡ codes "<" ++ (iri ++ codes ">"))
-IsBracketed (Some x) text = text ≡ codes "<" ++ (x.now ++ codes ">")
-
--- a term of a node line, with a text of Unicode characters
-abbrev pub IsNodeTerm : Term → Type 0
-IsNodeTerm term = IsLineTerm term × IsTextTerm term
 
 abbrev pub IsScalars : List ℕ → Type 0
 IsScalars text = all_scalars text ≡ true

@@ -6,9 +6,9 @@ use Rattle.std.specs.List.{AllByRecursion, flat_map, join_with_byte}
 use Rattle.std.specs.Ordering.{nat_cmp}
 use Rattle.std.specs.Str.{all_scalars}
 use Rattle.std.specs.declared.cmp.Ordering.TheVariants.{Less}
+use Rattle.term_reader.specs.Values.{IsValue, IsWhole}
 use Rattle.rdf_terms.specs.Written.{term_text, iri_text}
 use Rattle.rdf_terms.specs.declared.terms.Term.{Term}
-use Rattle.rdf_terms.specs.declared.terms.Term.TheVariants as Terms
 use Rattle.schema_tree.specs.declared.labels.Label.TheVariants as Labels
 use Rattle.schema_tree.specs.declared.schema.Target.{Target}
 use Rattle.schema_tree.specs.declared.schema.Target.TheVariants as Targets
@@ -136,15 +136,9 @@ abbrev pub IsKind : RecordKind → Type 0
 IsKind (Plus places) = AllByRecursion IsPlace places
 IsKind (Minus rank states) = IsNumber rank × (AllByRecursion IsState states × Rises IsStateBefore states)
 
--- which terms a node line may have: IRIs
-abbrev pub IsLineTerm : Term → Type 0
-IsLineTerm (Terms.Iri iri) = ⊤
-IsLineTerm (Terms.Blank name) = ⊥
-IsLineTerm (Terms.Lit literal) = ⊥
-
--- the line is within the limits, and its states strictly rise
+-- the line is within the limits, its term is one that has a text of its own, and its states strictly rise
 abbrev pub IsLine : Line → Type 0
-IsLine (Lines.Node term) = IsLineTerm term
+IsLine (Lines.Node term) = IsWhole term
 IsLine (Lines.Section stratum) = IsNumber stratum
 IsLine (Lines.Record r) = IsNumber r.node × (IsNumber r.shape × IsKind r.kind)
 IsLine (Lines.Claim c) = IsNumber c.node
@@ -160,18 +154,15 @@ pub record Keeps (p : Proof) : Type 0 where
 
 -- ---- the characters
 
--- the text is of Unicode scalar values, as each text of a program is
-abbrev pub IsTextTerm : Term → Type 0
-IsTextTerm (Terms.Iri iri) = all_scalars iri ≡ true
-IsTextTerm term = ⊤
-
+-- the texts of a target are of Unicode scalar values, as each text of a program is
 abbrev pub IsTextTarget : Target → Type 0
 IsTextTarget Targets.Start = ⊤
 IsTextTarget (Targets.Label (Labels.Iri iri)) = all_scalars iri ≡ true
 IsTextTarget (Targets.Label (Labels.Blank label)) = all_scalars label ≡ true
 
+-- the line has a term or target as a program holds one
 abbrev pub IsUnicode : Line → Type 0
-IsUnicode (Lines.Node term) = IsTextTerm term
+IsUnicode (Lines.Node term) = IsValue term
 IsUnicode (Lines.Claim c) = IsTextTarget c.target
 IsUnicode line = ⊤
 

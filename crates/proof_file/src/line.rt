@@ -2,8 +2,9 @@
 
 ghost use Rattle.std.specs.Prelude.{encode_utf8_all};
 ghost use Rattle.proof_file.specs.Text.{IsTextTarget, record_fields, target_text, line_text};
+ghost use Rattle.term_reader.specs.Values.{IsWholeTerm};
 ghost use Rattle.rdf_terms.specs.Written.{term_text};
-ghost use Rattle.proof_file.specs.Reading.{Reads, fields, IsPlus, IsMinus, IsClaim, IsWhole, IsNodeTerm, IsBracketed, IsScalars, claim_rest};
+ghost use Rattle.proof_file.specs.Reading.{Reads, fields, IsPlus, IsMinus, IsClaim, IsWhole, IsScalars, claim_rest};
 
 use crate::fields::{Stop, are_rising, cut, number, places, states};
 use crate::{Claim, Record, RecordKind};
@@ -12,6 +13,7 @@ use rdf_terms::text::Text;
 use schema_tree::labels::Label;
 use schema_tree::schema::Target;
 use std::alloc::Global;
+use term_reader::{read_term, within_brackets};
 
 /// A line of a proof's text between the first and the last.
 #[derive(Debug, Drop)]
@@ -31,7 +33,7 @@ pub(crate) fn read_line(alloc: Global, text: &str) -> Result<Line, Stop>
     ensures { Reads line_text IsWhole text.now result }
 {
     if let Some(term) = text.strip_prefix("n ") {
-        return Ok(Line::Node(read_term(alloc, term)?));
+        return Ok(Line::Node(read_node(alloc, term)?));
     }
     if let Some(stratum) = text.strip_prefix("s ") {
         return Ok(Line::Section(number(stratum)?));
@@ -52,13 +54,13 @@ pub(crate) fn read_line(alloc: Global, text: &str) -> Result<Line, Stop>
 }
 
 /// The term of a node line.
-fn read_term(alloc: Global, text: &str) -> Result<Term, Stop>
-    ensures { Reads term_text IsNodeTerm text.now result }
+fn read_node(alloc: Global, text: &str) -> Result<Term, Stop>
+    ensures { Reads term_text IsWholeTerm text.now result }
 {
-    let Some(iri) = within_brackets(text) else {
-        return Err(Stop::Bad);
-    };
-    Ok(Term::Iri(owned(alloc, iri)?))
+    match read_term(alloc, text)? {
+        Some(term) => Ok(term),
+        None => Err(Stop::Bad),
+    }
 }
 
 /// A copy of the text.
@@ -66,13 +68,6 @@ fn owned(alloc: Global, text: &str) -> Result<Text, Stop>
     ensures { Reads encode_utf8_all IsScalars text.now result }
 {
     Ok(Text::from_str(alloc, text)?)
-}
-
-/// The IRI between angle brackets.
-fn within_brackets(text: &str) -> Option<&str>
-    ensures { IsBracketed result text.now }
-{
-    text.strip_prefix('<')?.strip_suffix('>')
 }
 
 /// A record that confirms, without its mark.

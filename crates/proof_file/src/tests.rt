@@ -27,12 +27,23 @@ const SMALL: &str = "shex-proof 1\nend\n";
 const LARGE: &str =
     "shex-proof 1\nn <a>\nn <b>\ns 0\n- 0 0 1 0:\n- 0 1 1\n+ 1 0 0 r 65534\ns 4294967295\nc - 1 START\nc + 0 _:b\nend\n";
 
+/// Node lines of every kind of term, in the order of their texts.
+const NODES: &str =
+    "shex-proof 1\nn \"\"\nn \"1\"\nn \"1\"@de\nn \"1\"@en-be\nn \"1\"^^<http://www.w3.org/2001/XMLSchema#integer>\nn \"a\tb\\n\\\"c\\\\\\r\u{e9}\"\nn <>\nn <a b>\nn <a>\nn <a>b>\nn <http://a.example/\u{e9}>\nn _:\nn _:anon1\nn _:anon10\nn _:anon2\nn _:anon4294967295\nn _:anon_anon\nn _:anon_anon2\nn _:b\nend\n";
+
+/// Texts of no term, with bars between them.
+const NO_TERMS: &str =
+    "|a|<a|<a> |'a'|_:anon|_:anon0|_:anon02|_:anon_b|_:anon4294967296|\"a|\"a\" |\"a\" @en|\"a\"b\"|\"a\\tb\"|\"a\\u0062\"|\"a\\\"|\"a\rb\"|\"a\"@EN|\"a\"^^a|\"a\"^^<a|\"a\"^<a>|\"a\"^^<http://www.w3.org/2001/XMLSchema#string>|\"a\"^^<http://www.w3.org/1999/02/22-rdf-syntax-ns#langString>";
+
+/// Node lines that are not in the order of their texts.
+const UNORDERED: &str = "shex-proof 1\nn _:anon2\nn _:anon10\nend\n";
+
 /// Texts of no proof, with bars between them.
 const FAULTY: &str =
-    "|shex-proof 2\nend\n|shex-proof 1\n|shex-proof 1\nend|shex-proof 1\nend\nend\n|shex-proof 1\nn <a>\nn <a>\nend\n|shex-proof 1\nn _:b\nend\n|shex-proof 1\n+ 0 0\nend\n|shex-proof 1\ns 1\ns 0\nend\n|shex-proof 1\nc + 0 START\ns 0\nend\n";
+    "|shex-proof 2\nend\n|shex-proof 1\n|shex-proof 1\nend|shex-proof 1\nend\nend\n|shex-proof 1\nn <a>\nn <a>\nend\n|shex-proof 1\nn _:b\nn <a>\nend\n|shex-proof 1\n+ 0 0\nend\n|shex-proof 1\ns 1\ns 0\nend\n|shex-proof 1\nc + 0 START\ns 0\nend\n";
 
 /// Where each ceases to be one.
-const FAULTY_AT: [u64; 10] = [0, 0, 13, 13, 17, 19, 13, 13, 17, 25];
+const FAULTY_AT: [u64; 10] = [0, 0, 13, 13, 17, 19, 19, 13, 17, 25];
 
 /// More of them, by their lines.
 const FAULTY_LINES: &str =
@@ -124,6 +135,26 @@ fn each_faulty_text_fails_at_its_place(rt: HostRuntime) -> Result<(), Fail> {
     Ok(())
 }
 
+/// Whether a node line of this text is none.
+fn is_no_term(alloc: Global, term: &str) -> Result<bool, AllocError> {
+    let text = format!(in alloc; "shex-proof 1\nn {term}\nend\n")?;
+    Ok(fails_at(alloc, text.as_bytes(), 13))
+}
+
+#[test]
+fn a_node_line_has_no_other_spelling_of_a_term(rt: HostRuntime) -> Result<(), Fail> {
+    for term in NO_TERMS.split('|') {
+        assert!(rt; is_no_term(rt.alloc(), term)?, "{term}");
+    }
+    Ok(())
+}
+
+#[test]
+fn node_lines_stand_in_the_order_of_their_texts(rt: HostRuntime) -> Result<(), Fail> {
+    assert!(rt; fails_at(rt.alloc(), UNORDERED.as_bytes(), 23));
+    Ok(())
+}
+
 /// Whether the prefixes of from `at` to below `end` bytes fail at the place `at`.
 fn prefixes_fail(alloc: Global, text: &[u8], at: usize, end: usize) -> bool {
     for length in at..end {
@@ -158,6 +189,7 @@ fn rewritten(alloc: Global, text: &str) -> Result<Vec<u8>, Fail> {
 #[test]
 fn what_is_read_is_written_alike(rt: HostRuntime) -> Result<(), Fail> {
     assert_eq!(rt; rewritten(rt.alloc(), SMALL)?.as_slice(), SMALL.as_bytes());
+    assert_eq!(rt; rewritten(rt.alloc(), NODES)?.as_slice(), NODES.as_bytes());
     assert_eq!(rt;
         rewritten(rt.alloc(), CONFIRMED)?.as_slice(),
         CONFIRMED.as_bytes()

@@ -4,8 +4,9 @@ ghost use Rattle.std.specs.Prelude.{◌≡◌, ◌++◌, ◌∷◌, [], true, ma
 ghost use Rattle.std.specs.Fmt.{decimal};
 ghost use Rattle.std.specs.List.{AllByRecursion, flat_map, join_with_byte};
 ghost use Rattle.std.specs.Str.{all_scalars};
+ghost use Rattle.term_reader.specs.Values.{IsValue};
 ghost use Rattle.rdf_terms.specs.Written.{iri_text};
-ghost use Rattle.proof_file.specs.Text.{place_text, state_text, kind_mark, kind_fields, target_text, ended, line_text, lines_text, section_lines, ProofText, Keeps, HasNoFeeds, IsTextTerm, IsTextTarget};
+ghost use Rattle.proof_file.specs.Text.{place_text, state_text, kind_mark, kind_fields, target_text, ended, line_text, lines_text, section_lines, ProofText, Keeps, HasNoFeeds, IsTextTarget};
 ghost use Rattle.proof_file.specs.declared.line.Line.TheVariants as Lines;
 ghost use Rattle.schema_tree.specs.declared.schema.Target.TheVariants as Targets;
 ghost use Rattle.schema_tree.specs.declared.labels.Label.TheVariants as Labels;
@@ -18,6 +19,7 @@ use schema_tree::labels::Label;
 use schema_tree::schema::Target;
 use schema_tree::verdicts::{Place, State};
 use std::alloc::{AllocError, Global};
+use term_reader::term_is_value;
 
 /// The text of a proof that keeps the orders and limits, where no text of a term or target holds a line feed.
 pub fn write(alloc: Global, p: &Proof) -> Result<Vec<u8>, AllocError>
@@ -35,7 +37,7 @@ pub fn write(alloc: Global, p: &Proof) -> Result<Vec<u8>, AllocError>
 /// Appends the node lines.
 fn push_nodes(alloc: Global, nodes: &[Term], out: &mut Vec<u8>) -> Result<(), AllocError>
     ensures lines { OnOk result (out.new.items ≡ out.old.items ++ flat_map (λ t. ended (line_text (Lines.Node t))) nodes.now) }
-    ensures texts { OnOk result (AllByRecursion IsTextTerm nodes.now) }
+    ensures texts { OnOk result (AllByRecursion IsValue nodes.now) }
 {
     for node in nodes {
         push_node(alloc, node, out)?;
@@ -46,13 +48,11 @@ fn push_nodes(alloc: Global, nodes: &[Term], out: &mut Vec<u8>) -> Result<(), Al
 /// Appends a node line.
 fn push_node(alloc: Global, node: &Term, out: &mut Vec<u8>) -> Result<(), AllocError>
     ensures line { OnOk result (out.new.items ≡ out.old.items ++ ended (line_text (Lines.Node node.now))) }
-    ensures text { OnOk result (IsTextTerm node.now) }
+    ensures text { OnOk result (IsValue node.now) }
 {
+    term_is_value(node);
     out.extend_from_slice(b"n ")?;
-    match node {
-        Term::Iri(iri) => push_iri(iri, out)?,
-        other => write_term(alloc, other, out)?,
-    }
+    write_term(alloc, node, out)?;
     out.push(b'\n')?;
     Ok(())
 }

@@ -1,6 +1,7 @@
 use Rattle.std.proofs.Common.{◌++◌, ap, subst, ◌∙◌}
 use Rattle.std.specs.List.{AllByRecursion, flat_map}
-use Rattle.proof_file.specs.Text.{ended, line_text, lines_text, section_lines, last_line, IsTextTerm, IsTextTarget}
+use Rattle.term_reader.specs.Values.{IsValue}
+use Rattle.proof_file.specs.Text.{ended, line_text, lines_text, section_lines, last_line, IsTextTarget}
 use Rattle.proof_file.specs.declared.line.Line.TheVariants as Lines
 use Rattle.proof_file.proofs.Joined.{chained, proof_written, proof_unicode}
 use Rattle.proof_file.proofs.write.write.Goals as goal
@@ -10,7 +11,7 @@ returns c =
     let p = c.args.p.now in
     λ feeds. record {
       keeps = c.requires;
-      unicode = proof_unicode p (subst (λ z. AllByRecursion IsTextTerm z) c.as_slice.ensures c.in_ok-push_nodes.ensures.texts) (subst (λ z. AllByRecursion (λ c. IsTextTarget c.target) z) c.as_slice-3.ensures c.in_ok-push_claims.ensures.texts);
+      unicode = proof_unicode p (subst (λ z. AllByRecursion IsValue z) c.as_slice.ensures c.in_ok-push_nodes.ensures.texts) (subst (λ z. AllByRecursion (λ c. IsTextTarget c.target) z) c.as_slice-3.ensures c.in_ok-push_claims.ensures.texts);
       no_feeds = feeds;
       spelled =
           chained c.in_ok-out.out.items c.push_nodes.new.out.items c.push_sections.new.out.items c.push_claims.new.out.items c.extend_from_slice.new.self.items
