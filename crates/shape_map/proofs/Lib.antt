@@ -1,0 +1,13 @@
+pub mod Texts
+pub mod Nexts
+pub mod Places
+pub mod Failing
+pub mod Sound
+pub mod Complete
+pub mod Passed
+pub mod Endings
+pub mod Listed
+pub mod Ordered
+pub mod Focused
+pub mod Copying
+pub mod Chosen

@@ -1,0 +1,15 @@
+use Rattle.std.proofs.Common.{sym}
+use Rattle.schema_tree.proofs.Lists.{got_in}
+use Rattle.shape_map.proofs.Listed.{behind_there, listed}
+use Rattle.shape_map.proofs.results.result_map.Goals as goal
+
+pub push_answer-requires : goal.push_answer-requires
+push_answer-requires c = c.requires c.in-Some.first.now (got_in c.args.answers.now 0 c.in-Some.first.now (sym c.in-Some.ensures.value))
+
+pub push_more-requires : goal.push_more-requires
+push_more-requires c = λ a h. c.requires a (behind_there c.args.answers.now c.in-Some.first.now a c.in-Some.ensures.value h)
+
+pub returns : goal.returns
+returns c =
+    listed c.args.terms.now c.args.answers.now c.in-Some.first.now c.new-out.result.items c.push_answer.new.out.items c.push_more.new.out.items c.push.new.self.items c.in-Some.ensures.value c.new-out.ensures.items
+    c.in_ok-push_answer.ensures c.in_ok-push_more.ensures c.in_ok-push.ensures.items

@@ -1,0 +1,16 @@
+//! What names and references stand for.
+
+ghost use Rattle.std.specs.Prelude.{IsSome};
+ghost use Rattle.iri_resolve.specs.Reference.{scheme_of};
+ghost use Rattle.rdf_lex.specs.Prefixes.{base_of};
+
+use rdf_lex::Prefixes;
+use std::alloc::Global;
+
+/// The prefixes and the base in force, which has a scheme, of nodes or of targets.
+#[derive(Drop)]
+pub struct Names<'a> {
+    pub alloc: Global,
+    pub prefixes: &'a Prefixes,
+    ghost absolute: { IsSome (scheme_of (base_of prefixes.now)) },
+}

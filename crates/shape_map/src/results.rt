@@ -1,0 +1,116 @@
+//! The text of answers.
+
+ghost use Rattle.std.specs.Prelude.{◌≡◌, ◌++◌, ◌<◌, length, codes, encode_utf8_all, Contains, IfOk, OnOk, OnErr};
+ghost use Rattle.std.specs.List.{flat_map};
+ghost use Rattle.rdf_terms.specs.Written.{iri_text};
+ghost use Rattle.schema_tree.specs.declared.schema.Answer.{Answer as Given};
+ghost use Rattle.shape_map.specs.Results.{answer_text, mark, result_text, target_text};
+
+use rdf_terms::table::TermTable;
+use rdf_terms::text::Text;
+use rdf_terms::written::write_term;
+use schema_tree::labels::Label;
+use schema_tree::schema::{Answer, Target};
+use std::alloc::{AllocError, Global};
+
+/// Appends an IRI in angle brackets.
+fn push_iri(iri: &Text, out: &mut Vec<u8>) -> Result<(), AllocError>
+    ensures { OnOk result (out.new.items ≡ out.old.items ++ iri_text iri.now) }
+{
+    out.extend_from_slice(b"<")?;
+    out.extend_from_slice(iri.as_str().as_bytes())?;
+    out.extend_from_slice(b">")
+}
+
+/// Appends `_:` and the label of a blank node.
+fn push_blank(label: &Text, out: &mut Vec<u8>) -> Result<(), AllocError>
+    ensures { OnOk result (out.new.items ≡ out.old.items ++ (codes "_:" ++ encode_utf8_all label.now)) }
+{
+    out.extend_from_slice(b"_:")?;
+    out.extend_from_slice(label.as_str().as_bytes())
+}
+
+/// Appends a target.
+fn push_target(target: &Target, out: &mut Vec<u8>) -> Result<(), AllocError>
+    ensures { OnOk result (out.new.items ≡ out.old.items ++ target_text target.now) }
+{
+    match target {
+        Target::Start => out.extend_from_slice(b"START"),
+        Target::Label(Label::Iri(iri)) => push_iri(iri, out),
+        Target::Label(Label::Blank(label)) => push_blank(label, out),
+    }
+}
+
+/// What stands before the target of an answer.
+fn mark(holds: bool) -> &'static [u8]
+    ensures { result.now ≡ codes "@" ++ mark holds }
+{
+    if holds { b"@" } else { b"@!" }
+}
+
+/// Appends an answer.
+fn push_answer(
+    alloc: Global,
+    terms: &TermTable,
+    answer: &Answer,
+    out: &mut Vec<u8>,
+) -> Result<(), AllocError>
+    requires { answer.now.node.0 < length terms.now }
+    ensures { OnOk result (out.new.items ≡ out.old.items ++ answer_text terms.now answer.now) }
+{
+    write_term(alloc, terms.get(answer.node), out)?;
+    out.extend_from_slice(mark(answer.holds))?;
+    push_target(&answer.target, out)
+}
+
+/// Appends the answers, a comma and a line feed before each.
+fn push_more(
+    alloc: Global,
+    terms: &TermTable,
+    answers: &[Answer],
+    out: &mut Vec<u8>,
+) -> Result<(), AllocError>
+    requires { (a : Given) → Contains answers.now a → a.node.0 < length terms.now }
+    ensures { OnOk result (out.new.items ≡ out.old.items ++ flat_map (λ a. codes ",\n" ++ answer_text terms.now a) answers.now) }
+{
+    for answer in answers {
+        out.extend_from_slice(b",\n")?;
+        push_answer(alloc, terms, answer, out)?;
+    }
+    Ok(())
+}
+
+/// The text of the answers.
+fn result_map(alloc: Global, terms: &TermTable, answers: &[Answer]) -> Result<Vec<u8>, AllocError>
+    requires { (a : Given) → Contains answers.now a → a.node.0 < length terms.now }
+    ensures { IfOk result (λ v. v.items ≡ result_text terms.now answers.now) }
+{
+    let mut out = Vec::new(alloc);
+    let Some(first) = answers.first() else {
+        return Ok(out);
+    };
+    push_answer(alloc, terms, first, &mut out)?;
+    push_more(alloc, terms, &answers[1..], &mut out)?;
+    out.push(b'\n')?;
+    Ok(out)
+}
+
+/// Appends the answers as a result shape map (ShapeMap Structure and Language, section 4): of each the text of its node,
+/// `@`, `!` where it does not hold, and its target; a comma and a line feed between two, and a line feed after the last.
+/// The nodes are of the table. A refusal changes nothing.
+pub fn write_result(
+    alloc: Global,
+    terms: &TermTable,
+    items: &[Answer],
+    out: &mut Vec<u8>,
+) -> Result<(), AllocError>
+    requires { (a : Given) → Contains items.now a → a.node.0 < length terms.now }
+    ensures written { OnOk result (out.new.items ≡ out.old.items ++ result_text terms.now items.now) }
+    ensures err { OnErr result (out.new.items ≡ out.old.items) }
+{
+    let text = result_map(alloc, terms, items)?;
+    out.extend_from_slice(text.as_slice())
+}
+
+#[cfg(test)]
+mod tests;
