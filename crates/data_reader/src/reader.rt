@@ -3,6 +3,7 @@
 ghost use Rattle.std.specs.Prelude.{◌≡◌, ◌++◌, List, IfOk, OnErr, IfErr, IsSome};
 ghost use Rattle.std.specs.Str.{IsUtf8};
 ghost use Rattle.iri_resolve.specs.Reference.{scheme_of};
+ghost use Rattle.rdf_lex.specs.Prefixes.{base_of};
 ghost use Rattle.rdf_terms.specs.declared.terms.Term.{Term};
 ghost use Rattle.rdf_terms.specs.declared.terms.Triple.{Triple};
 ghost use Rattle.graph_loading.specs.declared.triples.TermTriple.{TermTriple};
@@ -26,7 +27,9 @@ fn read_n_triples(
     terms: &mut TermTable,
     graph: &mut Graph,
 ) -> Result<Prefixes, ReadError>
+    requires { IsSome (scheme_of base.now) }
     ensures found { IfOk result (λ p. IsRead NTriples base.now source.now p terms.old graph.old.triples terms.new graph.new.triples) }
+    ensures scheme { IfOk result (λ p. IsSome (scheme_of (base_of p))) }
     ensures complete { (last : Context) (triples : List TermTriple) (new_terms : List Term) (new_graph : List Triple) → IsData NTriples base.now (last, triples) source.now → Loads terms.old graph.old.triples triples new_terms new_graph → IsWithin new_terms new_graph → ReadsTo result last new_terms new_graph terms.new graph.new.triples }
     ensures refused { IfErr result (λ e. Explains NTriples base.now e source.now terms.old graph.old.triples) }
     ensures not_utf8 { ¬ IsUtf8 source.now → result ≡ Err ReadError.NotUtf8 }
@@ -68,6 +71,7 @@ pub fn read(
 
     // What was read is what the whole bytes are, within the limits.
     ensures found { IfOk result (λ p. IsRead format base.now source.now p terms.old graph.old.triples terms.new graph.new.triples) }
+    ensures scheme { IfOk result (λ p. IsSome (scheme_of (base_of p))) }
 
     // What the bytes are within the limits is read.
     ensures complete { (last : Context) (triples : List TermTriple) (new_terms : List Term) (new_graph : List Triple) → IsData format base.now (last, triples) source.now → Loads terms.old graph.old.triples triples new_terms new_graph → IsWithin new_terms new_graph → ReadsTo result last new_terms new_graph terms.new graph.new.triples }

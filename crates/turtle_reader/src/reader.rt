@@ -3,6 +3,7 @@
 ghost use Rattle.std.specs.Prelude.{◌≡◌, ◌↔◌, ◌++◌, List, IfOk, OnErr, IfErr, IsSome};
 ghost use Rattle.std.specs.Str.{IsUtf8};
 ghost use Rattle.iri_resolve.specs.Reference.{scheme_of};
+ghost use Rattle.rdf_lex.specs.Prefixes.{base_of};
 ghost use Rattle.rdf_terms.specs.Lists.{AreDistinct};
 ghost use Rattle.rdf_terms.specs.declared.terms.Term.{Term};
 ghost use Rattle.rdf_terms.specs.declared.terms.Triple.{Triple};
@@ -136,6 +137,7 @@ fn read_text(
     requires base { IsSome (scheme_of base.now) }
     requires distinct { AreDistinct terms.old }
     ensures found { IfOk result (λ p. IsRead base.now text.now p terms.old graph.old.triples terms.new graph.new.triples) }
+    ensures scheme { IfOk result (λ p. IsSome (scheme_of (base_of p))) }
     ensures complete { (v : Scope) (ts : List TermTriple) (new_terms : List Term) (new_graph : List Triple) → IsDocument base.now text.now (v, ts) → Loads terms.old graph.old.triples ts new_terms new_graph → IsWithin new_terms new_graph → ReadsTo result v new_terms new_graph terms.new graph.new.triples }
     ensures refused { IfErr result (λ e. Explains base.now e text.now terms.old graph.old.triples) }
     ensures kept { OnErr result (graph.new.triples ≡ graph.old.triples) }
@@ -158,7 +160,8 @@ fn read_text(
 /// Reads a document in Turtle (RDF 1.1 Turtle) into a table and a graph: the terms that are new to the table go last in
 /// it, and the triples of their numbers that are new to the graph go last there. References are resolved against the base
 /// in force, at first `base`, which has a scheme; the n-th anonymous node is that of the n-th `[` or member of a
-/// collection, and tags are kept in lower case. The answer is the base and the prefixes at the end of the document.
+/// collection, and tags are kept in lower case. The answer is the base, which has a scheme, and the prefixes at the end of the
+/// document.
 ///
 /// It fails as `NotUtf8` exactly where the bytes are not UTF-8, as `Syntax` and `Prefix` only where no document goes on
 /// as the bytes do from that place on, as `Deep`, `Long` and `Full` only where none within the limits does, and as
@@ -174,6 +177,7 @@ pub fn read(
 
     // What was read is what the whole bytes are, within the limits.
     ensures found { IfOk result (λ p. IsRead base.now source.now p terms.old graph.old.triples terms.new graph.new.triples) }
+    ensures scheme { IfOk result (λ p. IsSome (scheme_of (base_of p))) }
 
     // What the bytes are within the limits is read.
     ensures complete { (v : Scope) (ts : List TermTriple) (new_terms : List Term) (new_graph : List Triple) → IsDocument base.now source.now (v, ts) → Loads terms.old graph.old.triples ts new_terms new_graph → IsWithin new_terms new_graph → ReadsTo result v new_terms new_graph terms.new graph.new.triples }

@@ -155,7 +155,8 @@ impl State {
 
     /// The base and the prefixes.
     pub fn into_prefixes(self) -> Prefixes
-        ensures { AreLast result (scope_of self) }
+        ensures last { AreLast result (scope_of self) }
+        ensures scheme { IsSome (scheme_of (base_of result)) }
     {
         self.prefixes
     }

@@ -5,11 +5,11 @@ use Rattle.turtle_reader.proofs.reader.read_text.Goals as goal
 
 pub returns-in-Ok-load_statements-clause-found : goal.returns-in-Ok-load_statements-clause-found
 returns-in-Ok-load_statements-clause-found c =
-    found_from c.args.base.now c.args.text.now c.utf8.text _ c.new-c.ensures.ahead _ c.in-Ok.ensures _ _ (ahead c.load_statements.new.c) _ _ _ _ c.in-Ok-load_statements.ensures.ends c.into_prefixes.ensures
+    found_from c.args.base.now c.args.text.now c.utf8.text _ c.new-c.ensures.ahead _ c.in-Ok.ensures _ _ (ahead c.load_statements.new.c) _ _ _ _ c.in-Ok-load_statements.ensures.ends c.into_prefixes.ensures.last
 
 pub returns-in-Ok-load_statements-clause-complete : goal.returns-in-Ok-load_statements-clause-complete
 returns-in-Ok-load_statements-clause-complete c = λ v ts terms graph doc loads within.
-    ok_from c.args.base.now c.args.text.now c.utf8.text _ c.new-c.ensures.ahead _ c.in-Ok.ensures _ _ v (ahead c.load_statements.new.c) _ _ terms _ _ graph ts c.requires.distinct doc loads c.in-Ok-load_statements.ensures.ends c.into_prefixes.ensures
+    ok_from c.args.base.now c.args.text.now c.utf8.text _ c.new-c.ensures.ahead _ c.in-Ok.ensures _ _ v (ahead c.load_statements.new.c) _ _ terms _ _ graph ts c.requires.distinct doc loads c.in-Ok-load_statements.ensures.ends c.into_prefixes.ensures.last
 
 pub returns-in-Err-clause-complete : goal.returns-in-Err-clause-complete
 returns-in-Err-clause-complete c = λ v ts terms graph doc loads within.
