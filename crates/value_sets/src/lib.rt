@@ -1,0 +1,12 @@
+//! Value sets of node constraints: values, stems and ranges (ShEx 2.1, section 5.4, Values Constraint).
+#![tactic(auto)]
+
+pub mod laws;
+mod stems;
+#[cfg(test)]
+mod tests;
+mod value;
+mod value_set;
+
+pub use value::{Except, Exceptions, Value};
+pub use value_set::ValueSet;
