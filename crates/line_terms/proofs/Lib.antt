@@ -1,0 +1,13 @@
+pub mod Texts
+pub mod Chosen
+pub mod Cuts
+pub mod Terms
+pub mod Tokens
+pub mod Triples
+pub mod Turtle
+pub mod Statements
+pub mod Data
+pub mod Names
+pub mod Associations
+pub mod Maps
+pub mod Tables
