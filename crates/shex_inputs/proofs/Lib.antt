@@ -1,0 +1,9 @@
+pub mod Asking
+pub mod Based
+pub mod Counted
+pub mod Exclusive
+pub mod Fetched
+pub mod Ordered
+pub mod Reading
+pub mod Standing
+pub mod OwnTexts

@@ -1,0 +1,9 @@
+pub mod Named
+pub mod Held
+pub mod Loading
+pub mod Asked
+pub mod Refusals
+pub mod Outcomes
+pub mod Nodes
+pub mod Stops
+pub mod Laws

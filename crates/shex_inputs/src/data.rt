@@ -1,0 +1,94 @@
+//! The schema of a document and the graph of data in one table.
+
+ghost use Rattle.std.specs.Prelude.{◌≡◌, ◌≤◌, ◌+◌, ◌*◌, All, IfErr, IfOk, IsSome, List, OnOk, [], length};
+ghost use Rattle.iri_resolve.specs.Reference.{scheme_of};
+ghost use Rattle.rdf_lex.specs.Prefixes.{base_of};
+ghost use Rattle.rdf_terms.specs.Lists.{AreDistinct};
+ghost use Rattle.graph_index.specs.Laws.{IsOfTable};
+ghost use Rattle.graph_loading.specs.declared.triples.TermTriple.{TermTriple};
+ghost use Rattle.graph_loading.specs.Loading.{IsWithin, Loads};
+ghost use Rattle.data_reader.specs.Documents.{IsData, context_of};
+ghost use Rattle.shex_inputs.specs.Held.{HasRoom, IsBase, held_by};
+ghost use Rattle.shex_inputs.specs.Stops.{LoadingStops, ReadingStops, data_error};
+
+use crate::base::Base;
+use crate::error::{InputError, Refusal, Source};
+use crate::load::{arc_of, make_schema};
+use data_reader::Format;
+use graph_index::graph::Graph;
+use graph_index::read_error::ReadError;
+use one_shape::OneShape;
+use rdf_lex::Prefixes;
+use rdf_terms::table::TermTable;
+use std::alloc::Global;
+
+/// Why there are no inputs where data are not read.
+fn data_error(error: ReadError) -> InputError
+    ensures { result ≡ data_error error }
+{
+    let refusal = match error {
+        ReadError::NotUtf8 => Refusal::NotUtf8,
+        ReadError::Syntax(at) => Refusal::Syntax(at),
+        ReadError::Prefix(at) => Refusal::Prefix(at),
+        ReadError::Deep => Refusal::Deep,
+        ReadError::Long(at) => Refusal::Long(at),
+        ReadError::Full => Refusal::Full,
+        ReadError::Memory => return InputError::Memory,
+    };
+    InputError::Refused(Source::Data, refusal)
+}
+
+/// The graph of a source in a format, whose terms the table takes up, and the base and the prefixes at its end.
+fn read_data(
+    alloc: Global,
+    format: Format,
+    base: &str,
+    source: &[u8],
+    terms: &mut TermTable,
+) -> Result<(Graph, Prefixes), InputError>
+    requires { IsSome (scheme_of base.now) }
+    ensures read { IfOk result (λ r. (triples : List TermTriple) × IsData format base.now (context_of r.1, triples) source.now × Loads terms.old [] triples terms.new r.0.triples) }
+    ensures few { IfOk result (λ r. length terms.new ≤ length terms.old + 3 * length r.0.triples) }
+    ensures within { IfOk result (λ r. IsWithin terms.new r.0.triples) }
+    ensures scheme { IfOk result (λ r. IsSome (scheme_of (base_of r.1))) }
+    ensures distinct { OnOk result (AreDistinct terms.new) }
+    ensures unread { IfErr result (ReadingStops format base.now terms.old source.now) }
+{
+    let mut graph = Graph::new(alloc);
+    let read = data_reader::read(alloc, format, base, source, terms, &mut graph);
+    // Their lengths tell contracts that they are within the limits.
+    let _terms = terms.len();
+    let _triples = graph.len();
+    match read {
+        Ok(names) => Ok((graph, names)),
+        Err(error) => Err(data_error(error)),
+    }
+}
+
+/// The schema of a document, and what a source in a format holds under a base.
+pub fn load(
+    alloc: Global,
+    doc: OneShape,
+    format: Format,
+    base: &str,
+    source: &[u8],
+) -> Result<Base, InputError>
+    requires { IsSome (scheme_of base.now) }
+    ensures read { IfOk result (λ b. (triples : List TermTriple) × IsData format base.now (context_of b.names, triples) source.now × IsBase doc triples (held_by b)) }
+    ensures room { IfOk result (λ b. HasRoom (held_by b)) }
+    ensures scheme { IfOk result (λ b. IsSome (scheme_of (base_of b.names))) }
+    ensures of_table { IfOk result (λ b. All (IsOfTable b.terms) b.graph.triples) }
+    ensures unread { IfErr result (LoadingStops format base.now doc source.now) }
+{
+    let OneShape { label, constraint } = doc;
+    let mut terms = TermTable::new(alloc);
+    let arc = arc_of(constraint, &mut terms)?;
+    let schema = make_schema(alloc, label, arc)?;
+    let (graph, names) = read_data(alloc, format, base, source, &mut terms)?;
+    Ok(Base {
+        terms,
+        schema,
+        graph,
+        names,
+    })
+}

@@ -1,0 +1,32 @@
+//! The bytes of the files.
+
+ghost use Rattle.std.specs.Prelude.{◌≡◌, IfErr, IfOk, OnOk};
+ghost use Rattle.shex_inputs.specs.Named.{IsFile};
+ghost use Rattle.shex_inputs.specs.Stops.{FetchStops};
+
+use crate::error::{InputError, Refusal, Source};
+use shex_io::{FetchError, Files};
+use std::alloc::Global;
+
+/// How many bytes a file of the inputs has at most.
+pub const MAX_FILE: u64 = 67_108_864;
+
+/// The bytes of a file of the inputs, within the limit.
+pub fn fetch<F: Files>(
+    alloc: Global,
+    files: &mut F,
+    name: &str,
+    source: Source,
+) -> Result<Vec<u8>, InputError>
+    ensures bytes { IfOk result (λ bytes. IsFile (F.told files.old) name.now bytes.items) }
+    ensures stops { IfErr result (FetchStops (F.told files.old) name.now source (F.faults files.old) (F.faults files.new) (F.blame files.new) (F.act files.new)) }
+    ensures faults_stay { OnOk result (F.faults files.new ≡ F.faults files.old) }
+    ensures told_stays { F.told files.new ≡ F.told files.old }
+{
+    match files.fetch(alloc, name, MAX_FILE) {
+        Ok(bytes) => Ok(bytes),
+        Err(FetchError::Failed) => Err(InputError::Failed(source)),
+        Err(FetchError::Long) => Err(InputError::Refused(source, Refusal::Size)),
+        Err(FetchError::Memory) => Err(InputError::Memory),
+    }
+}
