@@ -1,0 +1,15 @@
+pub mod Listed
+pub mod Searched
+pub mod Valued
+pub mod Evident
+pub mod Arcs
+pub mod Asking
+pub mod Copies
+pub mod Sureness
+pub mod Reading
+pub mod Truths
+pub mod Accepting
+pub mod Keeping
+pub mod Recorded
+pub mod Typed
+pub mod Sampled

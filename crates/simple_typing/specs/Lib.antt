@@ -1,0 +1,6 @@
+pub mod Simple
+pub mod Truths
+pub mod Answers
+pub mod Evidence
+pub mod Records
+pub mod Laws
