@@ -1,85 +1,114 @@
--- What answers the words, and what stops them.
-use Rattle.std.proofs.Common.{◌≡◌, ◌∙◌, ap, sym, subst, refl, List, ℕ, inl, inr}
-use Rattle.std.specs.Prelude.{Option, Some, None, option_map}
+-- What answers a command, and what stops it.
+use Rattle.std.proofs.Common.{◌≡◌, ◌∙◌, ap, sym, subst, refl, List, ℕ, inl, inr, []}
+use Rattle.std.specs.Prelude.{Option, Some, None, unwrap_or}
+use Rattle.clap.specs.Words.{Text}
 use Rattle.shex_io.specs.Files.{Holds, HoldsPart, KeepsOthers, Told}
 use Rattle.shex_io.specs.declared.files.Act.{Act}
 use Rattle.shex_io.specs.declared.files.Act.TheVariants as Acts
-use Rattle.shex_run.specs.declared.inputs.Base.{Base}
-use Rattle.shex_run.specs.declared.proving.Decided.{Decided}
+use Rattle.schema_tree.specs.declared.schema.Answer.{Answer}
+use Rattle.shape_map.specs.Results.{result_text}
+use Rattle.command_words.specs.Asked.{Command}
+use Rattle.command_words.specs.Requests.{Task, checking, proof_of, validation}
+use Rattle.shex_inputs.specs.declared.error.InputError.{InputError}
+use Rattle.shex_inputs.specs.declared.error.InputError.TheVariants as Errors
+use Rattle.shex_inputs.specs.declared.error.Source.TheVariants as Sources
+use Rattle.shex_inputs.specs.Asked.{Question}
+use Rattle.shex_inputs.specs.Held.{Held, IsTaken}
+use Rattle.shex_inputs.specs.Outcomes.{IsOfBase, Explains as ExplainsInput, FaultsAs as FaultsAsInput}
 use Rattle.shex_run.specs.declared.stop.File.{File}
 use Rattle.shex_run.specs.declared.stop.File.TheVariants as Files
 use Rattle.shex_run.specs.declared.stop.Stop.{Stop}
 use Rattle.shex_run.specs.declared.stop.Stop.TheVariants as Stops
 use Rattle.shex_run.specs.Checking.{ConfirmStops, Confirms, IsGiven}
-use Rattle.shex_run.specs.Endings.{IsResponse, LeavesStored, status_of}
-use Rattle.shex_run.specs.Inputs.{IsAnswer, IsTaken}
-use Rattle.shex_run.specs.Outcomes.{Explains, FaultsAs, IsRefused, ProofStops, Reaches, ReachesProof, act_of, given_name, name_of}
-use Rattle.shex_run.specs.Proofs.{AreProofIf, IsCutStore, IsDecided, IsDueProof, IsProofOf, Stores}
-use Rattle.shex_run.specs.Words.{Asked, Validate, check, proof_of, validate}
-
-pub none_of : {X : Type 0} (p : Option X) → ((x : X) → p ≡ Some x → ⊥) → p ≡ None
-none_of None other = refl
-none_of (Some x) other = absurd (other x refl)
+use Rattle.shex_run.specs.Endings.{IsResponse}
+use Rattle.shex_run.specs.Outcomes.{IsRefused, Reaches, ReachesProof}
+use Rattle.shex_run.specs.Proofs.{AreAnswers, IsCutStore, IsDueProof, IsProofOf, Stores}
+use Rattle.shex_run.specs.Statuses.{status_of}
+use Rattle.shex_run.specs.Stopping.{Explains, FaultsAs, LeavesStored, ProofStops, stop_of}
+use Rattle.shex_run.specs.Tasks.{IsInputOf, IsToCheck, IsToValidate, act_of, name_of}
 
 -- what a stop says of the cause, the faults and the store
-pub record Stopped (told after : Told) (asked : Asked) (before later : ℕ) (blame : List ℕ) (act : Act) (stop : Stop) : Type 0 where
-  pub cause : Explains told asked stop
-  pub faults : FaultsAs asked before later blame act stop
-  pub stored : LeavesStored told after asked stop
+pub record Stopped (told after : Told) (c : Command) (before later : ℕ) (blame : List ℕ) (act : Act) (stop : Stop) : Type 0 where
+  pub cause : Explains told c stop
+  pub faults : FaultsAs c before later blame act stop
+  pub stored : LeavesStored told after c stop
 
--- where nothing is stored, nothing is
-pub left_alone : (told after : Told) (asked : Asked) (stop : Stop) → after ≡ told → LeavesStored told after asked stop
-left_alone told after asked (Stops.Refused refusal) e = e
-left_alone told after asked (Stops.Rejected rejection) e = e
-left_alone told after asked (Stops.Failed file) e = inl e
-left_alone told after asked Stops.Memory e = inl e
+-- ---- the inputs
 
-module _ (told : Told) (asked : Asked) (b : Base) (taken : IsTaken told asked b) (v : Validate) (is : asked.command ≡ validate v) (d : Decided) (decided : IsDecided b v d) where
-  abbrev answer : IsAnswer told asked v d.holds
-  answer = record { base = b; taken = taken; question = decided.question; is_question = decided.is_question; truth = decided.truth }
+-- the stop is about a file of the task
+abbrev pub IsOfTask : Task → InputError → Type 0
+IsOfTask t (Errors.Refused source refusal) = IsInputOf t source
+IsOfTask t (Errors.Failed source) = IsInputOf t source
+IsOfTask t Errors.Memory = Unit {0}
 
+-- any stop is about a file of `validate`
+pub wish_of_task : (m : Text) (p : Option Text) (n : ℕ) (e : InputError) → IsOfTask (validation m p n) e
+wish_of_task m p n (Errors.Refused source refusal) = tt
+wish_of_task m p n (Errors.Failed source) = tt
+wish_of_task m p n Errors.Memory = tt
+
+-- a stop of schema or data is about a file of every task
+pub base_of_task : (t : Task) (e : InputError) → IsOfBase e → IsOfTask t e
+base_of_task (validation m p n) e of = wish_of_task m p n e
+base_of_task (checking name) (Errors.Refused Sources.Schema refusal) of = tt
+base_of_task (checking name) (Errors.Refused Sources.Data refusal) of = tt
+base_of_task (checking name) (Errors.Refused Sources.Map refusal) of = of
+base_of_task (checking name) (Errors.Failed Sources.Schema) of = tt
+base_of_task (checking name) (Errors.Failed Sources.Data) of = tt
+base_of_task (checking name) (Errors.Failed Sources.Map) of = of
+base_of_task (checking name) Errors.Memory of = tt
+
+pub input_stopped : (told after : Told) (c : Command) (before later : ℕ) (blame : List ℕ) (act : Act) (e : InputError) → IsOfTask c.task e → ExplainsInput told c e → FaultsAsInput c before later blame act e → after ≡ told →
+    Stopped told after c before later blame act (stop_of e)
+input_stopped told after c before later blame act (Errors.Refused source refusal) of cause still same = record { cause = (of, cause); faults = still; stored = same }
+input_stopped told after c before later blame act (Errors.Failed source) of cause rose same = record { cause = (of, cause); faults = rose; stored = inl same }
+input_stopped told after c before later blame act Errors.Memory of cause still same = record { cause = tt; faults = still; stored = inl same }
+
+-- ---- `validate`
+
+module _ (told : Told) (c : Command) (map_name : Text) (proof_name : Option Text) (task : IsToValidate c map_name proof_name) (q : Question) (answers : List Answer) (are : AreAnswers told c map_name q answers)
+    (text : List ℕ) (status : ℕ) (text_is : text ≡ result_text q.terms answers) (status_is : status ≡ status_of q.associations answers) where
   -- without a name nothing is stored
-  pub unstored : v.proof ≡ None → (after : Told) → after ≡ told → (status : ℕ) → status ≡ status_of d.holds → IsResponse told after asked status d.text.items
-  unstored none after same status at = inl (record {
-    wish = v;
-    is_wish = is;
-    holds = d.holds;
-    answer = answer;
-    stored = subst (λ p. Stores told after p (IsProofOf b v decided.question d.holds)) (sym none) same;
-    status_is = at;
-    text_is = decided.text_is;
+  pub unstored : proof_name ≡ None → (after : Told) → after ≡ told → IsResponse told after c status text
+  unstored nothing after same = inl (record {
+    map_name = map_name;
+    proof_name = proof_name;
+    task = task;
+    question = q;
+    answers = answers;
+    are_answers = are;
+    stored = subst (λ p. Stores told after p (IsProofOf q answers)) (sym nothing) same;
+    status_is = status_is;
+    text_is = text_is;
   })
 
-  module _ (name bytes : List ℕ) (named : v.proof ≡ Some name) (made : option_map (λ x. x.items) d.proof ≡ Some bytes) where
-    proof : IsProofOf b v decided.question d.holds bytes
-    proof =
-        let first : AreProofIf b v decided.question d.holds (Some name) (option_map (λ x. x.items) d.proof) = subst (λ p. AreProofIf b v decided.question d.holds p (option_map (λ x. x.items) d.proof)) named decided.proof in
-        subst (λ p. AreProofIf b v decided.question d.holds (Some name) p) made first
+  module _ (name bytes : List ℕ) (named : proof_name ≡ Some name) (proof : IsProofOf q answers bytes) where
+    due : IsDueProof told c name bytes
+    due = record { map_name = map_name; task = subst (λ p. IsToValidate c map_name p) named task; question = q; answers = answers; are_answers = are; proof = proof }
 
-    due : IsDueProof told asked v bytes
-    due = record { holds = d.holds; answer = answer; proof = proof }
-
-    pub stored : (after : Told) → Holds after name (Some bytes) → KeepsOthers told after name → (status : ℕ) → status ≡ status_of d.holds → IsResponse told after asked status d.text.items
-    stored after held others status at = inl (record {
-      wish = v;
-      is_wish = is;
-      holds = d.holds;
-      answer = answer;
-      stored = subst (λ p. Stores told after p (IsProofOf b v decided.question d.holds)) (sym named) (bytes, proof, held, others);
-      status_is = at;
-      text_is = decided.text_is;
+    pub stored : (after : Told) → Holds after name (Some bytes) → KeepsOthers told after name → IsResponse told after c status text
+    stored after held others = inl (record {
+      map_name = map_name;
+      proof_name = proof_name;
+      task = task;
+      question = q;
+      answers = answers;
+      are_answers = are;
+      stored = subst (λ p. Stores told after p (IsProofOf q answers)) (sym named) (bytes, proof, held, others);
+      status_is = status_is;
+      text_is = text_is;
     })
 
-    cut : (after : Told) → HoldsPart told after name bytes → KeepsOthers told after name → IsCutStore told after asked
-    cut after part others = record { wish = v; is_wish = is; name = name; is_name = named; bytes = bytes; due = due; part = part; others = others }
+    cut : (after : Told) → HoldsPart told after name bytes → KeepsOthers told after name → IsCutStore told after c
+    cut after part others = record { name = name; bytes = bytes; due = due; part = part; others = others }
 
-    reached : (file : File) → file ≡ Files.Proof → Reaches told asked file
+    reached : (file : File) → file ≡ Files.Proof → Reaches told c file
     reached file e =
-        subst (λ f. Reaches told asked f) (sym e)
-        (subst (λ c. ReachesProof told asked c) (sym is) (name, named, (bytes, due)))
+        subst (λ f. Reaches told c f) (sym e)
+        (subst (λ t. ReachesProof told c t) (sym task.task) (name, (bytes, due)))
 
-    pub store_stopped : (after : Told) (before later : ℕ) (blame : List ℕ) (act : Act) (stop : Stop) → ProofStops name Acts.Store before later blame act stop → HoldsPart told after name bytes → KeepsOthers told after name → Stopped told after asked before later blame act stop
-    store_stopped after before later blame act (Stops.Refused refusal) h part others = absurd h
+    pub store_stopped : (after : Told) (before later : ℕ) (blame : List ℕ) (act : Act) (stop : Stop) → ProofStops name Acts.Store before later blame act stop → HoldsPart told after name bytes → KeepsOthers told after name → Stopped told after c before later blame act stop
+    store_stopped after before later blame act (Stops.Refused file refusal) h part others = absurd h
     store_stopped after before later blame act (Stops.Rejected rejection) h part others = absurd h
     store_stopped after before later blame act (Stops.Failed file) (e, (rose, up, blamed, acted)) part others = record {
       cause = reached file e;
@@ -87,39 +116,42 @@ module _ (told : Told) (asked : Asked) (b : Base) (taken : IsTaken told asked b)
       stored = inr (cut after part others);
     }
       where
-        own_name : name ≡ name_of asked file
-        own_name = sym (ap (λ f. name_of asked f) e ∙ ap (λ c. given_name (proof_of c)) is ∙ ap given_name named)
+        own_name : name ≡ name_of c file
+        own_name = sym (ap (λ f. name_of c f) e ∙ ap (λ t. unwrap_or (proof_of t) []) task.task ∙ ap (λ p. unwrap_or p []) named)
 
-        own_act : Acts.Store ≡ act_of file asked.command
-        own_act = sym (ap (λ f. act_of f asked.command) e ∙ ap (λ c. act_of Files.Proof c) is)
+        own_act : Acts.Store ≡ act_of c.task file
+        own_act = sym (ap (λ f. act_of c.task f) e ∙ ap (λ t. act_of t Files.Proof) task.task)
     store_stopped after before later blame act Stops.Memory h part others = record { cause = tt; faults = h; stored = inr (cut after part others) }
 
-module _ (told : Told) (asked : Asked) (b : Base) (taken : IsTaken told asked b) (name : List ℕ) (is : asked.command ≡ check name) where
-  pub fetch_stopped : (after : Told) → after ≡ told → (before later : ℕ) (blame : List ℕ) (act : Act) (stop : Stop) → ProofStops name Acts.Fetch before later blame act stop → Stopped told after asked before later blame act stop
-  fetch_stopped after same before later blame act (Stops.Refused refusal) h = absurd h
+-- ---- `check`
+
+module _ (told : Told) (c : Command) (b : Held) (taken : IsTaken told c b) (name : List ℕ) (is : IsToCheck c name) where
+  pub fetch_stopped : (after : Told) → after ≡ told → (before later : ℕ) (blame : List ℕ) (act : Act) (stop : Stop) → ProofStops name Acts.Fetch before later blame act stop → Stopped told after c before later blame act stop
+  fetch_stopped after same before later blame act (Stops.Refused file refusal) h = absurd h
   fetch_stopped after same before later blame act (Stops.Rejected rejection) h = absurd h
   fetch_stopped after same before later blame act (Stops.Failed file) (e, (rose, up, blamed, acted)) = record {
-    cause = subst (λ f. Reaches told asked f) (sym e) (subst (λ c. ReachesProof told asked c) (sym is) (b, taken));
+    cause = subst (λ f. Reaches told c f) (sym e) (subst (λ t. ReachesProof told c t) (sym is) (b, taken));
     faults = (rose, up, blamed ∙ own_name, acted ∙ own_act);
     stored = inl same;
   }
     where
-      own_name : name ≡ name_of asked file
-      own_name = sym (ap (λ f. name_of asked f) e ∙ ap (λ c. given_name (proof_of c)) is)
+      own_name : name ≡ name_of c file
+      own_name = sym (ap (λ f. name_of c f) e ∙ ap (λ t. unwrap_or (proof_of t) []) is)
 
-      own_act : Acts.Fetch ≡ act_of file asked.command
-      own_act = sym (ap (λ f. act_of f asked.command) e ∙ ap (λ c. act_of Files.Proof c) is)
+      own_act : Acts.Fetch ≡ act_of c.task file
+      own_act = sym (ap (λ f. act_of c.task f) e ∙ ap (λ t. act_of t Files.Proof) is)
   fetch_stopped after same before later blame act Stops.Memory h = record { cause = tt; faults = h; stored = inl same }
 
   module _ (bytes : List ℕ) (held : Holds told name (Some bytes)) where
-    given : IsGiven told asked b bytes
-    given = record { taken = taken; name = name; is_check = is; held = held }
+    given : IsGiven told c b bytes
+    given = record { taken = taken; name = name; task = is; held = held }
 
-    pub confirmed : (after : Told) → after ≡ told → (text : List ℕ) → Confirms b bytes text → IsResponse told after asked 0 text
-    confirmed after same text c = inr (record { checked = record { base = b; bytes = bytes; given = given; confirmed = c }; unstored = same; status_is = refl })
+    pub confirmed : (after : Told) → after ≡ told → (text : List ℕ) → Confirms b bytes text → IsResponse told after c 0 text
+    confirmed after same text k = inr (record { checked = record { held = b; bytes = bytes; given = given; confirmed = k }; unstored = same; status_is = refl })
 
-    pub confirm_stopped : (after : Told) → after ≡ told → (before later : ℕ) (blame : List ℕ) (act : Act) → later ≡ before → (stop : Stop) → ConfirmStops b bytes stop → Stopped told after asked before later blame act stop
-    confirm_stopped after same before later blame act still (Stops.Refused refusal) (e, full) = record { cause = subst (λ r. IsRefused told asked r) (sym e) (b, bytes, given, full); faults = still; stored = same }
+    pub confirm_stopped : (after : Told) → after ≡ told → (before later : ℕ) (blame : List ℕ) (act : Act) → later ≡ before → (stop : Stop) → ConfirmStops b bytes stop → Stopped told after c before later blame act stop
+    confirm_stopped after same before later blame act still (Stops.Refused file refusal) (proof, is_full, full) =
+        record { cause = subst (λ f. IsRefused told c f refusal) (sym proof) (is_full, (b, bytes, given, full)); faults = still; stored = same }
     confirm_stopped after same before later blame act still (Stops.Rejected rejection) h = record { cause = (b, bytes, given, h); faults = still; stored = same }
     confirm_stopped after same before later blame act still (Stops.Failed file) h = absurd h
     confirm_stopped after same before later blame act still Stops.Memory h = record { cause = tt; faults = still; stored = inl same }

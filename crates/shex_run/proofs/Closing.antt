@@ -1,25 +1,30 @@
 -- What the ways to end say of the status.
-use Rattle.std.proofs.Common.{◌≡◌, ◌∙◌, sym, subst, refl, List, ℕ, [], ◌⊎◌, inl, inr, Bool, true, false, ◌<◌, arith, append-nil}
+use Rattle.std.proofs.Common.{◌≡◌, ◌∙◌, sym, subst, refl, List, ℕ, [], ◌⊎◌, inl, inr, ◌<◌, arith, append-nil}
 use Rattle.std.specs.Prelude.{Option, Some, None}
+use Rattle.clap.specs.Words.{Text}
 use Rattle.rdf_terms.specs.Lists.{AreDistinct}
 use Rattle.rdf_terms.specs.declared.terms.Term.{Term}
 use Rattle.schema_tree.specs.declared.schema.Answer.{Answer}
-use Rattle.data_reader.specs.Endings.{DataAreOne}
 use Rattle.shex_io.specs.Faults.{Rose}
 use Rattle.shex_io.specs.Files.{Holds, HoldsPart, KeepsOthers, Told}
 use Rattle.shex_io.specs.Sinks.{GainsPrefix}
-use Rattle.shex_run.specs.declared.inputs.Base.{Base}
-use Rattle.shex_run.specs.declared.stop.File.{File}
-use Rattle.shex_run.specs.declared.stop.Refusal.{Refusal}
-use Rattle.shex_run.specs.declared.stop.Rejection.{Rejection}
-use Rattle.shex_run.specs.Checking.{Accepted, IsFull, IsGiven, IsRejected, Rejects}
-use Rattle.shex_run.specs.Endings.{Concludes, Ends, FilesSeen, IsAnswered, IsInterrupted, IsPartlyStored, IsPrintedInPart, IsRefusedBy, IsRejectedBy, IsRespondedTo, IsResponse, IsSamed, IsWordsLine, KeepsTold, PrintsTo, SinkSeen, answer_in_part, answered, failed, line_in_part, not_at_all, refused, rejected, status_of, unasked, wanting}
 use Rattle.proof_checker.specs.Checks.{IsFullFor}
-use Rattle.shex_run.specs.Inputs.{IsTaken}
-use Rattle.shex_run.specs.Outcomes.{IsAbsent, IsRefused}
-use Rattle.shex_run.specs.Proofs.{IsProofOf, Stores}
-use Rattle.shex_run.specs.Words.{Asked, IsAsked, IsSame, IsUnasked, Validate, validate}
-use Rattle.shex_run.proofs.Exclusive.{given_not_absent, no_both, one_form, one_given, one_taken, refused_not_absent, taken_not_refused, wish_not_absent}
+use Rattle.command_words.specs.Asked.{Command, IsAsked, IsFirstFault}
+use Rattle.command_words.specs.Checks.{Fault}
+use Rattle.command_words.specs.Laws.{AnswersAreOne}
+use Rattle.command_words.specs.Requests.{Task, checking, validation}
+use Rattle.shex_inputs.specs.declared.error.Refusal.{Refusal}
+use Rattle.shex_inputs.specs.Held.{Held}
+use Rattle.shex_run.specs.declared.stop.File.{File}
+use Rattle.shex_run.specs.declared.stop.File.TheVariants as Files
+use Rattle.shex_run.specs.declared.stop.Rejection.{Rejection}
+use Rattle.shex_run.specs.Checking.{IsFull, IsGiven, IsRejected, Rejects}
+use Rattle.shex_run.specs.Endings.{Ends, FilesSeen, IsAnswered, IsPartlyStored, IsPrintedInPart, IsRefusedBy, IsRejectedBy, IsRespondedTo, IsResponse, IsWordsLine, KeepsTold, PrintsTo, SinkSeen, answer_in_part, answered, failed, faulty, line_in_part, not_at_all, refused, rejected, wanting}
+use Rattle.shex_run.specs.Outcomes.{AreTaken, IsAbsent, IsRefused, TakesFor}
+use Rattle.shex_run.specs.Proofs.{Accepted, IsProofOf, Stores}
+use Rattle.shex_run.specs.Statuses.{Concludes, IsInterrupted}
+use Rattle.shex_run.specs.Tasks.{IsToValidate}
+use Rattle.shex_run.proofs.Exclusive.{AreOne, asked_not_absent, asked_not_refused, check_not_refused, given_not_absent, no_both, one_given, refused_not_absent}
 use Rattle.shex_run.proofs.Settled.{accepted_not_full, accepted_not_rejected, rejected_not_full}
 
 -- what is printed has the status that is wanted, or printing was interrupted
@@ -37,143 +42,146 @@ five_interrupts : (status : ℕ) → (status ≡ 5) ⊎ IsInterrupted status →
 five_interrupts status (inl h) = inl h
 five_interrupts status (inr h) = h
 
-zero_or_one : (holds : Bool) (status wanted : ℕ) → wanted ≡ status_of holds → (status ≡ wanted) → (status ≡ 0) ⊎ (status ≡ 1)
-zero_or_one true status wanted e h = inl (h ∙ e)
-zero_or_one false status wanted e h = inr (h ∙ e)
+-- the status of answers is 0 or 1
+zero_or_one : (status wanted : ℕ) → (wanted ≡ 0) ⊎ (wanted ≡ 1) → (status ≡ wanted) → (status ≡ 0) ⊎ (status ≡ 1)
+zero_or_one status wanted (inl e) h = inl (h ∙ e)
+zero_or_one status wanted (inr e) h = inr (h ∙ e)
 
-module _ (words : List (List ℕ)) (asked : Asked) (is_asked : IsAsked words asked) where
+module _ (words : List Text) (c : Command) (is_asked : IsAsked words c) (law : AnswersAreOne) where
   -- what is said of the words is said of what they ask
-  responded : (told after : Told) (status : ℕ) (text : List ℕ) → IsRespondedTo told after words status text → IsResponse told after asked status text
-  responded told after status text r = subst (λ a. IsResponse told after a status text) (one_form words r.asked asked r.is_asked.form is_asked.form) r.response
+  responded : (told after : Told) (status : ℕ) (text : List ℕ) → IsRespondedTo told after words status text → IsResponse told after c status text
+  responded told after status text r = subst (λ a. IsResponse told after a status text) (law.commands words r.command c r.is_asked is_asked) r.response
 
-  refusal_of : (told : Told) (line : List ℕ) (by : IsRefusedBy told words line) → IsRefused told asked by.refusal
-  refusal_of told line by = subst (λ a. IsRefused told a by.refusal) (one_form words by.asked asked by.is_asked.form is_asked.form) by.refused
+  refusal_of : (told : Told) (line : List ℕ) (by : IsRefusedBy told words line) → IsRefused told c by.file by.refusal
+  refusal_of told line by = subst (λ a. IsRefused told a by.file by.refusal) (law.commands words by.command c by.is_asked is_asked) by.refused
 
-  rejection_of : (told : Told) (line : List ℕ) (by : IsRejectedBy told words line) → IsRejected told asked by.rejection
-  rejection_of told line by = subst (λ a. IsRejected told a by.rejection) (one_form words by.asked asked by.is_asked.form is_asked.form) by.rejected
+  rejection_of : (told : Told) (line : List ℕ) (by : IsRejectedBy told words line) → IsRejected told c by.rejection
+  rejection_of told line by = subst (λ a. IsRejected told a by.rejection) (law.commands words by.command c by.is_asked is_asked) by.rejected
 
-  not_refused : (line : List ℕ) → IsWordsLine words line → ⊥
-  not_refused line (inl (none, e)) = none asked is_asked.form
-  not_refused line (inr (name, samed, e)) = is_asked.apart name (subst (λ a. IsSame a name) (one_form words samed.asked asked samed.form is_asked.form) samed.same)
+  not_faulty : (line : List ℕ) → IsWordsLine words line → ⊥
+  not_faulty line (f, is, e) = law.apart words c f is_asked is
 
-  module _ (files : FilesSeen) (out err : SinkSeen) (status : ℕ) (contents : List ℕ → Option (List ℕ)) (told : files.told ≡ Some contents) (law : DataAreOne) where
+  module _ (files : FilesSeen) (out err : SinkSeen) (status : ℕ) (contents : List ℕ → Option (List ℕ)) (told : files.told ≡ Some contents) (one : AreOne files.told c) where
     -- where the inputs are taken, the command concludes unless the call is interrupted
-    pub taken_ends : (b : Base) → IsTaken files.told asked b → Ends words files out err status → Concludes asked.command status ⊎ IsInterrupted status
-    taken_ends b taken (unasked line by left quiet prints) = absurd (not_refused line by)
-    taken_ends b taken (answered text wanted r same prints quiet) = elim (responded files.told files.told_after wanted text r) [
-      | inl a ↦ or_interrupted (Concludes asked.command status) wanted status (λ h. subst (λ c. Concludes c status) (sym a.is_wish) (zero_or_one a.holds status wanted a.status_is h)) (wanted_or out text wanted status prints)
-      | inr c ↦ or_interrupted (Concludes asked.command status) wanted status (λ h. subst (λ x. Concludes x status) (sym c.checked.given.is_check) (inl (h ∙ c.status_is))) (wanted_or out text wanted status prints)
+    pub taken_ends : AreTaken files.told c → Ends words files out err status → Concludes c.task status ⊎ IsInterrupted status
+    taken_ends taken (faulty line by left quiet prints) = absurd (not_faulty line by)
+    taken_ends taken (answered text wanted low r same prints quiet) = elim (responded files.told files.told_after wanted text r) [
+      | inl a ↦ or_interrupted (Concludes c.task status) wanted status (λ h. subst (λ t. Concludes t status) (sym a.task.task) (zero_or_one status wanted low h)) (wanted_or out text wanted status prints)
+      | inr k ↦ or_interrupted (Concludes c.task status) wanted status (λ h. subst (λ t. Concludes t status) (sym k.checked.given.task) (inl (h ∙ k.status_is))) (wanted_or out text wanted status prints)
     ]
-    taken_ends b taken (refused line by left quiet prints) =
-        let (c, bytes, given, full) = taken_not_refused files.told contents told asked b by.refusal taken (refusal_of files.told line by) in
-        or_interrupted (Concludes asked.command status) 3 status (λ h. subst (λ x. Concludes x status) (sym given.is_check) (inr (inl h))) (wanted_or err line 3 status prints)
-    taken_ends b taken (rejected line by left quiet prints) =
-        let (c, bytes, given, rejects) = rejection_of files.told line by in
-        or_interrupted (Concludes asked.command status) 6 status (λ h. subst (λ x. Concludes x status) (sym given.is_check) (inr (inr h))) (wanted_or err line 6 status prints)
-    taken_ends b taken (failed line by have quiet prints) = inr (five_interrupts status (wanted_or err line 5 status prints))
-    taken_ends b taken (wanting stored same quiet also h) = inr (inr (inr h))
+    taken_ends taken (refused line by left quiet prints) = or_interrupted (Concludes c.task status) 3 status (λ h. go by.file by.refusal (refusal_of files.told line by) c.task refl taken h) (wanted_or err line 3 status prints)
+      where
+        go : (file : File) (refusal : Refusal) → IsRefused files.told c file refusal → (t : Task) → c.task ≡ t → TakesFor files.told c t → status ≡ 3 → Concludes c.task status
+        go (Files.Input source) refusal cause (validation m p n) is (q, asked) h = absurd (asked_not_refused files.told contents told c one m p (record { steps = n; task = is }) q asked source refusal cause)
+        go (Files.Input source) refusal cause (checking name) is (k, held) h = absurd (check_not_refused files.told contents told c one k name held is source refusal cause)
+        go Files.Proof refusal (is_full, (k, bytes, given, full)) t is taken h = subst (λ x. Concludes x status) (sym given.task) (inr (inl h))
+    taken_ends taken (rejected line by left quiet prints) =
+        let (k, bytes, given, rejects) = rejection_of files.told line by in
+        or_interrupted (Concludes c.task status) 6 status (λ h. subst (λ x. Concludes x status) (sym given.task) (inr (inr h))) (wanted_or err line 6 status prints)
+    taken_ends taken (failed line by have quiet prints) = inr (five_interrupts status (wanted_or err line 5 status prints))
+    taken_ends taken (wanting stored same quiet also h) = inr (inr (inr h))
 
-    module _ (b : Base) (bytes : List ℕ) (given : IsGiven files.told asked b bytes) where
+    module _ (b : Held) (bytes : List ℕ) (given : IsGiven files.told c b bytes) where
       distinct : AreDistinct b.terms
       distinct = given.taken.base.distinct
 
       -- what is given elsewhere is the same
-      same_accepted : (c : Base) (x : List ℕ) (terms : List Term) (answers : List Answer) → IsGiven files.told asked c x → Accepted c x terms answers → Accepted b bytes terms answers
-      same_accepted c x terms answers k h =
-          subst (λ y. Accepted b y terms answers) (one_given files.told contents told asked c b x bytes k given)
-          (subst (λ z. Accepted z x terms answers) (one_taken files.told contents told asked law c b k.taken given.taken) h)
+      same_accepted : (k : Held) (x : List ℕ) (terms : List Term) (answers : List Answer) → IsGiven files.told c k x → Accepted k x terms answers → Accepted b bytes terms answers
+      same_accepted k x terms answers also h =
+          subst (λ y. Accepted b y terms answers) (one_given files.told contents told c one k b x bytes also given)
+          (subst (λ z. Accepted z x terms answers) (one.held k b also.taken given.taken) h)
 
-      same_rejects : (c : Base) (x : List ℕ) (r : Rejection) → IsGiven files.told asked c x → Rejects c x r → Rejects b bytes r
-      same_rejects c x r k h =
-          subst (λ y. Rejects b y r) (one_given files.told contents told asked c b x bytes k given)
-          (subst (λ z. Rejects z x r) (one_taken files.told contents told asked law c b k.taken given.taken) h)
+      same_rejects : (k : Held) (x : List ℕ) (r : Rejection) → IsGiven files.told c k x → Rejects k x r → Rejects b bytes r
+      same_rejects k x r also h =
+          subst (λ y. Rejects b y r) (one_given files.told contents told c one k b x bytes also given)
+          (subst (λ z. Rejects z x r) (one.held k b also.taken given.taken) h)
 
-      same_full : IsFull files.told asked → IsFullFor b.terms bytes
-      same_full (c, x, k, h) =
-          subst (λ y. IsFullFor b.terms y) (one_given files.told contents told asked c b x bytes k given)
-          (subst (λ z. IsFullFor z.terms x) (one_taken files.told contents told asked law c b k.taken given.taken) h)
+      same_full : IsFull files.told c → IsFullFor b.terms bytes
+      same_full (k, x, also, h) =
+          subst (λ y. IsFullFor b.terms y) (one_given files.told contents told c one k b x bytes also given)
+          (subst (λ z. IsFullFor z.terms x) (one.held k b also.taken given.taken) h)
 
-      no_wish : (v : Validate) → asked.command ≡ validate v → ⊥
-      no_wish v h = no_both v given.name (sym h ∙ given.is_check)
+      -- what is refused is the proof
+      refused_full : (file : File) (refusal : Refusal) → IsRefused files.told c file refusal → IsFullFor b.terms bytes
+      refused_full (Files.Input source) refusal cause = absurd (check_not_refused files.told contents told c one b given.name given.taken given.task source refusal cause)
+      refused_full Files.Proof refusal (is, full) = same_full full
+
+      no_wish : (text : List ℕ) (wanted : ℕ) → IsAnswered files.told files.told_after c wanted text → ⊥
+      no_wish text wanted a = no_both a.map_name a.proof_name a.task.steps given.name (sym a.task.task ∙ given.task)
 
       -- a proof that is accepted is said to be
       pub accepted_ends : (terms : List Term) (answers : List Answer) → Accepted b bytes terms answers → Ends words files out err status → (status ≡ 0) ⊎ IsInterrupted status
-      accepted_ends terms answers a (unasked line by left quiet prints) = absurd (not_refused line by)
-      accepted_ends terms answers a (answered text wanted r same prints quiet) = elim (responded files.told files.told_after wanted text r) [
-        | inl x ↦ absurd (no_wish x.wish x.is_wish)
-        | inr c ↦ or_interrupted (status ≡ 0) wanted status (λ h. h ∙ c.status_is) (wanted_or out text wanted status prints)
+      accepted_ends terms answers a (faulty line by left quiet prints) = absurd (not_faulty line by)
+      accepted_ends terms answers a (answered text wanted low r same prints quiet) = elim (responded files.told files.told_after wanted text r) [
+        | inl x ↦ absurd (no_wish text wanted x)
+        | inr k ↦ or_interrupted (status ≡ 0) wanted status (λ h. h ∙ k.status_is) (wanted_or out text wanted status prints)
       ]
       accepted_ends terms answers a (refused line by left quiet prints) =
-          absurd (accepted_not_full b distinct bytes terms answers a (same_full (taken_not_refused files.told contents told asked b by.refusal given.taken (refusal_of files.told line by))))
+          absurd (accepted_not_full b distinct bytes terms answers a (refused_full by.file by.refusal (refusal_of files.told line by)))
       accepted_ends terms answers a (rejected line by left quiet prints) =
-          let (c, x, k, rejects) = rejection_of files.told line by in
-          absurd (accepted_not_rejected b distinct bytes terms answers by.rejection a (same_rejects c x by.rejection k rejects))
+          let (k, x, also, rejects) = rejection_of files.told line by in
+          absurd (accepted_not_rejected b distinct bytes terms answers by.rejection a (same_rejects k x by.rejection also rejects))
       accepted_ends terms answers a (failed line by have quiet prints) = inr (five_interrupts status (wanted_or err line 5 status prints))
       accepted_ends terms answers a (wanting stored same quiet also h) = inr (inr (inr h))
 
       -- and one that is rejected too
       rejected_ends_so : (rejection : Rejection) → Rejects b bytes rejection → Ends words files out err status → (status ≡ 6) ⊎ IsInterrupted status
-      rejected_ends_so rejection is (unasked line by left quiet prints) = absurd (not_refused line by)
-      rejected_ends_so rejection is (answered text wanted r same prints quiet) = elim (responded files.told files.told_after wanted text r) [
-        | inl x ↦ absurd (no_wish x.wish x.is_wish)
-        | inr c ↦ absurd (accepted_not_rejected b distinct bytes c.checked.confirmed.terms c.checked.confirmed.answers rejection
-            (same_accepted c.checked.base c.checked.bytes c.checked.confirmed.terms c.checked.confirmed.answers c.checked.given c.checked.confirmed.accepted) is)
+      rejected_ends_so rejection is (faulty line by left quiet prints) = absurd (not_faulty line by)
+      rejected_ends_so rejection is (answered text wanted low r same prints quiet) = elim (responded files.told files.told_after wanted text r) [
+        | inl x ↦ absurd (no_wish text wanted x)
+        | inr k ↦ absurd (accepted_not_rejected b distinct bytes k.checked.confirmed.terms k.checked.confirmed.answers rejection
+            (same_accepted k.checked.held k.checked.bytes k.checked.confirmed.terms k.checked.confirmed.answers k.checked.given k.checked.confirmed.accepted) is)
       ]
       rejected_ends_so rejection is (refused line by left quiet prints) =
-          absurd (rejected_not_full b distinct bytes rejection is (same_full (taken_not_refused files.told contents told asked b by.refusal given.taken (refusal_of files.told line by))))
+          absurd (rejected_not_full b distinct bytes rejection is (refused_full by.file by.refusal (refusal_of files.told line by)))
       rejected_ends_so rejection is (rejected line by left quiet prints) = wanted_or err line 6 status prints
       rejected_ends_so rejection is (failed line by have quiet prints) = inr (five_interrupts status (wanted_or err line 5 status prints))
       rejected_ends_so rejection is (wanting stored same quiet also h) = inr (inr (inr h))
 
       -- a table that is full is said to be
       full_ends : IsFullFor b.terms bytes → Ends words files out err status → (status ≡ 3) ⊎ IsInterrupted status
-      full_ends full (unasked line by left quiet prints) = absurd (not_refused line by)
-      full_ends full (answered text wanted r same prints quiet) = elim (responded files.told files.told_after wanted text r) [
-        | inl x ↦ absurd (no_wish x.wish x.is_wish)
-        | inr c ↦ absurd (accepted_not_full b distinct bytes c.checked.confirmed.terms c.checked.confirmed.answers
-            (same_accepted c.checked.base c.checked.bytes c.checked.confirmed.terms c.checked.confirmed.answers c.checked.given c.checked.confirmed.accepted) full)
+      full_ends full (faulty line by left quiet prints) = absurd (not_faulty line by)
+      full_ends full (answered text wanted low r same prints quiet) = elim (responded files.told files.told_after wanted text r) [
+        | inl x ↦ absurd (no_wish text wanted x)
+        | inr k ↦ absurd (accepted_not_full b distinct bytes k.checked.confirmed.terms k.checked.confirmed.answers
+            (same_accepted k.checked.held k.checked.bytes k.checked.confirmed.terms k.checked.confirmed.answers k.checked.given k.checked.confirmed.accepted) full)
       ]
       full_ends full (refused line by left quiet prints) = wanted_or err line 3 status prints
       full_ends full (rejected line by left quiet prints) =
-          let (c, x, k, rejects) = rejection_of files.told line by in
-          absurd (rejected_not_full b distinct bytes by.rejection (same_rejects c x by.rejection k rejects) full)
+          let (k, x, also, rejects) = rejection_of files.told line by in
+          absurd (rejected_not_full b distinct bytes by.rejection (same_rejects k x by.rejection also rejects) full)
       full_ends full (failed line by have quiet prints) = inr (five_interrupts status (wanted_or err line 5 status prints))
       full_ends full (wanting stored same quiet also h) = inr (inr (inr h))
 
-    pub rejected_ends : (rejection : Rejection) → IsRejected files.told asked rejection → Ends words files out err status → (status ≡ 6) ⊎ IsInterrupted status
+    pub rejected_ends : (rejection : Rejection) → IsRejected files.told c rejection → Ends words files out err status → (status ≡ 6) ⊎ IsInterrupted status
     rejected_ends rejection (b, bytes, given, is) ends = rejected_ends_so b bytes given rejection is ends
 
-    -- the inputs that a response or a rejection has are taken
-    full_or : (b : Base) → IsTaken files.told asked b → (refusal : Refusal) → IsRefused files.told asked refusal → Ends words files out err status → (status ≡ 3) ⊎ IsInterrupted status
-    full_or b taken refusal cause ends =
-        let (c, bytes, given, full) = taken_not_refused files.told contents told asked b refusal taken cause in
-        full_ends c bytes given full ends
-
-    -- where they are refused, the refusal is said
-    pub refused_ends : (refusal : Refusal) → IsRefused files.told asked refusal → Ends words files out err status → (status ≡ 3) ⊎ IsInterrupted status
-    refused_ends refusal cause (unasked line by left quiet prints) = absurd (not_refused line by)
-    refused_ends refusal cause (answered text wanted r same prints quiet) = elim (responded files.told files.told_after wanted text r) [
-      | inl x ↦ full_or x.answer.base x.answer.taken refusal cause (answered text wanted r same prints quiet)
-      | inr c ↦ full_or c.checked.base c.checked.given.taken refusal cause (answered text wanted r same prints quiet)
+    -- where a file is refused, the refusal is said
+    pub refused_ends : (file : File) (refusal : Refusal) → IsRefused files.told c file refusal → Ends words files out err status → (status ≡ 3) ⊎ IsInterrupted status
+    refused_ends Files.Proof refusal (is, (b, bytes, given, full)) ends = full_ends b bytes given full ends
+    refused_ends (Files.Input source) refusal cause (faulty line by left quiet prints) = absurd (not_faulty line by)
+    refused_ends (Files.Input source) refusal cause (answered text wanted low r same prints quiet) = elim (responded files.told files.told_after wanted text r) [
+      | inl x ↦ absurd (asked_not_refused files.told contents told c one x.map_name x.proof_name x.task x.question x.are_answers.asked source refusal cause)
+      | inr k ↦ absurd (check_not_refused files.told contents told c one k.checked.held k.checked.given.name k.checked.given.taken k.checked.given.task source refusal cause)
     ]
-    refused_ends refusal cause (refused line by left quiet prints) = wanted_or err line 3 status prints
-    refused_ends refusal cause (rejected line by left quiet prints) =
-        let (c, x, k, rejects) = rejection_of files.told line by in
-        full_or c k.taken refusal cause (rejected line by left quiet prints)
-    refused_ends refusal cause (failed line by have quiet prints) = inr (five_interrupts status (wanted_or err line 5 status prints))
-    refused_ends refusal cause (wanting stored same quiet also h) = inr (inr (inr h))
+    refused_ends (Files.Input source) refusal cause (refused line by left quiet prints) = wanted_or err line 3 status prints
+    refused_ends (Files.Input source) refusal cause (rejected line by left quiet prints) =
+        let (b, x, given, rejects) = rejection_of files.told line by in
+        absurd (check_not_refused files.told contents told c one b given.name given.taken given.task source refusal cause)
+    refused_ends (Files.Input source) refusal cause (failed line by have quiet prints) = inr (five_interrupts status (wanted_or err line 5 status prints))
+    refused_ends (Files.Input source) refusal cause (wanting stored same quiet also h) = inr (inr (inr h))
 
     -- where a file is absent, the call is interrupted
-    pub absent_ends : (file : File) → IsAbsent files.told asked file → Ends words files out err status → IsInterrupted status
-    absent_ends file absent (unasked line by left quiet prints) = absurd (not_refused line by)
-    absent_ends file absent (answered text wanted r same prints quiet) = elim (responded files.told files.told_after wanted text r) [
-      | inl x ↦ absurd (wish_not_absent files.told contents told asked x.answer.base x.wish file x.answer.taken x.is_wish absent)
-      | inr c ↦ absurd (given_not_absent files.told contents told asked c.checked.base c.checked.bytes file c.checked.given absent)
+    pub absent_ends : (file : File) → IsAbsent files.told c file → Ends words files out err status → IsInterrupted status
+    absent_ends file absent (faulty line by left quiet prints) = absurd (not_faulty line by)
+    absent_ends file absent (answered text wanted low r same prints quiet) = elim (responded files.told files.told_after wanted text r) [
+      | inl x ↦ absurd (asked_not_absent files.told contents told c one x.map_name x.proof_name x.task x.question x.are_answers.asked file absent)
+      | inr k ↦ absurd (given_not_absent files.told contents told c one k.checked.held k.checked.bytes file k.checked.given absent)
     ]
-    absent_ends file absent (refused line by left quiet prints) = absurd (refused_not_absent files.told contents told asked by.refusal file (refusal_of files.told line by) absent)
+    absent_ends file absent (refused line by left quiet prints) = absurd (refused_not_absent files.told contents told c one by.file by.refusal file (refusal_of files.told line by) absent)
     absent_ends file absent (rejected line by left quiet prints) =
-        let (c, x, k, rejects) = rejection_of files.told line by in
-        absurd (given_not_absent files.told contents told asked c x file k absent)
+        let (b, x, given, rejects) = rejection_of files.told line by in
+        absurd (given_not_absent files.told contents told c one b x file given absent)
     absent_ends file absent (failed line by have quiet prints) = five_interrupts status (wanted_or err line 5 status prints)
     absent_ends file absent (wanting stored same quiet also h) = inr (inr h)
 
@@ -192,24 +200,17 @@ prefix_of sink text wanted status low (inr (inl h)) at = h.1
 prefix_of sink text wanted status low (inr (inr h)) at = h.1
 
 -- the status of a response is low
-low_answer : (holds : Bool) (wanted : ℕ) → wanted ≡ status_of holds → wanted < 2
-low_answer true wanted e = omega (arith, e)
-low_answer false wanted e = omega (arith, e)
-
-pub low_response : (told after : Told) (asked : Asked) (wanted : ℕ) (text : List ℕ) → IsResponse told after asked wanted text → wanted < 2
-low_response told after asked wanted text (inl a) = low_answer a.holds wanted a.status_is
-low_response told after asked wanted text (inr c) = let e : wanted ≡ 0 = c.status_is in omega (arith, e)
-
-low_wanted : (told after : Told) (words : List (List ℕ)) (wanted : ℕ) (text : List ℕ) → IsRespondedTo told after words wanted text → wanted < 2
-low_wanted told after words wanted text r = low_response told after r.asked wanted text r.response
+low_wanted : (wanted : ℕ) → (wanted ≡ 0) ⊎ (wanted ≡ 1) → wanted < 2
+low_wanted wanted (inl e) = omega (arith, e)
+low_wanted wanted (inr e) = omega (arith, e)
 
 -- what is printed where a call is interrupted
-pub in_part : (words : List (List ℕ)) (files : FilesSeen) (out err : SinkSeen) (status : ℕ) → Ends words files out err status → (status ≡ 7) ⊎ (status ≡ 8) →
+pub in_part : (words : List Text) (files : FilesSeen) (out err : SinkSeen) (status : ℕ) → Ends words files out err status → (status ≡ 7) ⊎ (status ≡ 8) →
     IsPrintedInPart files.told files.told_after words files.blame files.act out.got out.got_after err.got err.got_after
-in_part words files out err status (unasked line by left quiet prints) at = line_in_part line (inl by) quiet.got_same (prefix_of err line 2 status (omega arith) prints at)
-in_part words files out err status (answered text wanted r same prints quiet) at =
-    let low = low_wanted files.told files.told_after words wanted text r in
-    answer_in_part text wanted r (prefix_of out text wanted status (omega (arith, low)) prints at) quiet.got_same
+in_part words files out err status (faulty line by left quiet prints) at = line_in_part line (inl by) quiet.got_same (prefix_of err line 2 status (omega arith) prints at)
+in_part words files out err status (answered text wanted low r same prints quiet) at =
+    let under = low_wanted wanted low in
+    answer_in_part text wanted r (prefix_of out text wanted status (omega (arith, under)) prints at) quiet.got_same
 in_part words files out err status (refused line by left quiet prints) at = line_in_part line (inr (inl by)) quiet.got_same (prefix_of err line 3 status (omega arith) prints at)
 in_part words files out err status (rejected line by left quiet prints) at = line_in_part line (inr (inr (inl by))) quiet.got_same (prefix_of err line 6 status (omega arith) prints at)
 in_part words files out err status (failed line by have quiet prints) at = line_in_part line (inr (inr (inr by))) quiet.got_same (prefix_of err line 5 status (omega arith) prints at)
@@ -222,11 +223,11 @@ other_status sink text wanted status other differs low (inr (inl h)) at = let e 
 other_status sink text wanted status other differs low (inr (inr h)) at = let e : status ≡ 8 = h.0 in absurd (omega (arith, e, at, low))
 
 -- 5 comes only where a fault of the files rose
-pub five_rose : (words : List (List ℕ)) (files : FilesSeen) (out err : SinkSeen) (status : ℕ) → Ends words files out err status → status ≡ 5 → Rose files.faults files.faults_after
-five_rose words files out err status (unasked line by left quiet prints) at = absurd (other_status err line 2 status 5 (λ e. absurd (omega (arith, e))) (omega arith) prints at)
-five_rose words files out err status (answered text wanted r same prints quiet) at =
-    let low = low_wanted files.told files.told_after words wanted text r in
-    absurd (other_status out text wanted status 5 (λ e. absurd (omega (arith, e, low))) (omega arith) prints at)
+pub five_rose : (words : List Text) (files : FilesSeen) (out err : SinkSeen) (status : ℕ) → Ends words files out err status → status ≡ 5 → Rose files.faults files.faults_after
+five_rose words files out err status (faulty line by left quiet prints) at = absurd (other_status err line 2 status 5 (λ e. absurd (omega (arith, e))) (omega arith) prints at)
+five_rose words files out err status (answered text wanted low r same prints quiet) at =
+    let under = low_wanted wanted low in
+    absurd (other_status out text wanted status 5 (λ e. absurd (omega (arith, e, under))) (omega arith) prints at)
 five_rose words files out err status (refused line by left quiet prints) at = absurd (other_status err line 3 status 5 (λ e. absurd (omega (arith, e))) (omega arith) prints at)
 five_rose words files out err status (rejected line by left quiet prints) at = absurd (other_status err line 6 status 5 (λ e. absurd (omega (arith, e))) (omega arith) prints at)
 five_rose words files out err status (failed line by have quiet prints) at = have.rose
@@ -238,11 +239,11 @@ seven_of sink text wanted status low (inl h) at = let e : status ≡ wanted = h.
 seven_of sink text wanted status low (inr (inl h)) at = h.2
 seven_of sink text wanted status low (inr (inr h)) at = let e : status ≡ 8 = h.0 in absurd (omega (arith, e, at))
 
-pub seven_rose : (words : List (List ℕ)) (files : FilesSeen) (out err : SinkSeen) (status : ℕ) → Ends words files out err status → status ≡ 7 → Rose out.faults out.faults_after ⊎ Rose err.faults err.faults_after
-seven_rose words files out err status (unasked line by left quiet prints) at = inr (seven_of err line 2 status (omega arith) prints at)
-seven_rose words files out err status (answered text wanted r same prints quiet) at =
-    let low = low_wanted files.told files.told_after words wanted text r in
-    inl (seven_of out text wanted status (omega (arith, low)) prints at)
+pub seven_rose : (words : List Text) (files : FilesSeen) (out err : SinkSeen) (status : ℕ) → Ends words files out err status → status ≡ 7 → Rose out.faults out.faults_after ⊎ Rose err.faults err.faults_after
+seven_rose words files out err status (faulty line by left quiet prints) at = inr (seven_of err line 2 status (omega arith) prints at)
+seven_rose words files out err status (answered text wanted low r same prints quiet) at =
+    let under = low_wanted wanted low in
+    inl (seven_of out text wanted status (omega (arith, under)) prints at)
 seven_rose words files out err status (refused line by left quiet prints) at = inr (seven_of err line 3 status (omega arith) prints at)
 seven_rose words files out err status (rejected line by left quiet prints) at = inr (seven_of err line 6 status (omega arith) prints at)
 seven_rose words files out err status (failed line by have quiet prints) at = inr (seven_of err line 5 status (omega arith) prints at)
@@ -257,19 +258,16 @@ held_part None (Some new) name bytes held others = others
 held_part (Some old) None name bytes held others = others
 held_part (Some old) (Some new) name bytes held others = inr (bytes, ([], sym (append-nil bytes)), held)
 
-module _ (told after : Told) (words : List (List ℕ)) where
-  stored_partly : (status : ℕ) (text : List ℕ) (asked : Asked) → IsAsked words asked → (a : IsAnswered told after asked status text) → (name : Option (List ℕ)) → a.wish.proof ≡ name → Stores told after name (IsProofOf a.answer.base a.wish a.answer.question a.holds) → IsPartlyStored told after words
-  stored_partly status text asked is_asked a None is same = inl same
-  stored_partly status text asked is_asked a (Some name) is (bytes, proof, held, others) = inr (
-    asked,
+module _ (told after : Told) (words : List Text) where
+  stored_partly : (status : ℕ) (text : List ℕ) (c : Command) → IsAsked words c → (a : IsAnswered told after c status text) → (name : Option Text) → a.proof_name ≡ name → Stores told after name (IsProofOf a.question a.answers) → IsPartlyStored told after words
+  stored_partly status text c is_asked a None is same = inl same
+  stored_partly status text c is_asked a (Some name) is (bytes, proof, held, others) = inr (
+    c,
     is_asked,
     record {
-      wish = a.wish;
-      is_wish = a.is_wish;
       name = name;
-      is_name = is;
       bytes = bytes;
-      due = record { holds = a.holds; answer = a.answer; proof = proof };
+      due = record { map_name = a.map_name; task = subst (λ n. IsToValidate c a.map_name n) is a.task; question = a.question; answers = a.answers; are_answers = a.are_answers; proof = proof };
       part = held_part told after name bytes held others;
       others = others;
     },
@@ -278,24 +276,24 @@ module _ (told after : Told) (words : List (List ℕ)) where
   responded_partly : (status : ℕ) (text : List ℕ) → IsRespondedTo told after words status text → IsPartlyStored told after words
   responded_partly status text r = go r.response
     where
-      go : IsResponse told after r.asked status text → IsPartlyStored told after words
-      go (inl a) = stored_partly status text r.asked r.is_asked a a.wish.proof refl a.stored
-      go (inr c) = inl c.unstored
+      go : IsResponse told after r.command status text → IsPartlyStored told after words
+      go (inl a) = stored_partly status text r.command r.is_asked a a.proof_name refl a.stored
+      go (inr k) = inl k.unstored
 
   partly_kept : IsPartlyStored told after words → KeepsTold told after words
   partly_kept (inl same) = inl same
-  partly_kept (inr (asked, is_asked, cut)) = inr (asked, is_asked, (cut.wish, cut.is_wish, (cut.name, cut.is_name, cut.others)))
+  partly_kept (inr (c, is_asked, cut)) = inr (c, is_asked, (cut.due.map_name, cut.name, cut.due.task, cut.others))
 
 -- however a call ends, no more than the proof is stored
-pub ends_partly : (words : List (List ℕ)) (files : FilesSeen) (out err : SinkSeen) (status : ℕ) → Ends words files out err status → IsPartlyStored files.told files.told_after words
-ends_partly words files out err status (unasked line by left quiet prints) = inl left.told_same
-ends_partly words files out err status (answered text wanted r same prints quiet) = responded_partly files.told files.told_after words wanted text r
+pub ends_partly : (words : List Text) (files : FilesSeen) (out err : SinkSeen) (status : ℕ) → Ends words files out err status → IsPartlyStored files.told files.told_after words
+ends_partly words files out err status (faulty line by left quiet prints) = inl left.told_same
+ends_partly words files out err status (answered text wanted low r same prints quiet) = responded_partly files.told files.told_after words wanted text r
 ends_partly words files out err status (refused line by left quiet prints) = inl left.told_same
 ends_partly words files out err status (rejected line by left quiet prints) = inl left.told_same
 ends_partly words files out err status (failed line by have quiet prints) = have.stored
 ends_partly words files out err status (wanting stored same quiet also h) = stored
 
-pub ends_kept : (words : List (List ℕ)) (files : FilesSeen) (out err : SinkSeen) (status : ℕ) → Ends words files out err status → KeepsTold files.told files.told_after words
+pub ends_kept : (words : List Text) (files : FilesSeen) (out err : SinkSeen) (status : ℕ) → Ends words files out err status → KeepsTold files.told files.told_after words
 ends_kept words files out err status ends = partly_kept files.told files.told_after words (ends_partly words files out err status ends)
 
 -- ---- words that are refused
@@ -305,18 +303,11 @@ two_or sink text status (inl h) = inl h.0
 two_or sink text status (inr (inl h)) = inr (inl h.0)
 two_or sink text status (inr (inr h)) = inr (inr h.0)
 
--- where nothing is asked, the words are refused
-unasked_or : (words : List (List ℕ)) (files : FilesSeen) (out err : SinkSeen) (status : ℕ) → ((asked : Asked) → ¬ IsAsked words asked) → Ends words files out err status → (status ≡ 2) ⊎ ((status ≡ 7) ⊎ (status ≡ 8))
-unasked_or words files out err status nothing (unasked line by left quiet prints) = two_or err line status prints
-unasked_or words files out err status nothing (answered text wanted r same prints quiet) = absurd (nothing r.asked r.is_asked)
-unasked_or words files out err status nothing (refused line by left quiet prints) = absurd (nothing by.asked by.is_asked)
-unasked_or words files out err status nothing (rejected line by left quiet prints) = absurd (nothing by.asked by.is_asked)
-unasked_or words files out err status nothing (failed line by have quiet prints) = absurd (nothing by.asked by.is_asked)
-unasked_or words files out err status nothing (wanting stored same quiet also h) = inr (inr h)
-
-pub unasked_ends : (words : List (List ℕ)) (files : FilesSeen) (out err : SinkSeen) (status : ℕ) → IsUnasked words → Ends words files out err status → (status ≡ 2) ⊎ ((status ≡ 7) ⊎ (status ≡ 8))
-unasked_ends words files out err status none = unasked_or words files out err status (λ asked h. none asked h.form)
-
-pub samed_ends : (words : List (List ℕ)) (files : FilesSeen) (out err : SinkSeen) (status : ℕ) (name : List ℕ) → IsSamed words name → Ends words files out err status → (status ≡ 2) ⊎ ((status ≡ 7) ⊎ (status ≡ 8))
-samed_ends words files out err status name samed =
-    unasked_or words files out err status (λ asked h. h.apart name (subst (λ a. IsSame a name) (one_form words samed.asked asked samed.form h.form) samed.same))
+-- where the words are at fault, they are refused
+pub faulty_ends : (words : List Text) (files : FilesSeen) (out err : SinkSeen) (status : ℕ) → AnswersAreOne → (f : Fault) → IsFirstFault words f → Ends words files out err status → (status ≡ 2) ⊎ ((status ≡ 7) ⊎ (status ≡ 8))
+faulty_ends words files out err status law f is (faulty line by left quiet prints) = two_or err line status prints
+faulty_ends words files out err status law f is (answered text wanted low r same prints quiet) = absurd (law.apart words r.command f r.is_asked is)
+faulty_ends words files out err status law f is (refused line by left quiet prints) = absurd (law.apart words by.command f by.is_asked is)
+faulty_ends words files out err status law f is (rejected line by left quiet prints) = absurd (law.apart words by.command f by.is_asked is)
+faulty_ends words files out err status law f is (failed line by have quiet prints) = absurd (law.apart words by.command f by.is_asked is)
+faulty_ends words files out err status law f is (wanting stored same quiet also h) = inr (inr h)

@@ -1,37 +1,45 @@
 -- How a call ends, from what it found.
-use Rattle.std.proofs.Common.{◌≡◌, ap, sym, refl, List, ℕ, inl, inr}
+use Rattle.std.proofs.Common.{◌≡◌, ap, sym, refl, List, ℕ, ◌⊎◌, inl, inr}
+use Rattle.std.specs.Prelude.{IfOk, Option, Result}
+use Rattle.clap.specs.Words.{Text}
+use Rattle.command_words.specs.Asked.{Command, IsAsked, IsFirstFault}
+use Rattle.command_words.specs.Checks.{Fault, arguments, base, ending, import_word, same as same_name}
+use Rattle.command_words.specs.Lent.{Because}
+use Rattle.command_words.specs.declared.error.WordsError.{WordsError}
+use Rattle.command_words.specs.declared.error.WordsError.TheVariants as Errors
 use Rattle.shex_run.specs.declared.stop.Stop.{Stop}
 use Rattle.shex_run.specs.declared.stop.Stop.TheVariants as Stops
-use Rattle.shex_run.specs.Endings.{AreLeft, Ends, FilesSeen, IsPartlyStored, IsQuiet, IsResponse, LeavesStored, PrintsTo, SinkSeen, answered, failed, refused, rejected, unasked, wanting}
-use Rattle.shex_run.specs.Outcomes.{Explains, FaultsAs, name_of}
+use Rattle.shex_run.specs.Endings.{AreLeft, Ends, FilesSeen, IsPartlyStored, IsQuiet, IsResponse, PrintsTo, SinkSeen, answered, failed, faulty, refused, rejected, wanting}
+use Rattle.shex_run.specs.Printing.{Prints, RefusesWords}
 use Rattle.shex_run.specs.Proofs.{MayStore}
-use Rattle.shex_run.specs.Texts.{arguments_line, failed_line, refusal_line, rejection_line, same_line}
-use Rattle.shex_run.specs.Words.{Asked, IsAsked, IsForm, IsSame, IsUnasked}
+use Rattle.shex_run.specs.Stopping.{Explains, FaultsAs, LeavesStored}
+use Rattle.shex_run.specs.Tasks.{name_of}
+use Rattle.shex_run.specs.Texts.{failed_line, refusal_line, rejection_line, words_line}
 
-module _ (words : List (List ℕ)) (asked : Asked) (is_asked : IsAsked words asked) (files : FilesSeen) (out err : SinkSeen) (status : ℕ) where
+module _ (words : List Text) (c : Command) (is_asked : IsAsked words c) (files : FilesSeen) (out err : SinkSeen) (status : ℕ) where
   -- what a call may have stored, in the words
-  partly : MayStore files.told files.told_after asked → IsPartlyStored files.told files.told_after words
-  partly (inl same) = inl same
-  partly (inr cut) = inr (asked, is_asked, cut)
+  partly : MayStore files.told files.told_after c → IsPartlyStored files.told files.told_after words
+  partly (inl still) = inl still
+  partly (inr cut) = inr (c, is_asked, cut)
 
-  pub with_response : (text : List ℕ) (wanted : ℕ) → IsResponse files.told files.told_after asked wanted text → files.faults_after ≡ files.faults → IsQuiet err → PrintsTo out text wanted status → Ends words files out err status
-  with_response text wanted response same quiet prints = answered text wanted (record { asked = asked; is_asked = is_asked; response = response }) same prints quiet
+  pub with_response : (text : List ℕ) (wanted : ℕ) → (wanted ≡ 0) ⊎ (wanted ≡ 1) → IsResponse files.told files.told_after c wanted text → files.faults_after ≡ files.faults → IsQuiet err → PrintsTo out text wanted status → Ends words files out err status
+  with_response text wanted low response still quiet prints = answered text wanted low (record { command = c; is_asked = is_asked; response = response }) still prints quiet
 
   -- what is printed where a call stops
   abbrev pub StopPrints : Stop → Type 0
-  StopPrints (Stops.Refused refusal) = PrintsTo err (refusal_line asked refusal) 3 status
-  StopPrints (Stops.Rejected rejection) = PrintsTo err (rejection_line asked rejection) 6 status
-  StopPrints (Stops.Failed file) = PrintsTo err (failed_line (name_of asked file)) 5 status
+  StopPrints (Stops.Refused file refusal) = PrintsTo err (refusal_line c file refusal) 3 status
+  StopPrints (Stops.Rejected rejection) = PrintsTo err (rejection_line c rejection) 6 status
+  StopPrints (Stops.Failed file) = PrintsTo err (failed_line (name_of c file)) 5 status
   StopPrints Stops.Memory = IsQuiet err × (status ≡ 8)
 
-  pub with_stop : (stop : Stop) → Explains files.told asked stop → FaultsAs asked files.faults files.faults_after files.blame files.act stop → LeavesStored files.told files.told_after asked stop → IsQuiet out →
+  pub with_stop : (stop : Stop) → Explains files.told c stop → FaultsAs c files.faults files.faults_after files.blame files.act stop → LeavesStored files.told files.told_after c stop → IsQuiet out →
       StopPrints stop → Ends words files out err status
-  with_stop (Stops.Refused refusal) cause same left quiet prints =
-      refused (refusal_line asked refusal) (record { asked = asked; is_asked = is_asked; refusal = refusal; refused = cause; line_is = refl }) (record { told_same = left; faults_same = same }) quiet prints
-  with_stop (Stops.Rejected rejection) cause same left quiet prints =
-      rejected (rejection_line asked rejection) (record { asked = asked; is_asked = is_asked; rejection = rejection; rejected = cause; line_is = refl }) (record { told_same = left; faults_same = same }) quiet prints
-  with_stop (Stops.Failed file) cause (rose, later, named, act) left quiet prints = failed (failed_line (name_of asked file)) (record {
-    asked = asked;
+  with_stop (Stops.Refused file refusal) cause still left quiet prints =
+      refused (refusal_line c file refusal) (record { command = c; is_asked = is_asked; file = file; refusal = refusal; refused = cause; line_is = refl }) (record { told_same = left; faults_same = still }) quiet prints
+  with_stop (Stops.Rejected rejection) cause still left quiet prints =
+      rejected (rejection_line c rejection) (record { command = c; is_asked = is_asked; rejection = rejection; rejected = cause; line_is = refl }) (record { told_same = left; faults_same = still }) quiet prints
+  with_stop (Stops.Failed file) cause (rose, later, named, act) left quiet prints = failed (failed_line (name_of c file)) (record {
+    command = c;
     is_asked = is_asked;
     file = file;
     reached = cause;
@@ -39,12 +47,26 @@ module _ (words : List (List ℕ)) (asked : Asked) (is_asked : IsAsked words ask
     act_is = act;
     line_is = ap failed_line (sym named);
   }) (record { rose = rose; later = later; stored = partly left }) quiet prints
-  with_stop Stops.Memory cause same left quiet (silent, at) = wanting (partly left) same quiet silent at
+  with_stop Stops.Memory cause still left quiet (silent, at) = wanting (partly left) still quiet silent at
 
-pub with_arguments : (words : List (List ℕ)) (files : FilesSeen) (out err : SinkSeen) (status : ℕ) → IsUnasked words → AreLeft files → IsQuiet out → PrintsTo err arguments_line 2 status → Ends words files out err status
-with_arguments words files out err status none left quiet prints = unasked arguments_line (inl (none, refl)) left quiet prints
+-- the line of the words' fault is printed, unless memory ran out
+pub printed : {X Y : Type 0} (bytes : X → List ℕ) (made : Result X Y) (e : WordsError) → (e ≡ Errors.Memory → ⊥) → IfOk made (λ s. Because (λ f. bytes s ≡ words_line f) e) → (before after : Option (List ℕ)) (faults faults_after status : ℕ) →
+    ((line : List ℕ) → IfOk made (λ s. bytes s ≡ line) → Prints before after faults faults_after line 2 status) → RefusesWords e before after faults faults_after status
+printed bytes made Errors.Arguments other line before after faults faults_after status prints = prints (words_line arguments) line
+printed bytes made (Errors.Ending name) other line before after faults faults_after status prints = prints (words_line (ending name.now)) line
+printed bytes made (Errors.Import word) other line before after faults faults_after status prints = prints (words_line (import_word word.now)) line
+printed bytes made (Errors.Base iri) other line before after faults faults_after status prints = prints (words_line (base iri.now)) line
+printed bytes made (Errors.Same name) other line before after faults faults_after status prints = prints (words_line (same_name name.now)) line
+printed bytes made Errors.Memory other line before after faults faults_after status prints = absurd (other refl)
 
-pub with_same : (words : List (List ℕ)) (files : FilesSeen) (out err : SinkSeen) (status : ℕ) (asked : Asked) (name : List ℕ) → IsForm words asked → IsSame asked name → AreLeft files → IsQuiet out → PrintsTo err (same_line name) 2 status →
-    Ends words files out err status
-with_same words files out err status asked name form same left quiet prints =
-    unasked (same_line name) (inr (name, record { asked = asked; form = form; same = same }, refl)) left quiet prints
+module _ (words : List Text) (files : FilesSeen) (out err : SinkSeen) (status : ℕ) (left : AreLeft files) (quiet : IsQuiet out) where
+  with_fault : (f : Fault) → IsFirstFault words f → PrintsTo err (words_line f) 2 status → Ends words files out err status
+  with_fault f is prints = faulty (words_line f) (f, is, refl) left quiet prints
+
+  pub with_words : (e : WordsError) → Because (IsFirstFault words) e → RefusesWords e err.got err.got_after err.faults err.faults_after status → Ends words files out err status
+  with_words Errors.Arguments is prints = with_fault arguments is prints
+  with_words (Errors.Ending name) is prints = with_fault (ending name.now) is prints
+  with_words (Errors.Import word) is prints = with_fault (import_word word.now) is prints
+  with_words (Errors.Base iri) is prints = with_fault (base iri.now) is prints
+  with_words (Errors.Same name) is prints = with_fault (same_name name.now) is prints
+  with_words Errors.Memory is (at, got, faults) = wanting (inl left.told_same) left.faults_same quiet (record { got_same = got; faults_same = faults }) at

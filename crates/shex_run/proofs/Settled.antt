@@ -1,11 +1,12 @@
 -- The bytes of a proof are accepted, rejected in one way, or too many for the table, and not two of these.
-use Rattle.std.proofs.Common.{◌≡◌, ◌≤◌, ◌<◌, ◌∙◌, ap, sym, subst, refl, ℕ, zero, suc, List, [], ◌∷◌, ◌++◌, arith, length, map, inl, inr, ◌⊎◌}
+use Rattle.std.proofs.Common.{◌≡◌, ◌≤◌, ◌<◌, ◌∙◌, ap, sym, subst, refl, ℕ, List, [], ◌∷◌, arith, length, map, inl, inr}
 use Rattle.std.specs.Prelude.{Option, Some, None, Contains, slice_get, option_map}
 use Rattle.std.proofs.lemmas.Option.{slice_get_within}
-use Rattle.rdf_terms.specs.Lists.{AreDistinct, Adds}
+use Rattle.rdf_terms.specs.Lists.{AreDistinct}
 use Rattle.rdf_terms.specs.Tables.{max_terms}
 use Rattle.rdf_terms.specs.declared.terms.Term.{Term}
 use Rattle.rdf_terms.specs.declared.terms.TermId.{TermId}
+use Rattle.graph_loading.proofs.Loading.{adds_distinct}
 use Rattle.schema_tree.specs.declared.schema.Answer.{Answer}
 use Rattle.schema_tree.proofs.Lists.{got_in}
 use Rattle.schema_tree.proofs.Members.{from_map, in_rest, is_first, is_later, not_in_none}
@@ -15,12 +16,12 @@ use Rattle.proof_file.specs.Accepts.{AreAccepted, AreNumbers}
 use Rattle.proof_file.proofs.Apart.{proofs_same}
 use Rattle.proof_file.proofs.Rejected.{not_both}
 use Rattle.proof_checker.specs.Checks.{AreAnswers, IsFullFor, IsReadAs, KeepsTerms, TakesUp, answer_with, setting_of}
-use Rattle.shex_run.specs.declared.inputs.Base.{Base}
+use Rattle.shex_inputs.specs.Held.{Held}
 use Rattle.shex_run.specs.declared.stop.Rejection.{Rejection}
 use Rattle.shex_run.specs.declared.stop.Rejection.TheVariants as Rejections
-use Rattle.shex_run.specs.Checking.{Accepted, Rejects}
-use Rattle.shex_run.specs.Proofs.{one_stratum}
-use Rattle.shex_run.proofs.Based.{add_keeps, adds_one}
+use Rattle.shex_run.specs.Checking.{Rejects}
+use Rattle.shex_run.specs.Proofs.{Accepted, one_stratum}
+use Rattle.shex_run.proofs.Tables.{add_keeps, adds_one}
 
 -- what is mapped is in the mapped list
 pub in_map : {A B : Type 0} (f : A → B) (xs : List A) (x : A) → Contains xs x → Contains (map f xs) (f x)
@@ -32,29 +33,9 @@ in_map f (y ∷ ys) x h = elim (in_rest y ys x h) [
 
 -- ---- tables
 
--- an item of a list with one more at its end
-last_or : (old : List Term) (x : Term) (i : ℕ) (y : Term) → slice_get (old ++ x ∷ []) i ≡ Some y → (slice_get old i ≡ Some y) ⊎ ((i ≡ length old) × (x ≡ y))
-last_or [] x zero y h = inr (refl, (let e : x ≡ y = cc in e))
-last_or [] x (suc i) y h = cc
-last_or (z ∷ old) x zero y h = inl h
-last_or (z ∷ old) x (suc i) y h = elim (last_or old x i y h) [
-  | inl there ↦ inl there
-  | inr last ↦ inr (ap suc last.0, last.1)
-]
-
-distinct_more : (old new : List Term) (x : Term) → AreDistinct old → Adds old x new → AreDistinct new
-distinct_more old new x d (inl (held, e)) = subst (λ ts. AreDistinct ts) (sym e) d
-distinct_more old new x d (inr (fresh, e)) = λ i j y h k. both i j y (last_or old x i y (sym (ap (λ ts. slice_get ts i) e) ∙ h)) (last_or old x j y (sym (ap (λ ts. slice_get ts j) e) ∙ k))
-  where
-    both : (i j : ℕ) (y : Term) → (slice_get old i ≡ Some y) ⊎ ((i ≡ length old) × (x ≡ y)) → (slice_get old j ≡ Some y) ⊎ ((j ≡ length old) × (x ≡ y)) → i ≡ j
-    both i j y (inl h) (inl k) = d i j y h k
-    both i j y (inl h) (inr k) = absurd (fresh (subst (λ z. Contains old z) (sym k.1) (got_in old i y h)))
-    both i j y (inr h) (inl k) = absurd (fresh (subst (λ z. Contains old z) (sym h.1) (got_in old j y k)))
-    both i j y (inr h) (inr k) = h.0 ∙ sym k.0
-
 taken_distinct : (ts old new : List Term) → AreDistinct old → TakesUp old ts new → AreDistinct new
 taken_distinct [] old new d e = subst (λ z. AreDistinct z) (sym e) d
-taken_distinct (t ∷ ts) old new d (mid, adds, more) = taken_distinct ts mid new (distinct_more old mid t d adds) more
+taken_distinct (t ∷ ts) old new d (mid, adds, more) = taken_distinct ts mid new (adds_distinct old mid t d adds) more
 
 taken_keeps : (ts old new : List Term) → TakesUp old ts new → KeepsTerms old new
 taken_keeps [] old new e i t h = ap (λ z. slice_get z i) e ∙ h
@@ -81,7 +62,7 @@ numbers_one terms (l ∷ lines) (x ∷ a) (y ∷ b) d h k =
     λ i. record { 0 = id i } ∷ rest i
 
 -- the lines with numbers are held
-numbered_held : (terms lines : List Term) (nodes : List TermId) → AreNumbers terms lines nodes → (t : Term) → Contains lines t → Contains terms t
+pub numbered_held : (terms lines : List Term) (nodes : List TermId) → AreNumbers terms lines nodes → (t : Term) → Contains lines t → Contains terms t
 numbered_held terms lines nodes numbers t h =
     let there : Contains (map (λ i. slice_get terms i.0) nodes) (Some t) = subst (λ xs. Contains xs (Some t)) (sym numbers) (in_map (λ u. Some u) lines t h) in
     let (i, held, at) = from_map (λ i. slice_get terms i.0) nodes (Some t) there in
@@ -124,7 +105,7 @@ reading_one old terms terms' bytes p q nodes nodes' d h k =
       numbers = numbers_one terms' q.nodes nodes nodes' (taken_distinct q.nodes old terms' d k.table) (subst (λ ts. AreNumbers ts q.nodes nodes) table (subst (λ x. AreNumbers terms x.nodes nodes) same h.numbers)) k.numbers;
     }
 
-module _ (b : Base) (d : AreDistinct b.terms) (bytes : List ℕ) where
+module _ (b : Held) (d : AreDistinct b.terms) (bytes : List ℕ) where
   -- what is accepted is not rejected
   pub accepted_not_rejected : (terms : List Term) (answers : List Answer) (r : Rejection) → Accepted b bytes terms answers → ¬ Rejects b bytes r
   accepted_not_rejected terms answers (Rejections.Syntax at) a = λ fault. fault.none a.found.proof a.found.read.text

@@ -1,7 +1,6 @@
 -- What the complete typing says of the only Shape of a schema: that a node has it, whatever the typing.
-use Rattle.std.proofs.Common.{◌≡◌, ℕ, suc, zero, ◌<◌, ◌≤◌, List, [], ◌∷◌, refl, sym, ◌∙◌, ap, subst, arith, length, Bool, true, max}
-use Rattle.std.specs.Prelude.{Contains, Option, Some, None, slice_get, slice_index, IsTrue, nat_lt}
-use Rattle.std.proofs.lemmas.Bool.{ltb-true}
+use Rattle.std.proofs.Common.{◌≡◌, ℕ, suc, zero, ◌≤◌, List, [], ◌∷◌, refl, sym, ◌∙◌, ap, subst, arith, length, Bool, max}
+use Rattle.std.specs.Prelude.{Contains, Option, Some, None, slice_get, slice_index}
 use Rattle.rdf_terms.specs.declared.terms.Term.{Term}
 use Rattle.rdf_terms.specs.declared.terms.TermId.{TermId}
 use Rattle.rdf_terms.specs.declared.terms.Triple.{Triple}
@@ -10,8 +9,6 @@ use Rattle.node_constraint.specs.declared.NodeConstraint.{NodeConstraint}
 use Rattle.node_constraint.specs.declared.Kind4.{Kind4}
 use Rattle.one_shape.specs.declared.Constraint.{Constraint}
 use Rattle.one_shape.specs.declared.OneShape.{OneShape}
-use Rattle.schema_tree.specs.declared.labels.Label.TheVariants as Labels
-use Rattle.schema_tree.specs.declared.schema.Expr.{Expr}
 use Rattle.schema_tree.specs.declared.schema.Expr.TheVariants as Exprs
 use Rattle.schema_tree.specs.declared.schema.ExprId.{ExprId}
 use Rattle.schema_tree.specs.declared.schema.Occurrence.{Occurrence}
@@ -19,17 +16,13 @@ use Rattle.schema_tree.specs.declared.schema.Pair.{Pair}
 use Rattle.schema_tree.specs.declared.schema.Schema.{Schema}
 use Rattle.schema_tree.specs.declared.schema.Shape.{Shape}
 use Rattle.schema_tree.specs.declared.schema.ShapeId.{ShapeId}
-use Rattle.schema_tree.specs.declared.schema.Target.TheVariants as Targets
 use Rattle.schema_tree.specs.Edges.{Edge, IsStratified, IsStratum, Path, StandsIn, StandsInValue, level, itself, in_and, in_or, in_not, stay, by_any, by_negative}
 use Rattle.schema_tree.specs.Entries.{entry, shape_at}
 use Rattle.schema_tree.specs.Laws.{TypingExists}
-use Rattle.schema_tree.specs.Loaded.{IsTarget}
-use Rattle.schema_tree.specs.Satisfies.{Sat, SatWithin, SatEntry}
-use Rattle.schema_tree.specs.Shapes.{ShapeOk}
-use Rattle.schema_tree.specs.Typings.{below, IsComplete, IsGreatestAt, IsTheTyping, top_of}
-use Rattle.schema_tree.proofs.Members.{not_in_none, in_one, is_first}
-use Rattle.shex_run.specs.Inputs.{IsBodyOf, IsValueOf, StandsFor}
-use Rattle.shex_run.proofs.OneArc.{in_filter}
+use Rattle.schema_tree.specs.Typings.{top_of}
+use Rattle.schema_tree.proofs.Members.{not_in_none, in_one}
+use Rattle.simple_typing.specs.Truths.{IsTypingOf}
+use Rattle.shex_inputs.specs.Held.{IsBodyOf, IsValueOf, StandsFor}
 
 abbrev the_shape : ShapeId
 the_shape = record { 0 = 0 }
@@ -117,44 +110,5 @@ module _ (terms : List Term) (doc : OneShape) (s : Schema) (stands : StandsFor t
   }
 
   -- so there is a complete typing over every list of terms
-  pub has_typing : TypingExists → (g : List Triple) (U : List TermId) → (f : List ℕ) × (T : List Pair) × IsStratum s f × IsTheTyping s terms g f U T
-  has_typing exists g U = let (T, complete) = exists s terms g (0 ∷ []) U stands.loaded zero_stratified in (0 ∷ [], T, zero_stratum, complete)
-
-  -- nothing is below the stratum 0
-  none_below : (f : List ℕ) (T : List Pair) (p : Pair) → Contains (below f 0 T) p → ⊥
-  none_below f T p h =
-      let under : nat_lt (level f p.shape) 0 ≡ true = (in_filter (λ q. nat_lt (level f q.shape) 0) T p h).1 in
-      let less : level f p.shape < 0 = ltb-true (level f p.shape) 0 under in
-      omega (arith, less)
-
-  module _ (g : List Triple) (n : TermId) (holds : Bool) (exact : (T : List Pair) → (IsTrue holds → ShapeOk s terms g T n the_shape) × (ShapeOk s terms g T n the_shape → IsTrue holds)) where
-    abbrev pair : Pair
-    pair = record { node = n; shape = the_shape }
-
-    -- a complete typing has the node with the Shape exactly where it has the Shape
-    typed : (f : List ℕ) (U : List TermId) (T : List Pair) → IsStratum s f → Contains U n → IsTheTyping s terms g f U T → (IsTrue holds → Contains T pair) × (Contains T pair → IsTrue holds)
-    typed f U T stratum asked complete =
-        let (level_zero, top_zero) = stratum_zero f stratum in
-        let greatest : IsGreatestAt s terms g f U T 0 = subst (λ k. IsComplete s terms g f U T k) top_zero complete in
-        let Same : Pair → Type 0 = λ q. Contains U q.node × (q.shape.0 < length s.shapes) × (level f q.shape ≤ 0) in
-        let there : the_shape.0 < length s.shapes = (let l : length s.shapes ≡ 1 = ap length stands.shapes in omega (arith, l)) in
-        let low : level f the_shape ≤ 0 = omega (arith, level_zero) in (
-          λ yes_it_does. greatest.greatest (pair ∷ []) (record {
-            over = λ p h. subst Same (in_one pair p h) (asked, there, low);
-            agrees = (λ p h. absurd (none_below f (pair ∷ []) p h), λ p h. absurd (none_below f T p h));
-            correct = λ p h at. subst (λ q. ShapeOk s terms g (pair ∷ []) q.node q.shape) (in_one pair p h) ((exact (pair ∷ [])).0 yes_it_does);
-          }) pair (is_first pair []),
-          λ h. (exact T).1 (greatest.correct pair h level_zero),
-        )
-
-    -- and so it satisfies the label's expression exactly then
-    pub truth : (e : ExprId) → IsTarget s (Targets.Label (Labels.Iri doc.label)) e → (f : List ℕ) (U : List TermId) (T : List Pair) → IsStratum s f → Contains U n → IsTheTyping s terms g f U T →
-        (IsTrue holds → Sat s terms T n e) × (Sat s terms T n e → IsTrue holds)
-    unfolding SatWithin
-    truth e target f U T stratum asked complete =
-        let listed : Contains ((Labels.Iri doc.label, stands.expr) ∷ []) (Labels.Iri doc.label, e) = subst (λ ls. Contains ls (Labels.Iri doc.label, e)) stands.labels target in
-        let own : stands.expr ≡ e = ap (λ d. d.1) (in_one (Labels.Iri doc.label, stands.expr) (Labels.Iri doc.label, e) listed) in
-        let at : entry s e ≡ Some (Exprs.Shape the_shape) = ap (λ x. entry s x) (sym own) ∙ stands.shape_of in
-        let here = typed f U T stratum asked complete in
-        let M : Option Expr → Type 0 = λ x. SatEntry T terms n (SatWithin e.0 s terms T n) x in
-        (λ h. subst M (sym at) (here.0 h), λ sat. here.1 (subst M at sat))
+  pub has_typing : TypingExists → (all : List Term) (g : List Triple) (U : List TermId) → (f : List ℕ) × (T : List Pair) × IsTypingOf s all g f U T
+  has_typing exists all g U = let (T, complete) = exists s all g (0 ∷ []) U stands.loaded zero_stratified in (0 ∷ [], T, record { strata = zero_stratum; complete = complete })

@@ -1,9 +1,12 @@
 -- What the check of a proof finds.
 use Rattle.std.specs.Prelude.{ℕ, List, ◌≡◌, ◌≤◌, Some, length, ⊤}
+use Rattle.clap.specs.Words.{Text}
 use Rattle.shex_io.specs.Files.{Told, Holds}
 use Rattle.rdf_terms.specs.Tables.{max_terms}
 use Rattle.rdf_terms.specs.declared.terms.Term.{Term}
 use Rattle.rdf_terms.specs.declared.terms.TermId.{TermId}
+use Rattle.one_shape.specs.declared.OneShape.{OneShape}
+use Rattle.graph_loading.specs.declared.triples.TermTriple.{TermTriple}
 use Rattle.schema_tree.specs.declared.schema.Answer.{Answer}
 use Rattle.schema_tree.specs.declared.schema.Pair.{Pair}
 use Rattle.schema_tree.specs.Typings.{HoldsEnds}
@@ -11,73 +14,74 @@ use Rattle.proof_file.specs.declared.Proof.{Proof}
 use Rattle.proof_file.specs.declared.Why.{Why}
 use Rattle.proof_file.specs.Laws.{HoldsLines, IsTrueProof}
 use Rattle.proof_file.specs.Text.{IsFault}
-use Rattle.proof_checker.specs.Checks.{IsAcceptedAs, IsFullFor, IsRejectedAs}
-use Rattle.shex_run.specs.declared.inputs.Base.{Base}
-use Rattle.shex_run.specs.declared.stop.Refusal.TheVariants as Refusals
-use Rattle.shex_run.specs.declared.stop.Stop.{Stop}
-use Rattle.shex_run.specs.declared.stop.Stop.TheVariants as Stops
+use Rattle.proof_checker.specs.Checks.{IsFullFor, IsRejectedAs}
+use Rattle.shape_map.specs.Results.{result_text}
+use Rattle.simple_typing.specs.Truths.{IsTypingOf}
+use Rattle.command_words.specs.Asked.{Command}
+use Rattle.shex_inputs.specs.declared.error.Refusal.TheVariants as Refusals
+use Rattle.shex_inputs.specs.Held.{Held, IsBase, IsTaken}
+use Rattle.shex_run.specs.declared.stop.File.TheVariants as Files
 use Rattle.shex_run.specs.declared.stop.Rejection.{Rejection}
 use Rattle.shex_run.specs.declared.stop.Rejection.TheVariants as Rejections
-use Rattle.shex_run.specs.Inputs.{IsTaken, IsTypingOf}
-use Rattle.shex_run.specs.Proofs.{one_stratum}
-use Rattle.shex_run.specs.Results.{result_text}
-use Rattle.shex_run.specs.Words.{Asked, check}
+use Rattle.shex_run.specs.declared.stop.Stop.{Stop}
+use Rattle.shex_run.specs.declared.stop.Stop.TheVariants as Stops
+use Rattle.shex_run.specs.Proofs.{Accepted, one_stratum}
+use Rattle.shex_run.specs.Tasks.{IsToCheck}
 
 -- what the proof says is true of the complete typing over each list of terms that holds the ends of the graph and the node
--- lines, and there is a complete typing over every list
-pub record IsTrueOf (b : Base) (terms : List Term) (nodes : List TermId) (p : Proof) : Type 0 where
-  pub exists : (U : List TermId) → (f : List ℕ) × (T : List Pair) × IsTypingOf b terms f U T
-  pub true_of : (f : List ℕ) (U : List TermId) (T : List Pair) → HoldsEnds U b.graph → HoldsLines U terms p.nodes → IsTypingOf b terms f U T → IsTrueProof b.schema terms nodes T p
+-- lines, and there is a complete typing over every list (ShEx 2.1, section 5.2)
+pub record IsTrueOf (h : Held) (terms : List Term) (nodes : List TermId) (p : Proof) : Type 0 where
+  pub exists : (U : List TermId) → (f : List ℕ) × (T : List Pair) × IsTypingOf h.schema terms h.graph f U T
+  pub true_of : (f : List ℕ) (U : List TermId) (T : List Pair) → HoldsEnds U h.graph → HoldsLines U terms p.nodes → IsTypingOf h.schema terms h.graph f U T → IsTrueProof h.schema terms nodes T p
 
--- the proof's file holds these bytes, for the schema and the graph that the files hold
-pub record IsGiven (told : Told) (asked : Asked) (b : Base) (bytes : List ℕ) : Type 0 where
-  pub taken : IsTaken told asked b
-  pub name : List ℕ
-  pub is_check : asked.command ≡ check name
+-- the command is to check a proof, whose file holds these bytes, for the schema and the graph that the files hold
+pub record IsGiven (told : Told) (c : Command) (h : Held) (bytes : List ℕ) : Type 0 where
+  pub taken : IsTaken told c h
+  pub name : Text
+  pub task : IsToCheck c name
   pub held : Holds told name (Some bytes)
 
--- the bytes are accepted, the answers are their claims, and the table can hold the terms
-pub record Accepted (b : Base) (bytes : List ℕ) (terms : List Term) (answers : List Answer) : Type 0 where
-  pub found : IsAcceptedAs one_stratum b.schema b.terms terms b.graph bytes answers
-  pub few : length terms ≤ max_terms
-
 -- the bytes are accepted and true, and the text is the result map of their claims
-pub record Confirms (b : Base) (bytes text : List ℕ) : Type 0 where
+pub record Confirms (h : Held) (bytes text : List ℕ) : Type 0 where
   pub terms : List Term
   pub answers : List Answer
-  pub accepted : Accepted b bytes terms answers
-  pub truth : IsTrueOf b terms accepted.found.nodes accepted.found.proof
+  pub accepted : Accepted h bytes terms answers
+  pub truth : IsTrueOf h terms accepted.found.nodes accepted.found.proof
   pub text_is : text ≡ result_text terms answers
 
 -- the proof's file holds such bytes
-pub record IsCheckedAs (told : Told) (asked : Asked) (text : List ℕ) : Type 0 where
-  pub base : Base
+pub record IsCheckedAs (told : Told) (c : Command) (text : List ℕ) : Type 0 where
+  pub held : Held
   pub bytes : List ℕ
-  pub given : IsGiven told asked base bytes
-  pub confirmed : Confirms base bytes text
+  pub given : IsGiven told c held bytes
+  pub confirmed : Confirms held bytes text
 
 -- the bytes are rejected by this check of the item i, and the table can hold the terms
-pub record IsItemRejected (b : Base) (bytes : List ℕ) (i : ℕ) (w : Why) : Type 0 where
+pub record IsItemRejected (h : Held) (bytes : List ℕ) (i : ℕ) (w : Why) : Type 0 where
   pub terms : List Term
-  pub found : IsRejectedAs one_stratum b.schema b.terms terms b.graph bytes i w
+  pub found : IsRejectedAs one_stratum h.schema h.terms terms h.graph bytes i w
   pub few : length terms ≤ max_terms
 
 -- the bytes are rejected so
-abbrev pub Rejects : Base → List ℕ → Rejection → Type 0
-Rejects b bytes (Rejections.Syntax at) = IsFault bytes at
-Rejects b bytes (Rejections.Item i w) = IsItemRejected b bytes i w
+abbrev pub Rejects : Held → List ℕ → Rejection → Type 0
+Rejects h bytes (Rejections.Syntax at) = IsFault bytes at
+Rejects h bytes (Rejections.Item i w) = IsItemRejected h bytes i w
 
 -- the proof's file holds bytes that are rejected so
-abbrev pub IsRejected : Told → Asked → Rejection → Type 0
-IsRejected told asked rejection = (b : Base) × (bytes : List ℕ) × IsGiven told asked b bytes × Rejects b bytes rejection
+abbrev pub IsRejected : Told → Command → Rejection → Type 0
+IsRejected told c rejection = (h : Held) × (bytes : List ℕ) × IsGiven told c h bytes × Rejects h bytes rejection
 
 -- the table cannot take up the node lines of the proof that the proof's file holds
-abbrev pub IsFull : Told → Asked → Type 0
-IsFull told asked = (b : Base) × (bytes : List ℕ) × IsGiven told asked b bytes × IsFullFor b.terms bytes
+abbrev pub IsFull : Told → Command → Type 0
+IsFull told c = (h : Held) × (bytes : List ℕ) × IsGiven told c h bytes × IsFullFor h.terms bytes
 
--- why they are not confirmed
-abbrev pub ConfirmStops : Base → List ℕ → Stop → Type 0
-ConfirmStops b bytes (Stops.Rejected rejection) = Rejects b bytes rejection
-ConfirmStops b bytes (Stops.Refused refusal) = (refusal ≡ Refusals.Full) × IsFullFor b.terms bytes
-ConfirmStops b bytes (Stops.Failed file) = ⊥
-ConfirmStops b bytes Stops.Memory = ⊤
+-- the schema and the graph are those of some documents
+abbrev pub IsSomeBase : Held → Type 0
+IsSomeBase h = (doc : OneShape) × (triples : List TermTriple) × IsBase doc triples h
+
+-- why the bytes are not confirmed
+abbrev pub ConfirmStops : Held → List ℕ → Stop → Type 0
+ConfirmStops h bytes (Stops.Rejected rejection) = Rejects h bytes rejection
+ConfirmStops h bytes (Stops.Refused file refusal) = (file ≡ Files.Proof) × (refusal ≡ Refusals.Full) × IsFullFor h.terms bytes
+ConfirmStops h bytes (Stops.Failed file) = ⊥
+ConfirmStops h bytes Stops.Memory = ⊤

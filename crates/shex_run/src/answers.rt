@@ -1,19 +1,26 @@
-//! What answers the words: the text that is due, and what is stored before it is printed.
+//! What answers a command: the text that is due, and what is stored before it is printed.
 
-ghost use Rattle.std.specs.Prelude.{◌≡◌, ◌<◌, ◌≤◌, Some, IfErr, IfOk, OnErr, OnOk};
+ghost use Rattle.std.specs.Prelude.{◌≡◌, ◌⊎◌, All, Some, IsSome, IfErr, IfOk, OnErr, OnOk};
+ghost use Rattle.graph_index.specs.Laws.{IsOfTable};
+ghost use Rattle.std.specs.Str.{IsUtf8};
 ghost use Rattle.shex_io.specs.Files.{Holds, HoldsPart, KeepsOthers};
 ghost use Rattle.shex_io.specs.declared.files.Act.TheVariants as Acts;
-ghost use Rattle.shex_run.specs.Endings.{IsResponse, LeavesStored, status_of};
-ghost use Rattle.shex_run.specs.Inputs.{HasRoom, IsTaken};
-ghost use Rattle.shex_run.specs.Lent.{asked_of, command_of, validate_of};
-ghost use Rattle.shex_run.specs.Outcomes.{Explains, FaultsAs, ProofStops};
-ghost use Rattle.shex_run.specs.Words.{AreForms, HasForms, check as checks, validate as validates};
+ghost use Rattle.iri_resolve.specs.Reference.{scheme_of};
+ghost use Rattle.rdf_lex.specs.Prefixes.{base_of};
+ghost use Rattle.command_words.specs.Lent.{command_of};
+ghost use Rattle.command_words.specs.declared.command.Command.TheVariants as Lent;
+ghost use Rattle.shex_inputs.specs.Held.{HasRoom, IsTaken, held_by};
+ghost use Rattle.shex_run.specs.Endings.{IsResponse};
+ghost use Rattle.shex_run.specs.Ready.{IsReply};
+ghost use Rattle.shex_run.specs.Stopping.{Explains, FaultsAs, HasBases, LeavesStored, ProofStops};
 
 use crate::checking::confirm;
-use crate::inputs::{Base, read_base};
-use crate::proving::{Decided, decide};
-use crate::stop::{File, Stop};
-use crate::words::{Asked, Command, Validation};
+use crate::deciding::{Decided, decide};
+use crate::stop::{File, Stop, stop_of};
+use command_words::{Checking, Command, Validation};
+use line_terms::{bases_are_lines, data_have_lines, map_has_lines};
+use proof_file::write::write;
+use shex_inputs::{Base, read_base, read_map};
 use shex_io::{FetchError, Files, StoreError};
 use std::alloc::Global;
 
@@ -24,13 +31,6 @@ pub struct Response {
     pub status: u8,
     /// The text.
     pub text: Vec<u8>,
-}
-
-/// The status of an answer.
-fn status(holds: bool) -> u8
-    ensures { result ≡ status_of holds }
-{
-    if holds { 0 } else { 1 }
 }
 
 /// The bytes of the proof's file.
@@ -63,38 +63,74 @@ fn store<F: Files>(files: &mut F, name: &str, bytes: &[u8]) -> Result<(), Stop>
     }
 }
 
-/// The answer to `validate`, whose proof is stored where one is asked for.
-fn validate<F: Files>(
+/// What the types of two texts tell contracts of them.
+fn are_texts(schema_base: &str, data_base: &str)
+    ensures schema { IsUtf8 schema_base.now }
+    ensures data_file { IsUtf8 data_base.now }
+{}
+
+/// The answers to the map of `validate`.
+fn decide_map<F: Files>(
     alloc: Global,
     files: &mut F,
-    base: Base,
-    asked: Asked<'_>,
-    validation: Validation<'_>,
+    base: &mut Base,
+    validation: &Validation<'_>,
+) -> Result<Decided, Stop>
+    requires taken { IsTaken (F.told files.old) (command_of (Lent.Validate validation.now)) (held_by base.old) }
+    requires bases { HasBases (command_of (Lent.Validate validation.now)) }
+    requires scheme { IsSome (scheme_of (base_of base.old.names)) }
+    requires room { HasRoom (held_by base.old) }
+    requires of_table { All (IsOfTable base.old.terms) base.old.graph.triples }
+    ensures decided { IfOk result (IsReply (F.told files.old) (command_of (Lent.Validate validation.now)) validation.now.map.now) }
+    ensures cause { IfErr result (Explains (F.told files.old) (command_of (Lent.Validate validation.now))) }
+    ensures faults { IfErr result (FaultsAs (command_of (Lent.Validate validation.now)) (F.faults files.old) (F.faults files.new) (F.blame files.new) (F.act files.new)) }
+    ensures stored { IfErr result (LeavesStored (F.told files.old) (F.told files.new) (command_of (Lent.Validate validation.now))) }
+    ensures faults_stay { OnOk result (F.faults files.new ≡ F.faults files.old) }
+    ensures told_stays { F.told files.new ≡ F.told files.old }
+{
+    // The laws by which the nodes and the targets of a map can stand in the lines of a proof.
+    data_have_lines();
+    map_has_lines();
+    bases_are_lines();
+    are_texts(validation.inputs.schema_base, validation.inputs.data_base);
+    let associations = match read_map(alloc, files, validation, base) {
+        Ok(associations) => associations,
+        Err(error) => return Err(stop_of(error)),
+    };
+    // The length of a table tells contracts that it is within the limit.
+    let _count = base.terms.len();
+    match decide(alloc, base, associations.as_slice()) {
+        Ok(decided) => Ok(decided),
+        Err(_) => Err(Stop::Memory),
+    }
+}
+
+/// What is due for answers, whose proof is stored where one is asked for.
+fn keep<F: Files>(
+    alloc: Global,
+    files: &mut F,
+    validation: &Validation<'_>,
+    decided: Decided,
 ) -> Result<Response, Stop>
-    requires taken { IsTaken (F.told files.old) (asked_of asked) base }
-    requires command { command_of asked.command ≡ validates (validate_of validation) }
-    requires forms { AreForms (validate_of validation) }
-    requires room { HasRoom base }
-    ensures response { IfOk result (λ r. IsResponse (F.told files.old) (F.told files.new) (asked_of asked.entry) r.status r.text.items) }
-    ensures low { IfOk result (λ r. r.status < 7) }
-    ensures cause { IfErr result (Explains (F.told files.old) (asked_of asked.entry)) }
-    ensures faults { IfErr result (FaultsAs (asked_of asked.entry) (F.faults files.old) (F.faults files.new) (F.blame files.new) (F.act files.new)) }
-    ensures stored { IfErr result (LeavesStored (F.told files.old) (F.told files.new) (asked_of asked.entry)) }
+    requires { IsReply (F.told files.old) (command_of (Lent.Validate validation.now)) validation.now.map.now decided }
+    ensures response { IfOk result (λ r. IsResponse (F.told files.old) (F.told files.new) (command_of (Lent.Validate validation.now)) r.status r.text.items) }
+    ensures low { IfOk result (λ r. (r.status ≡ 0) ⊎ (r.status ≡ 1)) }
+    ensures cause { IfErr result (Explains (F.told files.old) (command_of (Lent.Validate validation.now))) }
+    ensures faults { IfErr result (FaultsAs (command_of (Lent.Validate validation.now)) (F.faults files.old) (F.faults files.new) (F.blame files.new) (F.act files.new)) }
+    ensures stored { IfErr result (LeavesStored (F.told files.old) (F.told files.new) (command_of (Lent.Validate validation.now))) }
     ensures faults_stay { OnOk result (F.faults files.new ≡ F.faults files.old) }
 {
-    let Ok(decided) = decide(alloc, base, validation) else {
-        return Err(Stop::Memory);
-    };
-    let Decided { holds, text, proof } = decided;
-    let response = Response {
-        status: status(holds),
+    let Decided {
+        status,
         text,
-    };
+        proof,
+    } = decided;
+    let response = Response { status, text };
     let Some(name) = validation.proof else {
         return Ok(response);
     };
-    let Some(bytes) = proof else {
-        return Ok(response);
+    let Ok(bytes) = write(alloc, &proof) else {
+        return Err(Stop::Memory);
     };
     match store(files, name, bytes.as_slice()) {
         Ok(()) => Ok(response),
@@ -102,25 +138,50 @@ fn validate<F: Files>(
     }
 }
 
-/// The claims of the proof in the file of this name, where it is accepted.
+/// The answers to `validate`, whose proof is stored where one is asked for.
+fn validate<F: Files>(
+    alloc: Global,
+    files: &mut F,
+    base: Base,
+    validation: &Validation<'_>,
+) -> Result<Response, Stop>
+    requires taken { IsTaken (F.told files.old) (command_of (Lent.Validate validation.now)) (held_by base) }
+    requires bases { HasBases (command_of (Lent.Validate validation.now)) }
+    requires scheme { IsSome (scheme_of (base_of base.names)) }
+    requires room { HasRoom (held_by base) }
+    requires of_table { All (IsOfTable base.terms) base.graph.triples }
+    ensures response { IfOk result (λ r. IsResponse (F.told files.old) (F.told files.new) (command_of (Lent.Validate validation.now)) r.status r.text.items) }
+    ensures low { IfOk result (λ r. (r.status ≡ 0) ⊎ (r.status ≡ 1)) }
+    ensures cause { IfErr result (Explains (F.told files.old) (command_of (Lent.Validate validation.now))) }
+    ensures faults { IfErr result (FaultsAs (command_of (Lent.Validate validation.now)) (F.faults files.old) (F.faults files.new) (F.blame files.new) (F.act files.new)) }
+    ensures stored { IfErr result (LeavesStored (F.told files.old) (F.told files.new) (command_of (Lent.Validate validation.now))) }
+    ensures faults_stay { OnOk result (F.faults files.new ≡ F.faults files.old) }
+{
+    let mut base = base;
+    let decided = match decide_map(alloc, files, &mut base, validation) {
+        Ok(decided) => decided,
+        Err(stop) => return Err(stop),
+    };
+    keep(alloc, files, validation, decided)
+}
+
+/// The claims of the proof that `check` is given, where it is accepted.
 fn check<F: Files>(
     alloc: Global,
     files: &mut F,
     base: Base,
-    asked: Asked<'_>,
-    name: &str,
+    checking: &Checking<'_>,
 ) -> Result<Response, Stop>
-    requires taken { IsTaken (F.told files.old) (asked_of asked) base }
-    requires command { command_of asked.command ≡ checks name.now }
-    requires room { HasRoom base }
-    ensures response { IfOk result (λ r. IsResponse (F.told files.old) (F.told files.new) (asked_of asked.entry) r.status r.text.items) }
-    ensures low { IfOk result (λ r. r.status < 7) }
-    ensures cause { IfErr result (Explains (F.told files.old) (asked_of asked.entry)) }
-    ensures faults { IfErr result (FaultsAs (asked_of asked.entry) (F.faults files.old) (F.faults files.new) (F.blame files.new) (F.act files.new)) }
-    ensures stored { IfErr result (LeavesStored (F.told files.old) (F.told files.new) (asked_of asked.entry)) }
+    requires taken { IsTaken (F.told files.old) (command_of (Lent.Check checking.now)) (held_by base) }
+    requires room { HasRoom (held_by base) }
+    ensures response { IfOk result (λ r. IsResponse (F.told files.old) (F.told files.new) (command_of (Lent.Check checking.now)) r.status r.text.items) }
+    ensures low { IfOk result (λ r. (r.status ≡ 0) ⊎ (r.status ≡ 1)) }
+    ensures cause { IfErr result (Explains (F.told files.old) (command_of (Lent.Check checking.now))) }
+    ensures faults { IfErr result (FaultsAs (command_of (Lent.Check checking.now)) (F.faults files.old) (F.faults files.new) (F.blame files.new) (F.act files.new)) }
+    ensures stored { IfErr result (LeavesStored (F.told files.old) (F.told files.new) (command_of (Lent.Check checking.now))) }
     ensures faults_stay { OnOk result (F.faults files.new ≡ F.faults files.old) }
 {
-    let bytes = match fetch_proof(alloc, files, name) {
+    let bytes = match fetch_proof(alloc, files, checking.proof) {
         Ok(bytes) => bytes,
         Err(stop) => return Err(stop),
     };
@@ -130,22 +191,26 @@ fn check<F: Files>(
     }
 }
 
-/// What answers the words, or why nothing does. A proof that is asked for is stored before.
-pub fn respond<F: Files>(alloc: Global, files: &mut F, asked: Asked<'_>) -> Result<Response, Stop>
-    requires { HasForms (command_of asked.command) }
-    ensures response { IfOk result (λ r. IsResponse (F.told files.old) (F.told files.new) (asked_of asked.entry) r.status r.text.items) }
-    ensures low { IfOk result (λ r. r.status < 7) }
-    ensures cause { IfErr result (Explains (F.told files.old) (asked_of asked.entry)) }
-    ensures faults { IfErr result (FaultsAs (asked_of asked.entry) (F.faults files.old) (F.faults files.new) (F.blame files.new) (F.act files.new)) }
-    ensures stored { IfErr result (LeavesStored (F.told files.old) (F.told files.new) (asked_of asked.entry)) }
+/// What answers a command, or why nothing does. A proof that is asked for is stored before.
+pub fn respond<F: Files>(
+    alloc: Global,
+    files: &mut F,
+    command: &Command<'_>,
+) -> Result<Response, Stop>
+    requires { HasBases (command_of command.now) }
+    ensures response { IfOk result (λ r. IsResponse (F.told files.old) (F.told files.new) (command_of command.now) r.status r.text.items) }
+    ensures low { IfOk result (λ r. (r.status ≡ 0) ⊎ (r.status ≡ 1)) }
+    ensures cause { IfErr result (Explains (F.told files.old) (command_of command.now)) }
+    ensures faults { IfErr result (FaultsAs (command_of command.now) (F.faults files.old) (F.faults files.new) (F.blame files.new) (F.act files.new)) }
+    ensures stored { IfErr result (LeavesStored (F.told files.old) (F.told files.new) (command_of command.now)) }
     ensures faults_stay { OnOk result (F.faults files.new ≡ F.faults files.old) }
 {
-    let base = match read_base(alloc, files, asked) {
+    let base = match read_base(alloc, files, command) {
         Ok(base) => base,
-        Err(stop) => return Err(stop),
+        Err(error) => return Err(stop_of(error)),
     };
-    match asked.command {
-        Command::Validate(validation) => validate(alloc, files, base, asked, validation),
-        Command::Check(name) => check(alloc, files, base, asked, name),
+    match command {
+        Command::Validate(validation) => validate(alloc, files, base, validation),
+        Command::Check(checking) => check(alloc, files, base, checking),
     }
 }

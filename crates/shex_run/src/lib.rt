@@ -1,18 +1,12 @@
-//! The top call: from the words and the files to the answer that is printed and the proof that is stored.
+//! The top call: from the words and the files to the answers that are printed and the proof that is stored.
 #![tactic(auto)]
 
 mod answers;
 mod checking;
-mod evidence;
-mod inputs;
-mod iris;
-mod load;
-mod proving;
+mod deciding;
 mod report;
-mod shape;
 mod stop;
 mod top;
-mod words;
 
 pub use top::run;
 

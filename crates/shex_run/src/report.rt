@@ -1,26 +1,20 @@
 //! What a call prints.
 
-ghost use Rattle.std.specs.Prelude.{◌≡◌, ◌<◌, ◌++◌, IfOk, OnOk, Contains, codes, encode_utf8_all, length, string_bytes};
+ghost use Rattle.std.specs.Prelude.{◌≡◌, ◌<◌, ◌++◌, IfOk, codes, string_bytes};
 ghost use Rattle.std.specs.Fmt.{decimal};
-ghost use Rattle.std.specs.List.{flat_map};
-ghost use Rattle.rdf_terms.specs.Written.{iri_text};
-ghost use Rattle.schema_tree.specs.declared.schema.Answer.{Answer as Given};
-ghost use Rattle.shex_run.specs.Lent.{asked_of, command_of};
+ghost use Rattle.command_words.specs.Lent.{Because, command_of};
+ghost use Rattle.shex_inputs.specs.Named.{map_name, source_name};
+ghost use Rattle.shex_inputs.specs.declared.error.Refusal.TheVariants as Refusals;
 ghost use Rattle.shex_run.specs.Printing.{Prints};
-ghost use Rattle.std.specs.Str.{chars};
-ghost use Rattle.shex_run.specs.Outcomes.{given_name, name_of, source_name};
-ghost use Rattle.shex_run.specs.Words.{proof_of};
-ghost use Rattle.shex_run.specs.Results.{answer_text, mark, result_text, target_text};
-ghost use Rattle.shex_run.specs.Texts.{arguments_line, error_line, failed_line, label_line, label_of, refusal_line, rejection_line, rejection_text, same_line, unread_text, why_text};
+ghost use Rattle.shex_run.specs.Tasks.{name_of};
+ghost use Rattle.shex_run.specs.Texts.{error_line, failed_line, refusal_line, refusal_text, rejection_line, rejection_text, why_text, words_line};
+ghost use Rattle.shex_run.specs.declared.stop.File.TheVariants as Files;
 
-use crate::stop::{File, Refusal, Rejection, Source, Unread};
-use crate::words::{Asked, Command};
+use crate::stop::{File, Rejection};
+use command_words::{Command, WordsError, text};
 use proof_file::Why;
-use rdf_terms::table::TermTable;
-use rdf_terms::text::Text;
-use rdf_terms::written::write_term;
 use schema_tree::labels::Label;
-use schema_tree::schema::{Answer, Target};
+use shex_inputs::{Refusal, Source};
 use shex_io::{Sink, SinkError, put_all};
 use std::alloc::{AllocError, Global};
 
@@ -31,92 +25,86 @@ fn line(alloc: Global, place: &str, what: &str) -> Result<String, AllocError>
     format!(in alloc; "shex: {place}: {what}\n")
 }
 
-/// The line for words that ask for nothing.
-pub fn arguments(alloc: Global) -> Result<String, AllocError>
-    ensures { IfOk result (λ s. string_bytes s ≡ arguments_line) }
+/// The line for words that are at fault.
+pub fn words(alloc: Global, error: WordsError<'_>) -> Result<String, AllocError>
+    ensures { IfOk result (λ s. Because (λ f. string_bytes s ≡ words_line f) error.entry) }
 {
-    line(alloc, "words", "Arguments")
+    let what = text(alloc, error)?;
+    line(alloc, "words", what.as_str())
 }
 
-/// The bytes of the line for a name that two files have.
-fn same_bytes(alloc: Global, name: &str) -> Result<String, AllocError>
-    ensures { IfOk result (λ s. string_bytes s ≡ codes "shex: words: Same(" ++ (name.now ++ codes ")\n")) }
+/// The name of the map, and the empty text where there is none.
+fn map_name<'a>(command: &Command<'a>) -> &'a str
+    ensures { result.now ≡ map_name (command_of command.now).task }
 {
-    format!(in alloc; "shex: words: Same({name})\n")
+    match command {
+        Command::Validate(validation) => validation.map,
+        Command::Check(_) => "",
+    }
 }
 
-/// The line for a name that two files have.
-pub fn same(alloc: Global, name: &str) -> Result<String, AllocError>
-    ensures { IfOk result (λ s. string_bytes s ≡ same_line name.now) }
+/// The name of the schema file.
+fn schema_name<'a>(command: &Command<'a>) -> &'a str
+    ensures { result.now ≡ (command_of command.now).schema }
 {
-    same_bytes(alloc, name)
+    match command {
+        Command::Validate(validation) => validation.inputs.schema,
+        Command::Check(checking) => checking.inputs.schema,
+    }
 }
 
-/// The name of a file of the inputs.
-fn input_name<'a>(asked: Asked<'a>, source: Source) -> &'a str
-    ensures { result.now ≡ source_name (asked_of asked.entry) source }
+/// The name of the data file.
+fn data_name<'a>(command: &Command<'a>) -> &'a str
+    ensures { result.now ≡ (command_of command.now).data_file }
 {
-    match source {
-        Source::Schema => asked.schema,
-        Source::Data => asked.data,
+    match command {
+        Command::Validate(validation) => validation.inputs.data,
+        Command::Check(checking) => checking.inputs.data,
     }
 }
 
 /// The name of the proof, and the empty text where there is none.
-fn proof_name(command: Command<'_>) -> &str
-    ensures { result.now ≡ given_name (proof_of (command_of command.entry)) }
+fn proof_name<'a>(command: &Command<'a>) -> &'a str
+    ensures { result.now ≡ name_of (command_of command.now) Files.Proof }
 {
     match command {
         Command::Validate(validation) => match validation.proof {
             Some(name) => name,
             None => "",
         },
-        Command::Check(name) => name,
+        Command::Check(checking) => checking.proof,
+    }
+}
+
+/// The name of a file of the inputs.
+fn input_name<'a>(command: &Command<'a>, source: Source) -> &'a str
+    ensures { result.now ≡ source_name (command_of command.now) source }
+{
+    match source {
+        Source::Schema => schema_name(command),
+        Source::Data => data_name(command),
+        Source::Map => map_name(command),
     }
 }
 
 /// The name of a file in the words.
-fn name<'a>(asked: Asked<'a>, file: File) -> &'a str
-    ensures { result.now ≡ name_of (asked_of asked.entry) file }
+fn name<'a>(command: &Command<'a>, file: File) -> &'a str
+    ensures { result.now ≡ name_of (command_of command.now) file }
 {
     match file {
-        File::Input(source) => input_name(asked, source),
-        File::Proof => proof_name(asked.command),
+        File::Input(source) => input_name(command, source),
+        File::Proof => proof_name(command),
     }
 }
 
 /// The line for a file that was not fetched, or not stored.
-pub fn failed(alloc: Global, asked: Asked<'_>, file: File) -> Result<String, AllocError>
-    ensures { IfOk result (λ s. string_bytes s ≡ failed_line (name_of (asked_of asked.entry) file)) }
+pub fn failed(alloc: Global, command: &Command<'_>, file: File) -> Result<String, AllocError>
+    ensures { IfOk result (λ s. string_bytes s ≡ failed_line (name_of (command_of command.now) file)) }
 {
-    line(alloc, name(asked, file), "Failed")
+    line(alloc, name(command, file), "Failed")
 }
 
-/// The bytes of the line for a label that is not the schema's.
-fn label_bytes(alloc: Global, label: &str) -> Result<String, AllocError>
-    ensures { IfOk result (λ s. string_bytes s ≡ codes "shex: words: Label(<" ++ (label.now ++ codes ">)\n")) }
-{
-    format!(in alloc; "shex: words: Label(<{label}>)\n")
-}
-
-/// The line for a label that is not the schema's.
-fn label(alloc: Global, label: &str) -> Result<String, AllocError>
-    ensures { IfOk result (λ s. string_bytes s ≡ label_line (chars label.now)) }
-{
-    label_bytes(alloc, label)
-}
-
-/// The label that is asked for, and the empty text where none is.
-fn label_asked(command: Command<'_>) -> &str
-    ensures { chars result.now ≡ label_of (command_of command.entry) }
-{
-    match command {
-        Command::Validate(validation) => validation.label,
-        Command::Check(_) => "",
-    }
-}
-
-/// That bytes are none of the form from a place on.
+/// That bytes are of no form from a place on.
 fn syntax(alloc: Global, at: u64) -> Result<String, AllocError>
     ensures { IfOk result (λ s. string_bytes s ≡ codes "Syntax(" ++ (decimal at ++ codes ")")) }
 {
@@ -137,39 +125,60 @@ fn long(alloc: Global, at: u64) -> Result<String, AllocError>
     format!(in alloc; "Long({at})")
 }
 
-/// Why data are not read.
-fn unread_what(alloc: Global, unread: Unread) -> Result<String, AllocError>
-    ensures { IfOk result (λ s. string_bytes s ≡ unread_text unread) }
+/// The bytes of a label that is an IRI and is not declared.
+fn iri_bytes(alloc: Global, iri: &str) -> Result<String, AllocError>
+    ensures { IfOk result (λ s. string_bytes s ≡ codes "Label(<" ++ (iri.now ++ codes ">)")) }
 {
-    match unread {
-        Unread::NotUtf8 => String::from_str(alloc, "NotUtf8"),
-        Unread::Syntax(at) => syntax(alloc, at),
-        Unread::Prefix(at) => prefix(alloc, at),
-        Unread::Deep => String::from_str(alloc, "Deep"),
-        Unread::Long(at) => long(alloc, at),
-        Unread::Full => String::from_str(alloc, "Full"),
+    format!(in alloc; "Label(<{iri}>)")
+}
+
+/// The bytes of a label that is a blank node's and is not declared.
+fn blank_bytes(alloc: Global, name: &str) -> Result<String, AllocError>
+    ensures { IfOk result (λ s. string_bytes s ≡ codes "Label(_:" ++ (name.now ++ codes ")")) }
+{
+    format!(in alloc; "Label(_:{name})")
+}
+
+/// That the target with this label is not declared.
+fn label(alloc: Global, label: &Label) -> Result<String, AllocError>
+    ensures { IfOk result (λ s. string_bytes s ≡ refusal_text (Refusals.Label label.now)) }
+{
+    match label {
+        Label::Iri(iri) => iri_bytes(alloc, iri.as_str()),
+        Label::Blank(name) => blank_bytes(alloc, name.as_str()),
     }
 }
 
-/// The line for data that are not read.
-fn unread(alloc: Global, asked: Asked<'_>, unread: Unread) -> Result<String, AllocError>
-    ensures { IfOk result (λ s. string_bytes s ≡ error_line (asked_of asked.entry).data_file (unread_text unread)) }
-{
-    let what = unread_what(alloc, unread)?;
-    line(alloc, asked.data, what.as_str())
-}
-
-/// The line for refused inputs.
-pub fn refusal(alloc: Global, asked: Asked<'_>, refusal: Refusal) -> Result<String, AllocError>
-    ensures { IfOk result (λ s. string_bytes s ≡ refusal_line (asked_of asked.entry) refusal) }
+/// Why a file is refused.
+fn refusal_what(alloc: Global, refusal: &Refusal) -> Result<String, AllocError>
+    ensures { IfOk result (λ s. string_bytes s ≡ refusal_text refusal.now) }
 {
     match refusal {
-        Refusal::Size(source) => line(alloc, input_name(asked, source), "Size"),
-        Refusal::NotBuilt => line(alloc, asked.schema, "NotBuilt"),
-        Refusal::Unread(cause) => unread(alloc, asked, cause),
-        Refusal::Label => label(alloc, label_asked(asked.command)),
-        Refusal::Full => line(alloc, proof_name(asked.command), "Full"),
+        Refusal::Size => String::from_str(alloc, "Size"),
+        Refusal::NotBuilt => String::from_str(alloc, "NotBuilt"),
+        Refusal::NotUtf8 => String::from_str(alloc, "NotUtf8"),
+        Refusal::Syntax(at) => syntax(alloc, *at),
+        Refusal::Prefix(at) => prefix(alloc, *at),
+        Refusal::Deep => String::from_str(alloc, "Deep"),
+        Refusal::Long(at) => long(alloc, *at),
+        Refusal::Full => String::from_str(alloc, "Full"),
+        Refusal::Label(target) => label(alloc, target),
+        Refusal::NoStart => String::from_str(alloc, "NoStart"),
+        Refusal::Many => String::from_str(alloc, "Many"),
     }
+}
+
+/// The line for a file that is refused.
+pub fn refusal(
+    alloc: Global,
+    command: &Command<'_>,
+    file: File,
+    refusal: &Refusal,
+) -> Result<String, AllocError>
+    ensures { IfOk result (λ s. string_bytes s ≡ refusal_line (command_of command.now) file refusal.now) }
+{
+    let what = refusal_what(alloc, refusal)?;
+    line(alloc, name(command, file), what.as_str())
 }
 
 /// The name of a check.
@@ -208,102 +217,13 @@ fn rejection_what(alloc: Global, rejection: Rejection) -> Result<String, AllocEr
 /// The line for a rejected proof.
 pub fn rejection(
     alloc: Global,
-    asked: Asked<'_>,
+    command: &Command<'_>,
     rejection: Rejection,
 ) -> Result<String, AllocError>
-    ensures { IfOk result (λ s. string_bytes s ≡ rejection_line (asked_of asked.entry) rejection) }
+    ensures { IfOk result (λ s. string_bytes s ≡ rejection_line (command_of command.now) rejection) }
 {
     let what = rejection_what(alloc, rejection)?;
-    line(alloc, proof_name(asked.command), what.as_str())
-}
-
-/// Appends an IRI in angle brackets.
-fn push_iri(iri: &Text, out: &mut Vec<u8>) -> Result<(), AllocError>
-    ensures { OnOk result (out.new.items ≡ out.old.items ++ iri_text iri.now) }
-{
-    let text = iri.as_str();
-    out.push(b'<')?;
-    out.extend_from_slice(text.as_bytes())?;
-    out.push(b'>')?;
-    Ok(())
-}
-
-/// Appends `_:` and the label of a blank node.
-fn push_blank(label: &Text, out: &mut Vec<u8>) -> Result<(), AllocError>
-    ensures { OnOk result (out.new.items ≡ out.old.items ++ (codes "_:" ++ encode_utf8_all label.now)) }
-{
-    let text = label.as_str();
-    out.extend_from_slice(b"_:")?;
-    out.extend_from_slice(text.as_bytes())
-}
-
-/// Appends a target.
-fn push_target(target: &Target, out: &mut Vec<u8>) -> Result<(), AllocError>
-    ensures { OnOk result (out.new.items ≡ out.old.items ++ target_text target.now) }
-{
-    match target {
-        Target::Start => out.extend_from_slice(b"START"),
-        Target::Label(Label::Iri(iri)) => push_iri(iri, out),
-        Target::Label(Label::Blank(label)) => push_blank(label, out),
-    }
-}
-
-/// What stands before the target of an answer.
-fn mark(holds: bool) -> &'static [u8]
-    ensures { result.now ≡ codes "@" ++ mark holds }
-{
-    if holds { b"@" } else { b"@!" }
-}
-
-/// Appends an answer.
-fn push_answer(
-    alloc: Global,
-    terms: &TermTable,
-    answer: &Answer,
-    out: &mut Vec<u8>,
-) -> Result<(), AllocError>
-    requires { answer.now.node.0 < length terms.now }
-    ensures { OnOk result (out.new.items ≡ out.old.items ++ answer_text terms.now answer.now) }
-{
-    write_term(alloc, terms.get(answer.node), out)?;
-    out.extend_from_slice(mark(answer.holds))?;
-    push_target(&answer.target, out)
-}
-
-/// Appends the answers, a comma and a line feed before each.
-fn push_more(
-    alloc: Global,
-    terms: &TermTable,
-    answers: &[Answer],
-    out: &mut Vec<u8>,
-) -> Result<(), AllocError>
-    requires { (a : Given) → Contains answers.now a → a.node.0 < length terms.now }
-    ensures { OnOk result (out.new.items ≡ out.old.items ++ flat_map (λ a. codes ",\n" ++ answer_text terms.now a) answers.now) }
-{
-    for answer in answers {
-        out.extend_from_slice(b",\n")?;
-        push_answer(alloc, terms, answer, out)?;
-    }
-    Ok(())
-}
-
-/// The result map of the answers (ShapeMap Structure and Language, section 4).
-pub fn result_map(
-    alloc: Global,
-    terms: &TermTable,
-    answers: &[Answer],
-) -> Result<Vec<u8>, AllocError>
-    requires { (a : Given) → Contains answers.now a → a.node.0 < length terms.now }
-    ensures { IfOk result (λ v. v.items ≡ result_text terms.now answers.now) }
-{
-    let mut out = Vec::new(alloc);
-    let Some(first) = answers.first() else {
-        return Ok(out);
-    };
-    push_answer(alloc, terms, first, &mut out)?;
-    push_more(alloc, terms, &answers[1..], &mut out)?;
-    out.push(b'\n')?;
-    Ok(out)
+    line(alloc, proof_name(command), what.as_str())
 }
 
 /// Prints a text, and gives the status, or 7 or 8 where it is not printed whole.

@@ -1,16 +1,11 @@
-//! Why a call ends before its answer.
+//! Why a call ends before its answers.
+
+ghost use Rattle.std.specs.Prelude.{◌≡◌};
+ghost use Rattle.shex_run.specs.Stopping.{stop_of};
 
 use proof_file::Why;
+use shex_inputs::{InputError, Refusal, Source};
 use std::alloc::AllocError;
-
-/// A file of the inputs.
-#[derive(Clone, Copy, Debug, PartialEq, Eq)]
-pub enum Source {
-    /// The schema.
-    Schema,
-    /// The data.
-    Data,
-}
 
 /// A file that the words name.
 #[derive(Clone, Copy, Debug, PartialEq, Eq)]
@@ -19,38 +14,6 @@ pub enum File {
     Input(Source),
     /// The proof: `validate` stores it, and `check` reads it.
     Proof,
-}
-
-/// Why data are not read. A place is counted in bytes from 0.
-#[derive(Clone, Copy, Debug, PartialEq, Eq)]
-pub enum Unread {
-    /// The bytes are not UTF-8.
-    NotUtf8,
-    /// They are no document from this place on.
-    Syntax(u64),
-    /// The prefix that stands at this place is not declared.
-    Prefix(u64),
-    /// Brackets nest too deep.
-    Deep,
-    /// The text of the term that begins at this place is too long.
-    Long(u64),
-    /// There are too many triples or terms.
-    Full,
-}
-
-/// Why the inputs are refused.
-#[derive(Clone, Copy, Debug, PartialEq, Eq)]
-pub enum Refusal {
-    /// The file has more bytes than the limit.
-    Size(Source),
-    /// The schema's bytes are not of the form that is read.
-    NotBuilt,
-    /// The data are not read.
-    Unread(Unread),
-    /// The label that is asked for is not the schema's.
-    Label,
-    /// The table of terms cannot take up the proof's node lines.
-    Full,
 }
 
 /// Why a proof is rejected.
@@ -64,10 +27,11 @@ pub enum Rejection {
 }
 
 /// Why there is no answer.
-#[derive(Clone, Copy, Debug, PartialEq, Eq)]
+#[derive(Debug, Drop, PartialEq, Eq)]
 pub enum Stop {
-    /// The inputs are refused.
-    Refused(Refusal),
+    /// The file is refused. A proof that is checked is refused as `Full` where the table of terms cannot take up its node
+    /// lines.
+    Refused(File, Refusal),
     /// The proof is rejected.
     Rejected(Rejection),
     /// The file was not fetched, or not stored.
@@ -84,5 +48,16 @@ impl From<AllocError> for Stop {
 
     fn from(_error: AllocError) -> Stop {
         Stop::Memory
+    }
+}
+
+/// Why there is no answer where the inputs are not taken.
+pub fn stop_of(error: InputError) -> Stop
+    ensures { result ≡ stop_of error }
+{
+    match error {
+        InputError::Refused(source, refusal) => Stop::Refused(File::Input(source), refusal),
+        InputError::Failed(source) => Stop::Failed(File::Input(source)),
+        InputError::Memory => Stop::Memory,
     }
 }

@@ -1,24 +1,25 @@
 //! The top call.
 
 ghost use Rattle.std.specs.Prelude.{◌≡◌, ◌<◌, ◌⊎◌, ℕ, List, Option, Some, IfOk, map, string_bytes};
-ghost use Rattle.proof_file.specs.declared.Proof.{Proof};
-ghost use Rattle.proof_file.specs.Text.{ProofText};
 ghost use Rattle.rdf_terms.specs.declared.terms.Term.{Term};
 ghost use Rattle.schema_tree.specs.declared.schema.Answer.{Answer};
 ghost use Rattle.shex_io.specs.Faults.{Rose};
 ghost use Rattle.shex_io.specs.Sinks.{Gains};
-ghost use Rattle.shex_run.specs.Checking.{Accepted, IsGiven, IsRejected};
-ghost use Rattle.shex_run.specs.Endings.{Concludes, Ends, IsFailedBy, IsInterrupted, IsPartlyStored, IsPrintedInPart, IsRefusedBy, IsRejectedBy, IsRespondedTo, IsSamed, IsStatus, IsWordsLine, KeepsTold};
-ghost use Rattle.shex_run.specs.declared.inputs.Base.{Base};
-ghost use Rattle.shex_run.specs.Inputs.{IsTaken};
-ghost use Rattle.shex_run.specs.Outcomes.{IsAbsent, IsRefused};
-ghost use Rattle.shex_run.specs.Printing.{Prints};
-ghost use Rattle.shex_run.specs.Words.{Asked, IsAsked, IsUnasked};
+ghost use Rattle.command_words.specs.Asked.{Command as Asking, IsAsked, IsFirstFault};
+ghost use Rattle.command_words.specs.Checks.{Fault};
+ghost use Rattle.shex_inputs.specs.Held.{Held};
+ghost use Rattle.shex_run.specs.Checking.{IsGiven, IsRejected};
+ghost use Rattle.shex_run.specs.Endings.{Ends, IsFailedBy, IsPartlyStored, IsPrintedInPart, IsRefusedBy, IsRejectedBy, IsRespondedTo, IsWordsLine, KeepsTold};
+ghost use Rattle.shex_run.specs.Outcomes.{AreTaken, IsAbsent, IsRefused};
+ghost use Rattle.shex_run.specs.Printing.{Prints, RefusesWords};
+ghost use Rattle.shex_run.specs.Proofs.{Accepted};
+ghost use Rattle.shex_run.specs.Statuses.{Concludes, IsInterrupted, IsStatus};
 
 use crate::answers::respond;
 use crate::report;
-use crate::stop::{File, Refusal, Rejection, Stop};
-use crate::words::{read_words, same_name};
+use crate::stop::{File, Rejection, Stop};
+use command_words::{WordsError, answers_are_one, read};
+use shex_inputs::{Refusal, inputs_are_one};
 use shex_io::{Files, Sink};
 use std::alloc::{AllocError, Global};
 
@@ -30,6 +31,16 @@ fn say<S: Sink>(text: Result<String, AllocError>, status: u8, sink: &mut S) -> u
     match text {
         Ok(text) => report::print(sink, text.as_str().as_bytes(), status),
         Err(_) => 8,
+    }
+}
+
+/// Says what is wrong with the words, unless memory ran out, and gives the status.
+fn refuse<S: Sink>(alloc: Global, error: WordsError<'_>, sink: &mut S) -> u8
+    ensures { RefusesWords error.entry (S.got sink.old) (S.got sink.new) (S.faults sink.old) (S.faults sink.new) result }
+{
+    match error {
+        WordsError::Memory => 8,
+        error => say(report::words(alloc, error), 2, sink),
     }
 }
 
@@ -48,31 +59,34 @@ fn end<F: Files, O: Sink, E: Sink>(
         (record { got = E.got err.old; got_after = E.got err.new; faults = E.faults err.old; faults_after = E.faults err.new })
         result }
 {
-    let Some(asked) = read_words(words) else {
-        return say(report::arguments(alloc), 2, err);
+    let command = match read(alloc, words) {
+        Ok(command) => command,
+        Err(error) => return refuse(alloc, error, err),
     };
-    if let Some(name) = same_name(asked) {
-        return say(report::same(alloc, name), 2, err);
-    }
-    match respond(alloc, files, asked) {
+    match respond(alloc, files, &command) {
         Ok(response) => report::print(out, response.text.as_slice(), response.status),
-        Err(Stop::Refused(refusal)) => say(report::refusal(alloc, asked, refusal), 3, err),
-        Err(Stop::Rejected(rejection)) => say(report::rejection(alloc, asked, rejection), 6, err),
-        Err(Stop::Failed(file)) => say(report::failed(alloc, asked, file), 5, err),
+        Err(Stop::Refused(file, refusal)) => {
+            say(report::refusal(alloc, &command, file, &refusal), 3, err)
+        }
+        Err(Stop::Rejected(rejection)) => {
+            say(report::rejection(alloc, &command, rejection), 6, err)
+        }
+        Err(Stop::Failed(file)) => say(report::failed(alloc, &command, file), 5, err),
         Err(Stop::Memory) => 8,
     }
 }
 
 /// Answers what the words ask.
 ///
-/// `validate SCHEMA DATA NODE LABEL` asks whether the node of the data file has the Shape of the schema file, and prints a
-/// result shape map of one answer to `out`. With a sixth word it first stores a proof of the answer under that name.
-/// `check SCHEMA DATA PROOF` asks whether the proof in the file of that name is accepted, and prints its claims as a result
-/// shape map. Where there is no answer, one line on `err` says why.
+/// `validate --schema F --data F --map F [--proof F] [--budget N] [--schema-base I] [--data-base I] [IRI=FILE ..]` answers
+/// each association of the shape map over the schema and the data, and prints a result shape map to `out`. With `--proof` it
+/// first stores a proof of the answers under that name. `check --schema F --data F --proof F [--schema-base I]
+/// [--data-base I] [IRI=FILE ..]` asks whether the proof in the file of that name is accepted, and prints its claims as a
+/// result shape map. Where there is no answer, one line on `err` says why.
 ///
-/// The status is 0 where the node has the Shape or the proof is accepted, 1 where the node has not the Shape, 2 where the
-/// words ask for nothing or give the proof the name of another file, 3 where the inputs are refused, 5 where a file was not
-/// fetched or stored, 6 where the proof is rejected, 7 where a sink failed, 8 where memory ran out.
+/// The status is 0 where each association is answered as it wants or the proof is accepted, 1 where some association is
+/// not, 2 where the words are refused, 3 where the inputs are refused, 5 where a file was not fetched or stored, 6 where the
+/// proof is rejected, 7 where a sink failed, 8 where memory ran out.
 pub fn run<F: Files, O: Sink, E: Sink>(
     alloc: Global,
     words: &[String],
@@ -82,8 +96,9 @@ pub fn run<F: Files, O: Sink, E: Sink>(
 ) -> u8
     ensures statuses { IsStatus result }
 
-    // An answer is the truth of what the files hold, by the complete typing over the graph, and it alone is printed. The proof
-    // that is stored is accepted, and its claim is the answer. The claims of a proof that is accepted are true.
+    // An answer is the truth of what the files hold, by the complete typing over the graph, and the answers alone are
+    // printed. The proof that is stored is accepted, and its claims are the answers. The claims of a proof that is accepted
+    // are true.
     ensures answered { (result ≡ 0) ⊎ (result ≡ 1) →
         (text : List ℕ)
         × IsRespondedTo (F.told files.old) (F.told files.new) (map string_bytes words.now) result text
@@ -124,38 +139,37 @@ pub fn run<F: Files, O: Sink, E: Sink>(
         IsPartlyStored (F.told files.old) (F.told files.new) (map string_bytes words.now) }
     ensures told { KeepsTold (F.told files.old) (F.told files.new) (map string_bytes words.now) }
 
-    // Where contents are told, what the files hold decides how the call ends, but for faults and want of memory.
-    ensures unasked { IsUnasked (map string_bytes words.now) →
+    // Where contents are told, words and files decide how the call ends, but for faults and want of memory.
+    ensures unasked { (f : Fault) → IsFirstFault (map string_bytes words.now) f →
         (result ≡ 2) ⊎ ((result ≡ 7) ⊎ (result ≡ 8)) }
-    ensures samed { (name : List ℕ) → IsSamed (map string_bytes words.now) name →
-        (result ≡ 2) ⊎ ((result ≡ 7) ⊎ (result ≡ 8)) }
-    ensures takes { (contents : List ℕ → Option (List ℕ)) (asked : Asked) (b : Base) →
-        F.told files.old ≡ Some contents → IsAsked (map string_bytes words.now) asked →
-        IsTaken (F.told files.old) asked b → Concludes asked.command result ⊎ IsInterrupted result }
-    ensures accepts { (contents : List ℕ → Option (List ℕ)) (asked : Asked) (b : Base) (bytes : List ℕ) (terms : List Term) (answers : List Answer) →
-        F.told files.old ≡ Some contents → IsAsked (map string_bytes words.now) asked →
-        IsGiven (F.told files.old) asked b bytes → Accepted b bytes terms answers → (result ≡ 0) ⊎ IsInterrupted result }
-    ensures rejects { (contents : List ℕ → Option (List ℕ)) (asked : Asked) (rejection : Rejection) →
-        F.told files.old ≡ Some contents → IsAsked (map string_bytes words.now) asked →
-        IsRejected (F.told files.old) asked rejection → (result ≡ 6) ⊎ IsInterrupted result }
-    ensures refuses { (contents : List ℕ → Option (List ℕ)) (asked : Asked) (refusal : Refusal) →
-        F.told files.old ≡ Some contents → IsAsked (map string_bytes words.now) asked →
-        IsRefused (F.told files.old) asked refusal → (result ≡ 3) ⊎ IsInterrupted result }
-    ensures misses { (contents : List ℕ → Option (List ℕ)) (asked : Asked) (file : File) →
-        F.told files.old ≡ Some contents → IsAsked (map string_bytes words.now) asked →
-        IsAbsent (F.told files.old) asked file → IsInterrupted result }
-    ensures ends { (contents : List ℕ → Option (List ℕ)) (asked : Asked) (b : Base) →
-        F.told files.old ≡ Some contents → IsAsked (map string_bytes words.now) asked →
-        IsTaken (F.told files.old) asked b → ¬ Rose (F.faults files.old) (F.faults files.new) →
+    ensures takes { (contents : List ℕ → Option (List ℕ)) (c : Asking) →
+        F.told files.old ≡ Some contents → IsAsked (map string_bytes words.now) c →
+        AreTaken (F.told files.old) c → Concludes c.task result ⊎ IsInterrupted result }
+    ensures accepts { (contents : List ℕ → Option (List ℕ)) (c : Asking) (h : Held) (bytes : List ℕ) (terms : List Term) (answers : List Answer) →
+        F.told files.old ≡ Some contents → IsAsked (map string_bytes words.now) c →
+        IsGiven (F.told files.old) c h bytes → Accepted h bytes terms answers → (result ≡ 0) ⊎ IsInterrupted result }
+    ensures rejects { (contents : List ℕ → Option (List ℕ)) (c : Asking) (rejection : Rejection) →
+        F.told files.old ≡ Some contents → IsAsked (map string_bytes words.now) c →
+        IsRejected (F.told files.old) c rejection → (result ≡ 6) ⊎ IsInterrupted result }
+    ensures refuses { (contents : List ℕ → Option (List ℕ)) (c : Asking) (file : File) (refusal : Refusal) →
+        F.told files.old ≡ Some contents → IsAsked (map string_bytes words.now) c →
+        IsRefused (F.told files.old) c file refusal → (result ≡ 3) ⊎ IsInterrupted result }
+    ensures misses { (contents : List ℕ → Option (List ℕ)) (c : Asking) (file : File) →
+        F.told files.old ≡ Some contents → IsAsked (map string_bytes words.now) c →
+        IsAbsent (F.told files.old) c file → IsInterrupted result }
+    ensures ends { (contents : List ℕ → Option (List ℕ)) (c : Asking) →
+        F.told files.old ≡ Some contents → IsAsked (map string_bytes words.now) c →
+        AreTaken (F.told files.old) c → ¬ Rose (F.faults files.old) (F.faults files.new) →
         ¬ Rose (O.faults out.old) (O.faults out.new) → ¬ Rose (E.faults err.old) (E.faults err.new) →
-        Concludes asked.command result ⊎ (result ≡ 8) }
+        Concludes c.task result ⊎ (result ≡ 8) }
 
     // Faults that came are said.
     ensures files_fault { F.faults files.old < F.faults files.new → IsInterrupted result }
     ensures sink_fault { (O.faults out.old < O.faults out.new) ⊎ (E.faults err.old < E.faults err.new) →
         result ≡ 7 }
 {
-    // The law by which the data file holds one thing.
-    data_reader::data_are_one();
+    // The laws by which words and files say one thing.
+    answers_are_one();
+    inputs_are_one();
     end(alloc, words, files, out, err)
 }

@@ -30,14 +30,8 @@ fn asks(
     data: &[u8],
     node: &str,
 ) -> Result<(u8, String, String), Fail> {
-    let mut files = MemFiles::new(alloc, Vec::new(alloc));
-    files.add("s.json", schema.as_bytes())?;
-    files.add(file, data)?;
-    let words = owned(
-        alloc,
-        &["validate", "s.json", file, node, "http://localhost/S"],
-    )?;
-    call(alloc, words.as_slice(), files)
+    let map = format!(in alloc; "<{node}>@<http://localhost/S>")?;
+    ends(alloc, schema, file, data, map.as_str())
 }
 
 /// The line of an answer about a node.
@@ -122,17 +116,26 @@ fn turtle_that_is_not_read_is_refused_at_its_place(rt: HostRuntime) -> Result<()
     Ok(())
 }
 
+/// How a call ends over a map, with names and the base as they stand at the end of the data.
+fn mapped(alloc: Global, map: &str) -> Result<(u8, String, String), Fail> {
+    let data = b"@prefix e: <http://localhost/> . e:n e:p e:x . @base <http://b/> .";
+    ends(alloc, WANTS_IRI, "d.ttl", data, map)
+}
+
 #[test]
-fn only_a_name_that_ends_so_is_that_of_turtle(rt: HostRuntime) -> Result<(), Fail> {
-    for (file, line) in [
-        ("d.nt", "shex: d.nt: Syntax(0)\n"),
-        ("d.TTL", "shex: d.TTL: Syntax(0)\n"),
-        ("d.ttl.nt", "shex: d.ttl.nt: Syntax(0)\n"),
-        ("ttl", "shex: ttl: Syntax(0)\n"),
+fn nodes_of_a_map_have_the_names_of_the_data_and_targets_those_of_the_schema(
+    rt: HostRuntime,
+) -> Result<(), Fail> {
+    for (map, status, out, err) in [
+        ("e:n@<S>", 0, HOLDS, ""),
+        ("<n>@<S>", 1, "<http://b/n>@!<http://localhost/S>\n", ""),
+        ("{FOCUS e:p _}@<S>", 0, HOLDS, ""),
+        ("e:n@e:S", 3, "", "shex: m: Prefix(3)\n"),
     ] {
-        let (status, err) = refused(rt.alloc(), file, b"<n> <p> <x> .")?;
-        assert_eq!(rt; err.as_str(), line);
-        assert_eq!(rt; status, 3, "{line}");
+        let (found, printed, said) = mapped(rt.alloc(), map)?;
+        assert_eq!(rt; said.as_str(), err, "{map}");
+        assert_eq!(rt; printed.as_str(), out, "{map}");
+        assert_eq!(rt; found, status, "{map}");
     }
     Ok(())
 }
@@ -158,76 +161,6 @@ fn brackets_nest_up_to_64_deep(rt: HostRuntime) -> Result<(), Fail> {
         let (found, err) = refused(rt.alloc(), "d.ttl", data.as_bytes())?;
         assert_eq!(rt; err.as_str(), line, "{depth}");
         assert_eq!(rt; found, status, "{depth}");
-    }
-    Ok(())
-}
-
-#[test]
-fn a_turtle_file_may_have_67_108_864_bytes(rt: HostRuntime) -> Result<(), Fail> {
-    let alloc = rt.alloc();
-    for (length, line) in [
-        (67_108_864, "shex: d.ttl: Syntax(0)\n"),
-        (67_108_865, "shex: d.ttl: Size\n"),
-    ] {
-        let data = vec![in alloc; b'x'; length]?;
-        let (status, err) = refused(alloc, "d.ttl", data.as_slice())?;
-        assert_eq!(rt; err.as_str(), line, "{length}");
-        assert_eq!(rt; status, 3, "{length}");
-    }
-    Ok(())
-}
-
-/// The status, the line and the stored proof of a call over Turtle that asks for a proof.
-fn proved_of(alloc: Global, data: &str) -> Result<(u8, String, String), Fail> {
-    let mut files = MemFiles::new(alloc, Vec::new(alloc));
-    files.add("s.json", WANTS_IRI.as_bytes())?;
-    files.add("d.ttl", data.as_bytes())?;
-    let mut out = MemSink::new(alloc, Vec::new(alloc));
-    let mut err = MemSink::new(alloc, Vec::new(alloc));
-    let words = owned(
-        alloc,
-        &[
-            "validate",
-            "s.json",
-            "d.ttl",
-            "http://localhost/n",
-            "http://localhost/S",
-            "p",
-        ],
-    )?;
-    let status = run(alloc, words.as_slice(), &mut files, &mut out, &mut err);
-    let printed = String::from_utf8_lossy(alloc, out.bytes())?;
-    let stored = String::from_utf8_lossy(alloc, files.file("p").unwrap_or(b"absent"))?;
-    Ok((status, printed, stored))
-}
-
-/// How the check of these bytes ends, over Turtle.
-fn checked_of(alloc: Global, data: &str, proof: &str) -> Result<(u8, String, String), Fail> {
-    let mut files = MemFiles::new(alloc, Vec::new(alloc));
-    files.add("s.json", WANTS_IRI.as_bytes())?;
-    files.add("d.ttl", data.as_bytes())?;
-    files.add("p", proof.as_bytes())?;
-    let words = owned(alloc, &["check", "s.json", "d.ttl", "p"])?;
-    call(alloc, words.as_slice(), files)
-}
-
-#[test]
-fn the_stored_proof_over_turtle_is_accepted(rt: HostRuntime) -> Result<(), Fail> {
-    let alloc = rt.alloc();
-    for (data, record, mark, status, line) in [
-        ("<n> <p> <x> .", "+ 0 0 0", "+", 0, HOLDS),
-        ("<n> <p> 'x' .", "- 0 0 1 0:0", "-", 1, FAILS),
-        ("<n> <p> <x>, <y> .", "- 0 0 1 0:0 1:1", "-", 1, FAILS),
-    ] {
-        let (found, out, stored) = proved_of(alloc, data)?;
-        let wanted = proof(alloc, record, mark)?;
-        assert_eq!(rt; stored.as_str(), wanted.as_str(), "{data}");
-        assert_eq!(rt; out.as_str(), line, "{data}");
-        assert_eq!(rt; found, status, "{data}");
-        let (found, out, err) = checked_of(alloc, data, wanted.as_str())?;
-        assert_eq!(rt; err.as_str(), "", "{data}");
-        assert_eq!(rt; out.as_str(), line, "{data}");
-        assert_eq!(rt; found, 0, "{data}");
     }
     Ok(())
 }

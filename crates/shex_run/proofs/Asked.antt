@@ -1,0 +1,254 @@
+-- What a map asks can be answered, and a proof of the answers is accepted.
+use Rattle.std.proofs.Common.{◌≡◌, ◌≤◌, ◌<◌, ◌∙◌, ap, sym, subst, refl, List, ℕ, zero, suc, [], ◌∷◌, inl, inr, ◌⊎◌, arith, length, map}
+use Rattle.std.specs.Prelude.{All, Contains, Option, Some, None, slice_get}
+use Rattle.std.proofs.lemmas.List.Elements.{All-contains, All-contains_itself, All-weaker}
+use Rattle.std.proofs.lemmas.Option.{slice_get_within}
+use Rattle.std.specs.Str.{IsUtf8}
+use Rattle.clap.specs.Words.{Text}
+use Rattle.shex_io.specs.Files.{Told}
+use Rattle.rdf_terms.specs.Lists.{AreDistinct}
+use Rattle.rdf_terms.specs.Order.{text_if_any}
+use Rattle.rdf_terms.specs.Tables.{max_terms}
+use Rattle.rdf_terms.specs.declared.terms.Term.{Term}
+use Rattle.rdf_terms.specs.declared.terms.TermId.{TermId}
+use Rattle.rdf_terms.specs.declared.terms.Triple.{Triple}
+use Rattle.tally.specs.declared.Count.{Count}
+use Rattle.node_constraint.specs.declared.Kind4.{Kind4}
+use Rattle.one_shape.specs.declared.OneShape.{OneShape}
+use Rattle.one_shape.specs.declared.Constraint.{Constraint}
+use Rattle.graph_index.specs.Laws.{IsOfTable}
+use Rattle.graph_loading.specs.declared.triples.TermTriple.{TermTriple}
+use Rattle.graph_loading.specs.Loading.{IsNumbered}
+use Rattle.graph_loading.proofs.Loading.{all_distinct, loads_hold}
+use Rattle.data_reader.specs.Formats.{format_of}
+use Rattle.schema_tree.specs.declared.schema.Answer.{Answer}
+use Rattle.schema_tree.specs.declared.schema.Expr.{Expr}
+use Rattle.schema_tree.specs.declared.schema.Expr.TheVariants as Exprs
+use Rattle.schema_tree.specs.declared.schema.ExprId.{ExprId}
+use Rattle.schema_tree.specs.declared.schema.Occurrence.{Occurrence}
+use Rattle.schema_tree.specs.declared.schema.Schema.{Schema}
+use Rattle.schema_tree.specs.declared.schema.Shape.{Shape}
+use Rattle.schema_tree.specs.Entries.{entry}
+use Rattle.schema_tree.proofs.Lists.{from_flat_map, in_map}
+use Rattle.schema_tree.proofs.Members.{from_map, in_rest, is_first, is_later, not_in_none}
+use Rattle.term_reader.specs.Values.{IsWhole}
+use Rattle.proof_file.specs.declared.Proof.{Proof}
+use Rattle.proof_file.specs.Accepts.{AreAccepted}
+use Rattle.proof_file.specs.Text.{ProofText, target_text}
+use Rattle.proof_checker.specs.Checks.{setting_of}
+use Rattle.shape_map.specs.declared.items.Focus.{Focus}
+use Rattle.shape_map.specs.declared.items.Focus.TheVariants.{Subject, Object}
+use Rattle.shape_map.specs.declared.items.Item.{Item}
+use Rattle.shape_map.specs.declared.items.Selector.{Selector}
+use Rattle.shape_map.specs.declared.items.Selector.TheVariants.{Node, Triples}
+use Rattle.shape_map.specs.declared.resolve.Association.{Association}
+use Rattle.shape_map.specs.Selection.{at_focus, max_associations, written}
+use Rattle.line_terms.specs.Laws.{BasesAreLines, DataHaveLines, MapHasLines}
+use Rattle.line_terms.specs.Lines.{AreLines, HasLine, HaveLines}
+use Rattle.command_words.specs.Asked.{Command}
+use Rattle.shex_inputs.specs.Asked.{IsAskedOf, Question, label_names, node_names}
+use Rattle.shex_inputs.specs.Held.{IsBodyOf, IsValueOf, StandsFor}
+use Rattle.shex_inputs.specs.Loading.{IsBuilt, entries_of, kind_of, predicates_of}
+use Rattle.simple_typing.specs.Answers.{AreAnswersTo, HasLines, IsAsked, IsProofOf, flat}
+use Rattle.simple_typing.specs.Simple.{IsNodeValue, IsPlain, IsSimple, IsSimpleBody, IsSimpleSchema}
+use Rattle.shex_run.specs.Proofs.{Accepted, one_stratum}
+use Rattle.shex_run.specs.Stopping.{HasBases}
+use Rattle.shex_run.proofs.Risen.{taken_up}
+use Rattle.shex_run.proofs.Selected.{From, Gives, IsNodeOf, Known, comes_from, known}
+use Rattle.shex_run.proofs.Settled.{numbered_held}
+use Rattle.shex_run.proofs.Tables.{all_keep}
+
+-- what is so of each member is so of all
+pub all_members : {X : Type 0} (P : X → Type 0) (xs : List X) → ((x : X) → Contains xs x → P x) → All P xs
+all_members P xs to = All-weaker (Contains xs) P to xs (All-contains_itself xs)
+
+-- ---- the schema
+
+simple_body : (terms : List Term) (s : Schema) (c : Option Constraint) (body : Option Count) (occs : List Occurrence) → IsBodyOf terms s c body occs → IsSimpleBody s body occs
+simple_body terms s None None occs none = none
+simple_body terms s (Some c) (Some body) occs (plan, (o, one, made)) = (plan, (o, one, made.forward, valued c.kind o.value made.value))
+  where
+    valued : (k : Option Kind4) (v : Option ExprId) → IsValueOf s k v → IsNodeValue s v
+    valued k None h = tt
+    valued (Some kind) (Some e) h = (record { kind = Some kind }, h)
+    valued None (Some e) h = absurd h
+simple_body terms s None (Some body) occs h = absurd h
+simple_body terms s (Some c) None occs h = absurd h
+
+simple_shape : (terms : List Term) (doc : OneShape) (s : Schema) (stands : StandsFor terms doc s) → IsSimple s stands.shape
+simple_shape terms doc s stands = record {
+  closed = stands.closed;
+  extra = stands.extra;
+  body = simple_body terms s doc.constraint stands.shape.body stands.shape.occs stands.body;
+}
+
+plain_entry : (kind : Option Kind4) (k : ℕ) (x : Expr) → slice_get (entries_of kind) k ≡ Some x → IsPlain x
+plain_entry kind k (Exprs.Shape i) h = tt
+plain_entry kind k (Exprs.Node c) h = tt
+plain_entry None zero (Exprs.And es) h = absurd cc
+plain_entry None (suc k) (Exprs.And es) h = absurd cc
+plain_entry (Some kind) zero (Exprs.And es) h = absurd cc
+plain_entry (Some kind) (suc zero) (Exprs.And es) h = absurd cc
+plain_entry (Some kind) (suc (suc k)) (Exprs.And es) h = absurd cc
+plain_entry None zero (Exprs.Or es) h = absurd cc
+plain_entry None (suc k) (Exprs.Or es) h = absurd cc
+plain_entry (Some kind) zero (Exprs.Or es) h = absurd cc
+plain_entry (Some kind) (suc zero) (Exprs.Or es) h = absurd cc
+plain_entry (Some kind) (suc (suc k)) (Exprs.Or es) h = absurd cc
+plain_entry None zero (Exprs.Not e) h = absurd cc
+plain_entry None (suc k) (Exprs.Not e) h = absurd cc
+plain_entry (Some kind) zero (Exprs.Not e) h = absurd cc
+plain_entry (Some kind) (suc zero) (Exprs.Not e) h = absurd cc
+plain_entry (Some kind) (suc (suc k)) (Exprs.Not e) h = absurd cc
+
+-- a schema that stands for a document is simple
+pub simple_schema : (terms : List Term) (doc : OneShape) (s : Schema) → StandsFor terms doc s → IsBuilt terms doc.label doc.constraint s → IsSimpleSchema s
+simple_schema terms doc s stands built = record {
+  shapes = λ i sh at. subst (λ x. IsSimple s x) (only i.0 sh (sym (ap (λ shapes. slice_get shapes i.0) stands.shapes) ∙ at)) (simple_shape terms doc s stands);
+  plain = λ e x at. plain_entry (kind_of built.arc) e.0 x (sym (ap (λ z. entry z e) built.made) ∙ at);
+}
+  where
+    only : (k : ℕ) (sh : Shape) → slice_get (stands.shape ∷ []) k ≡ Some sh → stands.shape ≡ sh
+    only zero sh e = cc
+    only (suc k) sh e = absurd cc
+
+pub flat_one : (terms : List Term) (doc : OneShape) (s : Schema) → StandsFor terms doc s → flat s ≡ one_stratum
+flat_one terms doc s stands = ap (λ shapes. map (λ sh. 0) shapes) stands.shapes
+
+-- ---- answers
+
+-- each association has an answer, and each answer an association
+answer_of : (s : Schema) (terms : List Term) (g : List Triple) (asked : List Association) (xs : List Answer) → AreAnswersTo s terms g asked xs → (a : Association) → Contains asked a → (x : Answer) × Contains xs x × (x.node ≡ a.node)
+answer_of s terms g [] xs are a h = absurd (not_in_none a h)
+answer_of s terms g (b ∷ asked) [] are a h = absurd are
+answer_of s terms g (b ∷ asked) (x ∷ xs) (first, rest) a h = elim (in_rest b asked a h) [
+  | inl e ↦ (x, is_first x xs, first.node ∙ ap (λ (z : Association). z.node) e)
+  | inr later ↦ (let (y, there, same) = answer_of s terms g asked xs rest a later in (y, is_later x xs y there, same))
+]
+
+pub association_of : (s : Schema) (terms : List Term) (g : List Triple) (asked : List Association) (xs : List Answer) → AreAnswersTo s terms g asked xs → (x : Answer) → Contains xs x → (a : Association) × Contains asked a × (x.node ≡ a.node)
+association_of s terms g [] [] are x h = absurd (not_in_none x h)
+association_of s terms g [] (y ∷ xs) are x h = absurd are
+association_of s terms g (b ∷ asked) [] are x h = absurd (not_in_none x h)
+association_of s terms g (b ∷ asked) (y ∷ xs) (first, rest) x h = elim (in_rest y xs x h) [
+  | inl e ↦ (b, is_first b asked, ap (λ (z : Answer). z.node) (sym e) ∙ first.node)
+  | inr later ↦ (let (a, there, same) = association_of s terms g asked xs rest x later in (a, is_later b asked a there, same))
+]
+
+-- the nodes of the answers are of the table
+pub answers_within : (s : Schema) (terms : List Term) (g : List Triple) (asked : List Association) (xs : List Answer) → AreAnswersTo s terms g asked xs → All (IsAsked s terms) asked → (x : Answer) → Contains xs x → x.node.0 < length terms
+answers_within s terms g asked xs are all x h =
+    let (a, there, same) = association_of s terms g asked xs are x h in
+    let is : IsAsked s terms a = All-contains (IsAsked s terms) asked a all there in
+    subst (λ n. n.0 < length terms) (sym same) is.node
+
+-- ---- the question
+
+empty_distinct : AreDistinct {X = Term} []
+empty_distinct i j x h k = cc
+
+module _ (told : Told) (c : Command) (name : Text) (q : Question) (is : IsAskedOf told c name q) where
+  abbrev s : Schema
+  s = q.held.schema
+
+  abbrev g : List Triple
+  g = q.held.graph
+
+  facts : Known s g q.terms [] is.items q.associations q.terms
+  facts = known s g q.terms is.items q.associations q.terms is.ends.ends
+
+  from : (a : Association) → Contains q.associations a → From s g q.terms is.items a
+  from a h = comes_from s g q.terms is.items q.associations q.terms facts a h
+
+  pub few : length q.associations ≤ max_associations
+  few = facts.few (omega arith)
+
+  node_within : All (IsOfTable q.terms) g → (x : Selector) (n : TermId) → IsNodeOf s g q.terms x n → n.0 < length q.terms
+  node_within all (Node t) n h = slice_get_within q.terms n.0 t h
+  node_within all (Triples x) n (t, held, at) = subst (λ (z : TermId). z.0 < length q.terms) at (end x.focus)
+    where
+      of : IsOfTable q.terms t
+      of = All-contains (IsOfTable q.terms) g t all held
+
+      end : (f : Focus) → (at_focus f t).0 < length q.terms
+      end Subject = of.subject
+      end Object = of.object
+
+  pub asked : All (IsOfTable q.terms) g → All (IsAsked s q.terms) q.associations
+  asked all = all_members (IsAsked s q.terms) q.associations (λ a h. (let f = from a h in record { node = node_within all f.item.selector a.node f.node; is_target = f.declared }))
+
+  module _ (bases : HasBases c) (one : IsUtf8 c.schema_base) (other : IsUtf8 c.data_base) (data_law : DataHaveLines) (map_law : MapHasLines) (base_law : BasesAreLines) where
+    data_lines : AreLines q.held.names.base q.held.names.prefixes × ((t : TermTriple) → Contains is.taken.triples t → HaveLines t)
+    data_lines = data_law (format_of c.data_file) c.data_base is.taken.holds_data.bytes q.held.names is.taken.triples (base_law c.data_base other bases.data_file) is.taken.holds_data.spelled
+
+    item_lines : (i : Item) → Contains is.items i → ((t : Term) → Contains (written i.selector) t → HasLine t) × (¬ Contains (target_text i.target) 10)
+    item_lines = map_law (node_names q.held.names) (label_names c) is.holds_map.bytes is.items data_lines.0 (record { base = base_law c.schema_base one bases.schema; prefixes = λ prefix iri h. absurd cc }) is.holds_map.spelled
+
+    -- the term of an end of a triple of the graph can stand in a line
+    first_distinct : AreDistinct is.taken.base.first
+    first_distinct = all_distinct [] is.taken.base.first (predicates_of is.taken.doc.constraint) empty_distinct is.taken.base.predicates
+
+    record LineNode (n : TermId) : Type 0 where
+      term : Term
+      is_term : slice_get q.terms n.0 ≡ Some term
+      line : HasLine term
+
+    grown : (n : TermId) (t : Term) → slice_get q.held.terms n.0 ≡ Some t → HasLine t → LineNode n
+    grown n t at line = record { term = t; is_term = all_keep q.held.terms is.ends.takes.nodes q.terms is.ends.takes.taken n.0 t at; line = line }
+
+    end_line : (t : Triple) → Contains g t → (f : Focus) → LineNode (at_focus f t)
+    end_line t held f = go f ((loads_hold is.taken.base.first q.held.terms [] g is.taken.triples first_distinct is.taken.base.graph t).0 held)
+      where
+        go : (f : Focus) → (Contains [] t ⊎ ((x : TermTriple) × Contains is.taken.triples x × IsNumbered q.held.terms x t)) → LineNode (at_focus f t)
+        go f (inl h) = absurd (not_in_none t h)
+        go Subject (inr (x, listed, made)) = grown t.s x.subject made.subject (data_lines.1 x listed).subject
+        go Object (inr (x, listed, made)) = grown t.o x.object made.object (data_lines.1 x listed).object
+
+    node_line : (i : Item) → Contains is.items i → (n : TermId) (x : Selector) → i.selector ≡ x → IsNodeOf s g q.terms x n → LineNode n
+    node_line i listed n (Node t) e h = record { term = t; is_term = h; line = (item_lines i listed).0 t (subst (λ z. Contains (written z) t) (sym e) (is_first t [])) }
+    node_line i listed n (Triples x) e (t, held, at) = subst (λ z. LineNode z) at (end_line t held x.focus)
+
+    same_term : (t u : Term) → Some t ≡ Some u → t ≡ u
+    same_term t u h = cc
+
+    pub lines : All (HasLines q.terms) q.associations
+    lines = all_members (HasLines q.terms) q.associations (λ a h. (
+        let f = from a h in
+        let l = node_line f.item f.listed a.node f.item.selector refl f.node in
+        record {
+          whole = λ t at. subst (λ z. IsWhole z) (same_term l.term t (sym l.is_term ∙ at)) l.line.0;
+          node = subst (λ z. ¬ Contains (text_if_any z) 10) (sym l.is_term) l.line.1;
+          target = subst (λ z. ¬ Contains (target_text z) 10) (sym f.target) (item_lines f.item f.listed).1;
+        }
+        ))
+
+  -- ---- the proof of the answers
+
+  module _ (answers : List Answer) (are : AreAnswersTo s q.terms g q.associations answers) (p : Proof) (proof : IsProofOf s q.terms g answers p) where
+    -- the nodes that are written in the map have lines
+    among : (t : Term) → Contains is.ends.takes.nodes t → Contains p.nodes t
+    among t h =
+        let (i, listed, own) = from_flat_map (λ (z : Item). written z.selector) is.items t ((is.ends.takes.ordered.same t).0 h) in
+        let k : Gives s g q.terms q.associations t = facts.gives i listed t own in
+        let (x, answered, same) = answer_of s q.terms g q.associations answers are k.association k.listed in
+        let held : Contains proof.nodes k.association.node = (proof.exactly k.association.node).1 (x, answered, same) in
+        let there : Contains (map (λ (z : TermId). slice_get q.terms z.0) proof.nodes) (Some t) =
+        subst (λ z. Contains (map (λ (z : TermId). slice_get q.terms z.0) proof.nodes) z) k.node (in_map (λ (z : TermId). slice_get q.terms z.0) proof.nodes k.association.node held) in
+        let (u, lined, e) = from_map (λ z. Some z) p.nodes (Some t) (subst (λ zs. Contains zs (Some t)) proof.numbers there) in
+        subst (λ z. Contains p.nodes z) (let same_term : u ≡ t = cc in same_term) lined
+
+    pub accepted : (bytes : List ℕ) → ProofText p bytes → length q.terms ≤ max_terms → Accepted q.held bytes q.terms answers
+    accepted bytes text few_terms = record {
+      found = record {
+        proof = p;
+        nodes = proof.nodes;
+        read = record {
+          text = text;
+          table = taken_up q.held.terms is.ends.takes.nodes q.terms p.nodes is.ends.takes.taken is.ends.takes.ordered.rising proof.keeps.nodes among (λ t h. numbered_held q.terms p.nodes proof.nodes proof.numbers t h);
+          numbers = proof.numbers;
+        };
+        accepted = subst (λ f. AreAccepted (setting_of f s q.terms g proof.nodes) p) (flat_one q.held.terms is.taken.doc s is.taken.base.stands) proof.accepted;
+        claims = proof.claims;
+      };
+      few = few_terms;
+    }

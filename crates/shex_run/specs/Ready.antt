@@ -1,0 +1,52 @@
+-- What the functions that answer promise one another.
+use Rattle.std.specs.Prelude.{ℕ, List, All, ◌≡◌, ◌≤◌, ◌⊎◌, length}
+use Rattle.clap.specs.Words.{Text}
+use Rattle.shex_io.specs.Files.{Told}
+use Rattle.graph_index.specs.Contents.{IsSealedWith}
+use Rattle.graph_index.specs.Laws.{IsOfTable}
+use Rattle.schema_tree.specs.declared.schema.Answer.{Answer}
+use Rattle.schema_tree.specs.Loaded.{IsLoaded}
+use Rattle.proof_file.specs.Text.{HasNoFeeds, Keeps, ProofText}
+use Rattle.shape_map.specs.declared.resolve.Association.{Association}
+use Rattle.shape_map.specs.Results.{result_text}
+use Rattle.shape_map.specs.Selection.{max_associations}
+use Rattle.command_words.specs.Asked.{Command}
+use Rattle.shex_inputs.specs.declared.base.Base.{Base}
+use Rattle.shex_inputs.specs.Asked.{Question}
+use Rattle.simple_typing.specs.Answers.{AreAnswersTo, HasLines, IsAsked, IsProofOf}
+use Rattle.simple_typing.specs.Simple.{IsSimpleSchema}
+use Rattle.shex_run.specs.declared.deciding.Decided.{Decided}
+use Rattle.shex_run.specs.Proofs.{Accepted, AreAnswers}
+use Rattle.shex_run.specs.Statuses.{status_of}
+
+-- the associations can be answered over the schema, the table and the graph
+pub record IsReady (b : Base) (associations : List Association) : Type 0 where
+  pub loaded : IsLoaded b.schema
+  pub simple : IsSimpleSchema b.schema
+  pub sealed : IsSealedWith b.terms b.graph
+  pub of_table : All (IsOfTable b.terms) b.graph.triples
+  pub asked : All (IsAsked b.schema b.terms) associations
+  pub few : length associations ≤ max_associations
+  pub lines : All (HasLines b.terms) associations
+
+-- the answers are true, their status, text and proof are these
+pub record IsDecided (b : Base) (associations : List Association) (d : Decided) : Type 0 where
+  pub answers : List Answer
+  pub truth : AreAnswersTo b.schema b.terms b.graph.triples associations answers
+  pub proof : IsProofOf b.schema b.terms b.graph.triples answers d.proof
+  pub low : (d.status ≡ 0) ⊎ (d.status ≡ 1)
+  pub status_is : d.status ≡ status_of associations answers
+  pub text_is : d.text.items ≡ result_text b.terms answers
+
+-- they are the true answers to what the files hold for the command, whose map has this name; their status and text are these, and
+-- each text of their proof is a proof of them
+pub record IsReply (told : Told) (c : Command) (map_name : Text) (d : Decided) : Type 0 where
+  pub question : Question
+  pub answers : List Answer
+  pub are_answers : AreAnswers told c map_name question answers
+  pub low : (d.status ≡ 0) ⊎ (d.status ≡ 1)
+  pub status_is : d.status ≡ status_of question.associations answers
+  pub text_is : d.text.items ≡ result_text question.terms answers
+  pub keeps : Keeps d.proof
+  pub no_feeds : HasNoFeeds d.proof
+  pub proves : (bytes : List ℕ) → ProofText d.proof bytes → Accepted question.held bytes question.terms answers

@@ -1,0 +1,29 @@
+-- The statuses with which a call ends.
+use Rattle.std.specs.Prelude.{ℕ, Bool, List, ◌≡◌, ◌⊎◌, if◌then◌else◌}
+use Rattle.std.specs.Bool.{beq}
+use Rattle.std.specs.List.{list_all, zip}
+use Rattle.schema_tree.specs.declared.schema.Answer.{Answer}
+use Rattle.shape_map.specs.declared.resolve.Association.{Association}
+use Rattle.command_words.specs.Requests.{Task, checking, validation}
+
+-- each association is answered as it wants
+unfoldable pub are_wanted : List Association → List Answer → Bool
+are_wanted associations answers = list_all (λ (p : Association × Answer). beq p.0.want p.1.holds) (zip associations answers)
+
+-- the status of answers: 0 where each is as its association wants, and else 1
+unfoldable pub status_of : List Association → List Answer → ℕ
+status_of associations answers = if are_wanted associations answers then 0 else 1
+
+-- the statuses: 0 and 1 for answers, 2 for the words, 3 for the inputs, 5 for a file, 6 for a proof, 7 for a sink, 8 for
+-- memory
+abbrev pub IsStatus : ℕ → Type 0
+IsStatus status = (status ≡ 0) ⊎ ((status ≡ 1) ⊎ ((status ≡ 2) ⊎ ((status ≡ 3) ⊎ ((status ≡ 5) ⊎ ((status ≡ 6) ⊎ ((status ≡ 7) ⊎ (status ≡ 8)))))))
+
+-- a fault of the outside or want of memory ended the call
+abbrev pub IsInterrupted : ℕ → Type 0
+IsInterrupted status = (status ≡ 5) ⊎ ((status ≡ 7) ⊎ (status ≡ 8))
+
+-- the statuses of a task whose inputs are taken: 0 or 1; or, for a check, 0, 6, or 3 where the table is full
+abbrev pub Concludes : Task → ℕ → Type 0
+Concludes (validation map_name proof_name steps) status = (status ≡ 0) ⊎ (status ≡ 1)
+Concludes (checking name) status = (status ≡ 0) ⊎ ((status ≡ 3) ⊎ (status ≡ 6))

@@ -1,0 +1,54 @@
+-- How the functions of a call stop.
+use Rattle.std.specs.Prelude.{ℕ, List, ◌≡◌, ◌≤◌, true, ⊤}
+use Rattle.shex_io.specs.Faults.{Rose}
+use Rattle.shex_io.specs.Files.{Told}
+use Rattle.shex_io.specs.declared.files.Act.{Act}
+use Rattle.command_words.specs.Asked.{Command}
+use Rattle.command_words.specs.Checks.{is_base}
+use Rattle.shex_inputs.specs.declared.error.InputError.{InputError}
+use Rattle.shex_inputs.specs.declared.error.InputError.TheVariants as Errors
+use Rattle.shex_run.specs.declared.stop.File.TheVariants as Files
+use Rattle.shex_run.specs.declared.stop.Stop.{Stop}
+use Rattle.shex_run.specs.declared.stop.Stop.TheVariants as Stops
+use Rattle.shex_run.specs.Checking.{IsRejected}
+use Rattle.shex_run.specs.Outcomes.{IsRefused, Reaches}
+use Rattle.shex_run.specs.Proofs.{MayStore}
+use Rattle.shex_run.specs.Tasks.{act_of, name_of}
+
+-- both bases of the command are ones
+pub record HasBases (c : Command) : Type 0 where
+  pub schema : is_base c.schema_base ≡ true
+  pub data_file : is_base c.data_base ≡ true
+
+-- the stop that an error of the inputs is
+abbrev pub stop_of : InputError → Stop
+stop_of (Errors.Refused source refusal) = Stops.Refused (Files.Input source) refusal
+stop_of (Errors.Failed source) = Stops.Failed (Files.Input source)
+stop_of Errors.Memory = Stops.Memory
+
+-- why there is no answer: a file is refused, the proof is rejected, the steps came to a file that was not fetched or stored, or
+-- memory ran out
+abbrev pub Explains : Told → Command → Stop → Type 0
+Explains told c (Stops.Refused file refusal) = IsRefused told c file refusal
+Explains told c (Stops.Rejected rejection) = IsRejected told c rejection
+Explains told c (Stops.Failed file) = Reaches told c file
+Explains told c Stops.Memory = ⊤
+
+-- what a call that stops does to the count of faults of the files: it rises where a call on a file failed, which is then
+-- named, and else stays
+abbrev pub FaultsAs : Command → ℕ → ℕ → List ℕ → Act → Stop → Type 0
+FaultsAs c before after blame act (Stops.Failed file) = Rose before after × (before ≤ after) × (blame ≡ name_of c file) × (act ≡ act_of c.task file)
+FaultsAs c before after blame act stop = after ≡ before
+
+-- what a call that stops leaves stored: nothing, or, where a call on a file failed or memory ran out, the proof in part
+abbrev pub LeavesStored : Told → Told → Command → Stop → Type 0
+LeavesStored told after c (Stops.Refused file refusal) = after ≡ told
+LeavesStored told after c (Stops.Rejected rejection) = after ≡ told
+LeavesStored told after c (Stops.Failed file) = MayStore told after c
+LeavesStored told after c Stops.Memory = MayStore told after c
+
+-- how a call on the proof's file stops: the call failed, or memory ran out
+abbrev pub ProofStops : List ℕ → Act → ℕ → ℕ → List ℕ → Act → Stop → Type 0
+ProofStops name wanted before after blame act (Stops.Failed file) = (file ≡ Files.Proof) × (Rose before after × (before ≤ after) × (blame ≡ name) × (act ≡ wanted))
+ProofStops name wanted before after blame act Stops.Memory = after ≡ before
+ProofStops name wanted before after blame act stop = ⊥

@@ -1,0 +1,46 @@
+-- The tasks of a command, and the files that its words name for them.
+use Rattle.std.specs.Prelude.{ℕ, List, [], ◌≡◌, Option, unwrap_or, ⊤}
+use Rattle.clap.specs.Words.{Text}
+use Rattle.shex_io.specs.declared.files.Act.{Act}
+use Rattle.shex_io.specs.declared.files.Act.TheVariants as Acts
+use Rattle.command_words.specs.Asked.{Command}
+use Rattle.command_words.specs.Requests.{Task, checking, proof_of, validation}
+use Rattle.shex_inputs.specs.declared.error.Source.{Source}
+use Rattle.shex_inputs.specs.declared.error.Source.TheVariants as Sources
+use Rattle.shex_inputs.specs.Named.{source_name}
+use Rattle.shex_run.specs.declared.stop.File.{File}
+use Rattle.shex_run.specs.declared.stop.File.TheVariants as Files
+
+-- the command is to validate the associations of the map of this name, and to store their proof under the other name, if there is
+-- one
+pub record IsToValidate (c : Command) (map_name : Text) (proof_name : Option Text) : Type 0 where
+  pub steps : ℕ
+  pub task : c.task ≡ validation map_name proof_name steps
+
+-- the command is to check the proof of this name
+abbrev pub IsToCheck : Command → Text → Type 0
+IsToCheck c name = c.task ≡ checking name
+
+-- the file is an input of the task: a check has no map
+abbrev pub IsInputOf : Task → Source → Type 0
+IsInputOf (validation map_name proof_name steps) source = ⊤
+IsInputOf (checking name) Sources.Schema = ⊤
+IsInputOf (checking name) Sources.Data = ⊤
+IsInputOf (checking name) Sources.Map = ⊥
+
+-- the file is to be fetched, and not to be stored
+abbrev pub IsFetched : Task → File → Type 0
+IsFetched task (Files.Input source) = IsInputOf task source
+IsFetched (validation map_name proof_name steps) Files.Proof = ⊥
+IsFetched (checking name) Files.Proof = ⊤
+
+-- what is done with a file
+abbrev pub act_of : Task → File → Act
+act_of task (Files.Input source) = Acts.Fetch
+act_of (validation map_name proof_name steps) Files.Proof = Acts.Store
+act_of (checking name) Files.Proof = Acts.Fetch
+
+-- the name of a file in the words; it is empty where they name none
+abbrev pub name_of : Command → File → List ℕ
+name_of c (Files.Input source) = source_name c source
+name_of c Files.Proof = unwrap_or (proof_of c.task) []
