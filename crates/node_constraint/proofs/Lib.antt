@@ -1,0 +1,7 @@
+pub mod Spelled
+pub mod Deciding
+pub mod Joining
+pub mod Refusing
+pub mod Numbers
+pub mod Turning
+pub mod Told
