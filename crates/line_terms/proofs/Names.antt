@@ -17,7 +17,7 @@ use Rattle.rdf_lex.specs.Tokens.{Spelled}
 use Rattle.rdf_cursor.specs.Meanings.{text_of, name_of, is_anonymous, anonymous_number}
 use Rattle.rdf_cursor.proofs.Meanings.{text_of_is}
 use Rattle.proof_file.specs.Text.{target_text}
-use Rattle.schema_tree.specs.declared.labels.Label.TheVariants as label
+use Rattle.schema_documents.specs.declared.label.Label.TheVariants as label
 use Rattle.schema_tree.specs.declared.schema.Target.{Target}
 use Rattle.schema_tree.specs.declared.schema.Target.TheVariants as target
 use Rattle.shape_map.specs.declared.faults.Fault.{Fault}

@@ -11,7 +11,7 @@ use Rattle.schema_tree.specs.declared.schema.Shape.{Shape}
 use Rattle.schema_tree.specs.declared.schema.Schema.{Schema}
 use Rattle.schema_tree.specs.declared.schema.Target.{Target}
 use Rattle.schema_tree.specs.declared.schema.Target.TheVariants as Targets
-use Rattle.schema_tree.specs.declared.labels.Label.{Label}
+use Rattle.schema_documents.specs.declared.label.Label.{Label}
 use Rattle.schema_tree.specs.Edges.{level}
 use Rattle.schema_tree.specs.Labels.{labels_of}
 use Rattle.schema_tree.specs.Loaded.{IsLoaded, IsTarget}

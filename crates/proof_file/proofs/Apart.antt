@@ -8,7 +8,7 @@ use Rattle.std.specs.List.{AllByRecursion, Contains, flat_map, join_with_byte}
 use Rattle.rdf_terms.specs.Written.{iri_text, term_text}
 use Rattle.rdf_terms.specs.declared.terms.Term.{Term}
 use Rattle.term_reader.proofs.TermTexts.{term_same}
-use Rattle.schema_tree.specs.declared.labels.Label.TheVariants as Labels
+use Rattle.schema_documents.specs.declared.label.Label.TheVariants as Labels
 use Rattle.schema_tree.specs.declared.schema.Target.{Target}
 use Rattle.schema_tree.specs.declared.schema.Target.TheVariants as Targets
 use Rattle.schema_tree.specs.declared.verdicts.Place.{Place}

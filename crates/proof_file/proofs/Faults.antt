@@ -9,7 +9,7 @@ use Rattle.std.specs.List.{AllByRecursion, Contains, join_with_byte}
 use Rattle.std.specs.Str.{IsUtf8}
 use Rattle.rdf_terms.specs.Written.{term_text}
 use Rattle.term_reader.proofs.TermTexts.{term_utf8}
-use Rattle.schema_tree.specs.declared.labels.Label.TheVariants as Labels
+use Rattle.schema_documents.specs.declared.label.Label.TheVariants as Labels
 use Rattle.schema_tree.specs.declared.schema.Target.{Target}
 use Rattle.schema_tree.specs.declared.schema.Target.TheVariants as Targets
 use Rattle.schema_tree.specs.declared.verdicts.Place.{Place}

@@ -9,7 +9,7 @@ use Rattle.std.specs.declared.cmp.Ordering.TheVariants.{Less}
 use Rattle.term_reader.specs.Values.{IsValue, IsWhole}
 use Rattle.rdf_terms.specs.Written.{term_text, iri_text}
 use Rattle.rdf_terms.specs.declared.terms.Term.{Term}
-use Rattle.schema_tree.specs.declared.labels.Label.TheVariants as Labels
+use Rattle.schema_documents.specs.declared.label.Label.TheVariants as Labels
 use Rattle.schema_tree.specs.declared.schema.Target.{Target}
 use Rattle.schema_tree.specs.declared.schema.Target.TheVariants as Targets
 use Rattle.schema_tree.specs.declared.verdicts.Place.{Place}

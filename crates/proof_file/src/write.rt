@@ -9,7 +9,7 @@ ghost use Rattle.rdf_terms.specs.Written.{iri_text};
 ghost use Rattle.proof_file.specs.Text.{place_text, state_text, kind_mark, kind_fields, target_text, ended, line_text, lines_text, section_lines, ProofText, Keeps, HasNoFeeds, IsTextTarget};
 ghost use Rattle.proof_file.specs.declared.line.Line.TheVariants as Lines;
 ghost use Rattle.schema_tree.specs.declared.schema.Target.TheVariants as Targets;
-ghost use Rattle.schema_tree.specs.declared.labels.Label.TheVariants as Labels;
+ghost use Rattle.schema_documents.specs.declared.label.Label.TheVariants as Labels;
 
 use crate::{Claim, Proof, Record, RecordKind, Section};
 use rdf_terms::terms::Term;

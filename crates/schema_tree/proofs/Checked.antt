@@ -9,7 +9,7 @@ use Rattle.schema_tree.specs.declared.schema.Schema.{Schema}
 use Rattle.schema_tree.specs.declared.schema.Shape.{Shape}
 use Rattle.schema_tree.specs.declared.schema.ExprId.{ExprId}
 use Rattle.schema_tree.specs.declared.schema.Expr.{Expr}
-use Rattle.schema_tree.specs.declared.labels.Label.{Label}
+use Rattle.schema_documents.specs.declared.label.Label.{Label}
 use Rattle.schema_tree.specs.Entries.{entry}
 use Rattle.schema_tree.specs.Labels.{labels_of}
 use Rattle.schema_tree.specs.Loaded.{BodyOk, IsEntryIfAny, IsLoaded, IsShapeLoaded, RefersBelow}

@@ -15,7 +15,7 @@ use Rattle.tally.specs.declared.Interval.{Interval}
 use Rattle.tally.specs.Span.{HasSpan, IsBelow, IsSound, span}
 use Rattle.tally.proofs.Exact.{copies_span, span_copies}
 use Rattle.schema_tree.specs.declared.schema.Schema.{Schema}
-use Rattle.node_constraint.specs.declared.NodeConstraint.{NodeConstraint}
+use Rattle.node_constraint.specs.Constraint.{Constraint}
 use Rattle.schema_tree.specs.declared.schema.Occurrence.{Occurrence}
 use Rattle.schema_tree.specs.declared.schema.Shape.{Shape}
 use Rattle.schema_tree.specs.declared.schema.ShapeId.{ShapeId}
@@ -96,11 +96,11 @@ same_pairs p q = go (same_terms p.node q.node) (same_shapes p.shape q.shape)
     go (inr h) b = inr (λ e. h (ap (λ x. x.node) e))
 
 -- a node constraint holds at a place of the table, or it does not
-pub decide_node : NodesAreDecided → (c : NodeConstraint) (t : Option Term) → Decided (SatNodeAt c t)
+pub decide_node : NodesAreDecided → (c : Constraint) (t : Option Term) → Decided (SatNodeAt c t)
 decide_node nodes c None = inr (λ h. h)
 decide_node nodes c (Some term) = nodes c term
 
-module _ (s : Schema) (terms : List Term) (node : (c : NodeConstraint) (t : Option Term) → Decided (SatNodeAt c t)) where
+module _ (s : Schema) (terms : List Term) (node : (c : Constraint) (t : Option Term) → Decided (SatNodeAt c t)) where
   decide_entry :
       (T : List Pair) (n : TermId) (member : ExprId → Type 0) → ((e : ExprId) → Decided (member e)) → (x : Option Expr) →
       Decided (SatEntry T terms n member x)
@@ -229,7 +229,7 @@ decide_places hold fail dh df g sh made n ts =
     join (inr opened) (inl (ps, all, counts)) = inl (record { open_to = opened; places = ps; allowed = all; spelled = counts })
     join (inr opened) (inr none) = inr (λ h. none (h.places, h.allowed, h.spelled))
 
-module _ (s : Schema) (terms : List Term) (node : (c : NodeConstraint) (t : Option Term) → Decided (SatNodeAt c t)) (g : List Triple)
+module _ (s : Schema) (terms : List Term) (node : (c : Constraint) (t : Option Term) → Decided (SatNodeAt c t)) (g : List Triple)
     (loaded : (i : ShapeId) (sh : Shape) → shape_at s i ≡ Some sh → IsWellMade sh) where
   decide_value : (T : List Pair) (m : TermId) (v : Option ExprId) → Decided (SatValue (Sat s terms T m) v)
   decide_value T m None = inl tt

@@ -5,10 +5,10 @@ use Rattle.std.proofs.lemmas.Map.Views.{Contains-from_lookup}
 use Rattle.std.specs.Map.{lookup}
 use Rattle.rdf_terms.specs.Sameness.{text_decides}
 use Rattle.schema_tree.specs.Labels.{IsDeclared}
-use Rattle.schema_tree.specs.declared.labels.Label.{Label}
-use Rattle.schema_tree.specs.declared.labels.Label.TheVariants.{Iri, Blank}
+use Rattle.schema_documents.specs.declared.label.Label.{Label}
+use Rattle.schema_documents.specs.declared.label.Label.TheVariants.{Iri, Blank}
 use Rattle.schema_tree.specs.declared.schema.ExprId.{ExprId}
-use Rattle.schema_tree.specs.contracts.labels.LabelPartialEq.TheImpl.{ghosts}
+use Rattle.schema_documents.specs.contracts.label.LabelPartialEq.TheImpl.{ghosts}
 
 abbrev pub same_label : Label → Label → Bool
 same_label = ghosts.eq

@@ -28,7 +28,7 @@ constraints_share c typing is = (
   [],
   IsPermutation-append_comm (to_bob ∷ []) (to_text ∷ []),
   subst (λ plan. Matches (Sat (literal_and_any c) terms typing) (out_arc name (Some (expr_id 0)) ∷ out_arc name None ∷ []) ann plan (to_text ∷ to_bob ∷ [])) (sym is)
-      ((to_text ∷ []) ∷ (to_bob ∷ []) ∷ [], IsPermutation-refl (to_text ∷ to_bob ∷ []), ((to_text, refl, (refl, tt)), ((to_bob, refl, (refl, tt)), tt))),
+      ((to_text ∷ []) ∷ (to_bob ∷ []) ∷ [], IsPermutation-refl (to_text ∷ to_bob ∷ []), ((to_text, refl, (refl, record { kind = tt; datatype = tt; facets = tt; values = tt })), ((to_bob, refl, (refl, tt)), tt))),
   record {
     unmatched = λ t o h. absurd (not_in_none t h);
     in_extra = λ t h. absurd (not_in_none t h);
@@ -40,7 +40,7 @@ module _ (extra : List TermId) (c : Count) (typing : List Pair) where
   -- a triple that is taken ends in a literal
   not_to_bob : (a : Triple) → Takes (Sat (literal_twice extra c) terms typing) ann (Some (out_arc name (Some (expr_id 0)))) a → a ≡ to_bob → ⊥
   unfolding SatWithin
-  not_to_bob a h e = let P : Triple → Type 0 = λ u. Takes (Sat (literal_twice extra c) terms typing) ann (Some (out_arc name (Some (expr_id 0)))) u in (subst P e h).1
+  not_to_bob a h e = let P : Triple → Type 0 = λ u. Takes (Sat (literal_twice extra c) terms typing) ann (Some (out_arc name (Some (expr_id 0)))) u in (subst P e h).1.kind
 
   shared_out : plan_of c ≡ both → ¬ ShapeOk (literal_twice extra c) terms two_names typing ann (shape_id 0)
   shared_out is (matched, rest, deals, body, ok) =

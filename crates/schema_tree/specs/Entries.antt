@@ -2,7 +2,7 @@
 use Rattle.std.specs.Prelude.{slice_get, Option, Some, None}
 use Rattle.rdf_terms.specs.declared.terms.Term.{Term}
 use Rattle.rdf_terms.specs.declared.terms.TermId.{TermId}
-use Rattle.node_constraint.specs.declared.NodeConstraint.{NodeConstraint}
+use Rattle.node_constraint.specs.Constraint.{Constraint}
 use Rattle.node_constraint.specs.SatNode.{SatNode}
 use Rattle.schema_tree.specs.declared.schema.Schema.{Schema}
 use Rattle.schema_tree.specs.declared.schema.Shape.{Shape}
@@ -20,7 +20,7 @@ abbrev pub shape_at : Schema → ShapeId → Option Shape
 shape_at s i = slice_get s.shapes i.0
 
 -- the term, if there is one, satisfies the node constraint (ShEx 2.1, section 5.4)
-abbrev pub SatNodeAt : NodeConstraint → Option Term → Type 0
+abbrev pub SatNodeAt : Constraint → Option Term → Type 0
 SatNodeAt c None = ⊥
 SatNodeAt c (Some term) = SatNode c term
 

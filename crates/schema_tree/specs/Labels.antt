@@ -1,6 +1,6 @@
 -- The declared labels of a schema.
 use Rattle.std.specs.Prelude.{Bool, true, false, List, [], ◌∷◌, ◌++◌, ◌≡◌, map, Contains}
-use Rattle.schema_tree.specs.declared.labels.Label.{Label}
+use Rattle.schema_documents.specs.declared.label.Label.{Label}
 use Rattle.schema_tree.specs.declared.schema.ExprId.{ExprId}
 
 -- the labels alone

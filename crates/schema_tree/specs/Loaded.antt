@@ -13,7 +13,7 @@ use Rattle.schema_tree.specs.declared.schema.Expr.{Expr}
 use Rattle.schema_tree.specs.declared.schema.Expr.TheVariants.{And, Or, Not, Node, Shape as shape_of}
 use Rattle.rdf_terms.specs.Lists.{AreDistinct}
 use Rattle.schema_tree.specs.Labels.{labels_of}
-use Rattle.schema_tree.specs.declared.labels.Label.{Label}
+use Rattle.schema_documents.specs.declared.label.Label.{Label}
 use Rattle.schema_tree.specs.declared.schema.Target.{Target}
 use Rattle.schema_tree.specs.declared.schema.Target.TheVariants as Targets
 use Rattle.schema_tree.specs.Entries.{entry, shape_at}

@@ -5,6 +5,7 @@ use Rattle.rdf_terms.specs.declared.terms.Term.TheVariants.{Iri, Lit}
 use Rattle.rdf_terms.specs.declared.terms.TermId.{TermId}
 use Rattle.rdf_terms.specs.declared.terms.Triple.{Triple}
 use Rattle.rdf_terms.specs.Literals.{xsd_string}
+use Rattle.node_constraint.specs.Constraint.{of_kind}
 use Rattle.node_constraint.specs.declared.Kind4.TheVariants as Kinds
 use Rattle.tally.specs.declared.Count.{Count}
 use Rattle.tally.specs.Plan.{Plan, sym, each, one, row}
@@ -70,7 +71,7 @@ expr_id e = record { 0 = e }
 
 -- the node constraint LITERAL
 abbrev pub literal : Expr
-literal = Exprs.Node (record { kind = Some Kinds.Literal })
+literal = Exprs.Node (of_kind (Some Kinds.Literal))
 
 -- the triple constraint <p> with its value
 abbrev pub out_arc : TermId → Option ExprId → Occurrence

@@ -6,18 +6,9 @@ ghost use Rattle.schema_tree.specs.Labels.{labels_of, DeclaresNext, IsDeclared};
 
 use crate::schema::ExprId;
 use indexmap::IndexMap;
-use rdf_terms::text::Text;
+pub use schema_documents::Label;
 use std::alloc::{AllocError, Global};
 use std::marker::Model;
-
-/// The name of a shape expression (ShEx 2.1, section 5.2): an IRI, or a blank node's label without `_:`.
-#[derive(Debug, Drop, PartialEq, Eq, Hash)]
-pub enum Label {
-    /// An IRI.
-    Iri(Text),
-    /// A blank node's label, without `_:`.
-    Blank(Text),
-}
 
 /// The declared labels, each once and with its expression, in reading order.
 #[derive(Drop)]
@@ -27,7 +18,7 @@ pub struct Labels {
 
 impl Model for Labels {
     ghost use Rattle.std.specs.Prelude.{List};
-    ghost use Rattle.schema_tree.specs.declared.labels.Label.{Label};
+    ghost use Rattle.schema_documents.specs.declared.label.Label.{Label};
     ghost use Rattle.schema_tree.specs.declared.schema.ExprId.{ExprId};
 
     ghost Value = { List (Label × ExprId) };
@@ -96,6 +87,7 @@ impl Labels {
 #[cfg(test)]
 mod tests {
     use super::*;
+    use rdf_terms::text::Text;
     use std::test::Fail;
 
     /// An IRI or a blank node's label.

@@ -2,7 +2,7 @@
 
 ghost use Rattle.schema_tree.specs.Laws.{AnswersAlike, CopiesGiveParts, CyclesAreLists, DecidedIsAnswered, DecidedIsSure, MatchIsExact, MatchIsTrue, NarrowIsKnown, NoMatchIsTrue, OneRefinement, OneTyping, OneVerdict, OrderIsWhole, PartsSpellCopies, PathsAreShort, PlainShapesAreNarrow, RefinementExists, RefinementIsTrue, SatFollowsPairs, SatIsDecided, SatIsItsLayer, SatKnowsNoBound, ShapesAreDecided, ShapesArePlaces, ShapesFollowEdges, ShapesGrow, SomeVerdict, StatesLeadNowhere, StatesRefute, StrataAlike, StrataAreLeast, StrataAreStratified, StrataGiveOneTyping, StratifiedHasNoCycle, StratumIsTrue, SureFollowsAnswers, SureIsItsLayer, SureIsTrue, SureKnowsNoBound, TypingExists};
 
-use node_constraint::nodes_are_decided;
+use node_constraint::laws::nodes_are_decided;
 
 /// Claims that under a loaded schema the meaning of an expression is its own layer's over its members, whatever bound
 /// its recursion is given (ShEx 2.1, section 5.3).

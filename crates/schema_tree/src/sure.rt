@@ -42,16 +42,25 @@ fn negated(verdict: Verdict) -> Verdict
 }
 
 /// Whether the node is a term of the table that satisfies the constraint (ShEx 2.1, section 5.4).
-fn satisfies(terms: &TermTable, node: TermId, constraint: &NodeConstraint) -> bool
-    ensures { IsTrue result ↔ SatNodeAt constraint.now (slice_get terms.now node.0) }
+fn satisfies(
+    alloc: Global,
+    terms: &TermTable,
+    node: TermId,
+    constraint: &NodeConstraint,
+) -> Result<bool, AllocError>
+    ensures { IfOk result (λ b. IsTrue b ↔ SatNodeAt constraint.now (slice_get terms.now node.0)) }
 {
-    let is_term = (node.0 as usize) < terms.len();
-    is_term && constraint.holds(terms.get(node))
+    if (node.0 as usize) < terms.len() {
+        constraint.holds(alloc, terms.get(node))
+    } else {
+        Ok(false)
+    }
 }
 
 /// What is asked about expressions: their verdicts on one node under one view.
 #[derive(Drop)]
 struct Question<'a, V> {
+    alloc: Global,
     schema: &'a Schema,
     terms: &'a TermTable,
     node: TermId,
@@ -80,7 +89,8 @@ impl<V: View> Question<'_, V> {
             }
             Some(Expr::Not(member)) => Ok(negated(self.verdict(*member, kept)?)),
             Some(Expr::Node(constraint)) => {
-                if satisfies(self.terms, self.node, constraint) {
+                let fits = satisfies(self.alloc, self.terms, self.node, constraint)?;
+                if fits {
                     Ok(Verdict::Yes)
                 } else {
                     Ok(Verdict::No)
@@ -151,7 +161,7 @@ impl<V: View> Question<'_, V> {
 /// The verdict on a node with an expression, and no other is: No for a ShapeAnd with a member that is No, else Unknown
 /// where a member is, else Yes; for a ShapeOr the other way round; a ShapeNot exchanges Yes and No, a node constraint is
 /// decided, and a Shape has the view's verdict on its pair (ShEx 2.1, section 5.3, with three answers). An expression
-/// that the schema does not have is No. It fails only for want of memory, which only a ShapeAnd or a ShapeOr asks for.
+/// that the schema does not have is No. It fails only for want of memory, which ShapeAnds, ShapeOrs and node constraints with facets ask for.
 pub fn sure<V: View>(
     alloc: Global,
     schema: &Schema,
@@ -165,6 +175,7 @@ pub fn sure<V: View>(
     ensures no_other { IfOk result (λ v. (w : Verdict) → IsSure schema.now terms.now (V.known view.now) node expr w → w ≡ v) }
 {
     let question = Question {
+        alloc,
         schema,
         terms,
         node,

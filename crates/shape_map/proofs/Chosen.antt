@@ -19,7 +19,7 @@ use Rattle.graph_loading.specs.Loading.{AddsAll, none, more as also}
 use Rattle.graph_loading.proofs.Loading.{all_one, all_distinct}
 use Rattle.schema_tree.specs.Labels.{labels_of}
 use Rattle.schema_tree.specs.Loaded.{IsTarget, HasTarget}
-use Rattle.schema_tree.specs.declared.labels.Label.{Label}
+use Rattle.schema_documents.specs.declared.label.Label.{Label}
 use Rattle.schema_tree.specs.declared.schema.ExprId.{ExprId}
 use Rattle.schema_tree.specs.declared.schema.Schema.{Schema}
 use Rattle.schema_tree.specs.declared.schema.Target.{Target}

@@ -13,7 +13,7 @@ use Rattle.rdf_lex.specs.declared.prefixes.Prefixes.{Prefixes}
 use Rattle.rdf_lex.specs.declared.kinds.Mode.TheVariants.{Map}
 use Rattle.rdf_lex.specs.Tokens.{Spelled}
 use Rattle.rdf_cursor.specs.Meanings.{text_of, name_of}
-use Rattle.schema_tree.specs.declared.labels.Label.TheVariants as label
+use Rattle.schema_documents.specs.declared.label.Label.TheVariants as label
 use Rattle.schema_tree.specs.declared.schema.Target.{Target}
 use Rattle.schema_tree.specs.declared.schema.Target.TheVariants as target
 use Rattle.shape_map.specs.declared.faults.Fault.{Fault}

@@ -3,7 +3,7 @@ use Rattle.std.specs.Prelude.{ℕ, Bool, List, [], ◌∷◌, ◌++◌, codes, e
 use Rattle.rdf_terms.specs.declared.terms.Term.{Term}
 use Rattle.rdf_terms.specs.Order.{text_at}
 use Rattle.rdf_terms.specs.Written.{iri_text}
-use Rattle.schema_tree.specs.declared.labels.Label.TheVariants as label
+use Rattle.schema_documents.specs.declared.label.Label.TheVariants as label
 use Rattle.schema_tree.specs.declared.schema.Answer.{Answer}
 use Rattle.schema_tree.specs.declared.schema.Target.{Target}
 use Rattle.schema_tree.specs.declared.schema.Target.TheVariants as target

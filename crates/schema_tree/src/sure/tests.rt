@@ -135,30 +135,44 @@ fn or(alloc: Global, one: u32, other: u32) -> Result<Expr, AllocError> {
     Ok(Expr::Or(Items::of(vec![in alloc; ExprId(one), ExprId(other)]?)))
 }
 
-/// Expressions of each kind over members with each verdict.
-fn every_kind(alloc: Global) -> Result<Schema, AllocError> {
-    let anything = NodeConstraint { kind: None };
-    let literal = NodeConstraint {
-        kind: Some(Kind4::Literal),
-    };
+/// Two constraints, of which the first holds for every term, and three Shapes.
+fn leaves(alloc: Global) -> Result<Vec<Expr>, AllocError> {
     let exprs = vec![in alloc;
-        Expr::Node(anything),
-        Expr::Node(literal),
+        Expr::Node(NodeConstraint::of_kind(alloc, None)),
+        Expr::Node(NodeConstraint::of_kind(alloc, Some(Kind4::Literal))),
         Expr::Shape(ShapeId(0)),
         Expr::Shape(ShapeId(1)),
         Expr::Shape(ShapeId(2)),
-        and(alloc, 2, 0)?,
-        and(alloc, 2, 4)?,
-        and(alloc, 4, 3)?,
-        or(alloc, 3, 1)?,
-        or(alloc, 3, 4)?,
-        or(alloc, 4, 2)?,
-        Expr::Not(ExprId(2)),
-        Expr::Not(ExprId(3)),
-        Expr::Not(ExprId(6)),
-        Expr::And(Items::of(Vec::new(alloc))),
-        Expr::Or(Items::of(Vec::new(alloc))),
     ]?;
+    Ok(exprs)
+}
+
+/// Adds Ands of two of them.
+fn add_ands(alloc: Global, exprs: &mut Vec<Expr>) -> Result<(), AllocError> {
+    for (one, other) in [(2, 0), (2, 4), (4, 3)] {
+        exprs.push(and(alloc, one, other)?)?;
+    }
+    Ok(())
+}
+
+/// Adds Ors of two of them.
+fn add_ors(alloc: Global, exprs: &mut Vec<Expr>) -> Result<(), AllocError> {
+    for (one, other) in [(3, 1), (3, 4), (4, 2)] {
+        exprs.push(or(alloc, one, other)?)?;
+    }
+    Ok(())
+}
+
+/// Expressions of each kind over members with each verdict.
+fn every_kind(alloc: Global) -> Result<Schema, AllocError> {
+    let mut exprs = leaves(alloc)?;
+    add_ands(alloc, &mut exprs)?;
+    add_ors(alloc, &mut exprs)?;
+    exprs.push(Expr::Not(ExprId(2)))?;
+    exprs.push(Expr::Not(ExprId(3)))?;
+    exprs.push(Expr::Not(ExprId(6)))?;
+    exprs.push(Expr::And(Items::of(Vec::new(alloc))))?;
+    exprs.push(Expr::Or(Items::of(Vec::new(alloc))))?;
     schema_of(alloc, exprs)
 }
 

@@ -71,17 +71,17 @@ verdict-returns-in_ok-verdict-in-Some-Not-clause-sure g t c =
     subst (λ v. Here c.args.expr v) (sym c.negated.ensures)
     (sure_not _ _ c.requires.loaded _ _ c.args.expr c.in-Some-Not.member at _ c.in_ok-verdict-in-Some-Not.ensures.sure)
 
-pub verdict-returns-then-satisfies-clause-sure : goal.verdict-returns-then-satisfies-clause-sure
-verdict-returns-then-satisfies-clause-sure g t c =
+pub verdict-returns-then-fits-clause-sure : goal.verdict-returns-then-fits-clause-sure
+verdict-returns-then-fits-clause-sure g t c =
     let read = c.in-Some-Node.ensures.lookup in
     let at = entry_read c.args.self.now.schema.now _ c.args.expr c.in-Some-Node.field-0.now _ c.as_slice.ensures read.0 read.1 c.in-Some-Node.field-0-is in
-    sure_at _ _ c.requires.loaded _ _ c.args.expr _ at _ (c.satisfies.ensures.0 c.if-satisfies.true)
+    sure_at _ _ c.requires.loaded _ _ c.args.expr _ at _ (c.in_ok-fits-in-Some-Node.ensures.0 c.if-fits.true)
 
-pub verdict-returns-else-satisfies-clause-sure : goal.verdict-returns-else-satisfies-clause-sure
-verdict-returns-else-satisfies-clause-sure g t c =
+pub verdict-returns-else-fits-clause-sure : goal.verdict-returns-else-fits-clause-sure
+verdict-returns-else-fits-clause-sure g t c =
     let read = c.in-Some-Node.ensures.lookup in
     let at = entry_read c.args.self.now.schema.now _ c.args.expr c.in-Some-Node.field-0.now _ c.as_slice.ensures read.0 read.1 c.in-Some-Node.field-0-is in
-    sure_at _ _ c.requires.loaded _ _ c.args.expr _ at _ (λ h. true≢false (sym (c.satisfies.ensures.1 h) ∙ c.if-satisfies.false))
+    sure_at _ _ c.requires.loaded _ _ c.args.expr _ at _ (λ h. true≢false (sym (c.in_ok-fits-in-Some-Node.ensures.1 h) ∙ c.if-fits.false))
 
 pub verdict-returns-in-Some-Shape-clause-sure : goal.verdict-returns-in-Some-Shape-clause-sure
 verdict-returns-in-Some-Shape-clause-sure g t c =
