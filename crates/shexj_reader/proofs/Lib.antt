@@ -1,0 +1,16 @@
+pub mod Acts
+pub mod Ascii
+pub mod Causes
+pub mod ConstraintLaws
+pub mod Decimals
+pub mod DocumentCauses
+pub mod DocumentLaws
+pub mod FacetLists
+pub mod KeyLaws
+pub mod Labels
+pub mod Lowered
+pub mod Readings
+pub mod Refusals
+pub mod Shapes
+pub mod ValueLaws
+pub mod ValueParts

@@ -1,0 +1,10 @@
+pub mod Keys
+pub mod Faults
+pub mod Values
+pub mod ValueFaults
+pub mod Constraints
+pub mod ConstraintFaults
+pub mod Documents
+pub mod DocumentFaults
+pub mod Bytes
+pub mod Laws
