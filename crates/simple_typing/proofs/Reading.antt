@@ -4,7 +4,7 @@ use Rattle.std.proofs.lemmas.Option.{slice_get_read}
 use Rattle.std.specs.Prelude.{Contains, ◌↔◌, Option, Some, slice_get}
 use Rattle.rdf_terms.specs.declared.terms.Term.{Term}
 use Rattle.rdf_terms.specs.declared.terms.TermId.{TermId}
-use Rattle.node_constraint.specs.declared.NodeConstraint.{NodeConstraint}
+use Rattle.node_constraint.specs.Constraint.{Constraint}
 use Rattle.node_constraint.specs.SatNode.{SatNode}
 use Rattle.schema_tree.specs.declared.schema.Answer.{Answer}
 use Rattle.schema_tree.specs.declared.schema.Expr.{Expr}
@@ -37,14 +37,14 @@ some_at (x ∷ xs) zero inside = (x, refl)
 some_at (x ∷ xs) (suc i) inside = some_at xs i (omega (arith, inside))
 
 -- there are no other plain expressions
-pub plain_is : (x : Expr) → IsPlain x → ((c : NodeConstraint) → x ≡ Exprs.Node c → ⊥) → ((i : ShapeId) → x ≡ Exprs.Shape i → ⊥) → ⊥
+pub plain_is : (x : Expr) → IsPlain x → ((c : Constraint) → x ≡ Exprs.Node c → ⊥) → ((i : ShapeId) → x ≡ Exprs.Shape i → ⊥) → ⊥
 plain_is (Exprs.Shape i) plain node shape = shape i refl
 plain_is (Exprs.Node c) plain node shape = node c refl
 plain_is (Exprs.And es) plain node shape = plain
 plain_is (Exprs.Or es) plain node shape = plain
 plain_is (Exprs.Not e) plain node shape = plain
 
-pub node_read : (terms : List Term) (records : List Record) (n : TermId) (line : ℕ) (x : Option Expr) (c : NodeConstraint) (term : Term) (b : Bool) → x ≡ Some (Exprs.Node c) → slice_get terms n.0 ≡ Some term → IsTrue b ↔ SatNode c term → IsRead terms records n line x b
+pub node_read : (terms : List Term) (records : List Record) (n : TermId) (line : ℕ) (x : Option Expr) (c : Constraint) (term : Term) (b : Bool) → x ≡ Some (Exprs.Node c) → slice_get terms n.0 ≡ Some term → IsTrue b ↔ SatNode c term → IsRead terms records n line x b
 node_read terms records n line x c term b is at both =
     subst (λ y. IsRead terms records n line y b) (sym is) (subst (λ t. IsTrue b ↔ SatNodeAt c t) (sym at) both)
 

@@ -6,7 +6,7 @@ use Rattle.std.specs.Prelude.{Contains, ◌↔◌, Option, Some, None, slice_get
 use Rattle.rdf_terms.specs.Lists.{AreDistinct}
 use Rattle.rdf_terms.specs.declared.terms.Term.{Term}
 use Rattle.rdf_terms.specs.declared.terms.TermId.{TermId}
-use Rattle.schema_tree.specs.declared.labels.Label.{Label}
+use Rattle.schema_documents.specs.declared.label.Label.{Label}
 use Rattle.schema_tree.specs.declared.schema.Answer.{Answer}
 use Rattle.schema_tree.specs.declared.schema.Expr.TheVariants as Exprs
 use Rattle.schema_tree.specs.declared.schema.ExprId.{ExprId}

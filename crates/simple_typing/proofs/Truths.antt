@@ -8,7 +8,7 @@ use Rattle.rdf_terms.specs.declared.terms.Term.{Term}
 use Rattle.rdf_terms.specs.declared.terms.TermId.{TermId}
 use Rattle.rdf_terms.specs.declared.terms.Triple.{Triple}
 use Rattle.tally.specs.declared.Count.{Count}
-use Rattle.node_constraint.specs.declared.NodeConstraint.{NodeConstraint}
+use Rattle.node_constraint.specs.Constraint.{Constraint}
 use Rattle.schema_tree.specs.declared.schema.Expr.TheVariants as Exprs
 use Rattle.schema_tree.specs.declared.schema.ExprId.{ExprId}
 use Rattle.schema_tree.specs.declared.schema.Occurrence.{Occurrence}
@@ -36,7 +36,7 @@ use Rattle.simple_typing.specs.Simple.{IsNodeValue, IsSimpleBody, IsSimpleSchema
 use Rattle.simple_typing.specs.Truths.{IsTruth}
 
 -- no Shape stands in a node constraint
-nothing_stands : (s : Schema) (t : ShapeId) (e : ExprId) (c : NodeConstraint) (sign : Bool) → entry s e ≡ Some (Exprs.Node c) → StandsIn s t e sign → ⊥
+nothing_stands : (s : Schema) (t : ShapeId) (e : ExprId) (c : Constraint) (sign : Bool) → entry s e ≡ Some (Exprs.Node c) → StandsIn s t e sign → ⊥
 nothing_stands s t e c sign is (itself at) = cc
 nothing_stands s t e c sign is (in_and es d at held deeper) = cc
 nothing_stands s t e c sign is (in_or es d at held deeper) = cc

@@ -4,7 +4,7 @@ use Rattle.std.specs.Prelude.{Option, Some, None, slice_get, ◌↔◌}
 use Rattle.std.proofs.lemmas.Option.{get_or_from_slice_get}
 use Rattle.rdf_terms.specs.declared.terms.Term.{Term}
 use Rattle.rdf_terms.specs.declared.terms.TermId.{TermId}
-use Rattle.node_constraint.specs.declared.NodeConstraint.{NodeConstraint}
+use Rattle.node_constraint.specs.Constraint.{Constraint}
 use Rattle.node_constraint.specs.SatNode.{SatNode}
 use Rattle.schema_tree.specs.declared.schema.Expr.{Expr}
 use Rattle.schema_tree.specs.declared.schema.Expr.TheVariants as Exprs
@@ -25,7 +25,7 @@ read_at xs shown i x r at same read = read ∙ ap (λ ys. get_or ys i r) same �
 
 -- an expression that is a node constraint is satisfied as the constraint is
 pub node_value :
-    (s : Schema) (terms : List Term) (T : List Pair) (end : TermId) (e : ExprId) (c : NodeConstraint) (term : Term) (P : Type 0) →
+    (s : Schema) (terms : List Term) (T : List Pair) (end : TermId) (e : ExprId) (c : Constraint) (term : Term) (P : Type 0) →
     entry s e ≡ Some (Exprs.Node c) → slice_get terms end.0 ≡ Some term → P ↔ SatNode c term → P ↔ SatValue (Sat s terms T end) (Some e)
 unfolding SatWithin
 node_value s terms T end e c term P at there both =

@@ -2,7 +2,7 @@
 use Rattle.std.specs.Prelude.{false, List, [], ◌∷◌, ◌≡◌, Option, Some, None, ⊤}
 use Rattle.tally.specs.declared.Count.{Count}
 use Rattle.tally.specs.Plan.{plan_of, sym}
-use Rattle.node_constraint.specs.declared.NodeConstraint.{NodeConstraint}
+use Rattle.node_constraint.specs.Constraint.{Constraint}
 use Rattle.schema_tree.specs.declared.schema.ExprId.{ExprId}
 use Rattle.schema_tree.specs.declared.schema.Expr.{Expr}
 use Rattle.schema_tree.specs.declared.schema.Expr.TheVariants as Exprs
@@ -15,7 +15,7 @@ use Rattle.schema_tree.specs.Entries.{entry, shape_at}
 -- the value is absent or a node constraint
 abbrev pub IsNodeValue : Schema → Option ExprId → Type 0
 IsNodeValue s None = ⊤
-IsNodeValue s (Some e) = (c : NodeConstraint) × (entry s e ≡ Some (Exprs.Node c))
+IsNodeValue s (Some e) = (c : Constraint) × (entry s e ≡ Some (Exprs.Node c))
 
 -- the body is one occurrence, once, that takes arcs out; or there is none
 abbrev pub IsSimpleBody : Schema → Option Count → List Occurrence → Type 0

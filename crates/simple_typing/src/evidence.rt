@@ -46,7 +46,8 @@ fn judge(
         return Ok(RecordKind::Minus(rank, Items::of(Vec::new(alloc))));
     };
     let opening = state(alloc, 0)?;
-    if !value_holds(schema, terms, o.value, first.o) {
+    let fits = value_holds(alloc, schema, terms, o.value, first.o)?;
+    if !fits {
         let states = vec![in alloc; opening]?;
         return Ok(RecordKind::Minus(rank, Items::of(states)));
     }

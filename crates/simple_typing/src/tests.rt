@@ -9,7 +9,7 @@ ghost use Rattle.rdf_terms.specs.Written.{term_text};
 ghost use Rattle.rdf_terms.specs.Lists.{AreDistinct};
 ghost use Rattle.schema_tree.specs.Labels.{labels_of};
 ghost use Rattle.schema_tree.specs.Loaded.{IsLoaded};
-ghost use Rattle.schema_tree.specs.declared.labels.Label.{Label as Named};
+ghost use Rattle.schema_documents.specs.declared.label.Label.{Label as Named};
 ghost use Rattle.schema_tree.specs.declared.schema.ExprId.{ExprId as Id};
 ghost use Rattle.tally.specs.declared.Count.{Sym};
 ghost use Rattle.simple_typing.specs.Answers.{HasLines, IsAsked};
@@ -18,7 +18,7 @@ ghost use Rattle.term_reader.specs.Values.{IsWhole};
 
 use super::*;
 use graph_index::graph::Graph;
-use node_constraint::{Kind4, NodeConstraint};
+use node_constraint::{Facet, Kind4, NodeConstraint};
 use proof_file::write::write;
 use rdf_terms::items::Items;
 use rdf_terms::table::TermTable;
@@ -33,8 +33,11 @@ use std::process::Abort;
 use std::test::Fail;
 use tally::Count;
 
+const INTEGER: &str = "http://www.w3.org/2001/XMLSchema#integer";
+
 /// A table whose terms stand in another order than their texts: 0 `<http://d/z>`, 1 `<http://d/p>`, 2 `<http://d/a>`,
-/// 3 `<http://d/x>`, 4 `<http://d/b>`, 5 `<http://d/y>`, 6 `"l"`, 7 `_:n`, 8 the first anonymous node.
+/// 3 `<http://d/x>`, 4 `<http://d/b>`, 5 `<http://d/y>`, 6 `"l"`, 7 `_:n`, 8 the first anonymous node, and of xsd:integer
+/// 9 `"7"`, 10 `"3"` and 11 `"12"`.
 fn table(alloc: Global) -> Result<TermTable, Fail> {
     let mut terms = TermTable::new(alloc);
     put_iri(alloc, &mut terms, "http://d/z")?;
@@ -44,6 +47,9 @@ fn table(alloc: Global) -> Result<TermTable, Fail> {
     put_iri(alloc, &mut terms, "http://d/b")?;
     put_iri(alloc, &mut terms, "http://d/y")?;
     put_others(alloc, &mut terms)?;
+    put_integer(alloc, &mut terms, "7")?;
+    put_integer(alloc, &mut terms, "3")?;
+    put_integer(alloc, &mut terms, "12")?;
     Ok(terms)
 }
 
@@ -58,6 +64,14 @@ fn put_others(alloc: Global, terms: &mut TermTable) -> Result<(), Fail> {
     terms.put(Term::Lit(Literal::plain(alloc, Text::from_str(alloc, "l")?)?))?;
     terms.put(Term::Blank(Name::Label(Text::from_str(alloc, "n")?)))?;
     terms.put(Term::Blank(Name::Fresh(1)))?;
+    Ok(())
+}
+
+/// Puts a literal of xsd:integer into the table.
+fn put_integer(alloc: Global, terms: &mut TermTable, lex: &str) -> Result<(), Fail> {
+    let datatype = Text::from_str(alloc, INTEGER)?;
+    let literal = Literal::typed(Text::from_str(alloc, lex)?, datatype);
+    terms.put(Term::Lit(literal.ok_or("no literal")?))?;
     Ok(())
 }
 
@@ -111,7 +125,19 @@ fn labels(alloc: Global) -> Result<Labels, AllocError>
     Ok(labels)
 }
 
-/// The open Shape of one arc with the predicate 1, whose object is an IRI.
+/// The label `<K>` of expression 0.
+fn one_label(alloc: Global) -> Result<Labels, AllocError>
+    ensures once { IfOk result (λ ls. AreDistinct (labels_of ls)) }
+    ensures low { IfOk result (λ ls. (l : Named) (e : Id) → Contains ls (l, e) → e.0 < 1) }
+{
+    let mut labels = Labels::new(alloc);
+    let constraint = Text::from_str(alloc, "K")?;
+    let _new = labels.declare(Label::Iri(constraint), ExprId(0))?;
+    let _count = labels.len();
+    Ok(labels)
+}
+
+/// The open Shape of one arc with the predicate 1, whose object satisfies expression 0.
 fn one_arc(alloc: Global) -> Result<Shape, AllocError>
     ensures { IfOk result (λ sh. sh ≡ record { closed = false; extra = []; body = Some (Sym 0); occs = record { inverse = false; predicate = record { 0 = 1 }; value = Some (record { 0 = 0 }) } ∷ [] }) }
 {
@@ -141,14 +167,11 @@ fn no_arc(alloc: Global) -> Shape
     }
 }
 
-/// A node constraint `<K>` for IRIs, a Shape `<S>` of one arc, and as the start a Shape without an expression.
-fn schema(alloc: Global) -> Result<Schema, AllocError>
+/// The node constraint `<K>`, a Shape `<S>` of one arc, and as the start a Shape without an expression.
+fn schema(alloc: Global, constraint: NodeConstraint) -> Result<Schema, AllocError>
     ensures loaded { IfOk result IsLoaded }
     ensures simple { IfOk result IsSimpleSchema }
 {
-    let constraint = NodeConstraint {
-        kind: Some(Kind4::Iri),
-    };
     let exprs = vec![in alloc;
         Expr::Node(constraint),
         Expr::Shape(ShapeId(0)),
@@ -164,6 +187,29 @@ fn schema(alloc: Global) -> Result<Schema, AllocError>
         labels,
         start: Some(ExprId(2)),
     })
+}
+
+/// The node constraint `<K>` alone.
+fn schema_without_shapes(alloc: Global, constraint: NodeConstraint) -> Result<Schema, AllocError>
+    ensures loaded { IfOk result IsLoaded }
+    ensures simple { IfOk result IsSimpleSchema }
+{
+    let exprs = vec![in alloc; Expr::Node(constraint)]?;
+    let labels = one_label(alloc)?;
+    Ok(Schema {
+        exprs: Items::of(exprs),
+        shapes: Items::of(Vec::new(alloc)),
+        labels,
+        start: None,
+    })
+}
+
+/// The constraint for integers of one character that are at least 5.
+fn digits_from_five(alloc: Global) -> Result<NodeConstraint, Fail> {
+    let datatype = Text::from_str(alloc, INTEGER)?;
+    let least = Facet::MinInclusive(Text::from_str(alloc, "5")?);
+    let facets = vec![in alloc; least, Facet::MaxLength(1)]?;
+    Ok(NodeConstraint::make(alloc, Some(Kind4::Literal), Some(datatype), facets, None)?)
 }
 
 /// Whether the text holds no line feed.
@@ -289,20 +335,21 @@ fn associations(
 /// The typing of the associations of nodes with what they are asked for.
 fn typing_of(
     rt: &(impl Abort + AllocGlobal),
+    schema: &Schema,
     terms: &TermTable,
     graph: &Graph,
     asks: &[(u32, Ask)],
 ) -> Result<Typing, Fail>
-    requires { IsSealedWith terms.now graph.now }
+    requires loaded { IsLoaded schema.now }
+    requires simple { IsSimpleSchema schema.now }
+    requires sealed { IsSealedWith terms.now graph.now }
     ensures { IfOk result (λ t. Keeps t.proof) }
 {
-    let alloc = rt.alloc();
-    let schema = schema(alloc)?;
     assert!(rt; are_of_table(terms, graph.triples()));
-    let asked = associations(rt, &schema, terms, asks)?;
+    let asked = associations(rt, schema, terms, asks)?;
     let associations = asked.as_slice();
     assert!(rt; associations.len() <= 1_000_000);
-    Ok(answer(alloc, &schema, terms, graph, associations)?)
+    Ok(answer(rt.alloc(), schema, terms, graph, associations)?)
 }
 
 /// Appends 1 for each answer that holds, and 0 for each other.
@@ -316,27 +363,48 @@ fn append_answers(answers: &[Answer], text: &mut Vec<u8>) -> Result<(), AllocErr
 /// The text of the proof of the answers, and behind it the answers.
 fn typed(
     rt: &(impl Abort + AllocGlobal),
+    schema: &Schema,
     arcs: &[(u32, u32)],
     asks: &[(u32, Ask)],
-) -> Result<Vec<u8>, Fail> {
+) -> Result<Vec<u8>, Fail>
+    requires loaded { IsLoaded schema.now }
+    requires simple { IsSimpleSchema schema.now }
+{
     let alloc = rt.alloc();
     let terms = table(alloc)?;
     let graph = sealed(alloc, &terms, arcs)?;
-    let typing = typing_of(rt, &terms, &graph, asks)?;
+    let typing = typing_of(rt, schema, &terms, &graph, asks)?;
     let mut text = write(alloc, &typing.proof)?;
     append_answers(typing.answers.as_slice(), &mut text)?;
     Ok(text)
 }
 
+/// Compares the text of the proof, and behind it the answers, with the one that is wanted.
+fn gives_under(
+    rt: &(impl Abort + AllocGlobal),
+    schema: &Schema,
+    arcs: &[(u32, u32)],
+    asks: &[(u32, Ask)],
+    wanted: &str,
+) -> Result<(), Fail>
+    requires loaded { IsLoaded schema.now }
+    requires simple { IsSimpleSchema schema.now }
+{
+    let text = typed(rt, schema, arcs, asks)?;
+    assert!(rt; text.as_slice() == wanted.as_bytes(), "{wanted}");
+    Ok(())
+}
+
+/// The same under the schema whose node constraint is for IRIs.
 fn gives(
     rt: &(impl Abort + AllocGlobal),
     arcs: &[(u32, u32)],
     asks: &[(u32, Ask)],
     wanted: &str,
 ) -> Result<(), Fail> {
-    let text = typed(rt, arcs, asks)?;
-    assert!(rt; text.as_slice() == wanted.as_bytes(), "{wanted}");
-    Ok(())
+    let iris = NodeConstraint::of_kind(rt.alloc(), Some(Kind4::Iri));
+    let schema = schema(rt.alloc(), iris)?;
+    gives_under(rt, &schema, arcs, asks, wanted)
 }
 
 /// `<a> <p> <x>, <z> . <b> <p> <y> .`
@@ -459,4 +527,63 @@ fn nodes_are_terms_of_every_kind(rt: HostRuntime) -> Result<(), Fail> {
         (6, Ask::Constraint),
     ];
     gives(&rt, &[(7, 2), (8, 6)], &asks, KINDS)
+}
+
+const ALONE: &str = "shex-proof 1
+n \"12\"^^<http://www.w3.org/2001/XMLSchema#integer>
+n \"3\"^^<http://www.w3.org/2001/XMLSchema#integer>
+n \"7\"^^<http://www.w3.org/2001/XMLSchema#integer>
+n \"l\"
+n <http://d/x>
+c + 2 <K>
+c - 1 <K>
+c - 0 <K>
+c - 3 <K>
+c - 4 <K>
+end
+10000";
+
+#[test]
+fn a_node_constraint_alone_has_answers_and_claims_and_no_record(
+    rt: HostRuntime,
+) -> Result<(), Fail> {
+    let schema = schema_without_shapes(rt.alloc(), digits_from_five(rt.alloc())?)?;
+    let asks = [
+        (9, Ask::Constraint),
+        (10, Ask::Constraint),
+        (11, Ask::Constraint),
+        (6, Ask::Constraint),
+        (3, Ask::Constraint),
+    ];
+    gives_under(&rt, &schema, &ARCS, &asks, ALONE)
+}
+
+const VALUED: &str = "shex-proof 1
+n <http://d/a>
+n <http://d/b>
+n <http://d/x>
+n <http://d/z>
+s 0
++ 0 0 0
+- 1 0 1 0:0
+- 2 0 2 0:0
+- 3 0 3 0:0
+c + 0 <S>
+c - 1 <S>
+c - 2 <S>
+c - 3 <S>
+end
+1000";
+
+#[test]
+fn a_value_has_a_datatype_and_facets(rt: HostRuntime) -> Result<(), Fail> {
+    let schema = schema(rt.alloc(), digits_from_five(rt.alloc())?)?;
+    let arcs = [(2, 9), (4, 10), (3, 11), (0, 6)];
+    let asks = [
+        (2, Ask::Shape),
+        (4, Ask::Shape),
+        (3, Ask::Shape),
+        (0, Ask::Shape),
+    ];
+    gives_under(&rt, &schema, &arcs, &asks, VALUED)
 }

@@ -46,27 +46,28 @@ pub struct Typing {
 /// Whether the node of the association, on this node line, satisfies its expression: what its record or its node
 /// constraint says.
 fn holds(
+    alloc: Global,
     schema: &Schema,
     terms: &TermTable,
     records: &[Record],
     association: &Association,
     line: u32,
-) -> bool
+) -> Result<bool, AllocError>
     requires loaded { IsLoaded schema.now }
     requires simple { IsSimpleSchema schema.now }
     requires asked { IsAsked schema.now terms.now association.now }
     requires sorted { IsStrictlySortedBy compare_asked (map pair_of_record records.now) }
     requires recorded { (i : Id) → entry schema.now association.now.expr ≡ Some (Exprs.Shape i) → Contains (map pair_of_record records.now) (record { node = line; shape = i }) }
-    ensures { IsRead terms.now records.now association.now.node line (entry schema.now association.now.expr) result }
+    ensures { IfOk result (IsRead terms.now records.now association.now.node line (entry schema.now association.now.expr)) }
 {
     match &schema.exprs.as_slice()[association.expr.0 as usize] {
-        Expr::Node(constraint) => constraint.holds(terms.get(association.node)),
+        Expr::Node(constraint) => constraint.holds(alloc, terms.get(association.node)),
         Expr::Shape(shape) => {
             let pair = Asked {
                 node: line,
                 shape: *shape,
             };
-            confirms(records, pair)
+            Ok(confirms(records, pair))
         }
         _ => unreachable!(),
     }
@@ -123,7 +124,7 @@ fn replies(
     let mut claims = Vec::new(alloc);
     for association in associations {
         let line = place_of(terms, nodes, association.node);
-        let holds = holds(schema, terms, records, association, line);
+        let holds = holds(alloc, schema, terms, records, association, line)?;
         answers.push(answer_to(alloc, association, holds)?)?;
         claims.push(claim_of(alloc, association, line, holds)?)?;
     }

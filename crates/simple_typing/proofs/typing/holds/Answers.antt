@@ -1,5 +1,10 @@
-use Rattle.std.proofs.Common.{◌∙◌, ap, Some, length, sym, subst, ◌<◌}
+use Rattle.std.proofs.Common.{◌∙◌, ap, Some, length, sym, subst, ◌<◌, IsTrue}
+use Rattle.std.specs.Prelude.{◌↔◌}
+use Rattle.node_constraint.specs.SatNode.{SatNode}
+use Rattle.schema_tree.specs.Entries.{entry}
+use Rattle.simple_typing.specs.Records.{IsRead}
 use Rattle.simple_typing.proofs.Reading.{got_at, node_read, plain_is, shape_read, target_entry}
+use Rattle.simple_typing.proofs.Valued.{ok_weaker}
 use Rattle.simple_typing.proofs.typing.holds.Goals as goal
 
 pub bounds-as_slice-association : goal.bounds-as_slice-association
@@ -21,8 +26,9 @@ unreachable-requires c =
 pub returns-in-Node : goal.returns-in-Node
 returns-in-Node c =
     let inside = subst (λ xs. c.args.association.now.expr.0 < length xs) (sym c.as_slice.ensures) (target_entry c.args.schema.now c.args.association.now.target c.args.association.now.expr c.requires.loaded c.requires.asked.is_target) in
-    node_read c.args.terms.now c.args.records.now c.args.association.now.node c.args.line _ c.in-Node.constraint c.get.result.now c.holds.result
-    (got_at c.args.schema.now.exprs c.as_slice.result.now c.args.association.now.expr.0 c.index-as_slice-association.result inside c.as_slice.ensures c.index-as_slice-association.is ∙ ap (λ x. Some x) c.in-Node.is) c.get.ensures c.holds.ensures
+    let at = got_at c.args.schema.now.exprs c.as_slice.result.now c.args.association.now.expr.0 c.index-as_slice-association.result inside c.as_slice.ensures c.index-as_slice-association.is ∙ ap (λ x. Some x) c.in-Node.is in
+    ok_weaker (λ b. IsTrue b ↔ SatNode c.in-Node.constraint c.get.result.now) (IsRead c.args.terms.now c.args.records.now c.args.association.now.node c.args.line (entry c.args.schema.now c.args.association.now.expr))
+    (λ b both. node_read c.args.terms.now c.args.records.now c.args.association.now.node c.args.line _ c.in-Node.constraint c.get.result.now b at c.get.ensures both) c.holds.result c.holds.ensures
 
 pub returns-in-Shape : goal.returns-in-Shape
 returns-in-Shape c =

@@ -14,22 +14,22 @@ pub place_of-line-requires-clause-held : goal.place_of-line-requires-clause-held
 place_of-line-requires-clause-held c =
     c.requires.held c.association-item.result (item_there c.args.associations.now c.loop-association.association-index c.association-item.result c.loop-association-test.true c.association-item.is)
 
-pub holds-holds-requires-clause-asked : goal.holds-holds-requires-clause-asked
-holds-holds-requires-clause-asked c =
+pub holds-requires-clause-asked : goal.holds-requires-clause-asked
+holds-requires-clause-asked c =
     c.requires.asked c.association-item.result (item_there c.args.associations.now c.loop-association.association-index c.association-item.result c.loop-association-test.true c.association-item.is)
 
-pub holds-holds-requires-clause-recorded : goal.holds-holds-requires-clause-recorded
-holds-holds-requires-clause-recorded c = λ i is.
+pub holds-requires-clause-recorded : goal.holds-requires-clause-recorded
+holds-requires-clause-recorded c = λ i is.
     c.requires.recorded c.association-item.result (record { node = c.place_of-line.result; shape = i })
     (item_there c.args.associations.now c.loop-association.association-index c.association-item.result c.loop-association-test.true c.association-item.is) (c.place_of-line.ensures, is)
 
 pub loop-association-preserved : goal.loop-association-preserved
 loop-association-preserved c =
     let held = item_there c.args.associations.now c.loop-association.association-index c.association-item.result c.loop-association-test.true c.association-item.is in
-    let sure = read_is_sure c.args.schema.now c.args.terms.now c.args.nodes.now c.args.records.now (nodes_once c.args.terms.now c.args.nodes.now c.requires.nodes) c.association-item.result c.place_of-line.result c.holds-holds.result
-    c.place_of-line.ensures (λ i is. c.requires.recorded c.association-item.result (record { node = c.place_of-line.result; shape = i }) held (c.place_of-line.ensures, is)) c.holds-holds.ensures in
-    let reply = reply_is c.args.schema.now c.args.terms.now c.args.nodes.now c.args.records.now c.association-item.result c.in_ok-answer_to.field-0 c.holds-holds.result c.in_ok-answer_to.ensures sure in
-    let claim = claim_is c.args.nodes.now c.association-item.result c.in_ok-answer_to.field-0 c.in_ok-claim_of.field-0 c.place_of-line.result c.holds-holds.result c.in_ok-answer_to.ensures c.in_ok-claim_of.ensures c.place_of-line.ensures in
+    let sure = read_is_sure c.args.schema.now c.args.terms.now c.args.nodes.now c.args.records.now (nodes_once c.args.terms.now c.args.nodes.now c.requires.nodes) c.association-item.result c.place_of-line.result c.in_ok-holds.holds
+    c.place_of-line.ensures (λ i is. c.requires.recorded c.association-item.result (record { node = c.place_of-line.result; shape = i }) held (c.place_of-line.ensures, is)) c.in_ok-holds.ensures in
+    let reply = reply_is c.args.schema.now c.args.terms.now c.args.nodes.now c.args.records.now c.association-item.result c.in_ok-answer_to.field-0 c.in_ok-holds.holds c.in_ok-answer_to.ensures sure in
+    let claim = claim_is c.args.nodes.now c.association-item.result c.in_ok-answer_to.field-0 c.in_ok-claim_of.field-0 c.place_of-line.result c.in_ok-holds.holds c.in_ok-answer_to.ensures c.in_ok-claim_of.ensures c.place_of-line.ensures in
     let R : Association → Answer → Type 0 = IsReplyTo c.args.schema.now c.args.terms.now c.args.nodes.now c.args.records.now in
     record {
       answers =
