@@ -1,5 +1,5 @@
 -- Where contents are told, a file of the inputs is taken, refused or absent, and not two of these.
-use Rattle.std.proofs.Common.{◌≡◌, ◌≤◌, ◌<◌, ◌∙◌, ap, sym, subst, refl, List, ℕ, [], ◌∷◌, ◌⊎◌, inl, inr, arith, length, length-append, true, true≢false, ◌++◌}
+use Rattle.std.proofs.Common.{◌≡◌, ◌≤◌, ◌<◌, ◌∙◌, ap, sym, subst, refl, List, ℕ, [], ◌∷◌, ◌⊎◌, inl, inr, arith, length, length-append, true, false, true≢false, ◌++◌}
 use Rattle.std.specs.Prelude.{Contains, Option, Some, None}
 use Rattle.clap.specs.Words.{Text}
 use Rattle.shex_io.specs.Files.{Lacks, Told}
@@ -7,9 +7,9 @@ use Rattle.rdf_terms.specs.Lists.{AreDistinct}
 use Rattle.rdf_terms.specs.Tables.{max_terms}
 use Rattle.rdf_terms.specs.declared.terms.Term.{Term}
 use Rattle.rdf_terms.specs.declared.terms.Triple.{Triple}
-use Rattle.one_shape.specs.declared.OneShape.{OneShape}
-use Rattle.one_shape.specs.Laws.{OneReading}
-use Rattle.one_shape.specs.Texts.{IsNoSchemaText, IsSchemaText}
+use Rattle.schema_documents.specs.Tree.{Document}
+use Rattle.shexj_reader.specs.Bytes.{IsDocumentText}
+use Rattle.shexj_reader.specs.Laws.{DocumentsAreOne}
 use Rattle.graph_loading.specs.declared.triples.TermTriple.{TermTriple}
 use Rattle.graph_loading.specs.Loading.{AddsAll, none}
 use Rattle.graph_loading.proofs.Loading.{all_distinct, all_grow, all_one}
@@ -27,6 +27,7 @@ use Rattle.shape_map.specs.Selection.{Ends, Outcome, all, more as further, refus
 use Rattle.shape_map.proofs.Chosen.{ends_one}
 use Rattle.command_words.specs.Asked.{Command}
 use Rattle.shex_inputs.specs.declared.error.Refusal.{Refusal}
+use Rattle.shex_inputs.specs.declared.error.Refusal.TheVariants as Refusals
 use Rattle.shex_inputs.specs.declared.error.Source.{Source}
 use Rattle.shex_inputs.specs.declared.error.Source.TheVariants.{Schema as SchemaFile, Data, Map}
 use Rattle.shex_inputs.specs.Asked.{EndsAs, HoldsMap, IsAskedOf, Question, TakesNodes, label_names, node_names, written_nodes}
@@ -34,7 +35,7 @@ use Rattle.shex_inputs.specs.Held.{Held, HoldsData, HoldsSchema, IsBase, IsTaken
 use Rattle.shex_inputs.specs.Laws.{AskedIsNotLeft, HeldIsOne, InputsAreOne, LeftIsOne, QuestionIsOne, TakenIsNotLeft}
 use Rattle.shex_inputs.specs.Named.{IsFile, IsTooLong, is_compact, map_name, max_file, source_name}
 use Rattle.shex_inputs.specs.Outcomes.{IsAbsent}
-use Rattle.shex_inputs.specs.Refusals.{AreUnread, IsChoiceCause, IsMapFull, IsNoMap, IsRefused, IsRefusedFor, IsUnresolved, Reaches, choice_error}
+use Rattle.shex_inputs.specs.Refusals.{AreUnread, IsChoiceCause, IsMapFull, IsNoMap, IsNoSchema, IsRefused, IsRefusedFor, IsSchemaCause, IsUnresolved, Reaches, choice_error}
 use Rattle.shex_inputs.proofs.Based.{one_base}
 use Rattle.shex_inputs.proofs.Ordered.{order_one}
 
@@ -90,7 +91,7 @@ associations_in (refused e) = []
 
 -- ---- one thing is held
 
-module _ (contents : List ℕ → Option (List ℕ)) (c : Command) (one_text : OneReading) (one_data : DataAreOne) (one_map : MapsAreOne) where
+module _ (contents : List ℕ → Option (List ℕ)) (c : Command) (one_text : DocumentsAreOne) (one_data : DataAreOne) (one_map : MapsAreOne) where
   abbrev told : Told
   told = Some contents
 
@@ -108,8 +109,8 @@ module _ (contents : List ℕ → Option (List ℕ)) (c : Command) (one_text : O
       let above : max_file < length long.bytes = long.above in
       absurd (omega (arith, same, within, above))
 
-  one_schema : (a b : OneShape) → HoldsSchema told c a → HoldsSchema told c b → a ≡ b
-  one_schema a b h k = one_text h.bytes a b h.spelled (subst (λ bs. IsSchemaText b bs) (same_bytes c.schema k.bytes h.bytes k.file.held h.file.held) k.spelled)
+  one_schema : (a b : Document) → HoldsSchema told c a → HoldsSchema told c b → a ≡ b
+  one_schema a b h k = one_text h.bytes a b h.spelled (subst (λ bs. IsDocumentText b bs) (same_bytes c.schema k.bytes h.bytes k.file.held h.file.held) k.spelled)
 
   one_source : (v w : Context) (a b : List TermTriple) → HoldsData told c v a → HoldsData told c w b → Path (Context × List TermTriple) (v, a) (w, b)
   one_source v w a b h k =
@@ -154,7 +155,7 @@ module _ (contents : List ℕ → Option (List ℕ)) (c : Command) (one_text : O
   -- ---- what is taken is not refused
 
   abbrev IsPassed : Source → Type 0
-  IsPassed SchemaFile = (doc : OneShape) × HoldsSchema told c doc
+  IsPassed SchemaFile = (doc : Document) × HoldsSchema told c doc
   IsPassed Data = (h : Held) × IsTaken told c h
   IsPassed Map = (q : Question) × IsAskedOf told c (map_name c.task) q
 
@@ -170,9 +171,26 @@ module _ (contents : List ℕ → Option (List ℕ)) (c : Command) (one_text : O
   passed_short Data (h, x) long = not_too_long c.data_file x.holds_data.bytes x.holds_data.file long
   passed_short Map (q, x) long = not_too_long (map_name c.task) x.holds_map.bytes x.holds_map.file long
 
-  schema_read : (doc : OneShape) → HoldsSchema told c doc → (bytes : List ℕ) → IsFile told c.schema bytes → (is_compact c.schema ≡ true) ⊎ IsNoSchemaText bytes → ⊥
-  schema_read doc h bytes file (inl compact) = true≢false (sym compact ∙ h.in_json)
-  schema_read doc h bytes file (inr no_text) = no_text doc (subst (λ bs. IsSchemaText doc bs) (same_bytes c.schema h.bytes bytes h.file.held file.held) h.spelled)
+  schema_cause : (doc : Document) (bytes : List ℕ) (refusal : Refusal) → IsDocumentText doc bytes → IsSchemaCause bytes refusal → ⊥
+  schema_cause doc bytes (Refusals.Schema e) spelled (apart, (cause, no_document)) = no_document doc spelled
+  schema_cause doc bytes Refusals.Size spelled h = h
+  schema_cause doc bytes Refusals.NotBuilt spelled h = h
+  schema_cause doc bytes Refusals.NotUtf8 spelled h = h
+  schema_cause doc bytes (Refusals.Syntax at) spelled h = h
+  schema_cause doc bytes (Refusals.Prefix at) spelled h = h
+  schema_cause doc bytes Refusals.Deep spelled h = h
+  schema_cause doc bytes (Refusals.Long at) spelled h = h
+  schema_cause doc bytes Refusals.Full spelled h = h
+  schema_cause doc bytes (Refusals.Label l) spelled h = h
+  schema_cause doc bytes Refusals.NoStart spelled h = h
+  schema_cause doc bytes Refusals.Many spelled h = h
+
+  schema_read : (doc : Document) → HoldsSchema told c doc → (refusal : Refusal) → IsNoSchema told c refusal → ⊥
+  schema_read doc h refusal u = by u.why
+    where
+      by : ((is_compact c.schema ≡ true) × (refusal ≡ Refusals.NotBuilt)) ⊎ ((is_compact c.schema ≡ false) × IsSchemaCause u.bytes refusal) → ⊥
+      by (inl (compact, named)) = true≢false (sym compact ∙ h.in_json)
+      by (inr (json, cause)) = schema_cause doc u.bytes refusal (subst (λ bs. IsDocumentText doc bs) (same_bytes c.schema h.bytes u.bytes h.file.held u.file.held) h.spelled) cause
 
   data_are_read : (h : Held) → IsTaken told c h → (refusal : Refusal) → AreUnread told c refusal → ⊥
   data_are_read h x refusal u =
@@ -206,7 +224,7 @@ module _ (contents : List ℕ → Option (List ℕ)) (c : Command) (one_text : O
       absurd (omega (arith, few, above))
 
   passed_for : (source : Source) → IsPassed source → (refusal : Refusal) → IsRefusedFor told c source refusal → ⊥
-  passed_for SchemaFile (doc, h) refusal (e, (bytes, file, why)) = schema_read doc h bytes file why
+  passed_for SchemaFile (doc, h) refusal u = schema_read doc h refusal u
   passed_for Data (h, x) refusal u = data_are_read h x refusal u
   passed_for Map (q, x) refusal (inl u) = map_is_read q x refusal u
   passed_for Map (q, x) refusal (inr (inl u)) = map_is_resolved q x refusal u
@@ -231,7 +249,7 @@ module _ (contents : List ℕ → Option (List ℕ)) (c : Command) (one_text : O
 
   -- what is refused is there
   there_for : (source : Source) (refusal : Refusal) → IsRefusedFor told c source refusal → Lacks told (source_name c source) → ⊥
-  there_for SchemaFile refusal (e, (bytes, file, why)) lacks = held_there c.schema bytes file.held lacks
+  there_for SchemaFile refusal u lacks = held_there c.schema u.bytes u.file.held lacks
   there_for Data refusal u lacks = held_there c.data_file u.bytes u.file.held lacks
   there_for Map refusal (inl u) lacks = held_there (map_name c.task) u.bytes u.file.held lacks
   there_for Map refusal (inr (inl u)) lacks = held_there (map_name c.task) u.holds_map.bytes u.holds_map.file.held lacks
@@ -287,7 +305,7 @@ module _ (contents : List ℕ → Option (List ℕ)) (c : Command) (one_text : O
   asked_not_left q Data x = passed_not_left Data (q.held, x.taken)
   asked_not_left q Map x = passed_not_left Map (q, x)
 
-pub inputs_one : OneReading → DataAreOne → MapsAreOne → InputsAreOne
+pub inputs_one : DocumentsAreOne → DataAreOne → MapsAreOne → InputsAreOne
 inputs_one one_text one_data one_map contents c = (
   held_one contents c one_text one_data one_map,
   (question_one contents c one_text one_data one_map, (taken_not_left contents c one_text one_data one_map, (asked_not_left contents c one_text one_data one_map, left_one contents c one_text one_data one_map))),

@@ -7,3 +7,4 @@ pub mod Ordered
 pub mod Reading
 pub mod Standing
 pub mod OwnTexts
+pub mod Trees

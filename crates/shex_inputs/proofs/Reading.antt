@@ -1,5 +1,5 @@
 -- What is refused is not read, and what is fetched in vain is said so.
-use Rattle.std.proofs.Common.{◌≡◌, ◌≢◌, sym, subst, refl, ℕ, List, [], inl, inr, true}
+use Rattle.std.proofs.Common.{◌≡◌, ◌≢◌, sym, subst, refl, ℕ, List, [], inl, inr, true, false}
 use Rattle.rdf_terms.specs.declared.terms.Term.{Term}
 use Rattle.rdf_terms.specs.declared.terms.Triple.{Triple}
 use Rattle.graph_loading.specs.declared.triples.TermTriple.{TermTriple}
@@ -13,26 +13,33 @@ use Rattle.shex_io.specs.Files.{Told}
 use Rattle.shex_io.specs.declared.files.Act.{Act}
 use Rattle.command_words.specs.Asked.{Command}
 use Rattle.shex_inputs.specs.declared.error.InputError.{InputError}
+use Rattle.shex_inputs.specs.declared.error.Refusal.TheVariants as Refusals
 use Rattle.shex_inputs.specs.declared.error.InputError.TheVariants.{Refused, Failed, Memory}
 use Rattle.shex_inputs.specs.declared.error.Source.{Source}
 use Rattle.shex_inputs.specs.declared.error.Source.TheVariants as Sources
 use Rattle.data_reader.specs.Formats.{format_of}
-use Rattle.one_shape.specs.declared.OneShape.{OneShape}
-use Rattle.one_shape.specs.Texts.{IsNoSchemaText}
+use Rattle.schema_documents.specs.Tree.{Document, ShapeExpr, conj, disj, each, include, neg, no_triple, no_expr, node, one as one_of, one_expr, one_triple, refer, shape, triple, arc, MaybeShapeExpr, MaybeTripleExpr, TripleExpr}
+use Rattle.schema_documents.specs.declared.error.SchemaError.{SchemaError}
+use Rattle.schema_documents.specs.declared.error.SchemaError.TheVariants as SchemaErrors
+use Rattle.serde_json.specs.Data.{Data}
+use Rattle.shexj_reader.specs.Bytes.{IsCause, IsDocumentText}
+use Rattle.shexj_reader.specs.Documents.{SpellsDeclared, SpellsExpression, SpellsTripleExpr, SpellsValueExpr, SpellsValueNode}
+use Rattle.shexj_reader.specs.Laws.{RefusedAreNone}
 use Rattle.shape_map.specs.declared.items.Item.{Item}
 use Rattle.shape_map.specs.Meanings.{Scope, scope_of}
 use Rattle.std.proofs.lemmas.Bool.{and_parts}
-use Rattle.std.specs.Prelude.{IsSome, None}
+use Rattle.std.specs.Prelude.{IsSome, Option, Some, None}
 use Rattle.iri_resolve.specs.Reference.{scheme_of}
 use Rattle.rdf_lex.specs.declared.prefixes.Prefixes.{Prefixes}
 use Rattle.rdf_lex.specs.Prefixes.{base_of, iri_under}
 use Rattle.command_words.specs.Checks.{is_base}
 use Rattle.shex_inputs.specs.Asked.{HoldsMap, base_alone, label_names, node_names}
 use Rattle.shex_inputs.specs.Held.{Held, HoldsSchema, IsBase, IsTaken}
-use Rattle.shex_inputs.specs.Named.{IsFile, map_name, source_name}
+use Rattle.shex_inputs.specs.Loading.{IsLoadable, IsLoadableExpr, IsLoadableExpression, IsLoadableTriple, IsLoadableValue}
+use Rattle.shex_inputs.specs.Named.{IsFile, is_compact, map_name, source_name}
 use Rattle.shex_inputs.specs.Outcomes.{Explains, FaultsAs}
-use Rattle.shex_inputs.specs.Refusals.{IsRefused, Reaches}
-use Rattle.shex_inputs.specs.Stops.{AreUnreadable, FetchStops, LoadingStops, MapStops, ReadingStops, ResolvingStops, SchemaStops, data_error}
+use Rattle.shex_inputs.specs.Refusals.{IsRefused, IsSchemaCause, Reaches}
+use Rattle.shex_inputs.specs.Stops.{AreUnreadable, FetchStops, LoadingStops, MapStops, ReadingStops, ResolvingStops, SchemaStops, data_error, schema_error}
 
 module _ (format : Format) (base : List ℕ) (first : List Term) (old : List Triple) (bytes : List ℕ) (nothing_held : old ≡ []) where
   -- only want of memory refuses what the bytes are
@@ -65,13 +72,74 @@ fetch_faults told c source before after blame act (Refused other refusal) (same,
 fetch_faults told c source before after blame act (Failed other) (same, faults) = subst (λ s. FaultsAs c before after blame act (Failed s)) (sym same) faults
 fetch_faults told c source before after blame act Memory stay = stay
 
+-- the refusals of the reader of schemas
+module _ (law : RefusedAreNone) (bytes : List ℕ) where
+  refused_for : (e : SchemaError) → e ≢ SchemaErrors.Memory → IsCause bytes e → SchemaStops bytes (Refused Sources.Schema (Refusals.Schema e))
+  refused_for e apart h = (apart, (h, λ doc. law bytes e doc apart h))
+
+  pub schema_stops : (e : SchemaError) → IsCause bytes e → SchemaStops bytes (schema_error e)
+  schema_stops SchemaErrors.NotUtf8 h = refused_for SchemaErrors.NotUtf8 (λ e. cc) h
+  schema_stops SchemaErrors.Json h = refused_for SchemaErrors.Json (λ e. cc) h
+  schema_stops (SchemaErrors.Key name) h = refused_for (SchemaErrors.Key name) (λ e. cc) h
+  schema_stops (SchemaErrors.Form name) h = refused_for (SchemaErrors.Form name) (λ e. cc) h
+  schema_stops SchemaErrors.Action h = refused_for SchemaErrors.Action (λ e. cc) h
+  schema_stops SchemaErrors.FloatFacet h = refused_for SchemaErrors.FloatFacet (λ e. cc) h
+  schema_stops SchemaErrors.FacetNumber h = refused_for SchemaErrors.FacetNumber (λ e. cc) h
+  schema_stops (SchemaErrors.Pattern p) h = refused_for (SchemaErrors.Pattern p) (λ e. cc) h
+  schema_stops (SchemaErrors.NotBuilt name) h = refused_for (SchemaErrors.NotBuilt name) (λ e. cc) h
+  schema_stops SchemaErrors.Memory h = tt
+
+-- a document that is read is loadable
+node_loadable : (e : ShapeExpr) (d : Data) → SpellsValueNode e d → IsLoadableValue (one_expr e)
+node_loadable (node c) d h = tt
+node_loadable (shape closed extra x) d h = absurd h
+node_loadable (conj es) d h = absurd h
+node_loadable (disj es) d h = absurd h
+node_loadable (neg e) d h = absurd h
+node_loadable (refer target) d h = absurd h
+
+value_loadable : (value : MaybeShapeExpr) (o : Option Data) → SpellsValueExpr value o → IsLoadableValue value
+value_loadable no_expr o h = tt
+value_loadable (one_expr e) (Some d) h = node_loadable e d h
+value_loadable (one_expr e) None h = absurd h
+
+triple_loadable : (t : TripleExpr) (d : Data) → SpellsTripleExpr t d → IsLoadableTriple t
+triple_loadable (triple name least most (arc inverse predicate value)) d h =
+    subst (λ b. IsLoadableTriple (triple name least most (arc b predicate value))) (sym h.forward) (h.at_least_once, (h.at_most_once, value_loadable value _ h.has_value))
+triple_loadable (triple name least most (each ts)) d h = absurd h
+triple_loadable (triple name least most (one_of ts)) d h = absurd h
+triple_loadable (triple name least most (include target)) d h = absurd h
+
+expression_loadable : (x : MaybeTripleExpr) (o : Option Data) → SpellsExpression x o → IsLoadableExpression x
+expression_loadable no_triple o h = tt
+expression_loadable (one_triple t) (Some d) h = triple_loadable t d h
+expression_loadable (one_triple t) None h = absurd h
+
+expr_loadable : (x : ShapeExpr) (d : Data) → SpellsDeclared x d → IsLoadableExpr x
+expr_loadable (node c) d h = tt
+expr_loadable (shape closed extra x) d h =
+    subst (λ b. IsLoadableExpr (shape b extra x)) (sym h.open_to) (subst (λ ps. IsLoadableExpr (shape false ps x)) (sym h.none_extra) (expression_loadable x _ h.has_expression))
+expr_loadable (conj es) d h = absurd h
+expr_loadable (disj es) d h = absurd h
+expr_loadable (neg e) d h = absurd h
+expr_loadable (refer target) d h = absurd h
+
+pub loadable : (doc : Document) (bytes : List ℕ) → IsDocumentText doc bytes → IsLoadable doc
+loadable doc bytes h = record {
+  none_imported = h.spelled.none_imported;
+  none_started = h.spelled.none_started;
+  decl = h.spelled.decl;
+  declares = h.spelled.declares;
+  expr = expr_loadable h.spelled.decl.expr h.spelled.only h.spelled.declared.has_expr;
+}
+
 -- a schema that is not read
-pub schema_explains : (told : Told) (c : Command) (bytes text : List ℕ) (e : InputError) → IsFile told c.schema bytes → text ≡ bytes → SchemaStops text e → Explains told c e
-schema_explains told c bytes text (Refused Sources.Schema refusal) file same (built, none) = inr (built, (bytes, file, inr (subst IsNoSchemaText same none)))
-schema_explains told c bytes text (Refused Sources.Data refusal) file same h = absurd h
-schema_explains told c bytes text (Refused Sources.Map refusal) file same h = absurd h
-schema_explains told c bytes text (Failed other) file same h = absurd h
-schema_explains told c bytes text Memory file same h = tt
+pub schema_explains : (told : Told) (c : Command) (bytes text : List ℕ) (e : InputError) → IsFile told c.schema bytes → is_compact c.schema ≡ false → text ≡ bytes → SchemaStops text e → Explains told c e
+schema_explains told c bytes text (Refused Sources.Schema refusal) file json same h = inr (record { bytes = bytes; file = file; why = inr (json, subst (λ bs. IsSchemaCause bs refusal) same h) })
+schema_explains told c bytes text (Refused Sources.Data refusal) file json same h = absurd h
+schema_explains told c bytes text (Refused Sources.Map refusal) file json same h = absurd h
+schema_explains told c bytes text (Failed other) file json same h = absurd h
+schema_explains told c bytes text Memory file json same h = tt
 
 pub schema_faults : (c : Command) (before after : ℕ) (blame : List ℕ) (act : Act) (bytes : List ℕ) (e : InputError) → after ≡ before → SchemaStops bytes e → FaultsAs c before after blame act e
 schema_faults c before after blame act bytes (Refused other refusal) stay h = stay
@@ -79,7 +147,7 @@ schema_faults c before after blame act bytes (Failed other) stay h = absurd h
 schema_faults c before after blame act bytes Memory stay h = stay
 
 -- data that are not read
-explained : (told : Told) (c : Command) (doc : OneShape) (bytes text : List ℕ) (e : InputError) → HoldsSchema told c doc → IsFile told c.data_file bytes → text ≡ bytes → LoadingStops (format_of c.data_file) c.data_base doc text e → Explains told c e
+explained : (told : Told) (c : Command) (doc : Document) (bytes text : List ℕ) (e : InputError) → HoldsSchema told c doc → IsFile told c.data_file bytes → text ≡ bytes → LoadingStops (format_of c.data_file) c.data_base doc text e → Explains told c e
 explained told c doc bytes text (Refused Sources.Schema refusal) holds file same h = absurd h
 explained told c doc bytes text (Refused Sources.Data refusal) holds file same (cause, none) = inr (record {
   doc = doc;
@@ -93,10 +161,10 @@ explained told c doc bytes text (Refused Sources.Map refusal) holds file same h 
 explained told c doc bytes text (Failed other) holds file same h = absurd h
 explained told c doc bytes text Memory holds file same h = tt
 
-pub data_explains : (told : Told) (c : Command) (format : Format) (doc : OneShape) (bytes text : List ℕ) (e : InputError) → HoldsSchema told c doc → IsFile told c.data_file bytes → format ≡ format_of c.data_file → text ≡ bytes → LoadingStops format c.data_base doc text e → Explains told c e
+pub data_explains : (told : Told) (c : Command) (format : Format) (doc : Document) (bytes text : List ℕ) (e : InputError) → HoldsSchema told c doc → IsFile told c.data_file bytes → format ≡ format_of c.data_file → text ≡ bytes → LoadingStops format c.data_base doc text e → Explains told c e
 data_explains told c format doc bytes text e holds file is same h = explained told c doc bytes text e holds file same (subst (λ f. LoadingStops f c.data_base doc text e) is h)
 
-pub data_faults : (c : Command) (before after : ℕ) (blame : List ℕ) (act : Act) (format : Format) (base : List ℕ) (doc : OneShape) (bytes : List ℕ) (e : InputError) → after ≡ before → LoadingStops format base doc bytes e → FaultsAs c before after blame act e
+pub data_faults : (c : Command) (before after : ℕ) (blame : List ℕ) (act : Act) (format : Format) (base : List ℕ) (doc : Document) (bytes : List ℕ) (e : InputError) → after ≡ before → LoadingStops format base doc bytes e → FaultsAs c before after blame act e
 data_faults c before after blame act format base doc bytes (Refused other refusal) stay h = stay
 data_faults c before after blame act format base doc bytes (Failed other) stay h = absurd h
 data_faults c before after blame act format base doc bytes Memory stay h = stay
@@ -146,7 +214,7 @@ unfolding is_base
 base_scheme text h = (and_parts _ _ h).0
 
 -- what is read is taken
-pub are_taken : (told : Told) (c : Command) (h : Held) (format : Format) (doc : OneShape) (bytes text : List ℕ) (triples : List TermTriple) → HoldsSchema told c doc → IsFile told c.data_file bytes → format ≡ format_of c.data_file → text ≡ bytes
+pub are_taken : (told : Told) (c : Command) (h : Held) (format : Format) (doc : Document) (bytes text : List ℕ) (triples : List TermTriple) → HoldsSchema told c doc → IsFile told c.data_file bytes → format ≡ format_of c.data_file → text ≡ bytes
     → IsData format c.data_base (h.names, triples) text → IsBase doc triples h → IsTaken told c h
 are_taken told c h format doc bytes text triples holds file is same spelled base = record {
   doc = doc;

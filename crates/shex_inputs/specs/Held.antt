@@ -1,5 +1,5 @@
 -- What the schema file and the data file hold, in the numbers of one table of terms.
-use Rattle.std.specs.Prelude.{ℕ, false, List, [], ◌∷◌, ◌≡◌, ◌<◌, ◌^◌, Option, Some, None, length, slice_get}
+use Rattle.std.specs.Prelude.{ℕ, ⊤, false, List, [], ◌∷◌, ◌≡◌, ◌<◌, ◌^◌, Option, Some, None, length, slice_get}
 use Rattle.shex_io.specs.Files.{Told}
 use Rattle.rdf_terms.specs.Lists.{AreDistinct}
 use Rattle.rdf_terms.specs.Tables.{max_terms}
@@ -8,10 +8,8 @@ use Rattle.rdf_terms.specs.declared.terms.Term.TheVariants as Terms
 use Rattle.rdf_terms.specs.declared.terms.Triple.{Triple}
 use Rattle.tally.specs.declared.Count.{Count}
 use Rattle.tally.specs.Plan.{plan_of, sym}
-use Rattle.node_constraint.specs.declared.Kind4.{Kind4}
-use Rattle.one_shape.specs.declared.OneShape.{OneShape}
-use Rattle.one_shape.specs.declared.Constraint.{Constraint}
-use Rattle.one_shape.specs.Texts.{IsSchemaText}
+use Rattle.tally.specs.declared.Bound.TheVariants.{Upto}
+use Rattle.node_constraint.specs.Constraint.{Constraint}
 use Rattle.graph_loading.specs.declared.triples.TermTriple.{TermTriple}
 use Rattle.graph_loading.specs.Loading.{AddsAll, IsWithin, Loads}
 use Rattle.data_reader.specs.Documents.{Context, IsData, context_of}
@@ -21,9 +19,10 @@ use Rattle.schema_tree.specs.declared.schema.Shape.{Shape}
 use Rattle.schema_tree.specs.declared.schema.ExprId.{ExprId}
 use Rattle.schema_tree.specs.declared.schema.Expr.TheVariants as Exprs
 use Rattle.schema_tree.specs.declared.schema.Occurrence.{Occurrence}
-use Rattle.schema_tree.specs.declared.labels.Label.TheVariants as Labels
+use Rattle.schema_documents.specs.Tree.{Declaration, Document, MaybeShapeExpr, MaybeTripleExpr, ShapeExpr, TripleExpr, arc, no_expr, no_triple, node, one_expr, one_triple, shape, triple}
 use Rattle.schema_tree.specs.Entries.{entry}
 use Rattle.schema_tree.specs.Loaded.{IsLoaded}
+use Rattle.shexj_reader.specs.Bytes.{IsDocumentText}
 use Rattle.command_words.specs.Asked.{Command}
 use Rattle.shex_inputs.specs.declared.base.Base.{Base}
 use Rattle.shex_inputs.specs.Loading.{IsBuilt, predicates_of}
@@ -40,12 +39,12 @@ pub record Held : Type 0 where
 abbrev pub held_by : Base → Held
 held_by b = record { schema = b.schema; terms = b.terms; graph = b.graph.triples; names = context_of b.names }
 
--- the schema file, whose name is none of ShExC, holds the text of this schema
-pub record HoldsSchema (told : Told) (c : Command) (doc : OneShape) : Type 0 where
+-- the schema file, whose name is none of ShExC, holds the text of this document
+pub record HoldsSchema (told : Told) (c : Command) (doc : Document) : Type 0 where
   pub bytes : List ℕ
   pub file : IsFile told c.schema bytes
   pub in_json : is_compact c.schema ≡ false
-  pub spelled : IsSchemaText doc bytes
+  pub spelled : IsDocumentText doc bytes
 
 -- the data file holds a document of these triples, in the format of the file's name and under the base of the data, with these
 -- base and prefixes at its end
@@ -54,46 +53,78 @@ pub record HoldsData (told : Told) (c : Command) (last : Context) (triples : Lis
   pub file : IsFile told c.data_file bytes
   pub spelled : IsData (format_of c.data_file) c.data_base (last, triples) bytes
 
--- the value of an occurrence is the node constraint of this kind, or is absent where no kind is given
-abbrev pub IsValueOf : Schema → Option Kind4 → Option ExprId → Type 0
-IsValueOf s None None = Unit {0}
-IsValueOf s (Some kind) (Some e) = entry s e ≡ Some (Exprs.Node (record { kind = Some kind }))
-IsValueOf s _ _ = ⊥
+-- the entry is the shape expression, a node constraint
+abbrev pub IsNodeOf : Schema → ShapeExpr → ExprId → Type 0
+IsNodeOf s (node c) e = entry s e ≡ Some (Exprs.Node c)
+IsNodeOf s _ e = ⊥
 
--- the occurrence takes arcs out with the constraint's predicate, and its value is the constraint's
-pub record IsOccurrenceOf (terms : List Term) (s : Schema) (c : Constraint) (o : Occurrence) : Type 0 where
+-- the value of an occurrence is that of the TripleConstraint, or absent as that is
+abbrev pub IsValueOf : Schema → MaybeShapeExpr → Option ExprId → Type 0
+IsValueOf s no_expr None = ⊤
+IsValueOf s no_expr (Some e) = ⊥
+IsValueOf s (one_expr x) None = ⊥
+IsValueOf s (one_expr x) (Some e) = IsNodeOf s x e
+
+-- the occurrence takes arcs out with the predicate, and its value is the TripleConstraint's
+pub record IsOccurrenceOf (terms : List Term) (s : Schema) (predicate : List ℕ) (value : MaybeShapeExpr) (o : Occurrence) : Type 0 where
   pub forward : o.inverse ≡ false
-  pub predicate : slice_get terms o.predicate.0 ≡ Some (Terms.Iri c.predicate)
-  pub value : IsValueOf s c.kind o.value
+  pub number : slice_get terms o.predicate.0 ≡ Some (Terms.Iri predicate)
+  pub valued : IsValueOf s value o.value
 
--- the body and the occurrences are those of the constraint: one occurrence, once; or none
-abbrev pub IsBodyOf : List Term → Schema → Option Constraint → Option Count → List Occurrence → Type 0
-IsBodyOf terms s None None occs = occs ≡ []
-IsBodyOf terms s (Some c) (Some body) occs = (plan_of body ≡ sym 0) × ((o : Occurrence) × (occs ≡ o ∷ []) × IsOccurrenceOf terms s c o)
-IsBodyOf terms s _ _ occs = ⊥
+-- the body and the occurrences are those of a TripleConstraint that comes once and takes arcs out: its one occurrence, once
+abbrev pub IsTripleOf : List Term → Schema → TripleExpr → Count → List Occurrence → Type 0
+IsTripleOf terms s (triple name least most (arc false predicate value)) body occs =
+    (least ≡ 1) × (most ≡ Upto 1) × (plan_of body ≡ sym 0) × (o : Occurrence) × (occs ≡ o ∷ []) × IsOccurrenceOf terms s predicate value o
+IsTripleOf terms s (triple name least most _) body occs = ⊥
 
--- the schema stands for the document: one open Shape without EXTRA, whose label is the document's, and no start
--- (ShEx 2.1, section 5)
-pub record StandsFor (terms : List Term) (doc : OneShape) (s : Schema) : Type 0 where
+-- the body and the occurrences are those of the triple expression; without one there are none
+abbrev pub IsBodyOf : List Term → Schema → MaybeTripleExpr → Option Count → List Occurrence → Type 0
+IsBodyOf terms s no_triple None occs = occs ≡ []
+IsBodyOf terms s no_triple (Some body) occs = ⊥
+IsBodyOf terms s (one_triple t) None occs = ⊥
+IsBodyOf terms s (one_triple t) (Some body) occs = IsTripleOf terms s t body occs
+
+-- the entry is the node constraint, and there is no Shape
+pub record IsConstraintOf (s : Schema) (c : Constraint) (e : ExprId) : Type 0 where
+  pub place : entry s e ≡ Some (Exprs.Node c)
+  pub no_shape : s.shapes ≡ []
+
+-- the entry is the only Shape, which is open, without EXTRA, and has the triple expression
+pub record IsShapeOf (terms : List Term) (s : Schema) (expression : MaybeTripleExpr) (e : ExprId) : Type 0 where
+  pub place : entry s e ≡ Some (Exprs.Shape (record { 0 = 0 }))
+  pub only : Shape
+  pub shapes : s.shapes ≡ only ∷ []
+  pub closed : only.closed ≡ false
+  pub extra : only.extra ≡ []
+  pub body : IsBodyOf terms s expression only.body only.occs
+
+-- the entry is the shape expression: a node constraint, or an open Shape without EXTRA (ShEx 2.1, sections 5.4 and 5.5)
+abbrev pub IsExprOf : List Term → Schema → ShapeExpr → ExprId → Type 0
+IsExprOf terms s (node c) e = IsConstraintOf s c e
+IsExprOf terms s (shape false [] expression) e = IsShapeOf terms s expression e
+IsExprOf terms s _ e = ⊥
+
+-- the schema stands for the document, which has no imports and no start: its only label is that of the declaration, with the
+-- declared expression (ShEx 2.1, sections 5.1 and 5.2)
+pub record StandsFor (terms : List Term) (doc : Document) (s : Schema) : Type 0 where
   pub loaded : IsLoaded s
+  pub none_imported : doc.imports ≡ []
+  pub none_started : doc.start ≡ no_expr
   pub start : s.start ≡ None
+  pub decl : Declaration
+  pub declares : doc.decls ≡ decl ∷ []
   pub expr : ExprId
-  pub labels : s.labels ≡ (Labels.Iri doc.label, expr) ∷ []
-  pub shape_of : entry s expr ≡ Some (Exprs.Shape (record { 0 = 0 }))
-  pub shape : Shape
-  pub shapes : s.shapes ≡ shape ∷ []
-  pub closed : shape.closed ≡ false
-  pub extra : shape.extra ≡ []
-  pub body : IsBodyOf terms s doc.constraint shape.body shape.occs
+  pub labels : s.labels ≡ (decl.label, expr) ∷ []
+  pub declared : IsExprOf terms s decl.expr expr
 
 -- a schema and a graph in the numbers of one table of terms are those of the document and the triples. The table has each
--- term once: first the document's predicate, then the terms of the triples in their order
-pub record IsBase (doc : OneShape) (triples : List TermTriple) (h : Held) : Type 0 where
+-- term once: first the document's predicates, then the terms of the triples in their order
+pub record IsBase (doc : Document) (triples : List TermTriple) (h : Held) : Type 0 where
   pub stands : StandsFor h.terms doc h.schema
-  pub built : IsBuilt h.terms doc.label doc.constraint h.schema
+  pub built : IsBuilt h.terms doc h.schema
   pub distinct : AreDistinct h.terms
   pub first : List Term
-  pub predicates : AddsAll [] (predicates_of doc.constraint) first
+  pub predicates : AddsAll [] (predicates_of doc) first
   pub graph : Loads first [] triples h.terms h.graph
   pub within : IsWithin h.terms h.graph
 
@@ -104,7 +135,7 @@ pub record HasRoom (h : Held) : Type 0 where
 
 -- the schema file and the data file hold these schema and graph for the command
 pub record IsTaken (told : Told) (c : Command) (h : Held) : Type 0 where
-  pub doc : OneShape
+  pub doc : Document
   pub holds_schema : HoldsSchema told c doc
   pub triples : List TermTriple
   pub holds_data : HoldsData told c h.names triples

@@ -1,10 +1,11 @@
 -- Why an input is refused. Each refusal stands in the bytes of the file, and what is refused is not taken.
-use Rattle.std.specs.Prelude.{ℕ, true, List, [], ◌≡◌, ◌⊎◌, ◌<◌, length, Option, Some, None, ⊤}
+use Rattle.std.specs.Prelude.{ℕ, true, false, List, [], ◌≡◌, ◌≢◌, ◌⊎◌, ◌<◌, length, Option, Some, None, ⊤}
 use Rattle.shex_io.specs.Files.{Told}
 use Rattle.rdf_terms.specs.Tables.{max_terms}
 use Rattle.rdf_terms.specs.declared.terms.Term.{Term}
-use Rattle.one_shape.specs.declared.OneShape.{OneShape}
-use Rattle.one_shape.specs.Texts.{IsNoSchemaText}
+use Rattle.schema_documents.specs.Tree.{Document}
+use Rattle.schema_documents.specs.declared.error.SchemaError.TheVariants as SchemaErrors
+use Rattle.shexj_reader.specs.Bytes.{IsCause, IsDocumentText}
 use Rattle.graph_index.specs.declared.read_error.ReadError.{ReadError}
 use Rattle.graph_index.specs.declared.read_error.ReadError.TheVariants as ReadErrors
 use Rattle.graph_loading.specs.declared.triples.TermTriple.{TermTriple}
@@ -32,12 +33,19 @@ use Rattle.shex_inputs.specs.Named.{IsFile, IsTooLong, is_compact, map_name, sou
 -- the steps come to a file of the inputs: those before it are taken
 abbrev pub Reaches : Told → Command → Source → Type 0
 Reaches told c Sources.Schema = ⊤
-Reaches told c Sources.Data = (doc : OneShape) × HoldsSchema told c doc
+Reaches told c Sources.Data = (doc : Document) × HoldsSchema told c doc
 Reaches told c Sources.Map = (h : Held) × IsTaken told c h
 
--- the schema file's bytes, within the limit, are those of a schema in ShExC or not of the form that is read
-abbrev pub IsOfNoForm : Told → Command → Type 0
-IsOfNoForm told c = (bytes : List ℕ) × IsFile told c.schema bytes × ((is_compact c.schema ≡ true) ⊎ IsNoSchemaText bytes)
+-- the cause stands in the bytes of the schema, and they spell no document that is read
+abbrev pub IsSchemaCause : List ℕ → Refusal → Type 0
+IsSchemaCause bytes (Refusals.Schema e) = (e ≢ SchemaErrors.Memory) × (IsCause bytes e × ((doc : Document) → ¬ IsDocumentText doc bytes))
+IsSchemaCause bytes refusal = ⊥
+
+-- the schema file's bytes, within the limit, are of a schema in ShExC, by its name, or they have this cause
+pub record IsNoSchema (told : Told) (c : Command) (refusal : Refusal) : Type 0 where
+  pub bytes : List ℕ
+  pub file : IsFile told c.schema bytes
+  pub why : ((is_compact c.schema ≡ true) × (refusal ≡ Refusals.NotBuilt)) ⊎ ((is_compact c.schema ≡ false) × IsSchemaCause bytes refusal)
 
 -- the data reader's name for a refusal, if it has one
 abbrev pub read_error : Refusal → Option ReadError
@@ -49,15 +57,15 @@ read_error (Refusals.Long at) = Some (ReadErrors.Long at)
 read_error Refusals.Full = Some ReadErrors.Full
 read_error refusal = None
 
--- the cause stands in the bytes of the data, as the format has it, where the table has the predicate of the schema document
-abbrev pub IsDataCause : Format → List ℕ → OneShape → List ℕ → Option ReadError → Type 0
+-- the cause stands in the bytes of the data, as the format has it, where the table has the predicates of the schema document
+abbrev pub IsDataCause : Format → List ℕ → Document → List ℕ → Option ReadError → Type 0
 IsDataCause format base doc bytes None = ⊥
 IsDataCause format base doc bytes (Some e) =
-    (first : List Term) × AddsAll [] (predicates_of doc.constraint) first × DataExplains format base e bytes first []
+    (first : List Term) × AddsAll [] (predicates_of doc) first × DataExplains format base e bytes first []
 
 -- the schema is taken, the data file's bytes, within the limit, have this cause, and no table and graph are made of them
 pub record AreUnread (told : Told) (c : Command) (refusal : Refusal) : Type 0 where
-  pub doc : OneShape
+  pub doc : Document
   pub holds_schema : HoldsSchema told c doc
   pub bytes : List ℕ
   pub file : IsFile told c.data_file bytes
@@ -116,7 +124,7 @@ pub record IsMapFull (told : Told) (c : Command) (refusal : Refusal) : Type 0 wh
 
 -- the refusal of a file of the inputs by its bytes; too many bytes are refused unread
 abbrev pub IsRefusedFor : Told → Command → Source → Refusal → Type 0
-IsRefusedFor told c Sources.Schema refusal = (refusal ≡ Refusals.NotBuilt) × IsOfNoForm told c
+IsRefusedFor told c Sources.Schema refusal = IsNoSchema told c refusal
 IsRefusedFor told c Sources.Data refusal = AreUnread told c refusal
 IsRefusedFor told c Sources.Map refusal = IsNoMap told c refusal ⊎ (IsUnresolved told c refusal ⊎ IsMapFull told c refusal)
 

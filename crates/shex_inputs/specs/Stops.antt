@@ -7,8 +7,9 @@ use Rattle.shex_io.specs.declared.files.Act.TheVariants.{Fetch}
 use Rattle.rdf_terms.specs.Tables.{max_terms}
 use Rattle.rdf_terms.specs.declared.terms.Term.{Term}
 use Rattle.rdf_terms.specs.declared.terms.Triple.{Triple}
-use Rattle.one_shape.specs.declared.OneShape.{OneShape}
-use Rattle.one_shape.specs.Texts.{IsNoSchemaText}
+use Rattle.schema_documents.specs.Tree.{Document}
+use Rattle.schema_documents.specs.declared.error.SchemaError.{SchemaError}
+use Rattle.schema_documents.specs.declared.error.SchemaError.TheVariants as SchemaErrors
 use Rattle.graph_index.specs.declared.read_error.ReadError.{ReadError}
 use Rattle.graph_index.specs.declared.read_error.ReadError.TheVariants as ReadErrors
 use Rattle.graph_loading.specs.declared.triples.TermTriple.{TermTriple}
@@ -29,7 +30,7 @@ use Rattle.shex_inputs.specs.declared.error.Source.TheVariants.{Schema, Data, Ma
 use Rattle.shex_inputs.specs.Asked.{TakesNodes}
 use Rattle.shex_inputs.specs.Held.{Held, IsBase}
 use Rattle.shex_inputs.specs.Named.{IsTooLong}
-use Rattle.shex_inputs.specs.Refusals.{IsChoiceCause, IsDataCause, IsMapCause, choice_error, map_error, read_error}
+use Rattle.shex_inputs.specs.Refusals.{IsChoiceCause, IsDataCause, IsMapCause, IsSchemaCause, choice_error, map_error, read_error}
 
 -- a file is too long, it was not fetched, or memory ran out
 abbrev pub FetchStops : Told → List ℕ → Source → ℕ → ℕ → List ℕ → Act → InputError → Type 0
@@ -37,9 +38,14 @@ FetchStops told name source before after blame act (Refused other refusal) = (ot
 FetchStops told name source before after blame act (Failed other) = (other ≡ source) × (Rose before after × (before ≤ after) × (blame ≡ name) × (act ≡ Fetch))
 FetchStops told name source before after blame act Memory = after ≡ before
 
--- bytes are no schema of the form that is read, or memory ran out
+-- why there are no inputs where a schema is not read
+abbrev pub schema_error : SchemaError → InputError
+schema_error SchemaErrors.Memory = Memory
+schema_error e = Refused Schema (Refusals.Schema e)
+
+-- bytes spell no document that is read, or memory ran out
 abbrev pub SchemaStops : List ℕ → InputError → Type 0
-SchemaStops bytes (Refused Schema refusal) = (refusal ≡ Refusals.NotBuilt) × IsNoSchemaText bytes
+SchemaStops bytes (Refused Schema refusal) = IsSchemaCause bytes refusal
 SchemaStops bytes (Refused Data refusal) = ⊥
 SchemaStops bytes (Refused Map refusal) = ⊥
 SchemaStops bytes (Failed other) = ⊥
@@ -74,7 +80,7 @@ ReadingStops format base first bytes (Failed other) = ⊥
 ReadingStops format base first bytes Memory = ⊤
 
 -- data are not read into the table of the schema document, or memory ran out
-abbrev pub LoadingStops : Format → List ℕ → OneShape → List ℕ → InputError → Type 0
+abbrev pub LoadingStops : Format → List ℕ → Document → List ℕ → InputError → Type 0
 LoadingStops format base doc bytes (Refused Schema refusal) = ⊥
 LoadingStops format base doc bytes (Refused Data refusal) =
     IsDataCause format base doc bytes (read_error refusal)

@@ -4,14 +4,15 @@ ghost use Rattle.std.specs.Prelude.{◌≡◌, All, IfErr, IfOk, IsSome, OnOk, t
 ghost use Rattle.iri_resolve.specs.Reference.{scheme_of};
 ghost use Rattle.rdf_lex.specs.Prefixes.{base_of};
 ghost use Rattle.graph_index.specs.Laws.{IsOfTable};
-ghost use Rattle.one_shape.specs.Texts.{IsSchemaText};
+ghost use Rattle.schema_documents.specs.Tree.{document_of};
+ghost use Rattle.shexj_reader.specs.Bytes.{IsDocumentText};
 ghost use Rattle.command_words.specs.Checks.{is_base};
 ghost use Rattle.command_words.specs.Lent.{command_of, command_with};
 ghost use Rattle.command_words.specs.Requests.{Task};
 ghost use Rattle.shex_inputs.specs.Held.{HasRoom, HoldsSchema, IsTaken, held_by};
 ghost use Rattle.shex_inputs.specs.Named.{is_compact};
 ghost use Rattle.shex_inputs.specs.Outcomes.{Explains, FaultsAs, IsOfBase};
-ghost use Rattle.shex_inputs.specs.Stops.{SchemaStops};
+ghost use Rattle.shex_inputs.specs.Stops.{SchemaStops, schema_error};
 
 use crate::data::load;
 use crate::error::{InputError, Refusal, Source};
@@ -19,11 +20,12 @@ use crate::fetch::fetch;
 use command_words::{Command, Inputs};
 use data_reader::Format;
 use graph_index::graph::Graph;
-use one_shape::{OneShape, SchemaError};
 use rdf_lex::Prefixes;
 use rdf_terms::table::TermTable;
+use schema_documents::{Doc, SchemaError};
 use schema_tree::schema::Schema;
 use shex_io::Files;
+use shexj_reader::laws::refused_are_none;
 use std::alloc::Global;
 
 /// A schema and a graph in the numbers of one table of terms, and the base and the prefixes at the end of the data.
@@ -56,15 +58,25 @@ fn is_compact(name: &str) -> bool
     name.ends_with(".shex")
 }
 
+/// Why there are no inputs where a schema is not read.
+fn schema_error(error: SchemaError) -> InputError
+    ensures { result ≡ schema_error error }
+{
+    match error {
+        SchemaError::Memory => InputError::Memory,
+        error => InputError::Refused(Source::Schema, Refusal::Schema(error)),
+    }
+}
+
 /// The schema document of some bytes.
-fn schema_of(alloc: Global, source: &[u8]) -> Result<OneShape, InputError>
-    ensures sound { IfOk result (λ doc. IsSchemaText doc source.now) }
+fn document_in(alloc: Global, source: &[u8]) -> Result<Doc, InputError>
+    ensures sound { IfOk result (λ doc. IsDocumentText (document_of doc) source.now) }
     ensures stops { IfErr result (SchemaStops source.now) }
 {
-    match one_shape::read(alloc, source) {
+    refused_are_none();
+    match shexj_reader::read(alloc, source) {
         Ok(doc) => Ok(doc),
-        Err(SchemaError::NotBuilt) => Err(InputError::Refused(Source::Schema, Refusal::NotBuilt)),
-        Err(SchemaError::Memory) => Err(InputError::Memory),
+        Err(error) => Err(schema_error(error)),
     }
 }
 
@@ -73,8 +85,8 @@ fn read_schema<F: Files>(
     alloc: Global,
     files: &mut F,
     inputs: &Inputs<'_>,
-) -> Result<OneShape, InputError>
-    ensures taken { (task : Task) → IfOk result (HoldsSchema (F.told files.old) (command_with inputs.now task)) }
+) -> Result<Doc, InputError>
+    ensures taken { (task : Task) → IfOk result (λ doc. HoldsSchema (F.told files.old) (command_with inputs.now task) (document_of doc)) }
     ensures of_base { IfErr result IsOfBase }
     ensures cause { (task : Task) → IfErr result (Explains (F.told files.old) (command_with inputs.now task)) }
     ensures faults { (task : Task) → IfErr result (FaultsAs (command_with inputs.now task) (F.faults files.old) (F.faults files.new) (F.blame files.new) (F.act files.new)) }
@@ -88,7 +100,7 @@ fn read_schema<F: Files>(
     if is_compact(inputs.schema) {
         return Err(InputError::Refused(Source::Schema, Refusal::NotBuilt));
     }
-    match schema_of(alloc, bytes.as_slice()) {
+    match document_in(alloc, bytes.as_slice()) {
         Ok(doc) => Ok(doc),
         Err(error) => Err(error),
     }
@@ -127,7 +139,7 @@ fn read_inputs<F: Files>(
 }
 
 /// What the schema file and the data file of a command hold, whose data base has a scheme. Each is fetched and read in turn;
-/// the first that is not taken is named. The table has the predicate of the schema first, and then the terms of the data in
+/// the first that is not taken is named. The table has the predicates of the schema first, and then the terms of the data in
 /// their order.
 pub fn read_base<F: Files>(
     alloc: Global,

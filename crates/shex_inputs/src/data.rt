@@ -8,18 +8,20 @@ ghost use Rattle.graph_index.specs.Laws.{IsOfTable};
 ghost use Rattle.graph_loading.specs.declared.triples.TermTriple.{TermTriple};
 ghost use Rattle.graph_loading.specs.Loading.{IsWithin, Loads};
 ghost use Rattle.data_reader.specs.Documents.{IsData, context_of};
+ghost use Rattle.schema_documents.specs.Tree.{document_of};
 ghost use Rattle.shex_inputs.specs.Held.{HasRoom, IsBase, held_by};
+ghost use Rattle.shex_inputs.specs.Loading.{IsLoadable};
 ghost use Rattle.shex_inputs.specs.Stops.{LoadingStops, ReadingStops, data_error};
 
 use crate::base::Base;
 use crate::error::{InputError, Refusal, Source};
-use crate::load::{arc_of, make_schema};
+use crate::load::{in_numbers, make_schema, only_declaration};
 use data_reader::Format;
 use graph_index::graph::Graph;
 use graph_index::read_error::ReadError;
-use one_shape::OneShape;
 use rdf_lex::Prefixes;
 use rdf_terms::table::TermTable;
+use schema_documents::{Decl, Doc};
 use std::alloc::Global;
 
 /// Why there are no inputs where data are not read.
@@ -68,22 +70,23 @@ fn read_data(
 /// The schema of a document, and what a source in a format holds under a base.
 pub fn load(
     alloc: Global,
-    doc: OneShape,
+    doc: Doc,
     format: Format,
     base: &str,
     source: &[u8],
 ) -> Result<Base, InputError>
-    requires { IsSome (scheme_of base.now) }
-    ensures read { IfOk result (λ b. (triples : List TermTriple) × IsData format base.now (context_of b.names, triples) source.now × IsBase doc triples (held_by b)) }
+    requires scheme { IsSome (scheme_of base.now) }
+    requires loadable { IsLoadable (document_of doc) }
+    ensures read { IfOk result (λ b. (triples : List TermTriple) × IsData format base.now (context_of b.names, triples) source.now × IsBase (document_of doc) triples (held_by b)) }
     ensures room { IfOk result (λ b. HasRoom (held_by b)) }
     ensures scheme { IfOk result (λ b. IsSome (scheme_of (base_of b.names))) }
     ensures of_table { IfOk result (λ b. All (IsOfTable b.terms) b.graph.triples) }
-    ensures unread { IfErr result (LoadingStops format base.now doc source.now) }
+    ensures unread { IfErr result (LoadingStops format base.now (document_of doc) source.now) }
 {
-    let OneShape { label, constraint } = doc;
+    let Decl { label, expr } = only_declaration(doc);
     let mut terms = TermTable::new(alloc);
-    let arc = arc_of(constraint, &mut terms)?;
-    let schema = make_schema(alloc, label, arc)?;
+    let declared = in_numbers(expr, &mut terms)?;
+    let schema = make_schema(alloc, label, declared)?;
     let (graph, names) = read_data(alloc, format, base, source, &mut terms)?;
     Ok(Base {
         terms,

@@ -1,5 +1,6 @@
 //! Why inputs are not taken.
 
+use schema_documents::SchemaError;
 use schema_tree::labels::Label;
 use std::alloc::AllocError;
 
@@ -19,8 +20,10 @@ pub enum Source {
 pub enum Refusal {
     /// It has more than 67,108,864 bytes.
     Size,
-    /// The schema is not of the form that is read.
+    /// The schema is in ShExC, by the name of its file, which is not read yet.
     NotBuilt,
+    /// The bytes spell no schema document that is read, for this cause, which is never want of memory.
+    Schema(SchemaError),
     /// The bytes are not UTF-8.
     NotUtf8,
     /// They are of no form from this place on.

@@ -6,7 +6,7 @@ ghost use Rattle.shex_inputs.specs.Laws.{InputsAreOne};
 pub fn inputs_are_one()
     ensures { InputsAreOne }
 {
-    one_shape::reading_is_one();
+    shexj_reader::laws::documents_are_one();
     data_reader::data_are_one();
     shape_map::laws::maps_are_one();
 }

@@ -1,35 +1,45 @@
-//! The schema that stands for a document of one Shape.
+//! The schema that stands for a document.
 
-ghost use Rattle.std.specs.Prelude.{[], ◌∷◌, ◌≡◌, ◌<◌, None, Some, IfOk, OnOk, length, slice_get};
+ghost use Rattle.std.specs.Prelude.{[], ◌∷◌, ◌≡◌, ◌<◌, false, None, Some, IfOk, OnOk, length, map, option_map, slice_get};
 ghost use Rattle.rdf_terms.specs.Tables.{max_terms};
 ghost use Rattle.rdf_terms.specs.declared.terms.Term.TheVariants as Terms;
-ghost use Rattle.rdf_terms.specs.Lists.{AreDistinct};
-ghost use Rattle.rdf_terms.specs.Lists.{Adds};
+ghost use Rattle.rdf_terms.specs.Lists.{Adds, AreDistinct};
+ghost use Rattle.tally.specs.declared.Count.{Sym};
+ghost use Rattle.schema_documents.specs.Tree.{decl_of, document_of, expr_of, maybe_expr, maybe_triple, triple_of};
 ghost use Rattle.graph_loading.specs.Loading.{AddsAll};
-ghost use Rattle.shex_inputs.specs.Loading.{IsArcOf, entries_of, kind_of, occurrence_of, place_of, predicates_of, schema_of, shape_of};
+ghost use Rattle.shex_inputs.specs.Loading.{IsArcIn, IsArcOf, IsDeclaredAs, IsLoadable, IsLoadableExpr, IsLoadableExpression, IsLoadableTriple, IsLoadableValue, IsValueIn, labelled, predicates_in, predicates_in_expression, predicates_in_triple, schema_of, shape_of, value_of};
 
-use node_constraint::{Kind4, NodeConstraint};
-use one_shape::Constraint;
+use node_constraint::NodeConstraint;
 use rdf_terms::items::Items;
 use rdf_terms::table::{PutError, TermTable};
 use rdf_terms::terms::{Term, TermId};
 use rdf_terms::text::Text;
+use schema_documents::{Decl, Doc, DocArc, DocBody, DocExpr, DocShape, DocTriple};
 use schema_tree::labels::{Label, Labels};
 use schema_tree::schema::{Expr, ExprId, Occurrence, Schema, Shape, ShapeId};
 use std::alloc::{AllocError, Global};
 use tally::Count;
 
-/// A triple constraint in numbers: its predicate, and the kind of its value if one is asked for.
-#[derive(Clone, Copy, Debug, PartialEq, Eq)]
+/// A TripleConstraint that takes one arc out, in numbers.
+#[derive(Drop)]
 pub struct Arc {
     /// The predicate.
     pub predicate: TermId,
-    /// The kind of the object.
-    pub kind: Option<Kind4>,
+    /// What the object has to satisfy, if anything.
+    pub value: Option<NodeConstraint>,
+}
+
+/// A declared shape expression in numbers.
+#[derive(Drop)]
+pub enum Declared {
+    /// A node constraint.
+    Node(NodeConstraint),
+    /// An open Shape without EXTRA, with the arc that it takes, if there is one.
+    Shape(Option<Arc>),
 }
 
 /// The number of an IRI, which the table takes up where it is new.
-pub fn number_of(iri: Text, terms: &mut TermTable) -> Result<TermId, AllocError>
+fn number_of(iri: Text, terms: &mut TermTable) -> Result<TermId, AllocError>
     requires { length terms.old < max_terms }
     ensures number { IfOk result (λ id. slice_get terms.new id.0 ≡ Some (Terms.Iri iri)) }
     ensures added { OnOk result (Adds terms.old (Terms.Iri iri) terms.new) }
@@ -42,114 +52,191 @@ pub fn number_of(iri: Text, terms: &mut TermTable) -> Result<TermId, AllocError>
     }
 }
 
-/// The arc of a triple constraint, if there is one.
-pub fn arc_of(
-    constraint: Option<Constraint>,
-    terms: &mut TermTable,
-) -> Result<Option<Arc>, AllocError>
-    requires { length terms.old < max_terms }
-    ensures arc { IfOk result (IsArcOf terms.new constraint) }
-    ensures added { OnOk result (AddsAll terms.old (predicates_of constraint) terms.new) }
+/// The only declaration of a document.
+pub fn only_declaration(doc: Doc) -> Decl
+    requires { IsLoadable (document_of doc) }
+    ensures { map decl_of doc.decls ≡ decl_of result ∷ [] }
 {
-    match constraint {
-        Some(c) => {
-            let kind = c.kind;
-            let predicate = number_of(c.predicate, terms)?;
-            Ok(Some(Arc { predicate, kind }))
+    let mut decls = doc.decls.into_vec();
+    match decls.pop() {
+        Some(decl) => decl,
+        None => unreachable!(),
+    }
+}
+
+/// The node constraint of a value, if there is one.
+fn value_in(value: Option<Box<DocExpr>>) -> Option<NodeConstraint>
+    requires { IsLoadableValue (maybe_expr (option_map (λ e. expr_of e.value) value)) }
+    ensures { IsValueIn (maybe_expr (option_map (λ e. expr_of e.value) value)) result }
+{
+    match value {
+        Some(expr) => match Box::into_inner(expr) {
+            DocExpr::Node(constraint) => Some(constraint),
+            _ => unreachable!(),
+        },
+        None => None,
+    }
+}
+
+/// The arc of a triple expression, whose predicate the table takes up where it is new.
+fn arc_of(triple: DocTriple, terms: &mut TermTable) -> Result<Arc, AllocError>
+    requires loadable { IsLoadableTriple (triple_of triple) }
+    requires room { length terms.old < max_terms }
+    ensures arc { IfOk result (IsArcOf terms.new (triple_of triple)) }
+    ensures added { OnOk result (AddsAll terms.old (predicates_in_triple (triple_of triple)) terms.new) }
+{
+    let DocTriple {
+        label: _,
+        min: _,
+        max: _,
+        body,
+    } = triple;
+    match body {
+        DocBody::Arc(arc) => {
+            let DocArc {
+                inverse: _,
+                predicate,
+                value,
+            } = arc;
+            let value = value_in(value);
+            let predicate = number_of(predicate, terms)?;
+            Ok(Arc { predicate, value })
+        }
+        _ => unreachable!(),
+    }
+}
+
+/// The arc of a triple expression, if there is one.
+fn arc_in(expression: Option<DocTriple>, terms: &mut TermTable) -> Result<Option<Arc>, AllocError>
+    requires loadable { IsLoadableExpression (maybe_triple (option_map triple_of expression)) }
+    requires room { length terms.old < max_terms }
+    ensures arc { IfOk result (IsArcIn terms.new (maybe_triple (option_map triple_of expression))) }
+    ensures added { OnOk result (AddsAll terms.old (predicates_in_expression (maybe_triple (option_map triple_of expression))) terms.new) }
+{
+    match expression {
+        Some(triple) => {
+            let arc = arc_of(triple, terms)?;
+            Ok(Some(arc))
         }
         None => Ok(None),
     }
 }
 
-/// The expressions of a schema: the node constraint of the kind, if one is given, and the Shape.
-fn entries(alloc: Global, kind: Option<Kind4>) -> Result<Vec<Expr>, AllocError>
-    ensures { IfOk result (λ v. v.items ≡ entries_of kind) }
+/// A declared expression in the numbers of the table, which takes up its predicate where it is new.
+pub fn in_numbers(expr: DocExpr, terms: &mut TermTable) -> Result<Declared, AllocError>
+    requires loadable { IsLoadableExpr (expr_of expr) }
+    requires room { length terms.old < max_terms }
+    ensures numbered { IfOk result (IsDeclaredAs terms.new (expr_of expr)) }
+    ensures added { OnOk result (AddsAll terms.old (predicates_in (expr_of expr)) terms.new) }
 {
-    let shape = Expr::Shape(ShapeId(0));
-    match kind {
-        Some(_) => {
-            let entries = vec![in alloc; Expr::Node(NodeConstraint { kind }), shape]?;
-            Ok(entries)
+    match expr {
+        DocExpr::Node(constraint) => Ok(Declared::Node(constraint)),
+        DocExpr::Shape(shape) => {
+            let DocShape {
+                closed: _,
+                extra: _,
+                expression,
+            } = shape;
+            let arc = arc_in(expression, terms)?;
+            Ok(Declared::Shape(arc))
         }
-        None => {
-            let entries = vec![in alloc; shape]?;
-            Ok(entries)
-        }
+        _ => unreachable!(),
     }
 }
 
-/// The occurrence of an arc.
-fn occurrence(arc: Arc) -> Occurrence
-    ensures { result ≡ occurrence_of arc }
+/// The schema of these expressions and Shapes, where the label has the expression of this number.
+fn labelled(
+    alloc: Global,
+    label: Label,
+    exprs: Vec<Expr>,
+    shapes: Vec<Shape>,
+    place: ExprId,
+) -> Result<Schema, AllocError>
+    ensures { IfOk result (λ s. s ≡ labelled label exprs.items shapes.items place.0) }
 {
-    let value = match arc.kind {
-        Some(_) => Some(ExprId(0)),
-        None => None,
-    };
-    Occurrence {
-        inverse: false,
-        predicate: arc.predicate,
-        value,
-    }
-}
-
-/// The open Shape of an arc, if there is one.
-fn shape(alloc: Global, arc: Option<Arc>) -> Result<Shape, AllocError>
-    ensures { IfOk result (λ sh. sh ≡ shape_of arc) }
-{
-    let extra = Items::of(Vec::new(alloc));
-    match arc {
-        Some(arc) => {
-            let occs = vec![in alloc; occurrence(arc)]?;
-            Ok(Shape {
-                closed: false,
-                extra,
-                body: Some(Count::Sym(0)),
-                occs: Items::of(occs),
-            })
-        }
-        None => Ok(Shape {
-            closed: false,
-            extra,
-            body: None,
-            occs: Items::of(Vec::new(alloc)),
-        }),
-    }
-}
-
-/// The kind of an arc's value, if there is an arc and it has one.
-fn kind(arc: Option<Arc>) -> Option<Kind4>
-    ensures { result ≡ kind_of arc }
-{
-    match arc {
-        Some(arc) => arc.kind,
-        None => None,
-    }
-}
-
-/// The number of the Shape among the expressions.
-fn place(kind: Option<Kind4>) -> ExprId
-    ensures { result.0 ≡ place_of kind }
-{
-    match kind {
-        Some(_) => ExprId(1),
-        None => ExprId(0),
-    }
-}
-
-/// The schema of one open Shape with this label and arc.
-pub fn make_schema(alloc: Global, label: Text, arc: Option<Arc>) -> Result<Schema, AllocError>
-    ensures { IfOk result (λ s. s ≡ schema_of label arc) }
-{
-    let exprs = entries(alloc, kind(arc))?;
-    let only = shape(alloc, arc)?;
-    let shapes = vec![in alloc; only]?;
     let mut labels = Labels::new(alloc);
-    let _new = labels.declare(Label::Iri(label), place(kind(arc)))?;
+    let _new = labels.declare(label, place)?;
     Ok(Schema {
         exprs: Items::of(exprs),
         shapes: Items::of(shapes),
         labels,
         start: None,
     })
+}
+
+/// The open Shape of an occurrence with this predicate and value.
+fn arc_shape(alloc: Global, predicate: TermId, value: Option<ExprId>) -> Result<Shape, AllocError>
+    ensures { IfOk result (λ sh. sh ≡ record { closed = false; extra = []; body = Some (Sym 0); occs = record { inverse = false; predicate = predicate; value = value } ∷ [] }) }
+{
+    let occs = vec![in alloc;
+        Occurrence {
+            inverse: false,
+            predicate,
+            value
+        },
+    ]?;
+    Ok(Shape {
+        closed: false,
+        extra: Items::of(Vec::new(alloc)),
+        body: Some(Count::Sym(0)),
+        occs: Items::of(occs),
+    })
+}
+
+/// The open Shape without a triple expression.
+fn empty_shape(alloc: Global) -> Shape
+    ensures { result ≡ shape_of None }
+{
+    Shape {
+        closed: false,
+        extra: Items::of(Vec::new(alloc)),
+        body: None,
+        occs: Items::of(Vec::new(alloc)),
+    }
+}
+
+/// The schema of a Shape that takes an arc.
+fn arc_schema(alloc: Global, label: Label, arc: Arc) -> Result<Schema, AllocError>
+    ensures { IfOk result (λ s. s ≡ schema_of label (Declared.Shape (Some arc))) }
+{
+    let Arc { predicate, value } = arc;
+    match value {
+        Some(constraint) => {
+            let exprs = vec![in alloc; Expr::Node(constraint), Expr::Shape(ShapeId(0))]?;
+            let shapes = vec![in alloc; arc_shape(alloc, predicate, Some(ExprId(0)))?]?;
+            labelled(alloc, label, exprs, shapes, ExprId(1))
+        }
+        None => {
+            let exprs = vec![in alloc; Expr::Shape(ShapeId(0))]?;
+            let shapes = vec![in alloc; arc_shape(alloc, predicate, None)?]?;
+            labelled(alloc, label, exprs, shapes, ExprId(0))
+        }
+    }
+}
+
+/// The schema of a Shape that takes an arc, or none.
+fn shape_schema(alloc: Global, label: Label, arc: Option<Arc>) -> Result<Schema, AllocError>
+    ensures { IfOk result (λ s. s ≡ schema_of label (Declared.Shape arc)) }
+{
+    match arc {
+        Some(arc) => arc_schema(alloc, label, arc),
+        None => {
+            let exprs = vec![in alloc; Expr::Shape(ShapeId(0))]?;
+            let shapes = vec![in alloc; empty_shape(alloc)]?;
+            labelled(alloc, label, exprs, shapes, ExprId(0))
+        }
+    }
+}
+
+/// The schema in which the label has the declared expression. It has no start.
+pub fn make_schema(alloc: Global, label: Label, declared: Declared) -> Result<Schema, AllocError>
+    ensures { IfOk result (λ s. s ≡ schema_of label declared) }
+{
+    match declared {
+        Declared::Node(constraint) => {
+            let exprs = vec![in alloc; Expr::Node(constraint)]?;
+            labelled(alloc, label, exprs, Vec::new(alloc), ExprId(0))
+        }
+        Declared::Shape(arc) => shape_schema(alloc, label, arc),
+    }
 }

@@ -2,20 +2,50 @@
 
 use super::*;
 use command_words::Command;
+use node_constraint::{Facet, Kind4};
 use rdf_terms::table::TermTable;
 use rdf_terms::terms::TermId;
 use rdf_terms::text::Text;
 use rdf_terms::written::write_term;
+use schema_documents::SchemaError;
 use schema_tree::labels::Label;
+use schema_tree::schema::{Expr, ExprId, Occurrence, Schema};
 use shape_map::Association;
 use shex_io::MemFiles;
 use std::alloc::{AllocError, Global};
 use std::process::Abort;
 use std::test::Fail;
+use xs_pattern::PatternError;
 
 /// A schema of one Shape.
 const SCHEMA: &str =
     r#"{"type":"Schema","shapes":[{"type":"Shape","id":"http://s/S","expression":{"type":"TripleConstraint","predicate":"http://d/p"}}]}"#;
+
+/// A schema of one node constraint.
+const NODE: &str =
+    r#"{"type":"Schema","shapes":[{"type":"NodeConstraint","id":"http://s/S","nodeKind":"bnode"}]}"#;
+
+/// A schema of one Shape with a blank label, whose value has a datatype and facets.
+const VALUE: &str =
+    r#"{"type":"Schema","shapes":[{"type":"Shape","id":"_:s","expression":{"type":"TripleConstraint","predicate":"http://d/p","valueExpr":{"type":"NodeConstraint","datatype":"http://d/t","maxlength":9,"minlength":1}}}]}"#;
+
+/// One with a key that is not listed, and one of a type that is not read yet.
+const UNKNOWN: &str = r#"{"type":"Schema","shape":[]}"#;
+
+const CONJUNCTION: &str = r#"{"type":"Schema","shapes":[{"type":"ShapeAnd","id":"http://s/S"}]}"#;
+
+/// One with actions, and three whose facets are refused.
+const ACTING: &str =
+    r#"{"type":"Schema","startActs":[{}],"shapes":[{"type":"NodeConstraint","id":"http://s/S"}]}"#;
+
+const ON_FLOATS: &str =
+    r#"{"type":"Schema","shapes":[{"type":"NodeConstraint","id":"http://s/S","datatype":"http://www.w3.org/2001/XMLSchema#double","mininclusive":1}]}"#;
+
+const NEGATIVE: &str =
+    r#"{"type":"Schema","shapes":[{"type":"NodeConstraint","id":"http://s/S","length":-1}]}"#;
+
+const OPEN_GROUP: &str =
+    r#"{"type":"Schema","shapes":[{"type":"NodeConstraint","id":"http://s/S","pattern":"("}]}"#;
 
 /// A base and a prefix for the end of a document in Turtle, and a triple.
 const DATA: &str = "@prefix e: <http://n/> . @base <http://b/> . e:x <http://d/p> <z> .";
@@ -140,15 +170,10 @@ fn with_map(map: &[u8]) -> Given<'_> {
 }
 
 #[test]
-fn a_schema_in_compact_syntax_or_of_another_form_is_not_built(rt: HostRuntime) -> Result<(), Fail> {
+fn a_schema_in_compact_syntax_is_not_built(rt: HostRuntime) -> Result<(), Fail> {
     is_refused(
         &rt,
         &with_schema("s.shex", SCHEMA.as_bytes()),
-        InputError::Refused(Source::Schema, Refusal::NotBuilt),
-    )?;
-    is_refused(
-        &rt,
-        &with_schema("s.json", b"{}"),
         InputError::Refused(Source::Schema, Refusal::NotBuilt),
     )?;
     is_refused(
@@ -161,6 +186,107 @@ fn a_schema_in_compact_syntax_or_of_another_form_is_not_built(rt: HostRuntime) -
         &with_schema("s.shexj", b""),
         InputError::Failed(Source::Schema),
     )
+}
+
+/// Whether the bytes of a schema in ShExJ are refused for this cause.
+fn is_no_schema(
+    rt: &(impl Abort + AllocGlobal),
+    schema: &[u8],
+    wanted: SchemaError,
+) -> Result<(), Fail> {
+    is_refused(
+        rt,
+        &with_schema("s.json", schema),
+        InputError::Refused(Source::Schema, Refusal::Schema(wanted)),
+    )
+}
+
+#[test]
+fn a_schema_is_refused_as_bytes_and_for_names(rt: HostRuntime) -> Result<(), Fail> {
+    let key = Text::from_str(rt.alloc(), "shape")?;
+    let form = Text::from_str(rt.alloc(), "type")?;
+    let name = Text::from_str(rt.alloc(), "ShapeAnd")?;
+    is_no_schema(&rt, b"\xFF", SchemaError::NotUtf8)?;
+    is_no_schema(&rt, b"{", SchemaError::Json)?;
+    is_no_schema(&rt, UNKNOWN.as_bytes(), SchemaError::Key(key))?;
+    is_no_schema(&rt, b"{}", SchemaError::Form(form))?;
+    is_no_schema(&rt, CONJUNCTION.as_bytes(), SchemaError::NotBuilt(name))
+}
+
+#[test]
+fn a_schema_is_refused_for_acts_and_facets(rt: HostRuntime) -> Result<(), Fail> {
+    is_no_schema(&rt, ACTING.as_bytes(), SchemaError::Action)?;
+    is_no_schema(&rt, ON_FLOATS.as_bytes(), SchemaError::FloatFacet)?;
+    is_no_schema(&rt, NEGATIVE.as_bytes(), SchemaError::FacetNumber)?;
+    is_no_schema(
+        &rt,
+        OPEN_GROUP.as_bytes(),
+        SchemaError::Pattern(PatternError::Syntax),
+    )
+}
+
+/// The schema of a document in ShExJ.
+fn schema_in(alloc: Global, source: &str) -> Result<Schema, InputError> {
+    let given = with_schema("s.json", source.as_bytes());
+    let words = words(alloc, &given)?;
+    let mut files = files(alloc, &given)?;
+    let Ok(command) = command_words::read(alloc, words.as_slice()) else {
+        return Err(InputError::Memory);
+    };
+    let base = read_base(alloc, &mut files, &command)?;
+    Ok(base.schema)
+}
+
+/// Whether the first expression is a constraint to blank nodes.
+fn is_blank(schema: &Schema) -> bool {
+    match schema.exprs.as_slice() {
+        [Expr::Node(constraint)] => constraint.kind() == Some(Kind4::Bnode),
+        _ => false,
+    }
+}
+
+#[test]
+fn a_declared_constraint_is_the_only_expression(rt: HostRuntime) -> Result<(), Fail> {
+    let alloc = rt.alloc();
+    let label = Label::Iri(Text::from_str(alloc, "http://s/S")?);
+    let schema = schema_in(alloc, NODE).map_err(|_| "no schema")?;
+    assert_eq!(rt; schema.labels.find(&label), Some(ExprId(0)));
+    assert!(rt; schema.shapes.as_slice().is_empty());
+    assert!(rt; is_blank(&schema));
+    Ok(())
+}
+
+/// Whether the facets are the lengths of the value.
+fn are_lengths(facets: &[Facet]) -> bool {
+    match facets {
+        [Facet::MinLength(least), Facet::MaxLength(most)] => *least == 1 && *most == 9,
+        _ => false,
+    }
+}
+
+/// Whether the first of two expressions is the constraint to lengths, and the second the Shape.
+fn has_value_first(schema: &Schema) -> bool {
+    match schema.exprs.as_slice() {
+        [Expr::Node(constraint), Expr::Shape(_)] => are_lengths(constraint.facets()),
+        _ => false,
+    }
+}
+
+#[test]
+fn the_value_of_a_shape_is_an_expression_before_it(rt: HostRuntime) -> Result<(), Fail> {
+    let alloc = rt.alloc();
+    let label = Label::Blank(Text::from_str(alloc, "s")?);
+    let schema = schema_in(alloc, VALUE).map_err(|_| "no schema")?;
+    assert_eq!(rt; schema.labels.find(&label), Some(ExprId(1)));
+    assert!(rt; has_value_first(&schema));
+    let shape = schema.shapes.as_slice().first().ok_or("no Shape")?;
+    let wanted = Occurrence {
+        inverse: false,
+        predicate: TermId(0),
+        value: Some(ExprId(0)),
+    };
+    assert_eq!(rt; shape.occs.as_slice(), [wanted].as_slice());
+    Ok(())
 }
 
 #[test]

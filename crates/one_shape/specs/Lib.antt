@@ -1,4 +1,0 @@
-pub mod Objects
-pub mod Forms
-pub mod Texts
-pub mod Laws
