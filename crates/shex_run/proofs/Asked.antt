@@ -1,6 +1,6 @@
 -- What a map asks can be answered, and a proof of the answers is accepted.
-use Rattle.std.proofs.Common.{◌≡◌, ◌≤◌, ◌<◌, ◌∙◌, ap, sym, subst, refl, List, ℕ, zero, suc, [], ◌∷◌, inl, inr, ◌⊎◌, arith, length, map}
-use Rattle.std.specs.Prelude.{All, Contains, Option, Some, None, slice_get}
+use Rattle.std.proofs.Common.{◌≡◌, ◌≤◌, ◌<◌, ◌∙◌, ap, sym, subst, refl, List, ℕ, [], ◌∷◌, inl, inr, ◌⊎◌, arith, length, map}
+use Rattle.std.specs.Prelude.{All, Contains, Some, slice_get}
 use Rattle.std.proofs.lemmas.List.Elements.{All-contains, All-contains_itself, All-weaker}
 use Rattle.std.proofs.lemmas.Option.{slice_get_within}
 use Rattle.std.specs.Str.{IsUtf8}
@@ -12,30 +12,18 @@ use Rattle.rdf_terms.specs.Tables.{max_terms}
 use Rattle.rdf_terms.specs.declared.terms.Term.{Term}
 use Rattle.rdf_terms.specs.declared.terms.TermId.{TermId}
 use Rattle.rdf_terms.specs.declared.terms.Triple.{Triple}
-use Rattle.tally.specs.declared.Count.{Count}
-use Rattle.node_constraint.specs.declared.Kind4.{Kind4}
-use Rattle.one_shape.specs.declared.OneShape.{OneShape}
-use Rattle.one_shape.specs.declared.Constraint.{Constraint}
 use Rattle.graph_index.specs.Laws.{IsOfTable}
 use Rattle.graph_loading.specs.declared.triples.TermTriple.{TermTriple}
 use Rattle.graph_loading.specs.Loading.{IsNumbered}
 use Rattle.graph_loading.proofs.Loading.{all_distinct, loads_hold}
 use Rattle.data_reader.specs.Formats.{format_of}
 use Rattle.schema_tree.specs.declared.schema.Answer.{Answer}
-use Rattle.schema_tree.specs.declared.schema.Expr.{Expr}
-use Rattle.schema_tree.specs.declared.schema.Expr.TheVariants as Exprs
-use Rattle.schema_tree.specs.declared.schema.ExprId.{ExprId}
-use Rattle.schema_tree.specs.declared.schema.Occurrence.{Occurrence}
 use Rattle.schema_tree.specs.declared.schema.Schema.{Schema}
-use Rattle.schema_tree.specs.declared.schema.Shape.{Shape}
-use Rattle.schema_tree.specs.Entries.{entry}
 use Rattle.schema_tree.proofs.Lists.{from_flat_map, in_map}
 use Rattle.schema_tree.proofs.Members.{from_map, in_rest, is_first, is_later, not_in_none}
 use Rattle.term_reader.specs.Values.{IsWhole}
 use Rattle.proof_file.specs.declared.Proof.{Proof}
-use Rattle.proof_file.specs.Accepts.{AreAccepted}
 use Rattle.proof_file.specs.Text.{ProofText, target_text}
-use Rattle.proof_checker.specs.Checks.{setting_of}
 use Rattle.shape_map.specs.declared.items.Focus.{Focus}
 use Rattle.shape_map.specs.declared.items.Focus.TheVariants.{Subject, Object}
 use Rattle.shape_map.specs.declared.items.Item.{Item}
@@ -47,11 +35,9 @@ use Rattle.line_terms.specs.Laws.{BasesAreLines, DataHaveLines, MapHasLines}
 use Rattle.line_terms.specs.Lines.{AreLines, HasLine, HaveLines}
 use Rattle.command_words.specs.Asked.{Command}
 use Rattle.shex_inputs.specs.Asked.{IsAskedOf, Question, label_names, node_names}
-use Rattle.shex_inputs.specs.Held.{IsBodyOf, IsValueOf, StandsFor}
-use Rattle.shex_inputs.specs.Loading.{IsBuilt, entries_of, kind_of, predicates_of}
-use Rattle.simple_typing.specs.Answers.{AreAnswersTo, HasLines, IsAsked, IsProofOf, flat}
-use Rattle.simple_typing.specs.Simple.{IsNodeValue, IsPlain, IsSimple, IsSimpleBody, IsSimpleSchema}
-use Rattle.shex_run.specs.Proofs.{Accepted, one_stratum}
+use Rattle.shex_inputs.specs.Loading.{predicates_of}
+use Rattle.simple_typing.specs.Answers.{AreAnswersTo, HasLines, IsAsked, IsProofOf}
+use Rattle.shex_run.specs.Proofs.{Accepted}
 use Rattle.shex_run.specs.Stopping.{HasBases}
 use Rattle.shex_run.proofs.Risen.{taken_up}
 use Rattle.shex_run.proofs.Selected.{From, Gives, IsNodeOf, Known, comes_from, known}
@@ -61,59 +47,6 @@ use Rattle.shex_run.proofs.Tables.{all_keep}
 -- what is so of each member is so of all
 pub all_members : {X : Type 0} (P : X → Type 0) (xs : List X) → ((x : X) → Contains xs x → P x) → All P xs
 all_members P xs to = All-weaker (Contains xs) P to xs (All-contains_itself xs)
-
--- ---- the schema
-
-simple_body : (terms : List Term) (s : Schema) (c : Option Constraint) (body : Option Count) (occs : List Occurrence) → IsBodyOf terms s c body occs → IsSimpleBody s body occs
-simple_body terms s None None occs none = none
-simple_body terms s (Some c) (Some body) occs (plan, (o, one, made)) = (plan, (o, one, made.forward, valued c.kind o.value made.value))
-  where
-    valued : (k : Option Kind4) (v : Option ExprId) → IsValueOf s k v → IsNodeValue s v
-    valued k None h = tt
-    valued (Some kind) (Some e) h = (record { kind = Some kind }, h)
-    valued None (Some e) h = absurd h
-simple_body terms s None (Some body) occs h = absurd h
-simple_body terms s (Some c) None occs h = absurd h
-
-simple_shape : (terms : List Term) (doc : OneShape) (s : Schema) (stands : StandsFor terms doc s) → IsSimple s stands.shape
-simple_shape terms doc s stands = record {
-  closed = stands.closed;
-  extra = stands.extra;
-  body = simple_body terms s doc.constraint stands.shape.body stands.shape.occs stands.body;
-}
-
-plain_entry : (kind : Option Kind4) (k : ℕ) (x : Expr) → slice_get (entries_of kind) k ≡ Some x → IsPlain x
-plain_entry kind k (Exprs.Shape i) h = tt
-plain_entry kind k (Exprs.Node c) h = tt
-plain_entry None zero (Exprs.And es) h = absurd cc
-plain_entry None (suc k) (Exprs.And es) h = absurd cc
-plain_entry (Some kind) zero (Exprs.And es) h = absurd cc
-plain_entry (Some kind) (suc zero) (Exprs.And es) h = absurd cc
-plain_entry (Some kind) (suc (suc k)) (Exprs.And es) h = absurd cc
-plain_entry None zero (Exprs.Or es) h = absurd cc
-plain_entry None (suc k) (Exprs.Or es) h = absurd cc
-plain_entry (Some kind) zero (Exprs.Or es) h = absurd cc
-plain_entry (Some kind) (suc zero) (Exprs.Or es) h = absurd cc
-plain_entry (Some kind) (suc (suc k)) (Exprs.Or es) h = absurd cc
-plain_entry None zero (Exprs.Not e) h = absurd cc
-plain_entry None (suc k) (Exprs.Not e) h = absurd cc
-plain_entry (Some kind) zero (Exprs.Not e) h = absurd cc
-plain_entry (Some kind) (suc zero) (Exprs.Not e) h = absurd cc
-plain_entry (Some kind) (suc (suc k)) (Exprs.Not e) h = absurd cc
-
--- a schema that stands for a document is simple
-pub simple_schema : (terms : List Term) (doc : OneShape) (s : Schema) → StandsFor terms doc s → IsBuilt terms doc.label doc.constraint s → IsSimpleSchema s
-simple_schema terms doc s stands built = record {
-  shapes = λ i sh at. subst (λ x. IsSimple s x) (only i.0 sh (sym (ap (λ shapes. slice_get shapes i.0) stands.shapes) ∙ at)) (simple_shape terms doc s stands);
-  plain = λ e x at. plain_entry (kind_of built.arc) e.0 x (sym (ap (λ z. entry z e) built.made) ∙ at);
-}
-  where
-    only : (k : ℕ) (sh : Shape) → slice_get (stands.shape ∷ []) k ≡ Some sh → stands.shape ≡ sh
-    only zero sh e = cc
-    only (suc k) sh e = absurd cc
-
-pub flat_one : (terms : List Term) (doc : OneShape) (s : Schema) → StandsFor terms doc s → flat s ≡ one_stratum
-flat_one terms doc s stands = ap (λ shapes. map (λ sh. 0) shapes) stands.shapes
 
 -- ---- answers
 
@@ -186,7 +119,7 @@ module _ (told : Told) (c : Command) (name : Text) (q : Question) (is : IsAskedO
 
     -- the term of an end of a triple of the graph can stand in a line
     first_distinct : AreDistinct is.taken.base.first
-    first_distinct = all_distinct [] is.taken.base.first (predicates_of is.taken.doc.constraint) empty_distinct is.taken.base.predicates
+    first_distinct = all_distinct [] is.taken.base.first (predicates_of is.taken.doc) empty_distinct is.taken.base.predicates
 
     record LineNode (n : TermId) : Type 0 where
       term : Term
@@ -247,7 +180,7 @@ module _ (told : Told) (c : Command) (name : Text) (q : Question) (is : IsAskedO
           table = taken_up q.held.terms is.ends.takes.nodes q.terms p.nodes is.ends.takes.taken is.ends.takes.ordered.rising proof.keeps.nodes among (λ t h. numbered_held q.terms p.nodes proof.nodes proof.numbers t h);
           numbers = proof.numbers;
         };
-        accepted = subst (λ f. AreAccepted (setting_of f s q.terms g proof.nodes) p) (flat_one q.held.terms is.taken.doc s is.taken.base.stands) proof.accepted;
+        accepted = proof.accepted;
         claims = proof.claims;
       };
       few = few_terms;

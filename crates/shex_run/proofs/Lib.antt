@@ -8,5 +8,6 @@ pub mod Replies
 pub mod Risen
 pub mod Selected
 pub mod Settled
+pub mod Simplicity
 pub mod Tables
 pub mod Truths

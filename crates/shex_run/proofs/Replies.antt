@@ -21,7 +21,8 @@ use Rattle.shex_run.specs.declared.deciding.Decided.{Decided}
 use Rattle.shex_run.specs.Ready.{IsDecided, IsReady, IsReply}
 use Rattle.shex_run.specs.Statuses.{status_of}
 use Rattle.shex_run.specs.Stopping.{HasBases}
-use Rattle.shex_run.proofs.Asked.{accepted, asked, few, lines, simple_schema}
+use Rattle.shex_run.proofs.Asked.{accepted, asked, few, lines}
+use Rattle.shex_run.proofs.Simplicity.{simple_schema}
 
 module _ (told : Told) (c : Command) (name : Text) (q : Question) (is : IsAskedOf told c name q) (b : Base) (schema : b.schema ≡ q.held.schema) (terms : b.terms ≡ q.terms) (graph : b.graph.triples ≡ q.held.graph)
     (xs : List Association) (same : xs ≡ q.associations) where

@@ -5,8 +5,8 @@ use Rattle.shex_io.specs.Files.{Told, Holds}
 use Rattle.rdf_terms.specs.Tables.{max_terms}
 use Rattle.rdf_terms.specs.declared.terms.Term.{Term}
 use Rattle.rdf_terms.specs.declared.terms.TermId.{TermId}
-use Rattle.one_shape.specs.declared.OneShape.{OneShape}
 use Rattle.graph_loading.specs.declared.triples.TermTriple.{TermTriple}
+use Rattle.schema_documents.specs.Tree.{Document}
 use Rattle.schema_tree.specs.declared.schema.Answer.{Answer}
 use Rattle.schema_tree.specs.declared.schema.Pair.{Pair}
 use Rattle.schema_tree.specs.Typings.{HoldsEnds}
@@ -16,6 +16,7 @@ use Rattle.proof_file.specs.Laws.{HoldsLines, IsTrueProof}
 use Rattle.proof_file.specs.Text.{IsFault}
 use Rattle.proof_checker.specs.Checks.{IsFullFor, IsRejectedAs}
 use Rattle.shape_map.specs.Results.{result_text}
+use Rattle.simple_typing.specs.Answers.{flat}
 use Rattle.simple_typing.specs.Truths.{IsTypingOf}
 use Rattle.command_words.specs.Asked.{Command}
 use Rattle.shex_inputs.specs.declared.error.Refusal.TheVariants as Refusals
@@ -25,7 +26,7 @@ use Rattle.shex_run.specs.declared.stop.Rejection.{Rejection}
 use Rattle.shex_run.specs.declared.stop.Rejection.TheVariants as Rejections
 use Rattle.shex_run.specs.declared.stop.Stop.{Stop}
 use Rattle.shex_run.specs.declared.stop.Stop.TheVariants as Stops
-use Rattle.shex_run.specs.Proofs.{Accepted, one_stratum}
+use Rattle.shex_run.specs.Proofs.{Accepted}
 use Rattle.shex_run.specs.Tasks.{IsToCheck}
 
 -- what the proof says is true of the complete typing over each list of terms that holds the ends of the graph and the node
@@ -59,7 +60,7 @@ pub record IsCheckedAs (told : Told) (c : Command) (text : List ℕ) : Type 0 wh
 -- the bytes are rejected by this check of the item i, and the table can hold the terms
 pub record IsItemRejected (h : Held) (bytes : List ℕ) (i : ℕ) (w : Why) : Type 0 where
   pub terms : List Term
-  pub found : IsRejectedAs one_stratum h.schema h.terms terms h.graph bytes i w
+  pub found : IsRejectedAs (flat h.schema) h.schema h.terms terms h.graph bytes i w
   pub few : length terms ≤ max_terms
 
 -- the bytes are rejected so
@@ -77,7 +78,7 @@ IsFull told c = (h : Held) × (bytes : List ℕ) × IsGiven told c h bytes × Is
 
 -- the schema and the graph are those of some documents
 abbrev pub IsSomeBase : Held → Type 0
-IsSomeBase h = (doc : OneShape) × (triples : List TermTriple) × IsBase doc triples h
+IsSomeBase h = (doc : Document) × (triples : List TermTriple) × IsBase doc triples h
 
 -- why the bytes are not confirmed
 abbrev pub ConfirmStops : Held → List ℕ → Stop → Type 0

@@ -1,5 +1,5 @@
 -- The answers that are due, their proof, and how it is stored.
-use Rattle.std.specs.Prelude.{ℕ, List, [], ◌∷◌, ◌≡◌, ◌≤◌, ◌⊎◌, Option, Some, None, length}
+use Rattle.std.specs.Prelude.{ℕ, List, ◌≡◌, ◌≤◌, ◌⊎◌, Option, Some, None, length}
 use Rattle.clap.specs.Words.{Text}
 use Rattle.shex_io.specs.Files.{Told, Holds, HoldsPart, KeepsOthers}
 use Rattle.rdf_terms.specs.Tables.{max_terms}
@@ -9,17 +9,13 @@ use Rattle.proof_checker.specs.Checks.{IsAcceptedAs}
 use Rattle.command_words.specs.Asked.{Command}
 use Rattle.shex_inputs.specs.Asked.{IsAskedOf, Question}
 use Rattle.shex_inputs.specs.Held.{Held}
-use Rattle.simple_typing.specs.Answers.{AreAnswersTo}
+use Rattle.simple_typing.specs.Answers.{AreAnswersTo, flat}
 use Rattle.shex_run.specs.Tasks.{IsToValidate}
 
--- the strata of a schema of one Shape
-abbrev pub one_stratum : List ℕ
-one_stratum = 0 ∷ []
-
--- the bytes are the text of a proof that is accepted for the schema and the graph, the table, which can hold them, has these
--- terms once it has taken up the proof's node lines, and the answers are the proof's claims
+-- the bytes are the text of a proof that is accepted for the schema, with every Shape on the stratum 0, and the graph, the table,
+-- which can hold them, has these terms once it has taken up the proof's node lines, and the answers are the proof's claims
 pub record Accepted (h : Held) (bytes : List ℕ) (terms : List Term) (answers : List Answer) : Type 0 where
-  pub found : IsAcceptedAs one_stratum h.schema h.terms terms h.graph bytes answers
+  pub found : IsAcceptedAs (flat h.schema) h.schema h.terms terms h.graph bytes answers
   pub few : length terms ≤ max_terms
 
 -- the files hold this question for the command, whose map has this name, and these are its true answers: of each association its

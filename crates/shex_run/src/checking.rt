@@ -1,6 +1,7 @@
 //! The check of a proof that is given.
 
-ghost use Rattle.std.specs.Prelude.{IfErr, IfOk};
+ghost use Rattle.std.specs.Prelude.{◌≡◌, IfErr, IfOk};
+ghost use Rattle.simple_typing.specs.Answers.{flat};
 ghost use Rattle.shex_inputs.specs.Held.{HasRoom, held_by};
 ghost use Rattle.shex_run.specs.Checking.{ConfirmStops, Confirms, IsSomeBase};
 
@@ -8,12 +9,17 @@ use crate::stop::{File, Rejection, Stop};
 use proof_checker::check::{CheckError, check};
 use proof_file::accepted_is_true;
 use schema_tree::laws::typing_is_one;
+use schema_tree::schema::Schema;
 use shape_map::write_result;
 use shex_inputs::{Base, Refusal};
-use std::alloc::Global;
+use std::alloc::{AllocError, Global};
 
-/// The strata of a schema of one Shape.
-const ONE_STRATUM: [u32; 1] = [0];
+/// The strata of a schema whose Shapes refer to none: every Shape is on the stratum 0.
+fn strata(alloc: Global, schema: &Schema) -> Result<Vec<u32>, AllocError>
+    ensures { IfOk result (λ v. v.items ≡ flat schema.now) }
+{
+    Ok(vec![in alloc; 0u32; schema.shapes.as_slice().len()]?)
+}
 
 /// The result map of the claims of a proof that is accepted, or why it is not.
 pub fn confirm(alloc: Global, base: Base, proof: &[u8]) -> Result<Vec<u8>, Stop>
@@ -31,10 +37,11 @@ pub fn confirm(alloc: Global, base: Base, proof: &[u8]) -> Result<Vec<u8>, Stop>
     // The laws that tie what is accepted to the complete typing.
     typing_is_one();
     accepted_is_true();
+    let strata = strata(alloc, &schema)?;
     let checked = check(
         alloc,
         &schema,
-        &ONE_STRATUM,
+        strata.as_slice(),
         graph.triples(),
         &mut terms,
         proof,

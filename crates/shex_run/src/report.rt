@@ -7,16 +7,18 @@ ghost use Rattle.shex_inputs.specs.Named.{map_name, source_name};
 ghost use Rattle.shex_inputs.specs.declared.error.Refusal.TheVariants as Refusals;
 ghost use Rattle.shex_run.specs.Printing.{Prints};
 ghost use Rattle.shex_run.specs.Tasks.{name_of};
-ghost use Rattle.shex_run.specs.Texts.{error_line, failed_line, refusal_line, refusal_text, rejection_line, rejection_text, why_text, words_line};
+ghost use Rattle.shex_run.specs.Texts.{error_line, failed_line, pattern_text, refusal_line, refusal_text, rejection_line, rejection_text, schema_text, why_text, with_value, words_line};
 ghost use Rattle.shex_run.specs.declared.stop.File.TheVariants as Files;
 
 use crate::stop::{File, Rejection};
 use command_words::{Command, WordsError, text};
 use proof_file::Why;
+use schema_documents::SchemaError;
 use schema_tree::labels::Label;
 use shex_inputs::{Refusal, Source};
 use shex_io::{Sink, SinkError, put_all};
 use std::alloc::{AllocError, Global};
+use xs_pattern::PatternError;
 
 /// The line for a place and what is wrong there.
 fn line(alloc: Global, place: &str, what: &str) -> Result<String, AllocError>
@@ -149,6 +151,43 @@ fn label(alloc: Global, label: &Label) -> Result<String, AllocError>
     }
 }
 
+/// A name with its value in round brackets.
+fn with_value(alloc: Global, name: &str, value: &str) -> Result<String, AllocError>
+    ensures { IfOk result (λ s. string_bytes s ≡ with_value name.now value.now) }
+{
+    format!(in alloc; "{name}({value})")
+}
+
+/// Why a pattern is refused.
+fn pattern_name(error: PatternError) -> &'static str
+    ensures { result.now ≡ pattern_text error }
+{
+    match error {
+        PatternError::Flag => "Flag",
+        PatternError::Syntax => "Syntax",
+        PatternError::Large => "Large",
+        PatternError::Memory => "Memory",
+    }
+}
+
+/// Why a schema document is refused.
+fn schema_what(alloc: Global, error: &SchemaError) -> Result<String, AllocError>
+    ensures { IfOk result (λ s. string_bytes s ≡ schema_text error.now) }
+{
+    match error {
+        SchemaError::NotUtf8 => String::from_str(alloc, "NotUtf8"),
+        SchemaError::Json => String::from_str(alloc, "Json"),
+        SchemaError::Key(name) => with_value(alloc, "Key", name.as_str()),
+        SchemaError::Form(name) => with_value(alloc, "Form", name.as_str()),
+        SchemaError::Action => String::from_str(alloc, "Action"),
+        SchemaError::FloatFacet => String::from_str(alloc, "FloatFacet"),
+        SchemaError::FacetNumber => String::from_str(alloc, "FacetNumber"),
+        SchemaError::Pattern(error) => with_value(alloc, "Pattern", pattern_name(*error)),
+        SchemaError::NotBuilt(name) => with_value(alloc, "NotBuilt", name.as_str()),
+        SchemaError::Memory => String::from_str(alloc, "Memory"),
+    }
+}
+
 /// Why a file is refused.
 fn refusal_what(alloc: Global, refusal: &Refusal) -> Result<String, AllocError>
     ensures { IfOk result (λ s. string_bytes s ≡ refusal_text refusal.now) }
@@ -156,6 +195,7 @@ fn refusal_what(alloc: Global, refusal: &Refusal) -> Result<String, AllocError>
     match refusal {
         Refusal::Size => String::from_str(alloc, "Size"),
         Refusal::NotBuilt => String::from_str(alloc, "NotBuilt"),
+        Refusal::Schema(error) => schema_what(alloc, error),
         Refusal::NotUtf8 => String::from_str(alloc, "NotUtf8"),
         Refusal::Syntax(at) => syntax(alloc, *at),
         Refusal::Prefix(at) => prefix(alloc, *at),

@@ -1,5 +1,6 @@
 //! Calls over files and sinks in memory.
 
+mod constraints;
 mod proofs;
 mod turtle;
 
@@ -285,7 +286,7 @@ fn the_first_file_that_is_not_taken_is_named(rt: HostRuntime) -> Result<(), Fail
             "<http://localhost/S> {}",
             RELATIVE,
             "ex:n@<S>",
-            "shex: s.json: NotBuilt\n",
+            "shex: s.json: Json\n",
         ),
         (WANTS_IRI, RELATIVE, "ex:n@<S>", "shex: d.nt: Syntax(21)\n"),
         (WANTS_IRI, ARC, "ex:n@<S>", "shex: m: Prefix(0)\n"),

@@ -25,7 +25,7 @@ const OF_ENDS: &str =
     "shex-proof 1\nn <http://localhost/a>\nn <http://localhost/b>\nn <http://localhost/x>\nn <http://localhost/y>\nn <http://localhost/z>\ns 0\n- 0 0 1 0:0 1:1\n+ 1 0 0\n- 2 0 2\n- 3 0 3\n- 4 0 4\nc - 0 <http://localhost/S>\nc + 1 <http://localhost/S>\nc - 2 <http://localhost/S>\nc - 3 <http://localhost/S>\nc - 4 <http://localhost/S>\nend\n";
 
 /// The text of a proof with this record and claim.
-fn proof(alloc: Global, record: &str, mark: &str) -> Result<String, Fail> {
+pub fn proof(alloc: Global, record: &str, mark: &str) -> Result<String, Fail> {
     Ok(format!(in alloc;
         "shex-proof 1\nn <http://localhost/n>\ns 0\n{record}\nc {mark} 0 <http://localhost/S>\nend\n"
     )?)
@@ -91,8 +91,8 @@ fn ample_memory_gives_an_answer_and_its_proof(rt: HostRuntime) -> Result<(), Fai
     Ok(())
 }
 
-/// Whether a call stores this proof and prints these lines, and a check of the proof prints them again.
-fn is_proved_so(
+/// Whether a call has this status, stores this proof and prints these lines, and a check of the proof prints them again.
+pub fn is_proved_so(
     alloc: Global,
     schema: &str,
     name: &str,
@@ -100,13 +100,15 @@ fn is_proved_so(
     map: &str,
     wanted: &str,
     lines: &str,
+    status: u8,
 ) -> Result<bool, Fail> {
-    let (_, out, stored) = proved(alloc, schema, name, data, map)?;
-    let (status, again, err) = checked(alloc, schema, name, data, wanted)?;
+    let (found, out, stored) = proved(alloc, schema, name, data, map)?;
+    let (accepted, again, err) = checked(alloc, schema, name, data, wanted)?;
     Ok(
-        stored.as_str() == wanted
+        found == status
+            && stored.as_str() == wanted
             && out.as_str() == lines
-            && status == 0
+            && accepted == 0
             && again.as_str() == lines
             && err.as_str() == "",
     )
@@ -115,17 +117,33 @@ fn is_proved_so(
 #[test]
 fn the_stored_proof_of_a_node_is_accepted_with_the_same_line(rt: HostRuntime) -> Result<(), Fail> {
     let alloc = rt.alloc();
-    for (name, data, record, mark, line) in [
-        ("d.nt", ARC, "+ 0 0 0", "+", HOLDS),
-        ("d.nt", STRING, "- 0 0 1 0:0", "-", FAILS),
-        ("d.nt", "", "- 0 0 1", "-", FAILS),
-        ("d.nt", TWO, "- 0 0 1 0:0 1:1", "-", FAILS),
-        ("d.ttl", "<n> <p> <x> .", "+ 0 0 0", "+", HOLDS),
-        ("d.ttl", "<n> <p> <x>, <y> .", "- 0 0 1 0:0 1:1", "-", FAILS),
+    for (name, data, record, mark, line, status) in [
+        ("d.nt", ARC, "+ 0 0 0", "+", HOLDS, 0),
+        ("d.nt", STRING, "- 0 0 1 0:0", "-", FAILS, 1),
+        ("d.nt", "", "- 0 0 1", "-", FAILS, 1),
+        ("d.nt", TWO, "- 0 0 1 0:0 1:1", "-", FAILS, 1),
+        ("d.ttl", "<n> <p> <x> .", "+ 0 0 0", "+", HOLDS, 0),
+        (
+            "d.ttl",
+            "<n> <p> <x>, <y> .",
+            "- 0 0 1 0:0 1:1",
+            "-",
+            FAILS,
+            1,
+        ),
     ] {
         let wanted = proof(alloc, record, mark)?;
         assert!(rt;
-            is_proved_so(alloc, WANTS_IRI, name, data, MAP, wanted.as_str(), line)?,
+            is_proved_so(
+                alloc,
+                WANTS_IRI,
+                name,
+                data,
+                MAP,
+                wanted.as_str(),
+                line,
+                status
+            )?,
             "{data}"
         );
     }
@@ -134,7 +152,7 @@ fn the_stored_proof_of_a_node_is_accepted_with_the_same_line(rt: HostRuntime) ->
 
 #[test]
 fn a_proof_of_several_nodes_is_accepted_with_the_same_lines(rt: HostRuntime) -> Result<(), Fail> {
-    for (schema, name, data, map, wanted, lines) in [
+    for (schema, name, data, map, wanted, lines, status) in [
         (
             WANTS_IRI,
             "d.ttl",
@@ -142,8 +160,9 @@ fn a_proof_of_several_nodes_is_accepted_with_the_same_lines(rt: HostRuntime) -> 
             "{FOCUS <p> _}@<S>, {_ <p> FOCUS}@!<S>",
             OF_ENDS,
             ENDS,
+            1,
         ),
-        (NO_EXPRESSION, "d.nt", "", "", "shex-proof 1\nend\n", ""),
+        (NO_EXPRESSION, "d.nt", "", "", "shex-proof 1\nend\n", "", 0),
         (
             NO_EXPRESSION,
             "d.nt",
@@ -151,6 +170,7 @@ fn a_proof_of_several_nodes_is_accepted_with_the_same_lines(rt: HostRuntime) -> 
             "<n>@<S>, <n>@<S>",
             "shex-proof 1\nn <http://localhost/n>\ns 0\n+ 0 0\nc + 0 <http://localhost/S>\nc + 0 <http://localhost/S>\nend\n",
             "<http://localhost/n>@<http://localhost/S>,\n<http://localhost/n>@<http://localhost/S>\n",
+            0,
         ),
         (
             NO_EXPRESSION,
@@ -159,10 +179,11 @@ fn a_proof_of_several_nodes_is_accepted_with_the_same_lines(rt: HostRuntime) -> 
             "{_ <p> FOCUS}@<S>, \"z\"@<S>",
             "shex-proof 1\nn \"x\\ny\"\nn \"z\"\nn _:anon1\ns 0\n+ 0 0\n+ 1 0\n+ 2 0\nc + 0 <http://localhost/S>\nc + 2 <http://localhost/S>\nc + 1 <http://localhost/S>\nend\n",
             "\"x\\ny\"@<http://localhost/S>,\n_:anon1@<http://localhost/S>,\n\"z\"@<http://localhost/S>\n",
+            0,
         ),
     ] {
         assert!(rt;
-            is_proved_so(rt.alloc(), schema, name, data, map, wanted, lines)?,
+            is_proved_so(rt.alloc(), schema, name, data, map, wanted, lines, status)?,
             "{map}"
         );
     }

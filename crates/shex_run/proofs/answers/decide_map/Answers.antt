@@ -1,8 +1,11 @@
-use Rattle.std.proofs.Common.{◌≤◌, refl, subst}
+use Rattle.std.proofs.Common.{◌≤◌, refl, subst, sym}
+use Rattle.std.specs.Prelude.{option_map}
 use Rattle.rdf_terms.specs.Tables.{max_terms}
 use Rattle.command_words.specs.Lent.{command_of}
 use Rattle.command_words.specs.declared.command.Command.TheVariants as Lent
 use Rattle.shex_inputs.specs.Held.{held_by}
+use Rattle.shex_run.specs.Stopping.{Explains}
+use Rattle.shex_run.proofs.Answering.{input_stopped, wish_of_task}
 use Rattle.shex_run.proofs.Replies.{ready, reply}
 use Rattle.shex_run.proofs.answers.decide_map.Goals as goal
 
@@ -17,3 +20,10 @@ returns-in-Ok-decide-clause-decided g c =
     reply (g.F.Files.told c.args.files.now) (command_of (Lent.Validate c.args.validation.now)) c.args.validation.now.map.now
     (record { held = held_by c.args.base.now; terms = c.read_map.new.base.terms; associations = c.in-Ok.associations.items }) c.in-Ok.ensures.asked c.read_map.new.base c.in-Ok.ensures.schema refl c.in-Ok.ensures.graph c.as_slice.result.now c.as_slice.ensures.value
     c.in-Ok-decide.decided c.in-Ok-decide.ensures (subst (λ k. k ≤ max_terms) c.len-count.ensures.count c.len-count.ensures.few)
+
+pub returns-in-Err-clause-cause : goal.returns-in-Err-clause-cause
+returns-in-Err-clause-cause g c =
+    let k = command_of (Lent.Validate c.args.validation.now) in
+    subst (λ s. Explains (g.F.Files.told c.args.files.now) k s) (sym c.stop_of.ensures)
+    (input_stopped (g.F.Files.told c.args.files.now) (g.F.Files.told c.read_map.new.files) k (g.F.Files.faults c.args.files.now) (g.F.Files.faults c.read_map.new.files) (g.F.Files.blame c.read_map.new.files) (g.F.Files.act c.read_map.new.files) c.in-Err.error
+    (wish_of_task c.args.validation.now.map.now (option_map (λ s. s.now) c.args.validation.now.proof) c.args.validation.now.budget c.in-Err.error) c.in-Err.ensures.cause c.in-Err.ensures.faults c.in-Err.ensures.told_stays).cause
