@@ -9,6 +9,6 @@ HasPrefix stem text = (rest : List ℕ) × (text ≡ stem ++ rest)
 abbrev pub hyphen : ℕ
 hyphen = 45
 
--- the tag is the stem, or goes on behind it with a hyphen (RFC 4647, section 3.3.1); every tag is in the language of the empty stem
+-- the tag is the stem, or goes on behind it with a hyphen (RFC 4647, section 3.3.1, both in lower case); every tag is in the language of the empty stem
 abbrev pub IsInLanguage : List ℕ → List ℕ → Type 0
 IsInLanguage stem tag = (tag ≡ stem) ⊎ (HasPrefix (stem ++ hyphen ∷ []) tag ⊎ (stem ≡ []))

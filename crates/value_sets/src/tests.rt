@@ -74,6 +74,16 @@ fn form_takes(alloc: Global, number: u32, kind: u32) -> Result<bool, AllocError>
     has(alloc, value, &term(alloc, kind)?)
 }
 
+/// Whether a value of the form holds for the terms of kinds from the least to the most, and for no other.
+fn form_takes_kinds(alloc: Global, number: u32, least: u32, most: u32) -> Result<bool, AllocError> {
+    for kind in 0..4 {
+        if form_takes(alloc, number, kind)? != (least <= kind && kind <= most) {
+            return Ok(false);
+        }
+    }
+    Ok(true)
+}
+
 #[test]
 fn each_form_holds_for_terms_of_its_kind_alone(rt: HostRuntime) -> Result<(), Fail> {
     // The numbers of the kinds that a form holds for: IRIs, literals, or literals with a tag.
@@ -87,14 +97,8 @@ fn each_form_holds_for_terms_of_its_kind_alone(rt: HostRuntime) -> Result<(), Fa
         (6, 2, 3),
         (7, 3, 3),
     ] {
-        for kind in 0..4 {
-            let wanted = least <= kind && kind <= most;
-            assert_eq!(rt;
-                form_takes(rt.alloc(), number, kind)?,
-                wanted,
-                "form {number} of kind {kind}"
-            );
-        }
+        let holds = form_takes_kinds(rt.alloc(), number, least, most)?;
+        assert!(rt; holds, "form {number}");
     }
     Ok(())
 }
@@ -111,12 +115,20 @@ fn is_same_form(alloc: Global, lex: &str) -> Result<bool, Fail> {
     Ok(has(alloc, value, &integer(alloc, lex)?)?)
 }
 
+/// Whether the value of a string with the first tag holds for the one with the second.
+fn is_same_tag(alloc: Global, one: &str, other: &str) -> Result<bool, Fail> {
+    let value = Value::Term(tagged(alloc, "x", one)?);
+    Ok(has(alloc, value, &tagged(alloc, "x", other)?)?)
+}
+
 #[test]
 fn a_literal_is_equal_by_its_parts(rt: HostRuntime) -> Result<(), Fail> {
     let alloc = rt.alloc();
     assert!(rt; is_same_integer(alloc, "1", "1")?);
     assert!(rt; !is_same_integer(alloc, "1", "01")?);
     assert!(rt; !is_same_form(alloc, "1")?);
+    assert!(rt; is_same_tag(alloc, "en", "en")?);
+    assert!(rt; !is_same_tag(alloc, "en", "fr")?);
     Ok(())
 }
 
@@ -312,14 +324,26 @@ fn wildcard_takes(alloc: Global, number: u32, kind: u32) -> Result<bool, AllocEr
     has(alloc, wildcard(alloc, number), &term(alloc, kind)?)
 }
 
+/// Whether the range holds for the terms of kinds from the least to the most, and for no other.
+fn wildcard_takes_kinds(
+    alloc: Global,
+    number: u32,
+    least: u32,
+    most: u32,
+) -> Result<bool, AllocError> {
+    for kind in 0..4 {
+        if wildcard_takes(alloc, number, kind)? != (least <= kind && kind <= most) {
+            return Ok(false);
+        }
+    }
+    Ok(true)
+}
+
 #[test]
 fn a_wildcard_holds_for_every_term_of_its_kind(rt: HostRuntime) -> Result<(), Fail> {
     for (number, least, most) in [(0, 0, 0), (1, 2, 3), (2, 3, 3)] {
-        for kind in 0..4 {
-            let wanted = least <= kind && kind <= most;
-            let takes = wildcard_takes(rt.alloc(), number, kind)?;
-            assert_eq!(rt; takes, wanted, "wildcard {number} of kind {kind}");
-        }
+        let holds = wildcard_takes_kinds(rt.alloc(), number, least, most)?;
+        assert!(rt; holds, "wildcard {number}");
     }
     Ok(())
 }

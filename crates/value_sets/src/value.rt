@@ -10,7 +10,8 @@ use rdf_terms::items::Items;
 use rdf_terms::terms::Term;
 use rdf_terms::text::Text;
 
-/// What a range leaves out: one text, or all that a stem takes (ShEx 2.1, section 5.4, Values Constraint).
+/// What a range leaves out: one text, or all that a stem takes (ShEx 2.1, section 5.4, Values Constraint). Of language tags
+/// it is in lower case, as the tags of terms are.
 #[derive(Debug, Drop)]
 pub enum Except {
     /// This text: an IRI, a lexical form or a language tag, as the range is of.
@@ -23,6 +24,7 @@ pub enum Except {
 pub type Exceptions = Items<Except>;
 
 /// A value of a value set (ShEx 2.1, section 5.4, Values Constraint). A range without a stem is that of all terms of its kind.
+/// Language tags and their stems are in lower case, as the tags of terms are; one with a capital letter holds for no term.
 #[derive(Debug, Drop)]
 pub enum Value {
     /// This term alone.
@@ -49,7 +51,7 @@ impl Value {
         ensures { IsTrue result ↔ IsValue self.now term.now }
     {
         match self {
-            Value::Term(value) => value == term,
+            Value::Term(value) => is_same(value, term),
             Value::IriStem(stem) => iri_of(term).is_some_and(|iri| has_prefix(stem, iri)),
             Value::LitStem(stem) => lexical_form_of(term).is_some_and(|lex| has_prefix(stem, lex)),
             Value::Lang(tag) => has_tag(tag, term),
@@ -70,6 +72,13 @@ impl Value {
             }
         }
     }
+}
+
+/// Whether the two are one term: IRIs, labels and the parts of literals are compared, and not what they stand for.
+fn is_same(value: &Term, term: &Term) -> bool
+    ensures { IsTrue result ↔ (term.now ≡ value.now) }
+{
+    value == term
 }
 
 /// The IRI, if the term is one.

@@ -24,7 +24,7 @@ impl Model for ValueSet {
 impl ValueSet {
     ghost use Rattle.value_sets.specs.Values.{HasValue};
 
-    /// The set of these values.
+    /// The set of these values. It takes no memory, so it does not fail.
     pub fn of(_alloc: Global, values: Vec<Value>) -> Result<ValueSet, AllocError>
         ensures { IfOk result (λ s. s ≡ values.items) }
     {
