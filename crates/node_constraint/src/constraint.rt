@@ -57,7 +57,7 @@ impl NodeConstraint {
     ///
     /// Fails with `FloatFacet` where a range value has the form of a floating-point number, or a facet on numbers stands
     /// beside xsd:float or xsd:double; then with `FacetNumber` where a range value is no decimal; then with `Pattern` where
-    /// a pattern is not read, with the cause of the first one.
+    /// a pattern is not read, with the cause of the first one. `Memory` comes where memory runs out over the patterns.
     pub fn make(
         alloc: Global,
         kind: Option<Kind4>,
@@ -99,6 +99,13 @@ impl NodeConstraint {
         }
     }
 
+    /// The constraint that asks for the same, and for this value set in place of its own. It takes no memory.
+    pub fn with_values(self, values: Option<ValueSet>) -> NodeConstraint
+        ensures { result ≡ record { kind = self.kind; datatype = self.datatype; facets = self.facets; values = values } }
+    {
+        NodeConstraint { values, ..self }
+    }
+
     /// The kind that is asked for, if any.
     pub fn kind(&self) -> Option<Kind4>
         ensures { result ≡ self.now.kind }
@@ -127,7 +134,8 @@ impl NodeConstraint {
         self.values.as_ref()
     }
 
-    /// Whether the term satisfies the constraint (ShEx 2.1, section 5.4).
+    /// Whether the term satisfies the constraint (ShEx 2.1, section 5.4). It fails where memory runs out over the name of a
+    /// blank node or over a pattern.
     pub fn holds(&self, alloc: Global, term: &Term) -> Result<bool, AllocError>
         ensures { IfOk result (λ b. IsTrue b ↔ SatNode self.now term.now) }
     {

@@ -66,6 +66,21 @@ fn kind_takes(alloc: Global, kind: Option<Kind4>, number: u32) -> Result<bool, F
     Ok(constraint.holds(alloc, &term(alloc, number)?)?)
 }
 
+/// Whether the constraint takes the terms of numbers from the least to the most, and no other.
+fn kind_takes_terms(
+    alloc: Global,
+    kind: Option<Kind4>,
+    least: u32,
+    most: u32,
+) -> Result<bool, Fail> {
+    for number in 0..4 {
+        if kind_takes(alloc, kind, number)? != (least <= number && number <= most) {
+            return Ok(false);
+        }
+    }
+    Ok(true)
+}
+
 #[test]
 fn each_kind_takes_its_terms_alone(rt: HostRuntime) -> Result<(), Fail> {
     for (kind, least, most) in [
@@ -75,11 +90,8 @@ fn each_kind_takes_its_terms_alone(rt: HostRuntime) -> Result<(), Fail> {
         (Some(Kind4::Iri), 2, 2),
         (Some(Kind4::Literal), 3, 3),
     ] {
-        for number in 0..4 {
-            let wanted = least <= number && number <= most;
-            let takes = kind_takes(rt.alloc(), kind, number)?;
-            assert_eq!(rt; takes, wanted, "{kind:?} of {number}");
-        }
+        let takes = kind_takes_terms(rt.alloc(), kind, least, most)?;
+        assert!(rt; takes, "{kind:?}");
     }
     Ok(())
 }
@@ -159,6 +171,17 @@ fn lengths_count_characters_of_any_term(rt: HostRuntime) -> Result<(), Fail> {
     Ok(())
 }
 
+#[test]
+fn lengths_and_digits_begin_at_nothing(rt: HostRuntime) -> Result<(), Fail> {
+    let alloc = rt.alloc();
+    let empty = typed(alloc, "", STRING)?;
+    assert_eq!(rt; lengths(alloc, 0, &empty)?, (true, true, true));
+    assert_eq!(rt; lengths(alloc, 1, &empty)?, (false, false, true));
+    assert_eq!(rt; digits(alloc, "0", 0, 0)?, (false, true));
+    assert_eq!(rt; digits(alloc, "0", 1, 0)?, (true, true));
+    Ok(())
+}
+
 /// Which facets with this bound hold for the decimal: that it is at least, above, at most, below the bound.
 fn ranges(alloc: Global, lex: &str, bound: &str) -> Result<(bool, bool, bool, bool), Fail> {
     let term = typed(alloc, lex, DECIMAL)?;
@@ -220,6 +243,35 @@ fn facets_on_numbers_hold_for_numbers_alone(rt: HostRuntime) -> Result<(), Fail>
     assert_eq!(rt; of_iri, (false, false, false));
     let of_blank = number_facets(alloc, &blank(alloc, "5")?)?;
     assert_eq!(rt; of_blank, (false, false, false));
+    Ok(())
+}
+
+/// Whether the total digits of a literal of the datatype with this name are looked at, and found to be no more than 9.
+fn is_number_of(alloc: Global, name: &str, lex: &str) -> Result<bool, Fail> {
+    let datatype = format!(in alloc; "http://www.w3.org/2001/XMLSchema#{name}")?;
+    let term = typed(alloc, lex, datatype.as_str())?;
+    holds(alloc, Facet::TotalDigits(9), &term)
+}
+
+#[test]
+fn each_type_derived_from_integer_is_of_numbers(rt: HostRuntime) -> Result<(), Fail> {
+    for (name, lex) in [
+        ("nonPositiveInteger", "-5"),
+        ("negativeInteger", "-5"),
+        ("long", "5"),
+        ("int", "5"),
+        ("short", "5"),
+        ("byte", "5"),
+        ("nonNegativeInteger", "5"),
+        ("unsignedLong", "5"),
+        ("unsignedInt", "5"),
+        ("unsignedShort", "5"),
+        ("unsignedByte", "5"),
+        ("positiveInteger", "5"),
+    ] {
+        assert!(rt; is_number_of(rt.alloc(), name, lex)?, "{name}");
+        assert!(rt; !is_number_of(rt.alloc(), name, "x")?, "{name}");
+    }
     Ok(())
 }
 
