@@ -1,5 +1,4 @@
 pub mod Acts
-pub mod Ascii
 pub mod Causes
 pub mod ConstraintLaws
 pub mod Decimals
@@ -8,7 +7,6 @@ pub mod DocumentLaws
 pub mod FacetLists
 pub mod KeyLaws
 pub mod Labels
-pub mod Lowered
 pub mod Readings
 pub mod Refusals
 pub mod Shapes

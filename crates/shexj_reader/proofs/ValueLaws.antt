@@ -401,6 +401,16 @@ ranges_no_language Kinds.Iri = refl
 ranges_no_language Kinds.Literal = refl
 ranges_no_language Kinds.Language = refl
 
+stems_no_wildcard : (a : StemKind) → bytes_eq (stem_type a) (codes "Wildcard") ≡ false
+stems_no_wildcard Kinds.Iri = refl
+stems_no_wildcard Kinds.Literal = refl
+stems_no_wildcard Kinds.Language = refl
+
+ranges_no_wildcard : (a : StemKind) → bytes_eq (range_type a) (codes "Wildcard") ≡ false
+ranges_no_wildcard Kinds.Iri = refl
+ranges_no_wildcard Kinds.Literal = refl
+ranges_no_wildcard Kinds.Language = refl
+
 two_types : (a b : List ℕ) (o : Option (List ℕ)) → bytes_eq a b ≡ false → o ≡ Some a → o ≡ Some b → ⊥
 two_types a b o e p q = differ a b e (sym p ∙ q)
 
@@ -430,6 +440,11 @@ no_form d (range kind s es h) none no_object = let is = typed_object d _ h.objec
 
 no_fault : (f : Fault) (d : Data) → ValueFault f d → Spelled d → ⊥
 no_fault f d (ValueFault.no_value is none no_object) h = no_form d h none no_object
+no_fault f d (ValueFault.wildcard is type) (iri t h) = iri_no_type d t _ h type
+no_fault f d (ValueFault.wildcard is type) (literal l h) = h.other.no_wildcard type
+no_fault f d (ValueFault.wildcard is type) (stem kind s h) = two_types _ _ _ (stems_no_wildcard kind) h.object.type type
+no_fault f d (ValueFault.wildcard is type) (language t h) = two_types (codes "Language") (codes "Wildcard") _ refl h.object.type type
+no_fault f d (ValueFault.wildcard is type) (range kind s es h) = two_types _ _ _ (ranges_no_wildcard kind) h.object.type type
 no_fault f d (ValueFault.in_literal is other fault) (iri t h) = iri_no_object d t h is
 no_fault f d (ValueFault.in_literal is other fault) (literal l h) = no_literal_fault l f d fault h
 no_fault f d (ValueFault.in_literal is other fault) (stem kind s h) = other.no_stem kind h.object.type

@@ -57,9 +57,10 @@ pub data RangeFault (kind : StemKind) (f : Fault) (d : Data) : Type 0 where
   bad_exclusions : ExclusionsFault kind f (get (codes "exclusions") d) → RangeFault kind f d
   unlimited : (w : Data) → f ≡ form (codes "exclusions") → get (codes "stem") d ≡ Some w → type_of w ≡ Some (codes "Wildcard") → is_empty_list (get (codes "exclusions") d) ≡ true → RangeFault kind f d
 
--- a value is neither a text nor an object, or an object is at fault by its type
+-- a value is neither a text nor an object, is a wildcard, or is an object that is at fault by its type
 pub data ValueFault (f : Fault) (d : Data) : Type 0 where
   no_value : f ≡ form (codes "type") → word (Some d) ≡ None → is_object d ≡ false → ValueFault f d
+  wildcard : f ≡ form (codes "type") → type_of d ≡ Some (codes "Wildcard") → ValueFault f d
   in_literal : is_object d ≡ true → IsOfLiteral (type_of d) → LiteralFault f d → ValueFault f d
   in_stem : (kind : StemKind) → type_of d ≡ Some (stem_type kind) → StemFault f d → ValueFault f d
   in_language : type_of d ≡ Some (codes "Language") → LanguageFault f d → ValueFault f d

@@ -32,11 +32,12 @@ range_type Kinds.Iri = codes "IriStemRange"
 range_type Kinds.Literal = codes "LiteralStemRange"
 range_type Kinds.Language = codes "LanguageStemRange"
 
--- the type, if there is one, is none of those of stems, ranges and languages
+-- the type, if there is one, is none of those of stems, ranges, languages and wildcards
 pub record IsOfLiteral (type : Option (List ℕ)) : Type 0 where
   pub no_stem : (kind : StemKind) → type ≢ Some (stem_type kind)
   pub no_range : (kind : StemKind) → type ≢ Some (range_type kind)
   pub no_language : type ≢ Some (codes "Language")
+  pub no_wildcard : type ≢ Some (codes "Wildcard")
 
 -- the type and the language tag that are written are those of a literal with this datatype and tag
 abbrev pub IsTyped : Option (List ℕ) → Option (List ℕ) → LiteralParts → Type 0

@@ -1,6 +1,6 @@
 //! Node constraints.
 
-ghost use Rattle.std.specs.Prelude.{ℕ, List, ◌≡◌, ◌≢◌, ◌++◌, IfErr, IfOk, MatchOption, OnOk, Some, codes, map, true};
+ghost use Rattle.std.specs.Prelude.{ℕ, List, ◌≡◌, ◌≢◌, ◌++◌, IfErr, IfOk, MatchOption, OnOk, None, Some, codes, map, true};
 ghost use Rattle.std.specs.List.{list_any};
 ghost use Rattle.std.specs.Str.{bytes_eq};
 ghost use Rattle.serde_json.specs.Find.{as_integer, get};
@@ -19,10 +19,31 @@ use rdf_terms::text::Text;
 use schema_documents::SchemaError;
 use serde_json::Value;
 use std::alloc::Global;
-use value_sets::ValueSet;
 
 /// The greatest length and the greatest number of digits that are read.
 const MAX_COUNT: u64 = 4294967295;
+
+/// The keys of a declared node constraint (ShEx 2.1, appendix A). One that is a value has those behind `id`.
+pub(crate) const DECLARED_KEYS: [&str; 18] = [
+    "id",
+    "annotations",
+    "datatype",
+    "flags",
+    "fractiondigits",
+    "length",
+    "maxexclusive",
+    "maxinclusive",
+    "maxlength",
+    "minexclusive",
+    "mininclusive",
+    "minlength",
+    "nodeKind",
+    "pattern",
+    "semActs",
+    "totaldigits",
+    "type",
+    "values",
+];
 
 /// The kind that a word names.
 fn kind_named(word: &str) -> Option<Kind4>
@@ -148,20 +169,19 @@ fn read_facets(alloc: Global, value: &Value) -> Result<Vec<Facet>, SchemaError>
     Ok(facets)
 }
 
-/// The constraint that asks for these.
+/// The constraint that asks for these, and for no value set.
 fn make(
     alloc: Global,
     kind: Option<Kind4>,
     datatype: Option<Text>,
     facets: Vec<Facet>,
-    values: Option<ValueSet>,
 ) -> Result<NodeConstraint, SchemaError>
     requires { ¬ HasOtherNumber facets.items }
-    ensures made { IfOk result (λ c. c ≡ record { kind = kind; datatype = datatype; facets = facets.items; values = values }) }
+    ensures made { IfOk result (λ c. c ≡ record { kind = kind; datatype = datatype; facets = facets.items; values = None }) }
     ensures sound { OnOk result (IsSound datatype facets.items) }
     ensures cause { IfErr result (Because (PartsFault datatype facets.items)) }
 {
-    match NodeConstraint::make(alloc, kind, datatype, facets, values) {
+    match NodeConstraint::make(alloc, kind, datatype, facets, None) {
         Ok(constraint) => Ok(constraint),
         Err(MakeError::FloatFacet) => Err(SchemaError::FloatFacet),
         Err(MakeError::FacetNumber) => Err(SchemaError::FacetNumber),
@@ -185,7 +205,8 @@ pub(crate) fn read_constraint(
     let kind = read_kind(alloc, value)?;
     let datatype = text_if_any(alloc, value, "datatype")?;
     let facets = read_facets(alloc, value)?;
+    let constraint = make(alloc, kind, datatype, facets)?;
     let values = read_value_set(alloc, value.get("values"))?;
     only_plain(alloc, value)?;
-    make(alloc, kind, datatype, facets, values)
+    Ok(constraint.with_values(values))
 }

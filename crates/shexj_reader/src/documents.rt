@@ -11,7 +11,7 @@ ghost use Rattle.shexj_reader.specs.Documents.{SpellsDeclaration, SpellsDeclared
 ghost use Rattle.shexj_reader.specs.Faults.{Because, IsBad};
 ghost use Rattle.shexj_reader.specs.Keys.{type_of};
 
-use crate::constraints::read_constraint;
+use crate::constraints::{DECLARED_KEYS, read_constraint};
 use crate::objects::{
     bad_form, has_type, is_one_of, no_acts, only_keys, only_plain, text_at, type_of, unbuilt,
 };
@@ -23,49 +23,6 @@ use schema_documents::{
 use serde_json::Value;
 use std::alloc::{AllocError, Global};
 use tally::Bound;
-
-/// The keys of a node constraint (ShEx 2.1, appendix A).
-const CONSTRAINT_KEYS: [&str; 17] = [
-    "annotations",
-    "datatype",
-    "flags",
-    "fractiondigits",
-    "length",
-    "maxexclusive",
-    "maxinclusive",
-    "maxlength",
-    "minexclusive",
-    "mininclusive",
-    "minlength",
-    "nodeKind",
-    "pattern",
-    "semActs",
-    "totaldigits",
-    "type",
-    "values",
-];
-
-/// Those of a declared one.
-const DECLARED_KEYS: [&str; 18] = [
-    "id",
-    "annotations",
-    "datatype",
-    "flags",
-    "fractiondigits",
-    "length",
-    "maxexclusive",
-    "maxinclusive",
-    "maxlength",
-    "minexclusive",
-    "mininclusive",
-    "minlength",
-    "nodeKind",
-    "pattern",
-    "semActs",
-    "totaldigits",
-    "type",
-    "values",
-];
 
 /// Passes where the key, which is not read yet, is absent.
 fn not_yet(alloc: Global, value: &Value, key: &str) -> Result<(), SchemaError>
@@ -123,7 +80,7 @@ fn label_at(alloc: Global, value: &Value) -> Result<Label, SchemaError>
     }
 }
 
-/// A value expression, as far as it is read: a node constraint (ShEx 2.1, sections 5.2 and 5.4).
+/// A value expression, as far as it is read: a node constraint (ShEx 2.1, sections 5.3 and 5.4).
 fn read_value_expr(alloc: Global, value: &Value) -> Result<DocExpr, SchemaError>
     ensures ok { IfOk result (λ e. SpellsValueExpr (one_expr (expr_of e)) (Some (view value.now))) }
     ensures cause { IfErr result (Because (λ f. ValueExprFault f (view value.now))) }
@@ -135,7 +92,7 @@ fn read_value_expr(alloc: Global, value: &Value) -> Result<DocExpr, SchemaError>
         let types = ["ShapeAnd", "ShapeOr", "ShapeNot", "ShapeExternal"];
         return Err(bad_type(alloc, value, &types));
     }
-    let constraint = read_constraint(alloc, value, &CONSTRAINT_KEYS)?;
+    let constraint = read_constraint(alloc, value, &DECLARED_KEYS[1..])?;
     Ok(DocExpr::Node(constraint))
 }
 
@@ -248,7 +205,7 @@ fn read_shape(alloc: Global, value: &Value) -> Result<DocExpr, SchemaError>
     }))
 }
 
-/// A declared shape expression, as far as it is read: a node constraint or a Shape (ShEx 2.1, section 5.2).
+/// A declared shape expression, as far as it is read: a node constraint or a Shape (ShEx 2.1, section 5.3).
 fn read_declared(alloc: Global, value: &Value) -> Result<DocExpr, SchemaError>
     ensures ok { IfOk result (λ e. SpellsDeclared (expr_of e) (view value.now)) }
     ensures cause { IfErr result (Because (λ f. DeclaredFault f (view value.now))) }
@@ -270,7 +227,7 @@ fn read_declared(alloc: Global, value: &Value) -> Result<DocExpr, SchemaError>
     Ok(DocExpr::Node(constraint))
 }
 
-/// A declaration (ShEx 2.1, section 5.2).
+/// A declaration (ShEx 2.1, section 5.3).
 fn read_declaration(alloc: Global, value: &Value) -> Result<Decl, SchemaError>
     ensures ok { IfOk result (λ d. SpellsDeclaration (decl_of d) (view value.now)) }
     ensures cause { IfErr result (Because (λ f. DeclarationFault f (view value.now))) }

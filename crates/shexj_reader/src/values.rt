@@ -313,7 +313,7 @@ fn read_value(alloc: Global, value: &Value) -> Result<SetValue, SchemaError>
         let iri = Text::from_str(alloc, text)?;
         return Ok(SetValue::Term(Term::Iri(iri)));
     }
-    if !is_object(value) {
+    if !is_object(value) || has_type(value, "Wildcard") {
         return Err(bad_form(alloc, "type"));
     }
     if let Some(kind) = stem_kind(value) {

@@ -1,5 +1,5 @@
 // Node constraints, each read from its object.
-use crate::constraints::read_constraint;
+use crate::constraints::{DECLARED_KEYS, read_constraint};
 use crate::objects::type_of;
 use node_constraint::{Facet, Kind4, NodeConstraint};
 use rdf_terms::terms::{Name, Term};
@@ -10,27 +10,6 @@ use std::alloc::{AllocError, Global};
 use std::process::Abort;
 use std::test::Fail;
 use xs_pattern::PatternError;
-
-/// The keys of a node constraint that is no declaration.
-const KEYS: [&str; 17] = [
-    "annotations",
-    "datatype",
-    "flags",
-    "fractiondigits",
-    "length",
-    "maxexclusive",
-    "maxinclusive",
-    "maxlength",
-    "minexclusive",
-    "mininclusive",
-    "minlength",
-    "nodeKind",
-    "pattern",
-    "semActs",
-    "totaldigits",
-    "type",
-    "values",
-];
 
 /// The members of a constraint with every key, from the last facet to the first.
 const EVERY_KEY: &str =
@@ -51,7 +30,7 @@ fn read(alloc: Global, members: &str) -> Result<Result<NodeConstraint, SchemaErr
     if name != "NodeConstraint" {
         return Err(Fail::from("another type"));
     }
-    Ok(read_constraint(alloc, &value, &KEYS))
+    Ok(read_constraint(alloc, &value, &DECLARED_KEYS[1..]))
 }
 
 /// A facet in words: its key and its value.
@@ -235,6 +214,22 @@ fn other_keys_are_refused(rt: HostRuntime) -> Result<(), Fail> {
     refuses(&rt, r#""id":"http://localhost/S""#, &id)?;
     let extends = SchemaError::Key(Text::from_str(rt.alloc(), "extends")?);
     refuses(&rt, r#""length":"1","extends":[]"#, &extends)
+}
+
+#[test]
+fn of_two_faults_the_first_by_the_keys_is_told(rt: HostRuntime) -> Result<(), Fail> {
+    let syntax = SchemaError::Pattern(PatternError::Syntax);
+    refuses_form(&rt, "nodeKind", r#""datatype":1,"nodeKind":"x""#)?;
+    refuses_form(&rt, "pattern", r#""flags":1,"pattern":1"#)?;
+    refuses(&rt, r#""values":7,"length":-1"#, &SchemaError::FacetNumber)?;
+    refuses(&rt, r#""pattern":"(","values":7"#, &syntax)?;
+    refuses(&rt, r#""pattern":"(","semActs":[{}]"#, &syntax)?;
+    refuses(
+        &rt,
+        r#""datatype":"http://www.w3.org/2001/XMLSchema#float","mininclusive":0,"values":7"#,
+        &SchemaError::FloatFacet,
+    )?;
+    refuses_form(&rt, "values", r#""values":7,"semActs":0"#)
 }
 
 #[test]

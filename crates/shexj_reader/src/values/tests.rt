@@ -52,6 +52,16 @@ fn has(alloc: Global, text: &str, digit: u8) -> Result<bool, Fail> {
     Ok(set.has(&term(alloc, digit)?))
 }
 
+/// Whether the value set that the text stands for has the terms of these digits, and no other of the eight.
+fn has_only(alloc: Global, text: &str, digits: &str) -> Result<bool, Fail> {
+    for digit in b'0'..b'8' {
+        if has(alloc, text, digit)? != digits.as_bytes().contains(&digit) {
+            return Ok(false);
+        }
+    }
+    Ok(true)
+}
+
 #[test]
 fn terms_and_stems_hold_for_their_terms(rt: HostRuntime) -> Result<(), Fail> {
     for (text, wanted) in [
@@ -82,20 +92,13 @@ fn terms_and_stems_hold_for_their_terms(rt: HostRuntime) -> Result<(), Fail> {
         (r#"[{"type": "LanguageStem", "stem": ""}]"#, "567"),
         (r#"[{"type": "Language", "languageTag": "En"}]"#, "5"),
     ] {
-        for digit in b'0'..b'8' {
-            let wanted = wanted.as_bytes().contains(&digit);
-            assert_eq!(rt;
-                has(rt.alloc(), text, digit)?,
-                wanted,
-                "{text} and term {digit}"
-            );
-        }
+        assert!(rt; has_only(rt.alloc(), text, wanted)?, "{text}");
     }
     Ok(())
 }
 
 #[test]
-fn ranges_hold_for_what_they_do_not_leave_out(rt: HostRuntime) -> Result<(), Fail> {
+fn ranges_of_iris_hold_for_what_they_do_not_leave_out(rt: HostRuntime) -> Result<(), Fail> {
     for (text, wanted) in [
         (
             r#"[{"type": "IriStemRange", "stem": "http://a.example/"}]"#,
@@ -109,6 +112,15 @@ fn ranges_hold_for_what_they_do_not_leave_out(rt: HostRuntime) -> Result<(), Fai
             r#"[{"type": "IriStemRange", "stem": {"type": "Wildcard"}, "exclusions": ["x", {"type": "IriStem", "stem": "http://a.example/y"}]}]"#,
             "0",
         ),
+    ] {
+        assert!(rt; has_only(rt.alloc(), text, wanted)?, "{text}");
+    }
+    Ok(())
+}
+
+#[test]
+fn ranges_of_literals_hold_for_what_they_do_not_leave_out(rt: HostRuntime) -> Result<(), Fail> {
+    for (text, wanted) in [
         (
             r#"[{"type": "LiteralStemRange", "stem": "a", "exclusions": []}]"#,
             "256",
@@ -130,14 +142,7 @@ fn ranges_hold_for_what_they_do_not_leave_out(rt: HostRuntime) -> Result<(), Fai
             "7",
         ),
     ] {
-        for digit in b'0'..b'8' {
-            let wanted = wanted.as_bytes().contains(&digit);
-            assert_eq!(rt;
-                has(rt.alloc(), text, digit)?,
-                wanted,
-                "{text} and term {digit}"
-            );
-        }
+        assert!(rt; has_only(rt.alloc(), text, wanted)?, "{text}");
     }
     Ok(())
 }
@@ -211,6 +216,7 @@ fn values_that_are_not_of_their_form_are_refused(rt: HostRuntime) -> Result<(), 
         (r#"["a", null]"#, "type"),
         (r#"[["a"]]"#, "type"),
         (r#"[{"x": 1, "type": 1}]"#, "type"),
+        (r#"[{"type": "Wildcard", "value": "a"}]"#, "type"),
         (r#"[{"type": "IriStem"}]"#, "stem"),
         (
             r#"[{"type": "LanguageStem", "stem": {"type": "Wildcard"}}]"#,
@@ -235,7 +241,7 @@ fn values_that_are_not_of_their_form_are_refused(rt: HostRuntime) -> Result<(), 
 }
 
 #[test]
-fn ranges_that_are_not_of_their_form_are_refused(rt: HostRuntime) -> Result<(), Fail> {
+fn stems_of_ranges_that_are_not_of_their_form_are_refused(rt: HostRuntime) -> Result<(), Fail> {
     for (text, name) in [
         (r#"[{"type": "IriStemRange", "exclusions": 1}]"#, "stem"),
         (r#"[{"type": "IriStemRange", "stem": ["a"]}]"#, "stem"),
@@ -244,6 +250,15 @@ fn ranges_that_are_not_of_their_form_are_refused(rt: HostRuntime) -> Result<(), 
             r#"[{"type": "IriStemRange", "stem": {"type": "IriStem", "stem": "a"}}]"#,
             "type",
         ),
+    ] {
+        assert!(rt; is_formless(rt.alloc(), text, name)?, "{text}");
+    }
+    Ok(())
+}
+
+#[test]
+fn exclusions_that_are_not_of_their_form_are_refused(rt: HostRuntime) -> Result<(), Fail> {
+    for (text, name) in [
         (
             r#"[{"type": "IriStemRange", "stem": {"type": "Wildcard"}}]"#,
             "exclusions",

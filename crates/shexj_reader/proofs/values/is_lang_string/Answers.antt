@@ -3,7 +3,7 @@ use Rattle.std.proofs.lemmas.Str.{chars-IsAscii, encodes-IsAscii}
 use Rattle.std.specs.Cmp.Lexicographic.{bytes_decides}
 use Rattle.std.specs.Str.{IsAscii, chars}
 use Rattle.rdf_terms.specs.Literals.{rdf_lang_string}
-use Rattle.shexj_reader.proofs.Ascii.{ascii_codes}
+use Rattle.rdf_terms.proofs.Characters.{ascii_codes}
 use Rattle.shexj_reader.proofs.values.is_lang_string.Goals as goal
 
 low : IsAscii rdf_lang_string
