@@ -1,4 +1,4 @@
-// The checks of names and bases, and of a whole request.
+//! The checks of names and bases, and of a whole request.
 
 ghost use Rattle.std.specs.Prelude.{◌≡◌, List, ℕ, IfErr, IfOk, IfSome, IsNone, Some, false, map, nat_eq, option_map, true};
 ghost use Rattle.std.specs.List.{ends_with, list_all, list_any};
@@ -16,14 +16,14 @@ use crate::requests::{Request, Task};
 use iri_resolve::split;
 use std::alloc::Global;
 
-// Whether a name ends in this.
+/// Whether a name ends in this.
 fn ends_in(name: &str, ending: &str) -> bool
     ensures { result ≡ ends_with nat_eq name.now ending.now }
 {
     name.ends_with(ending)
 }
 
-// Whether the name of a schema file says how it is read.
+/// Whether the name of a schema file says how it is read.
 #[tactic(auto, unfolding(crate::specs::Checks::is_schema_name))]
 pub fn is_schema_name(name: &str) -> bool
     ensures { result ≡ is_schema_name name.now }
@@ -31,7 +31,7 @@ pub fn is_schema_name(name: &str) -> bool
     ends_in(name, ".shex") || ends_in(name, ".json") || ends_in(name, ".shexj")
 }
 
-// Whether the name of a data file says how it is read.
+/// Whether the name of a data file says how it is read.
 #[tactic(auto, unfolding(crate::specs::Checks::is_data_name))]
 fn is_data_name(name: &str) -> bool
     ensures { result ≡ is_data_name name.now }
@@ -39,7 +39,7 @@ fn is_data_name(name: &str) -> bool
     ends_in(name, ".nt") || ends_in(name, ".ttl")
 }
 
-// A character that an IRI may have unescaped (RDF 1.1 Turtle, section 6.5, IRIREF).
+/// A character that an IRI may have unescaped (RDF 1.1 Turtle, section 6.5, IRIREF).
 #[tactic(auto, unfolding(rdf_lex::specs::Characters::iri_char))]
 fn is_iri_char(c: char) -> bool
     ensures { result ≡ has iri_char c }
@@ -47,14 +47,14 @@ fn is_iri_char(c: char) -> bool
     !matches!(c, '\0'..=' ' | '<' | '>' | '"' | '{'..='}' | '^' | '`' | '\\')
 }
 
-// Whether each character may stand in an IRI.
+/// Whether each character may stand in an IRI.
 fn has_iri_chars(text: &str) -> bool
     ensures { result ≡ list_all (has iri_char) (chars text.now) }
 {
     text.chars().all(|c| is_iri_char(c))
 }
 
-// Whether references can be resolved against the text.
+/// Whether references can be resolved against the text.
 #[tactic(auto, unfolding(crate::specs::Checks::is_base))]
 fn is_base(text: &str) -> bool
     ensures { result ≡ is_base text.now }
@@ -62,7 +62,7 @@ fn is_base(text: &str) -> bool
     split(text).scheme.is_some() && has_iri_chars(text)
 }
 
-// The name of the proof, if there is one.
+/// The name of the proof, if there is one.
 fn proof_name<'a>(task: Task<'a>) -> Option<&'a str>
     ensures { option_map (λ s. s.now) result ≡ proof_of (task_of task.entry) }
 {
@@ -72,7 +72,7 @@ fn proof_name<'a>(task: Task<'a>) -> Option<&'a str>
     }
 }
 
-// Whether the name is that of the map.
+/// Whether the name is that of the map.
 fn is_map(name: &str, task: Task<'_>) -> bool
     ensures { result ≡ is_among name.now (map_names (task_of task.entry)) }
 {
@@ -82,14 +82,14 @@ fn is_map(name: &str, task: Task<'_>) -> bool
     }
 }
 
-// Whether the name is that of the file of an import.
+/// Whether the name is that of the file of an import.
 fn is_imported(name: &str, imports: &[Import<'_>]) -> bool
     ensures { result ≡ list_any (λ i. bytes_eq i.file.now name.now) imports.now }
 {
     imports.iter().any(|import| import.file == name)
 }
 
-// Whether a name is that of a file of the request other than the proof.
+/// Whether a name is that of a file of the request other than the proof.
 fn is_named(name: &str, request: &Request<'_>, imports: &[Import<'_>]) -> bool
     ensures { result ≡ is_among name.now (other_names (request_of request.now) (map import_of imports.now)) }
 {
@@ -99,7 +99,7 @@ fn is_named(name: &str, request: &Request<'_>, imports: &[Import<'_>]) -> bool
     is_map(name, request.task) || is_imported(name, imports)
 }
 
-// The name of the proof where it is that of another file too.
+/// The name of the proof where it is that of another file too.
 fn same_name<'a>(request: &Request<'a>, imports: &[Import<'_>]) -> Option<&'a str>
     ensures found { IfSome result (λ name. (proof_of (task_of request.now.task) ≡ Some name.now) × (is_among name.now (other_names (request_of request.now) (map import_of imports.now)) ≡ true)) }
     ensures missed { IsNone result → (name : List ℕ) → proof_of (task_of request.now.task) ≡ Some name → is_among name (other_names (request_of request.now) (map import_of imports.now)) ≡ false }
@@ -112,7 +112,7 @@ fn same_name<'a>(request: &Request<'a>, imports: &[Import<'_>]) -> Option<&'a st
     }
 }
 
-// What a request asks for, whose import words give these imports.
+/// What a request asks for, whose import words give these imports.
 fn command_for<'a>(request: Request<'a>, imports: Vec<Import<'a>>) -> Command<'a>
     ensures command { command_of result ≡ command_by (request_of request.entry) (map import_of imports.entry.items) }
 {
@@ -134,7 +134,7 @@ fn command_for<'a>(request: Request<'a>, imports: Vec<Import<'a>>) -> Command<'a
     }
 }
 
-// What a request asks for that passes the checks.
+/// What a request asks for that passes the checks.
 pub fn checked<'a>(alloc: Global, request: Request<'a>) -> Result<Command<'a>, WordsError<'a>>
     ensures command { IfOk result (λ c. command_of c ≡ command_by (request_of request.entry) (command_of c).imports) }
     ensures passes { IfOk result (λ c. Passes (request_of request.entry) (command_of c).imports) }

@@ -1,4 +1,4 @@
-// What words ask for.
+//! What words ask for.
 
 /// A file for the document that is imported by an IRI.
 #[derive(Clone, Copy, Debug, PartialEq, Eq)]

@@ -1,4 +1,4 @@
-// The commands as `clap` takes them.
+//! The commands as `clap` takes them.
 
 ghost use Rattle.std.specs.Prelude.{◌≡◌, IfOk, [], false};
 ghost use Rattle.clap.specs.Words.{app_of, rule_of, with_rule};
@@ -7,7 +7,7 @@ ghost use Rattle.command_words.specs.Commands.{check, command, needed, option, r
 use clap::{Arg, ArgAction, Command};
 use std::alloc::{AllocError, Global};
 
-// An option with one value.
+/// An option with one value.
 fn option<'a>(alloc: Global, name: &'a str) -> Arg<'a>
     ensures rule { rule_of result ≡ option name.entry.now }
     ensures local { result.global ≡ false }
@@ -15,7 +15,7 @@ fn option<'a>(alloc: Global, name: &'a str) -> Arg<'a>
     Arg::new(alloc, name).long(name).action(ArgAction::Set)
 }
 
-// An argument that has to be given.
+/// An argument that has to be given.
 fn needed<'a>(arg: Arg<'a>) -> Arg<'a>
     requires { arg.global ≡ false }
     ensures rule { rule_of result ≡ needed (rule_of arg.entry) }
@@ -24,7 +24,7 @@ fn needed<'a>(arg: Arg<'a>) -> Arg<'a>
     arg.required(true)
 }
 
-// The last argument, which takes any number of words.
+/// The last argument, which takes any number of words.
 fn rest<'a>(alloc: Global, name: &'a str) -> Arg<'a>
     ensures rule { rule_of result ≡ rest name.entry.now }
     ensures local { result.global ≡ false }
@@ -32,7 +32,7 @@ fn rest<'a>(alloc: Global, name: &'a str) -> Arg<'a>
     Arg::new(alloc, name).action(ArgAction::Append)
 }
 
-// A command without arguments, and without help and version flags.
+/// A command without arguments, and without help and version flags.
 fn bare<'a>(alloc: Global, name: &'a str) -> Command<'a>
     ensures { app_of result ≡ command name.entry.now [] }
 {
@@ -42,7 +42,7 @@ fn bare<'a>(alloc: Global, name: &'a str) -> Command<'a>
         .disable_version_flag(true)
 }
 
-// The command with one more argument.
+/// The command with one more argument.
 fn with<'a>(command: Command<'a>, arg: Arg<'a>) -> Result<Command<'a>, AllocError>
     requires { arg.global ≡ false }
     ensures { IfOk result (λ c. app_of c ≡ with_rule (app_of command.entry) (rule_of arg.entry)) }
@@ -51,7 +51,7 @@ fn with<'a>(command: Command<'a>, arg: Arg<'a>) -> Result<Command<'a>, AllocErro
     Ok(wider)
 }
 
-// The command `validate`.
+/// The command `validate`.
 pub fn validate<'a>(alloc: Global) -> Result<Command<'a>, AllocError>
     ensures { IfOk result (λ c. app_of c ≡ validate) }
 {
@@ -67,7 +67,7 @@ pub fn validate<'a>(alloc: Global) -> Result<Command<'a>, AllocError>
     Ok(whole)
 }
 
-// The command `check`.
+/// The command `check`.
 pub fn check<'a>(alloc: Global) -> Result<Command<'a>, AllocError>
     ensures { IfOk result (λ c. app_of c ≡ check) }
 {

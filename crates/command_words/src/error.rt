@@ -1,4 +1,4 @@
-// Why words are refused.
+//! Why words are refused.
 
 ghost use Rattle.std.specs.Prelude.{◌≡◌, IfOk, string_bytes};
 ghost use Rattle.command_words.specs.Asked.{fault_text};

@@ -1,4 +1,4 @@
-// The import words.
+//! The import words.
 
 ghost use Rattle.std.specs.Prelude.{[], IfErr, IfOk, IfSome, IsNone, map};
 ghost use Rattle.command_words.specs.Checks.{AreImports, Divides, Import as Importing, IsImportFault};
@@ -10,7 +10,7 @@ use crate::error::WordsError;
 use std::alloc::Global;
 use std::collections::BTreeSet;
 
-// What a word gives that its last `=` divides into two parts that are not empty.
+/// What a word gives that its last `=` divides into two parts that are not empty.
 fn divided(word: &str) -> Option<Import<'_>>
     ensures found { IfSome result (λ i. Divides word.now (import_of i)) }
     ensures missed { IsNone result → (i : Importing) → ¬ Divides word.now i }
@@ -25,7 +25,7 @@ fn divided(word: &str) -> Option<Import<'_>>
     Some(Import { iri, file })
 }
 
-// The imports that the words give.
+/// The imports that the words give.
 pub fn read_imports<'a>(alloc: Global, words: &[&'a str]) -> Result<Vec<Import<'a>>, WordsError<'a>>
     ensures ok { IfOk result (λ v. AreImports [] (map (λ w. w.now) words.now) (map import_of v.items)) }
     ensures fault { IfErr result (Because (IsImportFault [] (map (λ w. w.now) words.now))) }

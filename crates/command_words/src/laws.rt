@@ -1,4 +1,4 @@
-// Laws of what words ask for, for callers' proofs.
+//! Laws of what words ask for, for callers' proofs.
 
 ghost use Rattle.command_words.specs.Laws.{AnswersAreOne};
 

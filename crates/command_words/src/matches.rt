@@ -1,4 +1,4 @@
-// What `clap` finds in words.
+//! What `clap` finds in words.
 
 ghost use Rattle.std.specs.Prelude.{◌≡◌, ◌≢◌, IfErr, IfOk, IfSome, IsNone, [], map, option_map, string_bytes, unwrap_or};
 ghost use Rattle.clap.specs.Words.{all_of, app_of, first_of, found_of, rows_of};
@@ -9,7 +9,7 @@ use clap::error::ErrorKind;
 use clap::{ArgMatches, Command};
 use std::alloc::{AllocError, Global};
 
-// What the command finds in the words, or `None` where `clap` refuses them.
+/// What the command finds in the words, or `None` where `clap` refuses them.
 pub fn matches_of<'a>(
     command: Command<'a>,
     words: &'a [String],
@@ -28,14 +28,14 @@ pub fn matches_of<'a>(
     }
 }
 
-// The value of an option, if it is given.
+/// The value of an option, if it is given.
 pub fn value_of<'a>(matches: &ArgMatches<'a>, name: &str) -> Option<&'a str>
     ensures { option_map (λ s. s.now) result ≡ first_of name.now (rows_of (found_of matches.now)) }
 {
     matches.get_str(name)
 }
 
-// The value of an option, or this one where none is given.
+/// The value of an option, or this one where none is given.
 pub fn value_or<'a>(matches: &ArgMatches<'a>, name: &str, default: &'a str) -> &'a str
     ensures { result.now ≡ unwrap_or (first_of name.now (rows_of (found_of matches.now))) default.entry.now }
 {
@@ -45,7 +45,7 @@ pub fn value_or<'a>(matches: &ArgMatches<'a>, name: &str, default: &'a str) -> &
     }
 }
 
-// All values of an argument.
+/// All values of an argument.
 pub fn values_of<'a>(
     alloc: Global,
     matches: &ArgMatches<'a>,

@@ -1,16 +1,16 @@
-// The budget.
+//! The budget.
 
 ghost use Rattle.std.specs.Prelude.{◌≡◌, ◌≢◌, ◌<◌, ◌^◌, ℕ, IfSome, IsNone, option_map};
 ghost use Rattle.std.specs.Fmt.{decimal};
 ghost use Rattle.command_words.specs.Requests.{IsBudget};
 
-// The budget where none is given.
+/// The budget where none is given.
 const DEFAULT_BUDGET: u64 = 1_048_576;
 
-// The greatest budget.
+/// The greatest budget.
 const MAX_BUDGET: u64 = 1_099_511_627_776;
 
-// The number that a text gives in decimal digits, without a sign and without zeros in front.
+/// The number that a text gives in decimal digits, without a sign and without zeros in front.
 fn number(text: &str) -> Option<u64>
     ensures found { IfSome result (λ n. text.now ≡ decimal n) }
     ensures small { IfSome result (λ n. n < 2 ^ 64) }
@@ -28,7 +28,7 @@ fn number(text: &str) -> Option<u64>
     }
 }
 
-// The budget that an option's value gives, if that is a number within the limits, and the default where there is none.
+/// The budget that an option's value gives, if that is a number within the limits, and the default where there is none.
 pub fn budget(value: Option<&str>) -> Option<u64>
     ensures found { IfSome result (IsBudget (option_map (λ s. s.now) value.entry)) }
     ensures missed { IsNone result → (n : ℕ) → ¬ IsBudget (option_map (λ s. s.now) value.entry) n }

@@ -1,4 +1,4 @@
-// What words ask for, before it is checked.
+//! What words ask for, before it is checked.
 
 ghost use Rattle.std.specs.Prelude.{◌≡◌, IfErr, IfOk, IfSome, IsNone, codes, map, string_bytes};
 ghost use Rattle.clap.specs.Words.{found_of, rows_of};
@@ -13,25 +13,25 @@ use crate::numbers::budget;
 use clap::ArgMatches;
 use std::alloc::Global;
 
-// The base of schema and data where none is given.
+/// The base of schema and data where none is given.
 const DEFAULT_BASE: &str = "http://localhost/";
 
-// What is asked of the schema and the data.
+/// What is asked of the schema and the data.
 #[derive(Clone, Copy)]
 pub enum Task<'a> {
-    // To validate the associations of a map.
+    /// To validate the associations of a map.
     Validate {
         map: &'a str,
         proof: Option<&'a str>,
         budget: u64,
     },
-    // To check a proof.
+    /// To check a proof.
     Check {
         proof: &'a str,
     },
 }
 
-// The values of the options, and the import words.
+/// The values of the options, and the import words.
 #[derive(Drop)]
 pub struct Request<'a> {
     pub schema: &'a str,
@@ -42,7 +42,7 @@ pub struct Request<'a> {
     pub task: Task<'a>,
 }
 
-// What is asked with this task, by what `clap` finds of the values that every command is given.
+/// What is asked with this task, by what `clap` finds of the values that every command is given.
 fn request_for<'a>(
     alloc: Global,
     matches: &ArgMatches<'a>,
@@ -69,7 +69,7 @@ fn request_for<'a>(
     })
 }
 
-// What `validate` is given alone, by what `clap` finds, and `None` where that is nothing.
+/// What `validate` is given alone, by what `clap` finds, and `None` where that is nothing.
 fn validation<'a>(matches: &ArgMatches<'a>) -> Option<Task<'a>>
     ensures found { IfSome result (λ t. IsTask (rows_of (found_of matches.now)) (task_of t)) }
     ensures named { IfSome result (λ t. name_of (task_of t) ≡ codes "validate") }
@@ -84,7 +84,7 @@ fn validation<'a>(matches: &ArgMatches<'a>) -> Option<Task<'a>>
     })
 }
 
-// What `check` is given alone, by what `clap` finds, and `None` where that is nothing.
+/// What `check` is given alone, by what `clap` finds, and `None` where that is nothing.
 fn checking<'a>(matches: &ArgMatches<'a>) -> Option<Task<'a>>
     ensures found { IfSome result (λ t. IsTask (rows_of (found_of matches.now)) (task_of t)) }
     ensures named { IfSome result (λ t. name_of (task_of t) ≡ codes "check") }
@@ -94,7 +94,7 @@ fn checking<'a>(matches: &ArgMatches<'a>) -> Option<Task<'a>>
     Some(Task::Check { proof })
 }
 
-// What the words behind `validate` ask for.
+/// What the words behind `validate` ask for.
 fn read_to_validate<'a>(alloc: Global, words: &'a [String]) -> Result<Request<'a>, WordsError<'a>>
     ensures ok { IfOk result (λ r. IsFound (map string_bytes words.entry.now) (request_of r)) }
     ensures named { IfOk result (λ r. name_of (task_of r.task) ≡ codes "validate") }
@@ -111,7 +111,7 @@ fn read_to_validate<'a>(alloc: Global, words: &'a [String]) -> Result<Request<'a
     Ok(request)
 }
 
-// What the words behind `check` ask for.
+/// What the words behind `check` ask for.
 fn read_to_check<'a>(alloc: Global, words: &'a [String]) -> Result<Request<'a>, WordsError<'a>>
     ensures ok { IfOk result (λ r. IsFound (map string_bytes words.entry.now) (request_of r)) }
     ensures named { IfOk result (λ r. name_of (task_of r.task) ≡ codes "check") }
@@ -128,7 +128,7 @@ fn read_to_check<'a>(alloc: Global, words: &'a [String]) -> Result<Request<'a>, 
     Ok(request)
 }
 
-// What the words ask for.
+/// What the words ask for.
 pub fn read_request<'a>(alloc: Global, words: &'a [String]) -> Result<Request<'a>, WordsError<'a>>
     ensures ok { IfOk result (λ r. Asks (map string_bytes words.entry.now) (request_of r)) }
     ensures fault { IfErr result (Because (λ f. (f ≡ arguments) × ((r : Requested) → ¬ Asks (map string_bytes words.entry.now) r))) }

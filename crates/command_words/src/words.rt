@@ -1,4 +1,4 @@
-// The words of a call.
+//! The words of a call.
 
 ghost use Rattle.std.specs.Prelude.{◌≡◌, IfErr, IfOk, IsErrAnd, MatchResult, map, string_bytes};
 ghost use Rattle.command_words.specs.Asked.{Command as Asking, IsAsked, IsFirstFault};

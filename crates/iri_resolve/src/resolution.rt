@@ -11,7 +11,7 @@ use crate::path::{merge, remove_dot_segments};
 use std::alloc::{AllocError, Global};
 use thiserror::Error;
 
-/// Why a reference is not resolved_text.
+/// Why a reference is not resolved.
 #[derive(Clone, Copy, Debug, PartialEq, Eq, Error)]
 pub enum IriError {
     /// Neither the base nor the reference has a scheme.

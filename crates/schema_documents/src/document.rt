@@ -17,7 +17,7 @@ pub struct Doc {
     pub decls: Items<Decl>,
 }
 
-/// A shape expression with its label (ShEx 2.1, section 5.2).
+/// A shape expression with its label (ShEx 2.1, section 5.3).
 #[derive(Drop)]
 pub struct Decl {
     /// The label.
@@ -26,7 +26,7 @@ pub struct Decl {
     pub expr: DocExpr,
 }
 
-/// A shape expression (ShEx 2.1, section 5.2).
+/// A shape expression (ShEx 2.1, section 5.3).
 #[derive(Drop)]
 #[cycle(document)]
 pub enum DocExpr {

@@ -1,4 +1,5 @@
-//! Answers about many nodes and one proof of them all, for schemas whose Shapes have at most one occurrence.
+//! Answers about many nodes and one proof of them all, for schemas whose Shapes are open, without EXTRA, and have at most
+//! one occurrence, which takes arcs out once and whose value is absent or a node constraint.
 #![tactic(auto)]
 
 mod evidence;
