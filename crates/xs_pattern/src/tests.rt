@@ -188,7 +188,11 @@ fn as_many_positions_as_the_limit_are_read(rt: HostRuntime) -> Result<(), Fail> 
         let found = search(rt.alloc(), "(a{64}){64}", "", text.as_str())?;
         assert_eq!(rt; found, Ok(want));
     }
-    // With flag `q` each character is a position.
+    Ok(())
+}
+
+#[test]
+fn each_character_is_a_position_under_the_flag_of_literals(rt: HostRuntime) -> Result<(), Fail> {
     for (number, want) in [(4096, Ok(false)), (4097, Err(PatternError::Large))] {
         let text = repeated(rt.alloc(), ".", number)?;
         assert_eq!(rt; search(rt.alloc(), text.as_str(), "q", "")?, want);

@@ -3,6 +3,24 @@ use std::cmp::Ordering::{Equal, Greater, Less};
 use std::process::Abort;
 use std::test::Fail;
 
+/// Each text is in the datatype's lexical space, or none is.
+fn check_each(
+    rt: &(impl Abort + AllocGlobal),
+    name: &str,
+    texts: &[&str],
+    wanted: bool,
+) -> Result<(), Fail> {
+    let iri = format!(in rt.alloc(); "http://www.w3.org/2001/XMLSchema#{name}")?;
+    for text in texts {
+        assert_eq!(rt;
+            lexical_ok(iri.as_str(), *text),
+            wanted,
+            "{text:?} as a {name}"
+        );
+    }
+    Ok(())
+}
+
 /// Each text of the first list is in the datatype's lexical space, and none of the second is.
 fn check(
     rt: &(impl Abort + AllocGlobal),
@@ -10,14 +28,8 @@ fn check(
     within: &[&str],
     outside: &[&str],
 ) -> Result<(), Fail> {
-    let iri = format!(in rt.alloc(); "http://www.w3.org/2001/XMLSchema#{name}")?;
-    for text in within {
-        assert!(rt; lexical_ok(iri.as_str(), *text), "{text:?} is a {name}");
-    }
-    for text in outside {
-        assert!(rt; !lexical_ok(iri.as_str(), *text), "{text:?} is no {name}");
-    }
-    Ok(())
+    check_each(rt, name, within, true)?;
+    check_each(rt, name, outside, false)
 }
 
 #[test]
@@ -87,7 +99,11 @@ fn integers_end_where_their_types_do(rt: HostRuntime) -> Result<(), Fail> {
         "negativeInteger",
         &["-1", "-01", "-99999999999999999999"],
         &["0", "-0", "1"],
-    )?;
+    )
+}
+
+#[test]
+fn integers_of_so_many_bits_end_where_their_types_do(rt: HostRuntime) -> Result<(), Fail> {
     check(
         &rt,
         "long",
@@ -114,7 +130,11 @@ fn integers_end_where_their_types_do(rt: HostRuntime) -> Result<(), Fail> {
         "byte",
         &["-128", "127", "-0", "0000127"],
         &["-129", "128", "1000", ""],
-    )?;
+    )
+}
+
+#[test]
+fn integers_without_a_sign_end_where_their_types_do(rt: HostRuntime) -> Result<(), Fail> {
     check(
         &rt,
         "unsignedLong",
@@ -137,7 +157,7 @@ fn integers_end_where_their_types_do(rt: HostRuntime) -> Result<(), Fail> {
 }
 
 #[test]
-fn a_date_time_has_its_fields_in_range(rt: HostRuntime) -> Result<(), Fail> {
+fn a_date_time_has_its_year_in_range(rt: HostRuntime) -> Result<(), Fail> {
     let years = [
         "2000-02-29T00:00:00",
         "2004-02-29T00:00:00",
@@ -158,7 +178,11 @@ fn a_date_time_has_its_fields_in_range(rt: HostRuntime) -> Result<(), Fail> {
         "200a-01-01T00:00:00",
         "-01-01T00:00:00",
     ];
-    check(&rt, "dateTime", &years, &no_years)?;
+    check(&rt, "dateTime", &years, &no_years)
+}
+
+#[test]
+fn a_date_time_has_its_day_in_range(rt: HostRuntime) -> Result<(), Fail> {
     let days = [
         "2001-02-28T00:00:00",
         "2001-01-31T00:00:00",
@@ -179,7 +203,11 @@ fn a_date_time_has_its_fields_in_range(rt: HostRuntime) -> Result<(), Fail> {
         "",
         "-",
     ];
-    check(&rt, "dateTime", &days, &no_days)?;
+    check(&rt, "dateTime", &days, &no_days)
+}
+
+#[test]
+fn a_date_time_has_its_time_in_range(rt: HostRuntime) -> Result<(), Fail> {
     let times = [
         "2001-01-01T23:59:59",
         "2001-01-01T23:59:59.999999999999999999999999",
@@ -200,7 +228,11 @@ fn a_date_time_has_its_fields_in_range(rt: HostRuntime) -> Result<(), Fail> {
         "2001-01-01t00:00:00",
         "2001-01-01 00:00:00",
     ];
-    check(&rt, "dateTime", &times, &no_times)?;
+    check(&rt, "dateTime", &times, &no_times)
+}
+
+#[test]
+fn a_date_time_has_its_zone_in_range(rt: HostRuntime) -> Result<(), Fail> {
     let zones = [
         "2001-01-01T00:00:00Z",
         "2001-01-01T00:00:00.5Z",
