@@ -1,4 +1,4 @@
-// Rows whose expected texts are those of the published proof format, and calls with ample memory.
+//! Rows whose expected texts are those of the proof format, and calls with ample memory.
 
 ghost use Rattle.std.specs.Prelude.{◌≡◌, ◌<◌, All, Contains, IfOk, IsTrue, [], ◌∷◌, false, None, Some, length};
 ghost use Rattle.graph_index.specs.Contents.{IsSealedWith};
