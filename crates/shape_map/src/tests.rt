@@ -138,6 +138,25 @@ fn literals_are_nodes(rt: HostRuntime) -> Result<(), Fail> {
 }
 
 #[test]
+fn each_short_form_has_its_datatype(rt: HostRuntime) -> Result<(), Fail> {
+    stands_for(
+        &rt,
+        "1.5@<S>",
+        "\"1.5\"^^<http://www.w3.org/2001/XMLSchema#decimal> @ <http://s/S>;",
+    )?;
+    stands_for(
+        &rt,
+        "1e0@<S>",
+        "\"1e0\"^^<http://www.w3.org/2001/XMLSchema#double> @ <http://s/S>;",
+    )?;
+    stands_for(
+        &rt,
+        "false@<S>",
+        "\"false\"^^<http://www.w3.org/2001/XMLSchema#boolean> @ <http://s/S>;",
+    )
+}
+
+#[test]
 fn patterns_have_their_focus_at_either_end(rt: HostRuntime) -> Result<(), Fail> {
     stands_for(
         &rt,
