@@ -57,7 +57,7 @@ fn validating(alloc: Global, schema: &str, data: &str) -> Result<Vec<String>, Fa
     )
 }
 
-/// The files of a schema, data and a map under the names `s.json`, `data` and `m`, of which the calls of these numbers fail.
+/// The files of a schema as `s.json`, of data under a name, and of a map as `m`, of which the calls of these numbers fail.
 fn files(
     alloc: Global,
     schema: &str,
@@ -424,8 +424,18 @@ fn a_file_that_is_not_fetched_is_named(rt: HostRuntime) -> Result<(), Fail> {
     Ok(())
 }
 
-/// The status of `validate` over a map, whose first print fails on both sinks, and how many bytes the sinks got.
-fn unprinted(alloc: Global, map: &str) -> Result<(u8, usize), Fail> {
+/// A sink whose first call fails, or none.
+fn sink(alloc: Global, fails: bool) -> Result<MemSink, Fail> {
+    let mut failing = Vec::new(alloc);
+    if fails {
+        failing.push(0)?;
+    }
+    Ok(MemSink::new(alloc, failing))
+}
+
+/// The status of `validate` over a map, whose first print fails on the output or on the errors, and how many bytes the
+/// sinks got.
+fn unprinted(alloc: Global, map: &str, on_output: bool) -> Result<(u8, usize), Fail> {
     let mut files = files(
         alloc,
         WANTS_IRI,
@@ -434,8 +444,8 @@ fn unprinted(alloc: Global, map: &str) -> Result<(u8, usize), Fail> {
         map,
         Vec::new(alloc),
     )?;
-    let mut out = MemSink::new(alloc, vec![in alloc; 0]?);
-    let mut err = MemSink::new(alloc, vec![in alloc; 0]?);
+    let mut out = sink(alloc, on_output)?;
+    let mut err = sink(alloc, !on_output)?;
     let words = validating(alloc, "s.json", "d.nt")?;
     let status = run(alloc, words.as_slice(), &mut files, &mut out, &mut err);
     Ok((status, out.bytes().len().max(err.bytes().len())))
@@ -443,8 +453,8 @@ fn unprinted(alloc: Global, map: &str) -> Result<(u8, usize), Fail> {
 
 #[test]
 fn a_sink_that_fails_is_told_by_the_status(rt: HostRuntime) -> Result<(), Fail> {
-    for map in [MAP, "<n>@<T>"] {
-        assert_eq!(rt; unprinted(rt.alloc(), map)?, (7, 0), "{map}");
+    for (map, on_output) in [(MAP, true), ("<n>@<T>", false)] {
+        assert_eq!(rt; unprinted(rt.alloc(), map, on_output)?, (7, 0), "{map}");
     }
     Ok(())
 }

@@ -221,6 +221,47 @@ fn forged_proofs_are_rejected(rt: HostRuntime) -> Result<(), Fail> {
     Ok(())
 }
 
+/// How the check of a proof of one node line and these lines ends over data.
+fn checked_lines(alloc: Global, data: &str, lines: &str) -> Result<(u8, String, String), Fail> {
+    let text = format!(in alloc; "shex-proof 1\nn <http://localhost/n>\n{lines}end\n")?;
+    checked(alloc, WANTS_IRI, "d.nt", data, text.as_str())
+}
+
+#[test]
+fn the_first_check_that_fails_is_named(rt: HostRuntime) -> Result<(), Fail> {
+    for (data, lines, what) in [
+        (ARC, "s 0\n+ 1 0 0\n", "0,Node"),
+        (ARC, "s 0\n+ 0 1 0\n", "0,Shape"),
+        (ARC, "s 1\n+ 0 0 0\n", "0,Stratum"),
+        (ARC, "s 0\n+ 0 0\n", "0,Places"),
+        (ARC, "s 0\n+ 0 0 1\n", "0,Places"),
+        (ARC, "s 0\n+ 0 0 r\n", "0,Places"),
+        (STRING, "s 0\n+ 0 0 0\n", "0,Value"),
+        (TWO, "s 0\n+ 0 0 0 0\n", "0,Counts"),
+        (ARC, "s 0\n- 0 0 1 0:0\n", "0,States"),
+        (ARC, "s 0\n+ 0 0 0\nc - 0 <http://localhost/S>\n", "1,Claim"),
+        (ARC, "s 0\n+ 0 0 0\nc + 0 <http://localhost/T>\n", "1,Claim"),
+        (ARC, "s 0\n+ 0 0 0\nc + 1 <http://localhost/S>\n", "1,Node"),
+        (ARC, "c + 0 <http://localhost/S>\n", "0,Claim"),
+    ] {
+        let line = format!(in rt.alloc(); "shex: p: Rejected({what})\n")?;
+        let (status, _, err) = checked_lines(rt.alloc(), data, lines)?;
+        assert_eq!(rt; err.as_str(), line.as_str(), "{lines}");
+        assert_eq!(rt; status, 6, "{lines}");
+    }
+    Ok(())
+}
+
+#[test]
+fn data_that_are_refused_leave_no_answer_and_no_proof(rt: HostRuntime) -> Result<(), Fail> {
+    let data = "<n> <p> \"\"\"abc";
+    let (status, out, stored) = proved(rt.alloc(), WANTS_IRI, "d.ttl", data, MAP)?;
+    assert_eq!(rt; stored.as_str(), "absent");
+    assert_eq!(rt; out.as_str(), "");
+    assert_eq!(rt; status, 3);
+    Ok(())
+}
+
 #[test]
 fn a_cut_proof_ends_where_its_bytes_do(rt: HostRuntime) -> Result<(), Fail> {
     let (status, out, err) = checked(rt.alloc(), WANTS_IRI, "d.nt", ARC, "shex-proof 1\n")?;
