@@ -1,4 +1,4 @@
--- What a map asks can be answered, and a proof of the answers is accepted.
+-- What a map asks can be answered, and a proof of the answers is accepted and has no more than they ask for.
 use Rattle.std.proofs.Common.{◌≡◌, ◌≤◌, ◌<◌, ◌∙◌, ap, sym, subst, refl, List, ℕ, [], ◌∷◌, inl, inr, ◌⊎◌, arith, length, map}
 use Rattle.std.specs.Prelude.{All, Contains, Some, slice_get}
 use Rattle.std.proofs.lemmas.List.Elements.{All-contains, All-contains_itself, All-weaker}
@@ -36,13 +36,15 @@ use Rattle.line_terms.specs.Lines.{AreLines, HasLine, HaveLines}
 use Rattle.command_words.specs.Asked.{Command}
 use Rattle.shex_inputs.specs.Asked.{IsAskedOf, Question, label_names, node_names}
 use Rattle.shex_inputs.specs.Loading.{predicates_of}
-use Rattle.simple_typing.specs.Answers.{AreAnswersTo, HasLines, IsAsked, IsProofOf}
-use Rattle.shex_run.specs.Proofs.{Accepted}
+use Rattle.simple_typing.specs.Answers.{AreAnswersTo, HasLines, IsAsked, IsProofOf as Proves, flat}
+use Rattle.shex_run.specs.Proofs.{IsProofOf}
 use Rattle.shex_run.specs.Stopping.{HasBases}
 use Rattle.shex_run.proofs.Risen.{taken_up}
 use Rattle.shex_run.proofs.Selected.{From, Gives, IsNodeOf, Known, comes_from, known}
 use Rattle.shex_run.proofs.Settled.{numbered_held}
+use Rattle.shex_run.proofs.Simplicity.{simple_schema}
 use Rattle.shex_run.proofs.Tables.{all_keep}
+use Rattle.shex_run.proofs.Truths.{flat_stratum}
 
 -- what is so of each member is so of all
 pub all_members : {X : Type 0} (P : X → Type 0) (xs : List X) → ((x : X) → Contains xs x → P x) → All P xs
@@ -157,7 +159,7 @@ module _ (told : Told) (c : Command) (name : Text) (q : Question) (is : IsAskedO
 
   -- ---- the proof of the answers
 
-  module _ (answers : List Answer) (are : AreAnswersTo s q.terms g q.associations answers) (p : Proof) (proof : IsProofOf s q.terms g answers p) where
+  module _ (answers : List Answer) (are : AreAnswersTo s q.terms g q.associations answers) (p : Proof) (proof : Proves s q.terms g answers p) where
     -- the nodes that are written in the map have lines
     among : (t : Term) → Contains is.ends.takes.nodes t → Contains p.nodes t
     among t h =
@@ -170,18 +172,23 @@ module _ (told : Told) (c : Command) (name : Text) (q : Question) (is : IsAskedO
         let (u, lined, e) = from_map (λ z. Some z) p.nodes (Some t) (subst (λ zs. Contains zs (Some t)) proof.numbers there) in
         subst (λ z. Contains p.nodes z) (let same_term : u ≡ t = cc in same_term) lined
 
-    pub accepted : (bytes : List ℕ) → ProofText p bytes → length q.terms ≤ max_terms → Accepted q.held bytes q.terms answers
-    accepted bytes text few_terms = record {
-      found = record {
-        proof = p;
-        nodes = proof.nodes;
-        read = record {
-          text = text;
-          table = taken_up q.held.terms is.ends.takes.nodes q.terms p.nodes is.ends.takes.taken is.ends.takes.ordered.rising proof.keeps.nodes among (λ t h. numbered_held q.terms p.nodes proof.nodes proof.numbers t h);
-          numbers = proof.numbers;
+    pub proved : (bytes : List ℕ) → ProofText p bytes → length q.terms ≤ max_terms → IsProofOf q answers bytes
+    proved bytes text few_terms = record {
+      accepted = record {
+        strata = flat s;
+        are_strata = flat_stratum s (simple_schema q.held.terms is.taken.doc s is.taken.base.stands is.taken.base.built);
+        found = record {
+          proof = p;
+          nodes = proof.nodes;
+          read = record {
+            text = text;
+            table = taken_up q.held.terms is.ends.takes.nodes q.terms p.nodes is.ends.takes.taken is.ends.takes.ordered.rising proof.keeps.nodes among (λ t h. numbered_held q.terms p.nodes proof.nodes proof.numbers t h);
+            numbers = proof.numbers;
+          };
+          accepted = proof.accepted;
+          claims = proof.claims;
         };
-        accepted = proof.accepted;
-        claims = proof.claims;
+        few = few_terms;
       };
-      few = few_terms;
+      lean = record { exactly = proof.exactly; recorded = proof.recorded; filled = proof.filled };
     }

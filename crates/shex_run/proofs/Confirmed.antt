@@ -8,20 +8,19 @@ use Rattle.schema_tree.specs.Typings.{IsTheTyping}
 use Rattle.proof_file.specs.Accepts.{Accepts}
 use Rattle.proof_file.specs.Laws.{Soundness}
 use Rattle.shex_inputs.specs.Held.{Held}
-use Rattle.simple_typing.specs.Answers.{flat}
 use Rattle.simple_typing.specs.Simple.{IsSimpleSchema}
 use Rattle.shex_run.specs.Checking.{IsTrueOf}
 use Rattle.shex_run.specs.Proofs.{Accepted}
-use Rattle.shex_run.proofs.Truths.{has_typing, only_flat}
+use Rattle.shex_run.proofs.Truths.{has_typing, strata_one}
 
 pub is_true : (h : Held) → IsLoaded h.schema → IsSimpleSchema h.schema → TypingExists → Soundness → (bytes : List ℕ) (terms : List Term) (answers : List Answer) (a : Accepted h bytes terms answers) →
     IsTrueOf h terms a.found.nodes a.found.proof
 is_true h loaded simple exists sound bytes terms answers a = record {
   exists = λ U. has_typing h.schema simple loaded exists terms h.graph U;
   true_of = λ f U T ends holds typing.
-      sound (flat h.schema) h.schema terms h.graph a.found.proof loaded accepts U holds T
-      (subst (λ k. IsTheTyping h.schema terms h.graph k U T) (only_flat h.schema simple f typing.strata) typing.complete);
+      sound a.strata h.schema terms h.graph a.found.proof loaded accepts U holds T
+      (subst (λ k. IsTheTyping h.schema terms h.graph k U T) (strata_one h.schema f a.strata typing.strata a.are_strata) typing.complete);
 }
   where
-    accepts : Accepts (flat h.schema) h.schema terms h.graph a.found.proof
+    accepts : Accepts a.strata h.schema terms h.graph a.found.proof
     accepts = record { nodes = a.found.nodes; numbers = a.found.read.numbers; items = a.found.accepted }

@@ -15,13 +15,13 @@ use Rattle.line_terms.specs.Laws.{BasesAreLines, DataHaveLines, MapHasLines}
 use Rattle.command_words.specs.Asked.{Command}
 use Rattle.shex_inputs.specs.declared.base.Base.{Base}
 use Rattle.shex_inputs.specs.Asked.{IsAskedOf, Question}
-use Rattle.simple_typing.specs.Answers.{AreAnswersTo, HasLines, IsAsked, IsProofOf}
+use Rattle.simple_typing.specs.Answers.{AreAnswersTo, HasLines, IsAsked, IsProofOf as Proves}
 use Rattle.simple_typing.specs.Simple.{IsSimpleSchema}
 use Rattle.shex_run.specs.declared.deciding.Decided.{Decided}
 use Rattle.shex_run.specs.Ready.{IsDecided, IsReady, IsReply}
 use Rattle.shex_run.specs.Statuses.{status_of}
 use Rattle.shex_run.specs.Stopping.{HasBases}
-use Rattle.shex_run.proofs.Asked.{accepted, asked, few, lines}
+use Rattle.shex_run.proofs.Asked.{asked, few, lines, proved}
 use Rattle.shex_run.proofs.Simplicity.{simple_schema}
 
 module _ (told : Told) (c : Command) (name : Text) (q : Question) (is : IsAskedOf told c name q) (b : Base) (schema : b.schema ≡ q.held.schema) (terms : b.terms ≡ q.terms) (graph : b.graph.triples ≡ q.held.graph)
@@ -49,11 +49,11 @@ module _ (told : Told) (c : Command) (name : Text) (q : Question) (is : IsAskedO
         (subst (λ ts. AreAnswersTo q.held.schema ts b.graph.triples xs decided.answers) terms
         (subst (λ s. AreAnswersTo s b.terms b.graph.triples xs decided.answers) schema decided.truth)))
 
-    proof : IsProofOf q.held.schema q.terms q.held.graph decided.answers d.proof
+    proof : Proves q.held.schema q.terms q.held.graph decided.answers d.proof
     proof =
-        subst (λ g. IsProofOf q.held.schema q.terms g decided.answers d.proof) graph
-        (subst (λ ts. IsProofOf q.held.schema ts b.graph.triples decided.answers d.proof) terms
-        (subst (λ s. IsProofOf s b.terms b.graph.triples decided.answers d.proof) schema decided.proof))
+        subst (λ g. Proves q.held.schema q.terms g decided.answers d.proof) graph
+        (subst (λ ts. Proves q.held.schema ts b.graph.triples decided.answers d.proof) terms
+        (subst (λ s. Proves s b.terms b.graph.triples decided.answers d.proof) schema decided.proof))
 
     pub reply : length b.terms ≤ max_terms → IsReply told c name d
     reply within = record {
@@ -65,5 +65,5 @@ module _ (told : Told) (c : Command) (name : Text) (q : Question) (is : IsAskedO
       text_is = decided.text_is ∙ ap (λ ts. result_text ts decided.answers) terms;
       keeps = decided.proof.keeps;
       no_feeds = decided.proof.no_feeds;
-      proves = λ bytes text. accepted told c name q is decided.answers truth d.proof proof bytes text (subst (λ ts. length ts ≤ max_terms) terms within);
+      proves = λ bytes text. proved told c name q is decided.answers truth d.proof proof bytes text (subst (λ ts. length ts ≤ max_terms) terms within);
     }

@@ -17,12 +17,12 @@ use Rattle.proof_file.proofs.Apart.{proofs_same}
 use Rattle.proof_file.proofs.Rejected.{not_both}
 use Rattle.proof_checker.specs.Checks.{AreAnswers, IsFullFor, IsReadAs, KeepsTerms, TakesUp, answer_with, setting_of}
 use Rattle.shex_inputs.specs.Held.{Held}
-use Rattle.simple_typing.specs.Answers.{flat}
 use Rattle.shex_run.specs.declared.stop.Rejection.{Rejection}
 use Rattle.shex_run.specs.declared.stop.Rejection.TheVariants as Rejections
 use Rattle.shex_run.specs.Checking.{Rejects}
 use Rattle.shex_run.specs.Proofs.{Accepted}
 use Rattle.shex_run.proofs.Tables.{add_keeps, adds_one}
+use Rattle.shex_run.proofs.Truths.{strata_one}
 
 -- what is mapped is in the mapped list
 pub in_map : {A B : Type 0} (f : A → B) (xs : List A) (x : A) → Contains xs x → Contains (map f xs) (f x)
@@ -112,11 +112,13 @@ module _ (b : Held) (d : AreDistinct b.terms) (bytes : List ℕ) where
   accepted_not_rejected terms answers (Rejections.Syntax at) a = λ fault. fault.none a.found.proof a.found.read.text
   accepted_not_rejected terms answers (Rejections.Item i w) a = λ r.
       let one = reading_one b.terms terms r.terms bytes a.found.proof r.found.proof a.found.nodes r.found.nodes d a.found.read r.found.read in
-      let A : List Term → List TermId → Proof → Type 0 = λ ts ns p. AreAccepted (setting_of (flat b.schema) b.schema ts b.graph ns) p in
-      let first : A r.terms a.found.nodes a.found.proof = subst (λ ts. A ts a.found.nodes a.found.proof) one.table a.found.accepted in
+      let on_one : AreAccepted (setting_of r.strata b.schema terms b.graph a.found.nodes) a.found.proof =
+      subst (λ f. AreAccepted (setting_of f b.schema terms b.graph a.found.nodes) a.found.proof) (strata_one b.schema a.strata r.strata a.are_strata r.are_strata) a.found.accepted in
+      let A : List Term → List TermId → Proof → Type 0 = λ ts ns p. AreAccepted (setting_of r.strata b.schema ts b.graph ns) p in
+      let first : A r.terms a.found.nodes a.found.proof = subst (λ ts. A ts a.found.nodes a.found.proof) one.table on_one in
       let second : A r.terms r.found.nodes a.found.proof = subst (λ ns. A r.terms ns a.found.proof) one.numbers first in
       let third : A r.terms r.found.nodes r.found.proof = subst (λ p. A r.terms r.found.nodes p) one.proof second in
-      not_both (setting_of (flat b.schema) b.schema r.terms b.graph r.found.nodes) r.found.proof i w r.found.rejected third
+      not_both (setting_of r.strata b.schema r.terms b.graph r.found.nodes) r.found.proof i w r.found.rejected third
 
   -- a table that takes the lines up is not full for them
   not_full : (terms : List Term) (p : Proof) (nodes : List TermId) → IsReadAs b.terms terms bytes p nodes → length terms ≤ max_terms → ¬ IsFullFor b.terms bytes

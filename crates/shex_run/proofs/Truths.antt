@@ -1,5 +1,5 @@
--- What the complete typing says of a schema whose Shapes refer to none: that a node has one of them, whatever the typing.
-use Rattle.std.proofs.Common.{◌≡◌, ℕ, suc, zero, ◌≤◌, ◌<◌, List, [], ◌∷◌, refl, sym, subst, arith, length, Bool, map}
+-- The strata of a schema are one list; where its Shapes refer to none, each is 0, and there is a complete typing.
+use Rattle.std.proofs.Common.{◌≡◌, ◌∙◌, ℕ, suc, zero, ◌≤◌, ◌<◌, List, [], ◌∷◌, refl, sym, subst, arith, length, Bool, map}
 use Rattle.std.specs.Prelude.{Contains, Option, Some, None, slice_index}
 use Rattle.std.proofs.lemmas.List.{length-map}
 use Rattle.rdf_terms.specs.declared.terms.Term.{Term}
@@ -14,7 +14,7 @@ use Rattle.schema_tree.specs.declared.schema.Pair.{Pair}
 use Rattle.schema_tree.specs.declared.schema.Schema.{Schema}
 use Rattle.schema_tree.specs.declared.schema.Shape.{Shape}
 use Rattle.schema_tree.specs.declared.schema.ShapeId.{ShapeId}
-use Rattle.schema_tree.specs.Edges.{Edge, IsStratified, IsStratum, Path, StandsIn, StandsInValue, level, itself, in_and, in_or, in_not, stay, by_any, by_negative}
+use Rattle.schema_tree.specs.Edges.{Edge, IsStratified, IsStratum, IsStratumOf, Path, StandsIn, StandsInValue, level, itself, in_and, in_or, in_not, stay, by_any, by_negative}
 use Rattle.schema_tree.specs.Entries.{entry}
 use Rattle.schema_tree.specs.Laws.{TypingExists}
 use Rattle.schema_tree.specs.Loaded.{IsLoaded}
@@ -40,15 +40,32 @@ flat_level [] k = refl
 flat_level (sh ∷ shapes) zero = refl
 flat_level (sh ∷ shapes) (suc k) = flat_level shapes k
 
--- a list of zeros, as many as there are Shapes
-all_zero : (shapes : List Shape) (f : List ℕ) → length f ≡ length shapes → ((k : ℕ) → k < length shapes → slice_index f k ≡ 0) → f ≡ map (λ sh. 0) shapes
-all_zero [] [] l zeros = refl
-all_zero [] (k ∷ f) l zeros = absurd (omega (arith, l))
-all_zero (sh ∷ shapes) [] l zeros = absurd (omega (arith, l))
-all_zero (sh ∷ shapes) (k ∷ f) l zeros =
-    let first : k ≡ 0 = zeros 0 (omega arith) in
-    let rest : f ≡ map (λ sh. 0) shapes = all_zero shapes f (omega (arith, l)) (λ j less. zeros (suc j) (omega (arith, less))) in
+-- lists of one length with one number at each place are one
+lists_one : (f g : List ℕ) → length f ≡ length g → ((k : ℕ) → k < length f → slice_index f k ≡ slice_index g k) → f ≡ g
+lists_one [] [] l each = refl
+lists_one [] (k ∷ g) l each = absurd (omega (arith, l))
+lists_one (k ∷ f) [] l each = absurd (omega (arith, l))
+lists_one (k ∷ f) (m ∷ g) l each =
+    let first : k ≡ m = each 0 (omega arith) in
+    let rest : f ≡ g = lists_one f g (omega (arith, l)) (λ j less. each (suc j) (omega (arith, less))) in
     λ i. first i ∷ rest i
+
+-- a Shape has one stratum
+levels_one : (s : Schema) (i : ShapeId) (a b : ℕ) → IsStratumOf s i a → IsStratumOf s i b → a ≡ b
+levels_one s i a b ((t, way), most) ((u, path), top) =
+    let up : a ≤ b = top t a way in
+    let down : b ≤ a = most u b path in
+    omega (arith, up, down)
+
+-- so the strata of a schema are one list
+pub strata_one : (s : Schema) (f g : List ℕ) → IsStratum s f → IsStratum s g → f ≡ g
+strata_one s f g (long, each) (wide, at) = lists_one f g (long ∙ sym wide) (λ k less. one k less)
+  where
+    one : (k : ℕ) → k < length f → slice_index f k ≡ slice_index g k
+    one k less =
+        let shape : ShapeId = record { 0 = k } in
+        let here : k < length s.shapes = subst (λ n. k < n) long less in
+        levels_one s shape (slice_index f k) (slice_index g k) (each shape here) (at shape here)
 
 module _ (s : Schema) (simple : IsSimpleSchema s) where
   -- no edge leads from a Shape
@@ -68,11 +85,15 @@ module _ (s : Schema) (simple : IsSimpleSchema s) where
   no_way i t k (by_negative j edge negative way) = absurd (no_edge i j edge)
 
   -- and every Shape is on the stratum 0
-  flat_stratum : IsStratum s (flat s)
+  pub flat_stratum : IsStratum s (flat s)
   flat_stratum = (length-map s.shapes (λ sh. 0), λ i here. ((i, subst (λ k. Path s i i k) (sym (flat_level s.shapes i.0)) stay), λ t m way. least i m (no_way i t m way)))
     where
       least : (i : ShapeId) (m : ℕ) → m ≡ 0 → m ≤ level (flat s) i
       least i m none = omega (arith, none)
+
+  -- so zeros, as many as there are Shapes, are its strata
+  pub zero_strata : (f : List ℕ) → f ≡ flat s → IsStratum s f
+  zero_strata f zeros = subst (λ k. IsStratum s k) (sym zeros) flat_stratum
 
   flat_stratified : IsStratified s (flat s)
   flat_stratified = record {
@@ -80,16 +101,6 @@ module _ (s : Schema) (simple : IsSimpleSchema s) where
     never_rises = λ i t edge. absurd (no_edge i t edge);
     falls = λ i t edge negative. absurd (no_edge i t edge);
   }
-
-  -- so no other numbers are its strata
-  pub only_flat : (f : List ℕ) → IsStratum s f → f ≡ flat s
-  only_flat f (one_each, each) = all_zero s.shapes f one_each (λ k less. zeroth k less)
-    where
-      zeroth : (k : ℕ) → k < length s.shapes → slice_index f k ≡ 0
-      zeroth k less =
-          let shape : ShapeId = record { 0 = k } in
-          let (t, way) = (each shape less).0 in
-          no_way shape t (slice_index f k) way
 
   -- so there is a complete typing over every list of terms
   pub has_typing : IsLoaded s → TypingExists → (all : List Term) (g : List Triple) (U : List TermId) → (f : List ℕ) × (T : List Pair) × IsTypingOf s all g f U T

@@ -9,6 +9,7 @@ use Rattle.graph_loading.specs.declared.triples.TermTriple.{TermTriple}
 use Rattle.schema_documents.specs.Tree.{Document}
 use Rattle.schema_tree.specs.declared.schema.Answer.{Answer}
 use Rattle.schema_tree.specs.declared.schema.Pair.{Pair}
+use Rattle.schema_tree.specs.Edges.{IsStratum}
 use Rattle.schema_tree.specs.Typings.{HoldsEnds}
 use Rattle.proof_file.specs.declared.Proof.{Proof}
 use Rattle.proof_file.specs.declared.Why.{Why}
@@ -16,7 +17,6 @@ use Rattle.proof_file.specs.Laws.{HoldsLines, IsTrueProof}
 use Rattle.proof_file.specs.Text.{IsFault}
 use Rattle.proof_checker.specs.Checks.{IsFullFor, IsRejectedAs}
 use Rattle.shape_map.specs.Results.{result_text}
-use Rattle.simple_typing.specs.Answers.{flat}
 use Rattle.simple_typing.specs.Truths.{IsTypingOf}
 use Rattle.command_words.specs.Asked.{Command}
 use Rattle.shex_inputs.specs.declared.error.Refusal.TheVariants as Refusals
@@ -57,10 +57,12 @@ pub record IsCheckedAs (told : Told) (c : Command) (text : List ℕ) : Type 0 wh
   pub given : IsGiven told c held bytes
   pub confirmed : Confirms held bytes text
 
--- the bytes are rejected by this check of the item i, and the table can hold the terms
+-- the bytes are rejected by this check of the item i, with each Shape on its stratum, and the table can hold the terms
 pub record IsItemRejected (h : Held) (bytes : List ℕ) (i : ℕ) (w : Why) : Type 0 where
+  pub strata : List ℕ
+  pub are_strata : IsStratum h.schema strata
   pub terms : List Term
-  pub found : IsRejectedAs (flat h.schema) h.schema h.terms terms h.graph bytes i w
+  pub found : IsRejectedAs strata h.schema h.terms terms h.graph bytes i w
   pub few : length terms ≤ max_terms
 
 -- the bytes are rejected so

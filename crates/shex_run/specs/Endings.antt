@@ -22,8 +22,8 @@ use Rattle.shex_run.specs.Tasks.{IsToValidate, act_of, name_of}
 use Rattle.shex_run.specs.Texts.{failed_line, refusal_line, rejection_line, words_line}
 
 -- the text is the result map of the true answers to what the map asks of the files, one for each association, in their order, and
--- the status is 0 where each is as its association wants, and else 1; where a name is given, it holds a proof of the answers, and
--- no other name changed
+-- the status is 0 where each is as its association wants, and else 1; where a name is given, it holds a proof of the answers that
+-- has no more than they ask for, and no other name changed
 pub record IsAnswered (told after : Told) (c : Command) (status : ℕ) (text : List ℕ) : Type 0 where
   pub map_name : Text
   pub proof_name : Option Text

@@ -1,21 +1,30 @@
 -- The answers that are due, their proof, and how it is stored.
-use Rattle.std.specs.Prelude.{ℕ, List, ◌≡◌, ◌≤◌, ◌⊎◌, Option, Some, None, length}
+use Rattle.std.specs.Prelude.{ℕ, List, [], ◌≡◌, ◌≢◌, ◌≤◌, ◌⊎◌, ◌↔◌, Option, Some, None, Contains, length}
+use Rattle.std.specs.List.{AllByRecursion}
 use Rattle.clap.specs.Words.{Text}
 use Rattle.shex_io.specs.Files.{Told, Holds, HoldsPart, KeepsOthers}
 use Rattle.rdf_terms.specs.Tables.{max_terms}
 use Rattle.rdf_terms.specs.declared.terms.Term.{Term}
+use Rattle.rdf_terms.specs.declared.terms.TermId.{TermId}
 use Rattle.schema_tree.specs.declared.schema.Answer.{Answer}
+use Rattle.schema_tree.specs.declared.schema.Pair.{Pair}
+use Rattle.schema_tree.specs.declared.schema.Schema.{Schema}
+use Rattle.schema_tree.specs.Edges.{IsStratum}
+use Rattle.proof_file.specs.declared.Proof.{Proof}
+use Rattle.proof_file.specs.Views.{records_of}
 use Rattle.proof_checker.specs.Checks.{IsAcceptedAs}
 use Rattle.command_words.specs.Asked.{Command}
 use Rattle.shex_inputs.specs.Asked.{IsAskedOf, Question}
 use Rattle.shex_inputs.specs.Held.{Held}
-use Rattle.simple_typing.specs.Answers.{AreAnswersTo, flat}
+use Rattle.simple_typing.specs.Answers.{AreAnswersTo, AsksOf, HasRecord}
 use Rattle.shex_run.specs.Tasks.{IsToValidate}
 
--- the bytes are the text of a proof that is accepted for the schema, with every Shape on the stratum 0, and the graph, the table,
+-- the bytes are the text of a proof that is accepted for the schema, with each Shape on its stratum, and the graph, the table,
 -- which can hold them, has these terms once it has taken up the proof's node lines, and the answers are the proof's claims
 pub record Accepted (h : Held) (bytes : List ℕ) (terms : List Term) (answers : List Answer) : Type 0 where
-  pub found : IsAcceptedAs (flat h.schema) h.schema h.terms terms h.graph bytes answers
+  pub strata : List ℕ
+  pub are_strata : IsStratum h.schema strata
+  pub found : IsAcceptedAs strata h.schema h.terms terms h.graph bytes answers
   pub few : length terms ≤ max_terms
 
 -- the files hold this question for the command, whose map has this name, and these are its true answers: of each association its
@@ -24,9 +33,18 @@ pub record AreAnswers (told : Told) (c : Command) (map_name : Text) (q : Questio
   pub asked : IsAskedOf told c map_name q
   pub truth : AreAnswersTo q.held.schema q.terms q.held.graph q.associations answers
 
--- the bytes are a proof whose claims are the answers; so a check of them with the same schema and data accepts them
-abbrev pub IsProofOf : Question → List Answer → List ℕ → Type 0
-IsProofOf q answers bytes = Accepted q.held bytes q.terms answers
+-- the proof, whose node lines have these numbers, has no more than the answers ask for: its node lines are the nodes of the
+-- answers, its records are of the pairs that the answers ask for, and no section is empty
+pub record AsksNoMore (s : Schema) (nodes : List TermId) (answers : List Answer) (p : Proof) : Type 0 where
+  pub exactly : (n : TermId) → Contains nodes n ↔ ((x : Answer) × Contains answers x × (x.node ≡ n))
+  pub recorded : (q : Pair) → HasRecord nodes (records_of p) q ↔ ((x : Answer) × Contains answers x × AsksOf s x q)
+  pub filled : AllByRecursion (λ x. x.records ≢ []) p.sections
+
+-- the bytes are a proof whose claims are the answers, so that a check of them with the same schema and data accepts them, and
+-- which has no more than the answers ask for
+pub record IsProofOf (q : Question) (answers : List Answer) (bytes : List ℕ) : Type 0 where
+  pub accepted : Accepted q.held bytes q.terms answers
+  pub lean : AsksNoMore q.held.schema accepted.found.nodes answers accepted.found.proof
 
 -- where a name is given, it holds some bytes of which P is true, as far as is told, and each other name what it held; where
 -- none is given, each name holds what it held

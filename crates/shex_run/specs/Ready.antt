@@ -13,10 +13,10 @@ use Rattle.shape_map.specs.Selection.{max_associations}
 use Rattle.command_words.specs.Asked.{Command}
 use Rattle.shex_inputs.specs.declared.base.Base.{Base}
 use Rattle.shex_inputs.specs.Asked.{Question}
-use Rattle.simple_typing.specs.Answers.{AreAnswersTo, HasLines, IsAsked, IsProofOf}
+use Rattle.simple_typing.specs.Answers.{AreAnswersTo, HasLines, IsAsked, IsProofOf as Proves}
 use Rattle.simple_typing.specs.Simple.{IsSimpleSchema}
 use Rattle.shex_run.specs.declared.deciding.Decided.{Decided}
-use Rattle.shex_run.specs.Proofs.{Accepted, AreAnswers}
+use Rattle.shex_run.specs.Proofs.{AreAnswers, IsProofOf}
 use Rattle.shex_run.specs.Statuses.{status_of}
 
 -- the associations can be answered over the schema, the table and the graph
@@ -33,13 +33,13 @@ pub record IsReady (b : Base) (associations : List Association) : Type 0 where
 pub record IsDecided (b : Base) (associations : List Association) (d : Decided) : Type 0 where
   pub answers : List Answer
   pub truth : AreAnswersTo b.schema b.terms b.graph.triples associations answers
-  pub proof : IsProofOf b.schema b.terms b.graph.triples answers d.proof
+  pub proof : Proves b.schema b.terms b.graph.triples answers d.proof
   pub low : (d.status ≡ 0) ⊎ (d.status ≡ 1)
   pub status_is : d.status ≡ status_of associations answers
   pub text_is : d.text.items ≡ result_text b.terms answers
 
 -- they are the true answers to what the files hold for the command, whose map has this name; their status and text are these, and
--- each text of their proof is a proof of them
+-- each text of their proof is a proof of them that has no more than they ask for
 pub record IsReply (told : Told) (c : Command) (map_name : Text) (d : Decided) : Type 0 where
   pub question : Question
   pub answers : List Answer
@@ -49,4 +49,4 @@ pub record IsReply (told : Told) (c : Command) (map_name : Text) (d : Decided) :
   pub text_is : d.text.items ≡ result_text question.terms answers
   pub keeps : Keeps d.proof
   pub no_feeds : HasNoFeeds d.proof
-  pub proves : (bytes : List ℕ) → ProofText d.proof bytes → Accepted question.held bytes question.terms answers
+  pub proves : (bytes : List ℕ) → ProofText d.proof bytes → IsProofOf question answers bytes

@@ -97,8 +97,8 @@ pub fn run<F: Files, O: Sink, E: Sink>(
     ensures statuses { IsStatus result }
 
     // An answer is the truth of what the files hold, by the complete typing over the graph, and the answers alone are
-    // printed. The proof that is stored is accepted, and its claims are the answers. The claims of a proof that is accepted
-    // are true.
+    // printed. The proof that is stored is accepted, its claims are the answers, and it has no more than they ask for. The
+    // claims of a proof that is accepted are true.
     ensures answered { (result ≡ 0) ⊎ (result ≡ 1) →
         (text : List ℕ)
         × IsRespondedTo (F.told files.old) (F.told files.new) (map string_bytes words.now) result text
