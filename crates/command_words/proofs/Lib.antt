@@ -7,3 +7,4 @@ pub mod Decimals
 pub mod Once
 pub mod Requested
 pub mod Seen
+pub mod BaseLines

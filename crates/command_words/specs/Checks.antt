@@ -79,7 +79,7 @@ pub record HasImports (r : Request) (imports : List Import) : Type 0 where
   pub imports_given : AreImports [] r.import_words imports
 
 -- and both bases are bases
-pub record HasBases (r : Request) (imports : List Import) : Type 0 where
+pub record PassesBases (r : Request) (imports : List Import) : Type 0 where
   pub inputs : HasImports r imports
   pub schema : is_base r.schema_base ≡ true
   pub data_file : is_base r.data_base ≡ true
@@ -90,7 +90,7 @@ other_names r imports = r.schema ∷ r.data_file ∷ map_names r.task ++ map (λ
 
 -- and the proof has a name of its own: the request passes all checks
 pub record Passes (r : Request) (imports : List Import) : Type 0 where
-  pub bases : HasBases r imports
+  pub bases : PassesBases r imports
   pub apart : (name : Text) → proof_of r.task ≡ Some name → is_among name (other_names r imports) ≡ false
 
 -- the first check that a request fails
@@ -100,4 +100,4 @@ pub data IsRequestFault (r : Request) : Fault → Type 0 where
   import_words : (f : Fault) → HasEndings r → IsImportFault [] r.import_words f → IsRequestFault r f
   schema_base : (imports : List Import) → HasImports r imports → is_base r.schema_base ≡ false → IsRequestFault r (base r.schema_base)
   data_base : (imports : List Import) → HasImports r imports → is_base r.schema_base ≡ true → is_base r.data_base ≡ false → IsRequestFault r (base r.data_base)
-  same_name : (imports : List Import) → HasBases r imports → (name : Text) → proof_of r.task ≡ Some name → is_among name (other_names r imports) ≡ true → IsRequestFault r (same name)
+  same_name : (imports : List Import) → PassesBases r imports → (name : Text) → proof_of r.task ≡ Some name → is_among name (other_names r imports) ≡ true → IsRequestFault r (same name)

@@ -1,11 +1,17 @@
 -- Laws of what words ask for.
-use Rattle.std.specs.Prelude.{◌≡◌, List}
+use Rattle.std.specs.Prelude.{◌≡◌, ℕ, List, true}
+use Rattle.std.specs.Str.{IsUtf8}
 use Rattle.clap.specs.Words.{Text}
+use Rattle.rdf_terms.specs.OneLine.{IsOneLine}
 use Rattle.command_words.specs.Asked.{Command, IsAsked, IsFirstFault}
-use Rattle.command_words.specs.Checks.{Fault}
+use Rattle.command_words.specs.Checks.{Fault, is_base}
 
 -- words ask for one command at most, or have one first fault at most, and never both
 pub record AnswersAreOne : Type 0 where
   pub commands : (words : List Text) (c d : Command) → IsAsked words c → IsAsked words d → c ≡ d
   pub faults : (words : List Text) (f g : Fault) → IsFirstFault words f → IsFirstFault words g → f ≡ g
   pub apart : (words : List Text) (c : Command) (f : Fault) → IsAsked words c → ¬ IsFirstFault words f
+
+-- a text of UTF-8 that passes the check of a base is on one line
+abbrev pub BasesAreLines : Type 0
+BasesAreLines = (text : List ℕ) → IsUtf8 text → is_base text ≡ true → IsOneLine text

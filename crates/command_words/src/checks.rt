@@ -14,6 +14,7 @@ use crate::error::WordsError;
 use crate::imports::read_imports;
 use crate::requests::{Request, Task};
 use iri_resolve::split;
+use rdf_lex::is_iri_char;
 use std::alloc::Global;
 
 /// Whether a name ends in this.
@@ -37,14 +38,6 @@ fn is_data_name(name: &str) -> bool
     ensures { result ≡ is_data_name name.now }
 {
     ends_in(name, ".nt") || ends_in(name, ".ttl")
-}
-
-/// A character that an IRI may have unescaped (RDF 1.1 Turtle, section 6.5, IRIREF).
-#[tactic(auto, unfolding(rdf_lex::specs::Characters::iri_char))]
-fn is_iri_char(c: char) -> bool
-    ensures { result ≡ has iri_char c }
-{
-    !matches!(c, '\0'..=' ' | '<' | '>' | '"' | '{'..='}' | '^' | '`' | '\\')
 }
 
 /// Whether each character may stand in an IRI.

@@ -1,8 +1,13 @@
 //! Laws of what words ask for, for callers' proofs.
 
-ghost use Rattle.command_words.specs.Laws.{AnswersAreOne};
+ghost use Rattle.command_words.specs.Laws.{AnswersAreOne, BasesAreLines};
 
 /// Words ask for one command at most, or have one first fault at most, and never both.
 pub fn answers_are_one()
     ensures { AnswersAreOne }
+{}
+
+/// A base is on one line, where it is UTF-8 and passes its check.
+pub fn bases_are_lines()
+    ensures { BasesAreLines }
 {}

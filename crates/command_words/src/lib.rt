@@ -10,11 +10,9 @@ mod laws;
 mod matches;
 mod numbers;
 mod requests;
-#[cfg(test)]
-mod tests;
 mod words;
 
 pub use command::{Checking, Command, Import, Inputs, Validation};
 pub use error::{WordsError, text};
-pub use laws::answers_are_one;
+pub use laws::{answers_are_one, bases_are_lines};
 pub use words::read;

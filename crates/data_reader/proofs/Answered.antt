@@ -7,16 +7,16 @@ use Rattle.rdf_lex.specs.Prefixes.{base_of, iri_under}
 use Rattle.rdf_terms.specs.declared.terms.Term.{Term}
 use Rattle.rdf_terms.specs.declared.terms.Triple.{Triple}
 use Rattle.turtle_reader.specs.Documents as turtle
-use Rattle.turtle_reader.specs.States.{Scope}
+use Rattle.turtle_reader.specs.States.{DocumentScope}
 use Rattle.data_reader.specs.Documents.{Context, bare, context_in, context_of}
 use Rattle.data_reader.specs.Endings.{ReadsTo}
 
 -- ---- Turtle
 
-same_context : (p : Prefixes) (v : Scope) → turtle.AreLast p v → context_in v ≡ context_of p
+same_context : (p : Prefixes) (v : DocumentScope) → turtle.AreLast p v → context_in v ≡ context_of p
 same_context p v last = λ i. record { base = sym last.base i; prefixes = sym last.prefixes i }
 
-pub turtle_reads : (result : Result Prefixes ReadError) (v : Scope) (last : Context) (wanted terms : List Term) (wanted_graph graph : List Triple) → context_in v ≡ last → turtle.ReadsTo result v wanted wanted_graph terms graph → ReadsTo result last wanted wanted_graph terms graph
+pub turtle_reads : (result : Result Prefixes ReadError) (v : DocumentScope) (last : Context) (wanted terms : List Term) (wanted_graph graph : List Triple) → context_in v ≡ last → turtle.ReadsTo result v wanted wanted_graph terms graph → ReadsTo result last wanted wanted_graph terms graph
 turtle_reads (Ok p) v last wanted terms wanted_graph graph is (are, t, g) = (sym (same_context p v are) ∙ is, t, g)
 turtle_reads (Err error.Memory) v last wanted terms wanted_graph graph is h = refl
 turtle_reads (Err error.NotUtf8) v last wanted terms wanted_graph graph is h = absurd h

@@ -1,9 +1,9 @@
 -- Bytes are one document at most.
 use Rattle.std.proofs.Common.{◌≡◌, ◌∙◌, List, sym, ap}
-use Rattle.graph_loading.specs.declared.triples.TermTriple.{TermTriple}
+use Rattle.graph_index.specs.declared.loading.TermTriple.{TermTriple}
 use Rattle.nt_reader.specs.Endings.{ShortDocumentsAreOne}
 use Rattle.turtle_reader.specs.Documents.{LimitedDocumentsAreOne}
-use Rattle.turtle_reader.specs.States.{Scope}
+use Rattle.turtle_reader.specs.States.{DocumentScope}
 use Rattle.data_reader.specs.declared.format.Format.TheVariants.{NTriples, Turtle}
 use Rattle.data_reader.specs.Documents.{context_in}
 use Rattle.data_reader.specs.Endings.{DataAreOne}
@@ -16,5 +16,5 @@ data_once short limited NTriples base bytes a b (e, h) (f, k) =
     λ i. (last i, triples i)
 data_once short limited Turtle base bytes a b (v, e, h) (w, f, k) =
     let same = limited base bytes (v, a.1) (w, b.1) h k in
-    let last = sym e ∙ ap (λ (z : Scope × List TermTriple). context_in z.0) same ∙ f in
+    let last = sym e ∙ ap (λ (z : DocumentScope × List TermTriple). context_in z.0) same ∙ f in
     λ i. (last i, (same i).1)

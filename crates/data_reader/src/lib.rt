@@ -2,9 +2,9 @@
 #![tactic(auto)]
 
 mod format;
+mod laws;
 mod reader;
-#[cfg(test)]
-mod tests;
 
 pub use format::Format;
+pub use laws::data_have_lines;
 pub use reader::{data_are_one, read};

@@ -6,8 +6,8 @@ ghost use Rattle.iri_resolve.specs.Reference.{scheme_of};
 ghost use Rattle.rdf_lex.specs.Prefixes.{base_of};
 ghost use Rattle.rdf_terms.specs.declared.terms.Term.{Term};
 ghost use Rattle.rdf_terms.specs.declared.terms.Triple.{Triple};
-ghost use Rattle.graph_loading.specs.declared.triples.TermTriple.{TermTriple};
-ghost use Rattle.graph_loading.specs.Loading.{Loads, IsWithin};
+ghost use Rattle.graph_index.specs.declared.loading.TermTriple.{TermTriple};
+ghost use Rattle.graph_index.specs.Loading.{Loads, IsWithin};
 ghost use Rattle.data_reader.specs.declared.format.Format.TheVariants.{NTriples};
 ghost use Rattle.data_reader.specs.Documents.{Context, IsData};
 ghost use Rattle.data_reader.specs.Endings.{DataAreOne, Explains, IsRead, ReadsTo};
@@ -36,7 +36,7 @@ fn read_n_triples(
     ensures kept { OnErr result (graph.new.triples ≡ graph.old.triples) }
     ensures grown { (more : List Term) × (terms.new ≡ terms.old ++ more) }
 {
-    graph_loading::loading_keeps();
+    graph_index::laws::loading_keeps();
     let held = graph.len();
     match nt_reader::read(alloc, source, terms, graph) {
         Ok(()) => (),

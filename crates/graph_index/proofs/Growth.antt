@@ -16,8 +16,8 @@ use Rattle.rdf_terms.specs.Graphs.{outs, ins, same_id}
 use Rattle.rdf_terms.specs.Order.{compare_at, text_at, text_if_any, by_object, by_subject}
 use Rattle.graph_index.specs.Contents.{Arrangement, IsArranged}
 use Rattle.graph_index.specs.Laws.{IsOfTable, SealingOutlivesGrowth, OrderIsByTexts}
-use Rattle.graph_index.proofs.Orders.{object_total, subject_total}
-use Rattle.graph_index.proofs.Sorting.{Passes, sorted_alike}
+use Rattle.rdf_terms.proofs.Orders.{object_total, subject_total}
+use Rattle.lists.proofs.Sorting.{Passes, sorted_alike}
 
 front_stays : {X : Type 0} (xs ys : List X) (i : ℕ) → i < length xs → slice_get xs i ≡ slice_get (xs ++ ys) i
 front_stays [] ys i h = absurd (omega arith)

@@ -11,7 +11,8 @@ use Rattle.std.specs.List.Sorted.{IsPermutation}
 use Rattle.std.specs.Option.{option_map_or}
 use Rattle.indexmap.proofs.CallerLemmas.{Contains-list_any}
 use Rattle.indexmap.specs.IndexSet.{swap_remove_by}
-use Rattle.rdf_terms.specs.Sameness.{decided_equiv, both_true}
+use Rattle.lists.specs.Equality.{decided_equiv}
+use Rattle.std.proofs.lemmas.Bool.{and_parts}
 use Rattle.rdf_terms.specs.declared.terms.Triple.{Triple}
 use Rattle.rdf_terms.specs.contracts.terms.TriplePartialEq.TheImpl.{ghosts}
 use Rattle.graph_index.proofs.Blocks.{none_at}
@@ -27,8 +28,8 @@ triple_decides a b = (there, λ e. both_and _ _ (eq-eqb a.s.0 b.s.0 (ap (λ t. t
   where
     there : same_triple a b ≡ true → a ≡ b
     there h =
-        let first = both_true _ _ h in
-        let second = both_true _ _ first.1 in
+        let first = and_parts _ _ h in
+        let second = and_parts _ _ first.1 in
         λ i. record {
           s = record { 0 = eqb-true a.s.0 b.s.0 first.0 i };
           p = record { 0 = eqb-true a.p.0 b.p.0 second.0 i };

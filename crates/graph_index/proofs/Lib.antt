@@ -1,5 +1,12 @@
 pub mod Blocks
+pub mod Firsts
 pub mod Growth
 pub mod Held
+pub mod Lent
+pub mod Loaded
+pub mod Noted
+pub mod Numbered
 pub mod Orders
-pub mod Sorting
+pub mod Placed
+pub mod RowOrders
+pub mod LoadedLines

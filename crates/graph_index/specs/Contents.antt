@@ -4,7 +4,8 @@ use Rattle.rdf_terms.specs.declared.terms.Term.{Term}
 use Rattle.rdf_terms.specs.declared.terms.TermId.{TermId}
 use Rattle.rdf_terms.specs.declared.terms.Triple.{Triple}
 use Rattle.rdf_terms.specs.Graphs.{outs, ins, same_id}
-use Rattle.rdf_terms.specs.Order.{sorted_by, by_object, by_subject}
+use Rattle.rdf_terms.specs.Order.{by_object, by_subject}
+use Rattle.lists.specs.Sorting.{sorted_by}
 
 -- how many triples a graph holds at most
 abbrev pub max_triples : ℕ

@@ -1,3 +1,6 @@
 pub mod Contents
 pub mod Laws
+pub mod Loading
+pub mod Numbers
+pub mod Places
 pub mod Rows

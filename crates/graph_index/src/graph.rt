@@ -1,15 +1,18 @@
 //! Graphs of triples.
 
-ghost use Rattle.std.specs.Prelude.{List, ◌≡◌, ◌≤◌, ◌<◌, ◌↔◌, [], ◌∷◌, length, take, IsTrue, IfOk, OnOk, OnErr, None, Contains};
+ghost use Rattle.std.specs.Prelude.{List, ◌≡◌, ◌≤◌, ◌<◌, ◌↔◌, [], ◌∷◌, length, take, IsTrue, IfOk, OnOk, OnErr, None, Some, Contains};
 ghost use Rattle.std.specs.Bool.{OnTrue, OnFalse};
 ghost use Rattle.std.specs.List.Sorted.{IsPermutation};
 ghost use Rattle.rdf_terms.specs.declared.terms.Term.{Term};
 ghost use Rattle.rdf_terms.specs.Graphs.{outs, ins};
-ghost use Rattle.rdf_terms.specs.Lists.{AreDistinct, Adds};
-ghost use Rattle.rdf_terms.specs.Order.{sorted_by, by_object, by_subject};
+ghost use Rattle.lists.specs.Distinct.{AreDistinct};
+ghost use Rattle.lists.specs.Additions.{Adds};
+ghost use Rattle.rdf_terms.specs.Order.{by_object, by_subject, neighbourhood};
+ghost use Rattle.lists.specs.Sorting.{sorted_by};
 ghost use Rattle.graph_index.specs.Contents.{max_triples, outs_by, ins_by, IsSealed, IsSealedWith};
 
-use crate::rows::{Rows, of_predicate};
+use crate::neighbours::Neigh;
+use crate::rows::Rows;
 use indexmap::IndexSet;
 use rdf_terms::table::TermTable;
 use rdf_terms::terms::{TermId, Triple};
@@ -172,10 +175,7 @@ impl Graph {
         requires { IsSealed self.now }
         ensures { (terms : List Term) → IsSealedWith terms self.now → result.now ≡ sorted_by (by_object terms) (outs self.now.triples n) }
     {
-        match &self.rows {
-            Some(rows) => rows.outs(n),
-            None => unreachable!(),
-        }
+        self.lent_rows().outs(n)
     }
 
     /// The triples of an object, by the texts of their predicates and then of their subjects.
@@ -183,10 +183,7 @@ impl Graph {
         requires { IsSealed self.now }
         ensures { (terms : List Term) → IsSealedWith terms self.now → result.now ≡ sorted_by (by_subject terms) (ins self.now.triples n) }
     {
-        match &self.rows {
-            Some(rows) => rows.ins(n),
-            None => unreachable!(),
-        }
+        self.lent_rows().ins(n)
     }
 
     /// The triples of a subject and a predicate, by the texts of their objects.
@@ -194,7 +191,7 @@ impl Graph {
         requires { IsSealed self.now }
         ensures { (terms : List Term) → IsSealedWith terms self.now → result.now ≡ sorted_by (by_object terms) (outs_by self.now.triples n p) }
     {
-        of_predicate(self.outs(n), p)
+        self.lent_rows().outs_by(n, p)
     }
 
     /// The triples of an object and a predicate, by the texts of their subjects.
@@ -202,6 +199,26 @@ impl Graph {
         requires { IsSealed self.now }
         ensures { (terms : List Term) → IsSealedWith terms self.now → result.now ≡ sorted_by (by_subject terms) (ins_by self.now.triples n p) }
     {
-        of_predicate(self.ins(n), p)
+        self.lent_rows().ins_by(n, p)
+    }
+
+    /// The neighbourhood of a node in its order: the triples of the subject, and then those of the object that are no
+    /// self-loops (ShEx 2.1, section 5.5.2).
+    pub fn neigh(&self, n: TermId) -> Neigh<'_>
+        requires { IsSealed self.now }
+        ensures { (terms : List Term) → IsSealedWith terms self.now → result ≡ neighbourhood terms self.now.triples n }
+    {
+        self.lent_rows().neigh(n)
+    }
+
+    /// The rows of the sealed graph.
+    fn lent_rows(&self) -> &Rows
+        requires { IsSealed self.now }
+        ensures { self.now.lent ≡ Some result.now }
+    {
+        match &self.rows {
+            Some(rows) => rows,
+            None => unreachable!(),
+        }
     }
 }

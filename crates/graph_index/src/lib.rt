@@ -1,12 +1,16 @@
-//! Graphs of triples that lend the triples of a node in order, without copying (RDF 1.1 Concepts, section 3).
+//! Graphs of triples that lend the triples of a node in order, without copying, and triples of terms that are put into them
+//! (RDF 1.1 Concepts, section 3).
 #![tactic(auto)]
 
+mod arcs;
+mod ends;
 pub mod graph;
 pub mod laws;
-mod order;
+pub mod loading;
+pub mod neighbours;
+mod numbers;
+mod places;
 pub mod read_error;
-pub mod rows;
-#[cfg(test)]
-mod tests;
+mod rows;
 
 pub use rdf_terms::terms::Triple;

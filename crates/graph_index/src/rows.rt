@@ -1,37 +1,58 @@
 //! The triples of a sealed graph in two orders.
 
-ghost use Rattle.std.specs.Prelude.{◌≡◌, IfOk, filter, position};
-ghost use Rattle.rdf_terms.specs.declared.terms.TermId.{TermId};
-ghost use Rattle.rdf_terms.specs.Graphs.{outs, ins, same_id};
-ghost use Rattle.rdf_terms.specs.Order.{sorted_by, by_object, by_subject};
-ghost use Rattle.graph_index.specs.Contents.{IsArranged};
-ghost use Rattle.graph_index.specs.Rows.{IsBySubject, IsByObject, IsTogether};
+ghost use Rattle.std.specs.Prelude.{◌≡◌, All, filter, nat_eq};
+ghost use Rattle.rdf_terms.specs.Graphs.{same_id};
+ghost use Rattle.graph_index.specs.Places.{AreApart, IsPlaced, place_of};
+ghost use Rattle.graph_index.specs.Rows.{IsByPredicate};
 
-use crate::order::{compare_inward, compare_outward};
+use crate::arcs::Arcs;
+use crate::ends::End;
+use crate::neighbours::Neigh;
+use crate::places::{place_of, places_in};
 use rdf_terms::table::TermTable;
 use rdf_terms::terms::{TermId, Triple};
 use std::alloc::{AllocError, Global};
 use std::marker::Model;
 
-/// The triples of a sealed graph: by the numbers of their subjects, and by those of their objects.
+/// The triples of a sealed graph: those of each subject, those of each object, and of these again those that are no
+/// self-loops; and the places of their numbers in the order of texts.
 #[derive(Debug, Drop)]
 pub struct Rows {
-    outward: Vec<Triple>,
-    inward: Vec<Triple>,
+    places: Vec<usize>,
+    outward: Arcs,
+    inward: Arcs,
+    into_others: Arcs,
 }
 
 impl Model for Rows {
+    ghost use Rattle.std.specs.Prelude.{◌≡◌, All, filter, not};
+    ghost use Rattle.rdf_terms.specs.Graphs.{is_loop};
+    ghost use Rattle.rdf_terms.specs.declared.terms.TermId.{TermId};
     ghost use Rattle.graph_index.specs.Contents.{Arrangement};
-    ghost use Rattle.graph_index.specs.Rows.{IsBySubject, IsByObject};
+    ghost use Rattle.graph_index.specs.Places.{AreApart, IsPlaced};
+    ghost use Rattle.graph_index.specs.Rows.{IsByPredicate, arcs_at};
+    ghost use Rattle.graph_index.specs.declared.ends.End.TheVariants.{Subject, Object};
 
     ghost Value = { Arrangement };
 
-    ghost view = { λ r. record { outward = r.outward.items; inward = r.inward.items } };
+    ghost view = { λ r. record { outward = r.outward.rows.items; inward = r.inward.rows.items } };
 
-    ghost invariant = { λ r. IsBySubject r.outward.items × IsByObject r.inward.items };
+    ghost invariant = { λ r. AreApart r.places.items
+        × All (IsPlaced r.places.items) r.outward.rows.items
+        × All (IsPlaced r.places.items) r.inward.rows.items
+        × (r.outward.end ≡ Subject)
+        × (r.inward.end ≡ Object)
+        × (r.into_others.end ≡ Object)
+        × (r.into_others.rows.items ≡ filter (λ t. not (is_loop t)) r.inward.rows.items)
+        × ((n : TermId) → IsByPredicate r.places.items (arcs_at Subject r.outward.rows.items n))
+        × ((n : TermId) → IsByPredicate r.places.items (arcs_at Object r.inward.rows.items n)) };
 }
 
 impl Rows {
+    ghost use Rattle.std.specs.Prelude.{◌≡◌, ◌++◌, IfOk, filter, not};
+    ghost use Rattle.rdf_terms.specs.Graphs.{ins, is_loop, outs, same_id};
+    ghost use Rattle.graph_index.specs.Contents.{IsArranged};
+
     /// The triples in both orders, by the texts of the table.
     pub fn arranged(
         alloc: Global,
@@ -40,93 +61,75 @@ impl Rows {
     ) -> Result<Rows, AllocError>
         ensures { IfOk result (λ rows. IsArranged terms.now triples.now rows) }
     {
-        let outward = sorted_outward(alloc, triples, terms)?;
-        let inward = sorted_inward(alloc, triples, terms)?;
-        Ok(Rows { outward, inward })
+        let places = places_in(alloc, triples, terms)?;
+        let outward = Arcs::arranged(alloc, End::Subject, triples, places.as_slice())?;
+        let inward = Arcs::arranged(alloc, End::Object, triples, places.as_slice())?;
+        let into_others = inward.without_loops(alloc)?;
+        Ok(Rows {
+            places,
+            outward,
+            inward,
+            into_others,
+        })
     }
 
     /// The triples of a subject.
     pub fn outs(&self, n: TermId) -> &[Triple]
         ensures { result.now ≡ outs self.now.outward n }
     {
-        of_subject(self.outward.as_slice(), n)
+        self.outward.of_node(n)
     }
 
     /// The triples of an object.
     pub fn ins(&self, n: TermId) -> &[Triple]
         ensures { result.now ≡ ins self.now.inward n }
     {
-        of_object(self.inward.as_slice(), n)
+        self.inward.of_node(n)
+    }
+
+    /// The triples of a subject and a predicate.
+    pub(crate) fn outs_by(&self, n: TermId, p: TermId) -> &[Triple]
+        ensures { result.now ≡ filter (λ t. same_id t.p p) (outs self.now.outward n) }
+    {
+        of_predicate(self.outward.of_node(n), self.places.as_slice(), p)
+    }
+
+    /// The triples of an object and a predicate.
+    pub(crate) fn ins_by(&self, n: TermId, p: TermId) -> &[Triple]
+        ensures { result.now ≡ filter (λ t. same_id t.p p) (ins self.now.inward n) }
+    {
+        of_predicate(self.inward.of_node(n), self.places.as_slice(), p)
+    }
+
+    /// The triples of a subject, and then those of the object that are no self-loops.
+    pub(crate) fn neigh(&self, n: TermId) -> Neigh<'_>
+        ensures { result ≡ outs self.now.outward n ++ filter (λ t. not (is_loop t)) (ins self.now.inward n) }
+    {
+        Neigh::of(self.outward.of_node(n), self.into_others.of_node(n))
     }
 }
 
-/// The triples by the numbers of their subjects, and those of a subject by the texts of predicate and object.
-fn sorted_outward(
-    alloc: Global,
-    triples: &[Triple],
-    terms: &TermTable,
-) -> Result<Vec<Triple>, AllocError>
-    ensures by_number { IfOk result (λ rows. IsBySubject rows.items) }
-    ensures by_text { IfOk result (λ rows. (n : TermId) → outs rows.items n ≡ sorted_by (by_object terms.now) (outs triples.now n)) }
+/// The rows of a predicate, found by halving over the places of their predicates.
+fn of_predicate<'a>(rows: &'a [Triple], places: &[usize], p: TermId) -> &'a [Triple]
+    requires apart { AreApart places.now }
+    requires placed { All (IsPlaced places.now) rows.now }
+    requires by_predicate { IsByPredicate places.now rows.now }
+    ensures { result.now ≡ filter (λ t. same_id t.p p) rows.entry.now }
 {
-    let mut rows = Vec::from_slice(alloc, triples)?;
-    rows.sort_by(|a, b| compare_outward(terms, a, b))?;
-    Ok(rows)
-}
-
-/// The triples by the numbers of their objects, and those of an object by the texts of predicate and subject.
-fn sorted_inward(
-    alloc: Global,
-    triples: &[Triple],
-    terms: &TermTable,
-) -> Result<Vec<Triple>, AllocError>
-    ensures by_number { IfOk result (λ rows. IsByObject rows.items) }
-    ensures by_text { IfOk result (λ rows. (n : TermId) → ins rows.items n ≡ sorted_by (by_subject terms.now) (ins triples.now n)) }
-{
-    let mut rows = Vec::from_slice(alloc, triples)?;
-    rows.sort_by(|a, b| compare_inward(terms, a, b))?;
-    Ok(rows)
-}
-
-/// The rows of a subject, found by halving.
-fn of_subject(rows: &[Triple], n: TermId) -> &[Triple]
-    requires { IsBySubject rows.now }
-    ensures { result.now ≡ outs rows.entry.now n }
-{
-    let first = rows.partition_point(|t| t.s.0 < n.0);
-    let rest = &rows[first..];
-    let count = rest.partition_point(|t| t.s.0 <= n.0);
-    &rest[..count]
-}
-
-/// The rows of an object, found by halving.
-fn of_object(rows: &[Triple], n: TermId) -> &[Triple]
-    requires { IsByObject rows.now }
-    ensures { result.now ≡ ins rows.entry.now n }
-{
-    let first = rows.partition_point(|t| t.o.0 < n.0);
-    let rest = &rows[first..];
-    let count = rest.partition_point(|t| t.o.0 <= n.0);
-    &rest[..count]
-}
-
-/// The rows of a predicate, where they stand together: the first is found by a scan.
-pub(crate) fn of_predicate(rows: &[Triple], p: TermId) -> &[Triple]
-    ensures { IsTogether p rows.entry.now → result.now ≡ filter (λ t. same_id t.p p) rows.entry.now }
-{
-    match first_of(rows, p) {
-        Some(first) => {
-            let rest = &rows[first..];
-            let count = rest.partition_point(|t| t.p.0 == p.0);
-            &rest[..count]
-        }
-        None => &rows[..0],
+    let place = place_of(places, p);
+    if place == 0 {
+        return &rows[..0];
     }
+    of_place(rows, places, place)
 }
 
-/// The place of the first row of a predicate.
-fn first_of(rows: &[Triple], p: TermId) -> Option<usize>
-    ensures { result ≡ position (λ t. same_id t.p p) rows.now }
+/// The rows whose predicates have a place, found by halving.
+fn of_place<'a>(rows: &'a [Triple], places: &[usize], place: usize) -> &'a [Triple]
+    requires { IsByPredicate places.now rows.now }
+    ensures { result.now ≡ filter (λ t. nat_eq (place_of places.entry.now t.p) place) rows.entry.now }
 {
-    rows.iter().position(|t| t.p.0 == p.0)
+    let first = rows.partition_point(|t| place_of(places, t.p) < place);
+    let rest = &rows[first..];
+    let count = rest.partition_point(|t| place_of(places, t.p) <= place);
+    &rest[..count]
 }

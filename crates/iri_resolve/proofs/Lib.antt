@@ -5,3 +5,4 @@ pub mod Rules
 pub mod Unique
 pub mod Decomposed
 pub mod Schemes
+pub mod ResolvedLines

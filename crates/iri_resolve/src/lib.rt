@@ -9,6 +9,3 @@ mod resolution;
 pub use laws::removal_is_by_the_rules;
 pub use parts::{Parts, split};
 pub use resolution::{IriError, resolve};
-
-#[cfg(test)]
-mod tests;

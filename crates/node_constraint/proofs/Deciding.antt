@@ -4,7 +4,8 @@ use Rattle.std.proofs.lemmas.Bool.{cases_eq, cases_lt}
 use Rattle.std.specs.List.{AllByRecursion}
 use Rattle.rdf_terms.specs.declared.terms.Term.{Term}
 use Rattle.rdf_terms.specs.declared.terms.Term.TheVariants as Terms
-use Rattle.value_sets.proofs.Deciding.{Decided, decide_both, decide_either, decide_some_and, decide_text, values_are_decided}
+use Rattle.value_sets.proofs.Deciding.{decide_text, values_are_decided}
+use Rattle.lists.proofs.Decided.{Decided, decide_both, decide_either, decide_some_and}
 use Rattle.value_sets.specs.Values.{ValueList}
 use Rattle.xs_pattern.proofs.Answered.{one_under}
 use Rattle.xs_pattern.proofs.Decided.{decide}

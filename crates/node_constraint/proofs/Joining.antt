@@ -4,7 +4,7 @@ use Rattle.std.proofs.Math.Logic.{∥∥₁_elim, ∥∥₁_map}
 use Rattle.std.proofs.Props.{props}
 use Rattle.std.specs.List.{AllByRecursion}
 use Rattle.std.specs.declared.alloc.AllocError.{AllocError}
-use Rattle.value_sets.proofs.Deciding.{Decided}
+use Rattle.lists.proofs.Decided.{Decided}
 use Rattle.xs_pattern.proofs.Answered.{one_under}
 use Rattle.xs_pattern.specs.declared.expression.Flags.{Flags}
 use Rattle.xs_pattern.specs.declared.pattern.Pattern.{Pattern}

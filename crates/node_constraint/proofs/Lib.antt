@@ -5,3 +5,4 @@ pub mod Refusing
 pub mod Numbers
 pub mod Turning
 pub mod Told
+pub mod Judging

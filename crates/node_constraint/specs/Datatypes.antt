@@ -1,5 +1,5 @@
 -- Datatypes of literals (ShEx 2.1, section 5.4, Datatype Constraints; XML Schema Part 2, version 1.1). Lexical spaces are stated over the bytes of texts.
-use Rattle.std.specs.Prelude.{ℕ, Bool, ◌&&◌, IsTrue, List, length, drop, nat_eq, Option, Some, None, if◌then◌else◌, ◌≡◌, ⊤, encode_utf8_all, codes}
+use Rattle.std.specs.Prelude.{ℕ, Bool, ◌&&◌, IsTrue, List, length, drop, nat_eq, Option, Some, None, if◌then◌else◌, ◌≡◌, ⊤, encode_utf8_all}
 use Rattle.std.specs.List.{list_any, starts_with}
 use Rattle.std.specs.Str.{bytes_eq}
 use Rattle.rdf_terms.specs.Literals.{LiteralParts}
@@ -38,10 +38,3 @@ abbrev pub decimal_of : Term → Option (List ℕ)
 decimal_of (Terms.Iri iri) = None
 decimal_of (Terms.Blank name) = None
 decimal_of (Terms.Lit literal) = decimal_in literal
-
--- the datatypes of floating-point numbers (XML Schema Part 2, sections 3.3.4 and 3.3.5)
-abbrev pub xsd_float : List ℕ
-xsd_float = codes "http://www.w3.org/2001/XMLSchema#float"
-
-abbrev pub xsd_double : List ℕ
-xsd_double = codes "http://www.w3.org/2001/XMLSchema#double"

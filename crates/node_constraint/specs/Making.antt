@@ -12,7 +12,7 @@ use Rattle.node_constraint.specs.declared.facet.Facet.{Facet}
 use Rattle.node_constraint.specs.declared.facet.Facet.TheVariants as Facets
 use Rattle.node_constraint.specs.declared.make_error.MakeError.{MakeError}
 use Rattle.node_constraint.specs.declared.make_error.MakeError.TheVariants as Errors
-use Rattle.node_constraint.specs.Datatypes.{xsd_double, xsd_float}
+use Rattle.rdf_terms.specs.Vocabulary.{xsd_double, xsd_float}
 
 -- the value of a range facet
 abbrev pub range_value : Facet → Option (List ℕ)

@@ -15,11 +15,11 @@ ghost use Rattle.node_constraint.specs.Making.{Causes, HasFloatFacet, HasOtherNu
 ghost use Rattle.node_constraint.specs.SatNode.{HasValueIfAny};
 
 use crate::datatypes::{decimal_of, is_float, is_of_datatype};
-use crate::names::printed_name;
 use crate::patterns::{all_found, read_patterns};
 use crate::{Facet, Kind4, MakeError};
 use rdf_terms::terms::Term;
 use rdf_terms::text::Text;
+use rdf_terms::written::printed_name;
 use std::alloc::{AllocError, Global};
 use std::marker::Model;
 use value_sets::ValueSet;

@@ -10,18 +10,8 @@ ghost use Rattle.node_constraint.specs.Held.{is_ascii, is_numeric_name};
 
 use rdf_terms::terms::{Literal, Term};
 use rdf_terms::text::Text;
+use rdf_terms::vocabulary::{XSD_DECIMAL, XSD_DOUBLE, XSD_FLOAT, XSD_INTEGER, XSD_NAMESPACE};
 use xs_text::lexical_ok;
-
-/// The namespace of the datatypes of XML Schema.
-const XML_SCHEMA: &str = "http://www.w3.org/2001/XMLSchema#";
-
-const XSD_DECIMAL: &str = "http://www.w3.org/2001/XMLSchema#decimal";
-
-const XSD_INTEGER: &str = "http://www.w3.org/2001/XMLSchema#integer";
-
-const XSD_FLOAT: &str = "http://www.w3.org/2001/XMLSchema#float";
-
-const XSD_DOUBLE: &str = "http://www.w3.org/2001/XMLSchema#double";
 
 /// Whether the term is a literal of the datatype with a valid lexical form, if a datatype is asked for (ShEx 2.1, section
 /// 5.4, Datatype Constraints).
@@ -83,7 +73,7 @@ fn is_number(literal: &Literal) -> bool
 fn is_numeric(datatype: &str) -> bool
     ensures { result ≡ is_numeric datatype.now }
 {
-    match datatype.strip_prefix(XML_SCHEMA) {
+    match datatype.strip_prefix(XSD_NAMESPACE) {
         Some(name) => is_numeric_name(name),
         None => false,
     }

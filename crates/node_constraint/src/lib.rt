@@ -6,10 +6,7 @@ mod datatypes;
 mod facet;
 pub mod laws;
 mod make_error;
-mod names;
 mod patterns;
-#[cfg(test)]
-mod tests;
 
 pub use constraint::NodeConstraint;
 pub use facet::Facet;

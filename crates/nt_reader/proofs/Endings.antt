@@ -1,42 +1,42 @@
 -- What the ends of the lines say of the bytes.
-use Rattle.std.proofs.Common.{◌≡◌, ℕ, Bool, true, false, List, [], ◌∷◌, ◌++◌, Option, Some, None, Ok, Err, refl, sym, ap, subst, ◌∙◌, ◌⊎◌, inl, inr, append_assoc}
+use Rattle.std.proofs.Common.{◌≡◌, ℕ, Bool, true, false, List, [], ◌∷◌, ◌++◌, Ok, Err, refl, sym, ap, subst, ◌∙◌, ◌⊎◌, inl, inr, append_assoc}
 use Rattle.std.specs.Str.{IsUtf8}
 use Rattle.std.proofs.lemmas.List.{append-nil}
-use Rattle.rdf_terms.specs.Lists.{AreDistinct}
+use Rattle.lists.specs.Distinct.{AreDistinct}
 use Rattle.rdf_terms.specs.declared.terms.Term.{Term}
-use Rattle.rdf_terms.specs.declared.terms.Term.TheVariants.{Iri, Blank, Lit}
 use Rattle.rdf_terms.specs.declared.terms.Triple.{Triple}
 use Rattle.graph_index.specs.declared.read_error.ReadError.{ReadError}
-use Rattle.token_readers.specs.Ahead.{Ahead, finished, token, prepend}
-use Rattle.token_readers.specs.Phrases.{Such, ◌⨾◌}
-use Rattle.token_readers.specs.Properties.{IsLocalAt, AgreesAt}
-use Rattle.token_readers.specs.Readers.{Answer, Reader, loop, finish}
-use Rattle.token_readers.proofs.Answers.{then_ok, apart, err_is, ok_is}
-use Rattle.token_readers.proofs.Blocking.{blocked}
-use Rattle.token_readers.proofs.Locality.{prepend-append}
-use Rattle.token_readers.proofs.Loops.{loop_rule}
-use Rattle.token_readers.proofs.Soundness.{finish_sound}
+use Rattle.rdf_cursor.specs.Ahead.{Ahead, finished, token, prepend}
+use Rattle.rdf_cursor.specs.Phrases.{◌⨾◌}
+use Rattle.rdf_cursor.specs.Properties.{IsLocalAt, AgreesAt}
+use Rattle.rdf_cursor.specs.Readers.{Answer, Reader, loop, finish}
+use Rattle.rdf_cursor.proofs.Answers.{then_ok, apart, err_is, ok_is}
+use Rattle.rdf_cursor.proofs.Blocking.{blocked}
+use Rattle.rdf_cursor.proofs.Locality.{prepend-append}
+use Rattle.rdf_cursor.proofs.Loops.{loop_rule}
+use Rattle.rdf_cursor.proofs.Soundness.{finish_sound}
 use Rattle.rdf_lex.specs.declared.kinds.Mode.TheVariants.{NTriples}
 use Rattle.rdf_lex.specs.Tokens.{Spelled}
+use Rattle.rdf_cursor.specs.Cursors.{Source}
 use Rattle.rdf_cursor.specs.Lent.{Stands}
 use Rattle.rdf_cursor.specs.Places.{IsFaultPlace}
 use Rattle.rdf_cursor.specs.Streams.{stream_from}
-use Rattle.rdf_cursor.specs.Terminals.{is_any}
+use Rattle.rdf_cursor.specs.Symbols.{is_any}
 use Rattle.rdf_cursor.specs.declared.stops.Fault.{Fault}
 use Rattle.rdf_cursor.specs.declared.stops.Fault.TheVariants as faults
 use Rattle.rdf_cursor.proofs.Places.{fault_place, first_at}
 use Rattle.rdf_cursor.proofs.Streams.{to_tokens, from_tokens, found, start}
-use Rattle.graph_loading.specs.declared.triples.TermTriple.{TermTriple}
-use Rattle.graph_loading.specs.Loading.{Loads, IsWithin}
-use Rattle.graph_loading.proofs.Loading.{loads_one, no_room_behind}
-use Rattle.nt_reader.specs.declared.reader.Refusal.{Refusal}
-use Rattle.nt_reader.specs.declared.reader.Refusal.TheVariants as refusal
+use Rattle.graph_index.specs.declared.loading.TermTriple.{TermTriple}
+use Rattle.graph_index.specs.Loading.{Loads, IsWithin}
+use Rattle.graph_index.proofs.Loaded.{loads_one, no_room_behind}
+use Rattle.data_loading.specs.declared.refusal.Refusal.{Refusal}
+use Rattle.data_loading.specs.declared.refusal.Refusal.TheVariants as refusal
 use Rattle.nt_reader.specs.Endings.{IsLongAt, IsOverfull, Explains, ReadsTo}
-use Rattle.nt_reader.specs.Grammar.{Subject, Predicate, Suffix, Object, Statement, LineEnd, Lines, no_lines, blank_line, line, Spells, IsDocument, IsShort, IsAny}
+use Rattle.nt_reader.specs.Grammar.{Subject, Object, Statement, LineEnd, Lines, no_lines, blank_line, line, Spells, IsDocument, IsAnyDocument}
 use Rattle.nt_reader.specs.Reading as r
-use Rattle.nt_reader.specs.Steps.{Fills, Ends, error_of}
+use Rattle.nt_reader.specs.Steps.{Fills, Ends}
+use Rattle.data_loading.specs.Refusals.{error_of}
 use Rattle.nt_reader.proofs.Complete.{document_read}
-use Rattle.nt_reader.proofs.Judged.{short_fits}
 use Rattle.nt_reader.proofs.Limits.{Common, LongNext, same_document}
 use Rattle.nt_reader.proofs.Places.{local_document, consumes_line_behind}
 
@@ -53,48 +53,37 @@ front_err p ts (Err y) f rest e l = (l.0, l.1 ∙ ap (λ (v : Fault × Ahead Spe
 abbrev Front : Ahead Spelled → Ahead Spelled → Type 0
 Front ts rest = (front : List Spelled) × (ts ≡ prepend front rest)
 
-such_front : (P : Spelled → Type 0) (ts rest : Ahead Spelled) → Such P ts rest → Front ts rest
-such_front P ts rest (t, e, h) = (t ∷ [], e)
-
 both_fronts : (ts mid rest : Ahead Spelled) → Front ts mid → Front mid rest → Front ts rest
 both_fronts ts mid rest (a, e) (b, f) = (a ++ b, e ∙ ap (prepend a) f ∙ sym (prepend-append a b rest))
 
-subject_front : (x : Term) (ts rest : Ahead Spelled) → Subject IsShort x ts rest → Front ts rest
-subject_front (Iri i) ts rest (t, e, h) = (t ∷ [], e)
-subject_front (Blank n) ts rest (t, e, h) = (t ∷ [], e)
-subject_front (Lit l) ts rest h = absurd h
+subject_front : (x : Term) (ts rest : Ahead Spelled) → Subject true x ts rest → Front ts rest
+subject_front x ts rest (inl (i, e, (t, f, h))) = (t ∷ [], f)
+subject_front x ts rest (inr (t, f, h)) = (t ∷ [], f)
 
-predicate_front : (x : Term) (ts rest : Ahead Spelled) → Predicate IsShort x ts rest → Front ts rest
-predicate_front (Iri i) ts rest (t, e, h) = (t ∷ [], e)
-predicate_front (Blank n) ts rest h = absurd h
-predicate_front (Lit l) ts rest h = absurd h
+object_front : (x : Term) (ts rest : Ahead Spelled) → Object true x ts rest → Front ts rest
+object_front x ts rest (inl (lex, (m, (t, f, h), inl (e, same)))) = (t ∷ [], f ∙ ap (token t) same)
+object_front x ts rest (inl (lex, (m, (t, f, h), inr (inl (u, g, i))))) = (t ∷ u ∷ [], f ∙ ap (token t) g)
+object_front x ts rest (inl (lex, (m, (t, f, h), inr (inr (n, (w, (u, g, i)), (v, k, j)))))) = (t ∷ u ∷ v ∷ [], f ∙ ap (token t) (g ∙ ap (token u) k))
+object_front x ts rest (inr h) = subject_front x ts rest h
 
-suffix_front : (d : List ℕ) (lang : Option (List ℕ)) (ts rest : Ahead Spelled) → Suffix IsShort d lang ts rest → Front ts rest
-suffix_front d (Some g) ts rest (e, (t, f, h)) = (t ∷ [], f)
-suffix_front d None ts rest (inl (e, same)) = ([], same)
-suffix_front d None ts rest (inr (other, (mid, (t, e, h), (u, f, k)))) = (t ∷ u ∷ [], e ∙ ap (token t) f)
+end_front : (ts rest : Ahead Spelled) → LineEnd ts rest → Front ts rest
+end_front ts rest (inl (w, (t, f, h))) = (t ∷ [], f)
+end_front ts rest (inr (f, g)) = ([], f ∙ sym g)
 
-object_front : (x : Term) (ts rest : Ahead Spelled) → Object IsShort x ts rest → Front ts rest
-object_front (Iri i) ts rest h = subject_front (Iri i) ts rest h
-object_front (Blank n) ts rest h = subject_front (Blank n) ts rest h
-object_front (Lit l) ts rest (mid, (t, e, h), s) = both_fronts ts mid rest (t ∷ [], e) (suffix_front l.datatype l.lang mid rest s)
+line_front : (x : TermTriple) (ts rest : Ahead Spelled) → (Statement true x ⨾ LineEnd) ts rest → Front ts rest
+line_front x ts rest (mid, (m, a, (n, (i, e, (p, f, b)), (l, c, (w, (t, g, d))))), h) =
+    both_fronts ts m rest (subject_front x.subject ts m a) (both_fronts m n rest (p ∷ [], f) (both_fronts n l rest (object_front x.object n l c) (both_fronts l mid rest (t ∷ [], g) (end_front mid rest h))))
 
-line_front : (x : TermTriple) (ts rest : Ahead Spelled) → (Statement IsShort x ⨾ LineEnd) ts rest → Front ts rest
-line_front x ts rest (mid, (m, a, (n, b, (l, c, (t, e, d)))), inl (u, f, h)) =
-    both_fronts ts m rest (subject_front x.subject ts m a) (both_fronts m n rest (predicate_front x.predicate m n b) (both_fronts n l rest (object_front x.object n l c) (both_fronts l mid rest (t ∷ [], e) (u ∷ [], f))))
-line_front x ts rest (mid, (m, a, (n, b, (l, c, (t, e, d)))), inr (f, g)) =
-    both_fronts ts m rest (subject_front x.subject ts m a) (both_fronts m n rest (predicate_front x.predicate m n b) (both_fronts n l rest (object_front x.object n l c) (both_fronts l mid rest (t ∷ [], e) ([], f ∙ sym g))))
-
-lines_front : (xs : List TermTriple) (ts rest : Ahead Spelled) → Lines IsShort xs ts rest → Front ts rest
+lines_front : (xs : List TermTriple) (ts rest : Ahead Spelled) → Lines true xs ts rest → Front ts rest
 lines_front xs ts rest no_lines = ([], refl)
-lines_front xs ts rest (blank_line {mid = mid} (t, e, h) more) = both_fronts ts mid rest (t ∷ [], e) (lines_front xs mid rest more)
+lines_front xs ts rest (blank_line {mid = mid} (w, (t, e, h)) more) = both_fronts ts mid rest (t ∷ [], e) (lines_front xs mid rest more)
 lines_front xs ts rest (line {x = x} {xs = ys} {mid = mid} h more) = both_fronts ts mid rest (line_front x ts mid h) (lines_front ys mid rest more)
 
-read_short : (xs : List TermTriple) (ts : Ahead Spelled) → Lines IsShort xs ts finished → r.document true ts ≡ Ok (xs, finished)
-read_short xs ts h = document_read true IsShort (λ b f. short_fits b f) xs ts h
+read_short : (xs : List TermTriple) (ts : Ahead Spelled) → Lines true xs ts finished → r.document true ts ≡ Ok (xs, finished)
+read_short xs ts h = document_read true xs ts h
 
-read_any : (xs : List TermTriple) (ts : Ahead Spelled) → Lines IsAny xs ts finished → r.document false ts ≡ Ok (xs, finished)
-read_any xs ts h = document_read false IsAny (λ b f. refl) xs ts h
+read_any : (xs : List TermTriple) (ts : Ahead Spelled) → Lines false xs ts finished → r.document false ts ≡ Ok (xs, finished)
+read_any xs ts h = document_read false xs ts h
 
 -- a loop keeps what it has
 one_more : (s x : List TermTriple) (ts rest : Ahead Spelled) → r.line_behind true s ts ≡ Ok (x, rest) → (zs : List TermTriple) × (x ≡ s ++ zs)
@@ -121,10 +110,10 @@ module _ (source : List ℕ) (u : IsUtf8 source) where
   abbrev ahead : Ahead Spelled
   ahead = stream_from NTriples source 0
 
-  pub found_document : (xs : List TermTriple) → Lines IsShort xs ahead finished → IsDocument IsShort source xs
+  pub found_document : (xs : List TermTriple) → Lines true xs ahead finished → IsDocument source xs
   found_document xs h =
       let f = front_ok (r.document true) ahead (r.document true ahead) xs finished (read_short xs ahead h) (local_document true ahead) in
-      (f.0, u, to_tokens NTriples source u f.0 f.1, subst (λ (v : Ahead Spelled). Lines IsShort xs v finished) f.1 h)
+      (f.0, u, to_tokens NTriples source u f.0 f.1, subst (λ (v : Ahead Spelled). Lines true xs v finished) f.1 h)
 
   agreed : (f : Fault) (rest : Ahead Spelled) → r.document true ahead ≡ Err (f, rest) → (Common f × (r.document false ahead ≡ Err (f, rest))) ⊎ LongNext f rest
   agreed f rest e = subst (λ (a : Answer Spelled Fault (List TermTriple)). AgreesAt Common LongNext a (r.document false ahead)) e (same_document ahead)
@@ -135,12 +124,12 @@ module _ (source : List ℕ) (u : IsUtf8 source) where
   not_syntax : faults.Long ≡ faults.Syntax → ⊥
   not_syntax e = cc
 
-  syntax_place : (rest : Ahead Spelled) (at : ℕ) → r.document true ahead ≡ Err (faults.Syntax, rest) → Stands NTriples source rest at → IsFaultPlace (Spells IsAny) NTriples source at
+  syntax_place : (rest : Ahead Spelled) (at : ℕ) → r.document true ahead ≡ Err (faults.Syntax, rest) → Stands NTriples source rest at → IsFaultPlace (Spells false) NTriples source at
   syntax_place rest at e s = by (agreed faults.Syntax rest e)
     where
-      by : (Common faults.Syntax × (r.document false ahead ≡ Err (faults.Syntax, rest))) ⊎ LongNext faults.Syntax rest → IsFaultPlace (Spells IsAny) NTriples source at
+      by : (Common faults.Syntax × (r.document false ahead ≡ Err (faults.Syntax, rest))) ⊎ LongNext faults.Syntax rest → IsFaultPlace (Spells false) NTriples source at
       by (inl (c, f)) =
-          fault_place NTriples source u (λ xs ts. Lines IsAny xs ts finished) rest at (blocked (r.document false) (λ xs ts. Lines IsAny xs ts finished) (local_document false) read_any ahead faults.Syntax rest f) s
+          fault_place NTriples source u (λ xs ts. Lines false xs ts finished) rest at (blocked (r.document false) (λ xs ts. Lines false xs ts finished) (local_document false) read_any ahead faults.Syntax rest f) s
       by (inr (f, l)) = absurd (not_long f)
 
   long_place : (rest : Ahead Spelled) (at : ℕ) → r.document true ahead ≡ Err (faults.Long, rest) → Stands NTriples source rest at → IsLongAt source at
@@ -185,7 +174,7 @@ module _ (source : List ℕ) (u : IsUtf8 source) where
         to = to.to;
         rest = rest;
         passed = to.passed;
-        lines = subst (λ (v : Ahead Spelled). Lines IsShort (f.before ++ f.last ∷ []) v rest) front.1 f.lines;
+        lines = subst (λ (v : Ahead Spelled). Lines true (f.before ++ f.last ∷ []) v rest) front.1 f.lines;
         mid_terms = f.mid_terms;
         mid_graph = f.mid_graph;
         loaded = f.loaded;
@@ -202,22 +191,22 @@ module _ (source : List ℕ) (u : IsUtf8 source) where
   explains (refusal.Fault faults.Long) at rest terms new_terms graph new_graph h s = long_place rest at h s
   explains (refusal.Fault faults.Full) at rest terms new_terms graph new_graph h s = absurd (no_number rest h)
 
-  document_is_read : (xs : List TermTriple) → IsDocument IsShort source xs → r.document true ahead ≡ Ok (xs, finished)
-  document_is_read xs (ts, utf8, tokens, h) = read_short xs ahead (subst (λ (v : Ahead Spelled). Lines IsShort xs v finished) (sym (from_tokens NTriples source u ts tokens)) h)
+  document_is_read : (xs : List TermTriple) → IsDocument source xs → r.document true ahead ≡ Ok (xs, finished)
+  document_is_read xs (ts, utf8, tokens, h) = read_short xs ahead (subst (λ (v : Ahead Spelled). Lines true xs v finished) (sym (from_tokens NTriples source u ts tokens)) h)
 
-  any_is_read : (xs : List TermTriple) → IsDocument IsAny source xs → r.document false ahead ≡ Ok (xs, finished)
-  any_is_read xs (ts, utf8, tokens, h) = read_any xs ahead (subst (λ (v : Ahead Spelled). Lines IsAny xs v finished) (sym (from_tokens NTriples source u ts tokens)) h)
+  any_is_read : (xs : List TermTriple) → IsAnyDocument source xs → r.document false ahead ≡ Ok (xs, finished)
+  any_is_read xs (ts, utf8, tokens, h) = read_any xs ahead (subst (λ (v : Ahead Spelled). Lines false xs v finished) (sym (from_tokens NTriples source u ts tokens)) h)
 
   same_read : (check : Bool) (xs ys : List TermTriple) → r.document check ahead ≡ Ok (xs, finished) → r.document check ahead ≡ Ok (ys, finished) → xs ≡ ys
   same_read check xs ys e f = ap (λ (v : List TermTriple × Ahead Spelled). v.0) (ok_is (xs, finished) (ys, finished) (sym e ∙ f))
 
-  pub one_document : (xs ys : List TermTriple) → IsDocument IsAny source xs → IsDocument IsAny source ys → xs ≡ ys
+  pub one_document : (xs ys : List TermTriple) → IsAnyDocument source xs → IsAnyDocument source ys → xs ≡ ys
   one_document xs ys h k = same_read false xs ys (any_is_read xs h) (any_is_read ys k)
 
-  pub one_short_document : (xs ys : List TermTriple) → IsDocument IsShort source xs → IsDocument IsShort source ys → xs ≡ ys
+  pub one_short_document : (xs ys : List TermTriple) → IsDocument source xs → IsDocument source ys → xs ≡ ys
   one_short_document xs ys h k = same_read true xs ys (document_is_read xs h) (document_is_read ys k)
 
-  not_full : (terms tt_terms : List Term) (graph tt_graph : List Triple) (rest : Ahead Spelled) (xs : List TermTriple) → AreDistinct terms → IsDocument IsShort source xs → Loads terms graph xs tt_terms tt_graph → IsWithin tt_terms tt_graph
+  not_full : (terms tt_terms : List Term) (graph tt_graph : List Triple) (rest : Ahead Spelled) (xs : List TermTriple) → AreDistinct terms → IsDocument source xs → Loads terms graph xs tt_terms tt_graph → IsWithin tt_terms tt_graph
       → Fills ahead terms graph rest → ⊥
   not_full terms tt_terms graph tt_graph rest xs dis doc loads within f =
       let l = loop_of xs ahead (document_is_read xs doc) in
@@ -225,16 +214,16 @@ module _ (source : List ℕ) (u : IsUtf8 source) where
       let same : xs ≡ f.before ++ f.last ∷ b.0 = sym l.2 ∙ b.1 ∙ append_assoc f.before (f.last ∷ []) b.0 in
       no_room_behind terms f.mid_terms tt_terms graph f.mid_graph tt_graph f.before b.0 f.last dis f.loaded f.no_room (subst (λ (v : List TermTriple). Loads terms graph v tt_terms tt_graph) same loads) within
 
-  pub reads_ok : (terms new_terms tt_terms : List Term) (graph new_graph tt_graph : List Triple) (rest : Ahead Spelled) (xs : List TermTriple) → AreDistinct terms → IsDocument IsShort source xs → Loads terms graph xs tt_terms tt_graph
+  pub reads_ok : (terms new_terms tt_terms : List Term) (graph new_graph tt_graph : List Triple) (rest : Ahead Spelled) (xs : List TermTriple) → AreDistinct terms → IsDocument source xs → Loads terms graph xs tt_terms tt_graph
       → Ends (Ok tt) ahead rest terms graph new_terms new_graph → (new_terms ≡ tt_terms) × (new_graph ≡ tt_graph)
   reads_ok terms new_terms tt_terms graph new_graph tt_graph rest xs dis doc loads (ys, lines, own) =
       let same = same_read true ys xs (read_short ys ahead lines) (document_is_read xs doc) in
       loads_one terms new_terms tt_terms graph new_graph tt_graph xs dis (subst (λ (v : List TermTriple). Loads terms graph v new_terms new_graph) same own) loads
 
-  no_fault : (xs : List TermTriple) (f : Fault) (rest : Ahead Spelled) → IsDocument IsShort source xs → r.document true ahead ≡ Err (f, rest) → ⊥
+  no_fault : (xs : List TermTriple) (f : Fault) (rest : Ahead Spelled) → IsDocument source xs → r.document true ahead ≡ Err (f, rest) → ⊥
   no_fault xs f rest doc e = apart (xs, finished) (f, rest) (sym (document_is_read xs doc) ∙ e)
 
-  pub reads_err : (e : Refusal) (at : ℕ) (terms new_terms tt_terms left_terms : List Term) (graph new_graph tt_graph left_graph : List Triple) (rest : Ahead Spelled) (xs : List TermTriple) → AreDistinct terms → IsDocument IsShort source xs
+  pub reads_err : (e : Refusal) (at : ℕ) (terms new_terms tt_terms left_terms : List Term) (graph new_graph tt_graph left_graph : List Triple) (rest : Ahead Spelled) (xs : List TermTriple) → AreDistinct terms → IsDocument source xs
       → Loads terms graph xs tt_terms tt_graph → IsWithin tt_terms tt_graph → Ends (Err e) ahead rest terms graph new_terms new_graph → ReadsTo (Err (error_of e at)) tt_terms tt_graph left_terms left_graph
   reads_err refusal.Memory at terms new_terms tt_terms left_terms graph new_graph tt_graph left_graph rest xs dis doc loads within h = tt
   reads_err refusal.Full at terms new_terms tt_terms left_terms graph new_graph tt_graph left_graph rest xs dis doc loads within h = not_full terms tt_terms graph tt_graph rest xs dis doc loads within h
@@ -247,22 +236,22 @@ module _ (source : List ℕ) (u : IsUtf8 source) where
 -- from what lies ahead of a reader of lines at first
 module _ (source : List ℕ) (u : IsUtf8 source) (first : Ahead Spelled) (begins : first ≡ stream_from NTriples source 0) where
   pub found_from : (rest : Ahead Spelled) (terms new_terms : List Term) (graph new_graph : List Triple) → Ends (Ok tt) first rest terms graph new_terms new_graph
-      → (xs : List TermTriple) × IsDocument IsShort source xs × Loads terms graph xs new_terms new_graph
-  found_from rest terms new_terms graph new_graph (xs, lines, loads) = (xs, found_document source u xs (subst (λ (v : Ahead Spelled). Lines IsShort xs v finished) begins lines), loads)
+      → (xs : List TermTriple) × IsDocument source xs × Loads terms graph xs new_terms new_graph
+  found_from rest terms new_terms graph new_graph (xs, lines, loads) = (xs, found_document source u xs (subst (λ (v : Ahead Spelled). Lines true xs v finished) begins lines), loads)
 
-  pub ok_from : (rest : Ahead Spelled) (terms new_terms tt_terms : List Term) (graph new_graph tt_graph : List Triple) (xs : List TermTriple) → AreDistinct terms → IsDocument IsShort source xs → Loads terms graph xs tt_terms tt_graph
+  pub ok_from : (rest : Ahead Spelled) (terms new_terms tt_terms : List Term) (graph new_graph tt_graph : List Triple) (xs : List TermTriple) → AreDistinct terms → IsDocument source xs → Loads terms graph xs tt_terms tt_graph
       → Ends (Ok tt) first rest terms graph new_terms new_graph → (new_terms ≡ tt_terms) × (new_graph ≡ tt_graph)
   ok_from rest terms new_terms tt_terms graph new_graph tt_graph xs dis doc loads h =
       reads_ok source u terms new_terms tt_terms graph new_graph tt_graph rest xs dis doc loads (subst (λ (v : Ahead Spelled). Ends (Ok tt) v rest terms graph new_terms new_graph) begins h)
 
-  pub err_from : (e : Refusal) (r : ReadError) (at : ℕ) (rest : Ahead Spelled) (terms new_terms tt_terms left_terms : List Term) (graph new_graph tt_graph left_graph : List Triple) (xs : List TermTriple) → AreDistinct terms → IsDocument IsShort source xs
+  pub err_from : (e : Refusal) (r : ReadError) (at : ℕ) (rest : Ahead Spelled) (terms new_terms tt_terms left_terms : List Term) (graph new_graph tt_graph left_graph : List Triple) (xs : List TermTriple) → AreDistinct terms → IsDocument source xs
       → Loads terms graph xs tt_terms tt_graph → IsWithin tt_terms tt_graph → Ends (Err e) first rest terms graph new_terms new_graph → r ≡ error_of e at → ReadsTo (Err r) tt_terms tt_graph left_terms left_graph
   err_from e r at rest terms new_terms tt_terms left_terms graph new_graph tt_graph left_graph xs dis doc loads within h is =
       subst (λ (v : ReadError). ReadsTo (Err v) tt_terms tt_graph left_terms left_graph) (sym is)
       (reads_err source u e at terms new_terms tt_terms left_terms graph new_graph tt_graph left_graph rest xs dis doc loads within (subst (λ (v : Ahead Spelled). Ends (Err e) v rest terms graph new_terms new_graph) begins h))
 
-  pub cause_from : (e : Refusal) (r : ReadError) (at : ℕ) (rest : Ahead Spelled) (text : List ℕ) (terms new_terms : List Term) (graph new_graph : List Triple) → Ends (Err e) first rest terms graph new_terms new_graph → text ≡ source
-      → Stands NTriples text rest at → r ≡ error_of e at → Explains r source terms graph
+  pub cause_from : (e : Refusal) (r : ReadError) (at : ℕ) (rest : Ahead Spelled) (text : Source) (terms new_terms : List Term) (graph new_graph : List Triple) → Ends (Err e) first rest terms graph new_terms new_graph
+      → text ≡ record { mode = NTriples; text = source } → Stands text.mode text.text rest at → r ≡ error_of e at → Explains r source terms graph
   cause_from e r at rest text terms new_terms graph new_graph h same s is =
       subst (λ (v : ReadError). Explains v source terms graph) (sym is)
-      (explains source u e at rest terms new_terms graph new_graph (subst (λ (v : Ahead Spelled). Ends (Err e) v rest terms graph new_terms new_graph) begins h) (subst (λ (v : List ℕ). Stands NTriples v rest at) same s))
+      (explains source u e at rest terms new_terms graph new_graph (subst (λ (v : Ahead Spelled). Ends (Err e) v rest terms graph new_terms new_graph) begins h) (subst (λ (v : Source). Stands v.mode v.text rest at) same s))

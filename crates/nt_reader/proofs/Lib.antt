@@ -1,11 +1,9 @@
-pub mod Texts
-pub mod Datatypes
 pub mod Places
 pub mod Limits
-pub mod Terminals
-pub mod Quotes
-pub mod Judged
 pub mod Sound
 pub mod Complete
 pub mod Turns
 pub mod Endings
+pub mod Quotes
+pub mod Written
+pub mod DocumentLines

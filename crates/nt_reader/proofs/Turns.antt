@@ -4,27 +4,28 @@ use Rattle.std.proofs.lemmas.List.{append-nil}
 use Rattle.std.specs.Option.{option_to_list}
 use Rattle.rdf_terms.specs.declared.terms.Term.{Term}
 use Rattle.rdf_terms.specs.declared.terms.Triple.{Triple}
-use Rattle.token_readers.specs.Ahead.{Ahead, finished, broken, token, next_is}
-use Rattle.token_readers.specs.Readers.{Answer, loop, finish}
-use Rattle.token_readers.proofs.Loops.{loop_goes, loop_fails, loop_ends}
-use Rattle.token_readers.proofs.Soundness.{finish_sound}
+use Rattle.rdf_cursor.specs.Ahead.{Ahead, finished, broken, token, next_is}
+use Rattle.rdf_cursor.specs.Readers.{Answer, loop, finish}
+use Rattle.rdf_cursor.proofs.Loops.{loop_goes, loop_fails, loop_ends}
+use Rattle.rdf_cursor.proofs.Soundness.{finish_sound}
 use Rattle.rdf_lex.specs.Tokens.{Spelled}
 use Rattle.rdf_cursor.specs.Stops.{StopsAs}
-use Rattle.rdf_cursor.specs.Terminals.{is_any}
+use Rattle.rdf_cursor.specs.Symbols.{is_any}
 use Rattle.rdf_cursor.specs.declared.stops.Fault.{Fault}
 use Rattle.rdf_cursor.specs.declared.stops.Fault.TheVariants.{Syntax}
 use Rattle.rdf_cursor.specs.declared.stops.Stop.{Stop}
 use Rattle.rdf_cursor.specs.declared.stops.Stop.TheVariants as stop
-use Rattle.graph_loading.specs.declared.triples.LoadError.{LoadError}
-use Rattle.graph_loading.specs.declared.triples.LoadError.TheVariants as load
-use Rattle.graph_loading.specs.declared.triples.TermTriple.{TermTriple}
-use Rattle.graph_loading.specs.Loading.{Loads, nothing, FindsNoRoom}
-use Rattle.graph_loading.proofs.Loading.{loads_append}
-use Rattle.nt_reader.specs.declared.reader.Refusal.{Refusal}
-use Rattle.nt_reader.specs.declared.reader.Refusal.TheVariants as refusal
-use Rattle.nt_reader.specs.Grammar.{Lines, no_lines, IsShort}
+use Rattle.graph_index.specs.declared.loading.LoadError.{LoadError}
+use Rattle.graph_index.specs.declared.loading.LoadError.TheVariants as load
+use Rattle.graph_index.specs.declared.loading.TermTriple.{TermTriple}
+use Rattle.graph_index.specs.Loading.{Loads, nothing, FindsNoRoom}
+use Rattle.graph_index.proofs.Loaded.{loads_append}
+use Rattle.data_loading.specs.declared.refusal.Refusal.{Refusal}
+use Rattle.data_loading.specs.declared.refusal.Refusal.TheVariants as refusal
+use Rattle.nt_reader.specs.Grammar.{Lines, no_lines}
 use Rattle.nt_reader.specs.Reading.{line, line_behind, document}
-use Rattle.nt_reader.specs.Steps.{from_stop, from_load, Steps, Comes, Ends}
+use Rattle.data_loading.specs.Refusals.{from_stop, from_load}
+use Rattle.nt_reader.specs.Steps.{Steps, Comes, Ends}
 use Rattle.nt_reader.proofs.Places.{consumes_line_behind}
 use Rattle.nt_reader.proofs.Sound.{line_meets, lines_more}
 
@@ -50,7 +51,7 @@ module _ (ahead : Ahead Spelled) (terms : List Term) (graph : List Triple) where
   comes_on rest mid now_terms new_terms now_graph new_graph c n (xs, e, l) = record {
     so_far = c.so_far ++ xs;
     goes = goes_on rest mid now_terms now_graph c xs n e;
-    lines = lines_more c.so_far xs ahead rest mid c.lines ((line_meets rest).holds (xs, mid) e);
+    lines = lines_more true c.so_far xs ahead rest mid c.lines ((line_meets true rest).holds (xs, mid) e);
     loaded = loads_append terms now_terms new_terms graph now_graph new_graph c.so_far xs c.loaded l;
   }
 
@@ -65,7 +66,7 @@ module _ (ahead : Ahead Spelled) (terms : List Term) (graph : List Triple) where
     before = c.so_far;
     last = x;
     goes = goes_on rest mid now_terms now_graph c (x ∷ []) n e;
-    lines = lines_more c.so_far (x ∷ []) ahead rest mid c.lines ((line_meets rest).holds (x ∷ [], mid) e);
+    lines = lines_more true c.so_far (x ∷ []) ahead rest mid c.lines ((line_meets true rest).holds (x ∷ [], mid) e);
     mid_terms = now_terms;
     mid_graph = now_graph;
     loaded = c.loaded;
@@ -75,9 +76,9 @@ module _ (ahead : Ahead Spelled) (terms : List Term) (graph : List Triple) where
       fault_ends (f, mid) (loop_fails is_any (line_behind true) (consumes_line_behind true) c.so_far rest (f, mid) (loop is_any (line_behind true) [] ahead) n (step_err c.so_far rest (f, mid) s) c.goes)
 
   pub ends_well : (rest mid : Ahead Spelled) (x : Unit {0}) (new_terms : List Term) (new_graph : List Triple) → Comes ahead terms graph rest new_terms new_graph → finish Syntax tt rest ≡ Ok (x, mid)
-      → (xs : List TermTriple) × Lines IsShort xs ahead finished × Loads terms graph xs new_terms new_graph
+      → (xs : List TermTriple) × Lines true xs ahead finished × Loads terms graph xs new_terms new_graph
   ends_well rest mid x new_terms new_graph c e =
-      let f = finish_sound Syntax tt rest (x, mid) e in (c.so_far, subst (Lines IsShort c.so_far ahead) f.1 c.lines, c.loaded)
+      let f = finish_sound Syntax tt rest (x, mid) e in (c.so_far, subst (Lines true c.so_far ahead) f.1 c.lines, c.loaded)
 
   finish_same : (xs : List TermTriple) (rest : Ahead Spelled) (f : Fault × Ahead Spelled) → Path (Answer Spelled Fault (Unit {0})) (finish Syntax tt rest) (Err f) → Path (Answer Spelled Fault (List TermTriple)) (finish Syntax xs rest) (Err f)
   finish_same xs finished f e = absurd cc

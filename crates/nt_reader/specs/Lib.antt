@@ -1,7 +1,5 @@
-pub mod Terms
 pub mod Grammar
 pub mod Reading
-pub mod Modes
-pub mod Cursors
 pub mod Endings
 pub mod Steps
+pub mod Laws

@@ -2,69 +2,39 @@
 
 ghost use Rattle.std.specs.Prelude.{◌≡◌, ◌++◌, List, OnOk, OnErr, IfErr};
 ghost use Rattle.std.specs.Str.{IsUtf8};
-ghost use Rattle.rdf_terms.specs.Lists.{AreDistinct};
-ghost use Rattle.graph_loading.specs.declared.triples.TermTriple.{TermTriple};
-ghost use Rattle.graph_loading.specs.Loading.{Loads, IsWithin};
+ghost use Rattle.lists.specs.Distinct.{AreDistinct};
+ghost use Rattle.graph_index.specs.declared.loading.TermTriple.{TermTriple};
+ghost use Rattle.graph_index.specs.Loading.{Loads, IsWithin};
 ghost use Rattle.nt_reader.specs.Endings.{DocumentsAreOne, ShortDocumentsAreOne, Explains, ReadsTo};
-ghost use Rattle.nt_reader.specs.Grammar.{IsDocument, IsShort};
+ghost use Rattle.nt_reader.specs.Grammar.{IsDocument};
 ghost use Rattle.rdf_terms.specs.declared.terms.Term.{Term};
 ghost use Rattle.rdf_terms.specs.declared.terms.Triple.{Triple};
-ghost use Rattle.nt_reader.specs.Cursors.{left, text_of};
-ghost use Rattle.nt_reader.specs.Steps.{from_stop, from_load, error_of, Steps, Ends};
+ghost use Rattle.rdf_cursor.specs.Cursors.{ahead, source_in};
+ghost use Rattle.nt_reader.specs.Steps.{Steps, Ends};
 
-use crate::lines::LineReader;
+use crate::lines::line;
+use data_loading::{Refusal, error};
 use graph_index::graph::Graph;
+use graph_index::loading::load;
 use graph_index::read_error::ReadError;
-use graph_loading::{LoadError, load};
-use rdf_cursor::{Fault, Stop};
+use rdf_cursor::Cursor;
+use rdf_lex::Mode;
 use rdf_terms::table::TermTable;
 use std::alloc::Global;
 
-/// Why a text was not read.
-#[derive(Debug, Drop)]
-pub enum Refusal {
-    /// Memory ran out.
-    Memory,
-    /// A triple finds no room.
-    Full,
-    /// A fault at the next token.
-    Fault(Fault),
-}
-
-impl From<Stop> for Refusal {
-    ghost from_gives = { λ s r. r ≡ from_stop s };
-
-    fn from(stop: Stop) -> Refusal {
-        match stop {
-            Stop::Memory => Refusal::Memory,
-            Stop::Fault(fault) => Refusal::Fault(fault),
-        }
-    }
-}
-
-impl From<LoadError> for Refusal {
-    ghost from_gives = { λ e r. r ≡ from_load e };
-
-    fn from(error: LoadError) -> Refusal {
-        match error {
-            LoadError::Full => Refusal::Full,
-            LoadError::Memory => Refusal::Memory,
-        }
-    }
-}
-
 /// Reads one line, and loads its triple.
 fn load_line(
-    lines: &mut LineReader<'_>,
+    c: &mut Cursor<'_>,
+    alloc: Global,
     terms: &mut TermTable,
     graph: &mut Graph,
 ) -> Result<(), Refusal>
-    ensures steps { Steps result (left lines.old) (left lines.new) terms.old graph.old.triples terms.new graph.new.triples }
-    ensures text { text_of lines.new ≡ text_of lines.old }
+    ensures steps { Steps result (ahead c.old) (ahead c.new) terms.old graph.old.triples terms.new graph.new.triples }
+    ensures source { source_in c.new ≡ source_in c.old }
     ensures grown { (more : List Term) × (terms.new ≡ terms.old ++ more) }
     ensures appended { (more : List Triple) × (graph.new.triples ≡ graph.old.triples ++ more) }
 {
-    match lines.line()? {
+    match line(c, alloc)? {
         None => Ok(()),
         Some(triple) => {
             load(terms, graph, triple)?;
@@ -75,35 +45,21 @@ fn load_line(
 
 /// Reads all lines, and loads their triples.
 fn load_lines(
-    lines: &mut LineReader<'_>,
+    c: &mut Cursor<'_>,
+    alloc: Global,
     terms: &mut TermTable,
     graph: &mut Graph,
 ) -> Result<(), Refusal>
-    ensures ends { Ends result (left lines.old) (left lines.new) terms.old graph.old.triples terms.new graph.new.triples }
-    ensures text { text_of lines.new ≡ text_of lines.old }
+    ensures ends { Ends result (ahead c.old) (ahead c.new) terms.old graph.old.triples terms.new graph.new.triples }
+    ensures source { source_in c.new ≡ source_in c.old }
     ensures grown { (more : List Term) × (terms.new ≡ terms.old ++ more) }
     ensures appended { (more : List Triple) × (graph.new.triples ≡ graph.old.triples ++ more) }
 {
-    while lines.has_next() {
-        load_line(lines, terms, graph)?;
+    while c.has_next() {
+        load_line(c, alloc, terms, graph)?;
     }
-    lines.end()?;
+    c.end()?;
     Ok(())
-}
-
-/// The answer for a refusal at a place.
-fn error(refusal: Refusal, at: u64) -> ReadError
-    ensures { result ≡ error_of refusal at }
-{
-    match refusal {
-        Refusal::Memory => ReadError::Memory,
-        Refusal::Full => ReadError::Full,
-        Refusal::Fault(Fault::Syntax) => ReadError::Syntax(at),
-        Refusal::Fault(Fault::Prefix) => ReadError::Prefix(at),
-        Refusal::Fault(Fault::Deep) => ReadError::Deep,
-        Refusal::Fault(Fault::Long) => ReadError::Long(at),
-        Refusal::Fault(Fault::Full) => ReadError::Full,
-    }
 }
 
 /// Reads a text; the triples of one that is refused are taken back.
@@ -114,19 +70,19 @@ fn read_text(
     graph: &mut Graph,
 ) -> Result<(), ReadError>
     requires { AreDistinct terms.old }
-    ensures found { OnOk result ((xs : List TermTriple) × IsDocument IsShort text.now xs × Loads terms.old graph.old.triples xs terms.new graph.new.triples) }
-    ensures complete { (xs : List TermTriple) (new_terms : List Term) (new_graph : List Triple) → IsDocument IsShort text.now xs → Loads terms.old graph.old.triples xs new_terms new_graph → IsWithin new_terms new_graph → ReadsTo result new_terms new_graph terms.new graph.new.triples }
+    ensures found { OnOk result ((xs : List TermTriple) × IsDocument text.now xs × Loads terms.old graph.old.triples xs terms.new graph.new.triples) }
+    ensures complete { (xs : List TermTriple) (new_terms : List Term) (new_graph : List Triple) → IsDocument text.now xs → Loads terms.old graph.old.triples xs new_terms new_graph → IsWithin new_terms new_graph → ReadsTo result new_terms new_graph terms.new graph.new.triples }
     ensures refused { IfErr result (λ e. Explains e text.now terms.old graph.old.triples) }
     ensures kept { OnErr result (graph.new.triples ≡ graph.old.triples) }
     ensures grown { (more : List Term) × (terms.new ≡ terms.old ++ more) }
 {
     let held = graph.len();
-    let mut lines = LineReader::new(alloc, text);
-    match load_lines(&mut lines, terms, graph) {
+    let mut c = Cursor::new(text, Mode::NTriples);
+    match load_lines(&mut c, alloc, terms, graph) {
         Ok(()) => Ok(()),
         Err(refusal) => {
             graph.truncate(held);
-            Err(error(refusal, lines.place()))
+            Err(error(refusal, c.place()))
         }
     }
 }
@@ -143,10 +99,10 @@ pub fn read(
     graph: &mut Graph,
 ) -> Result<(), ReadError>
     // What was read is what the whole bytes are, within the limits.
-    ensures found { OnOk result ((xs : List TermTriple) × IsDocument IsShort source.now xs × Loads terms.old graph.old.triples xs terms.new graph.new.triples) }
+    ensures found { OnOk result ((xs : List TermTriple) × IsDocument source.now xs × Loads terms.old graph.old.triples xs terms.new graph.new.triples) }
 
     // What the bytes are within the limits is read.
-    ensures complete { (xs : List TermTriple) (new_terms : List Term) (new_graph : List Triple) → IsDocument IsShort source.now xs → Loads terms.old graph.old.triples xs new_terms new_graph → IsWithin new_terms new_graph → ReadsTo result new_terms new_graph terms.new graph.new.triples }
+    ensures complete { (xs : List TermTriple) (new_terms : List Term) (new_graph : List Triple) → IsDocument source.now xs → Loads terms.old graph.old.triples xs new_terms new_graph → IsWithin new_terms new_graph → ReadsTo result new_terms new_graph terms.new graph.new.triples }
 
     // What is refused has its cause in the bytes, and at the place of `Syntax` no document goes on as the bytes do.
     ensures refused { IfErr result (λ e. Explains e source.now terms.old graph.old.triples) }

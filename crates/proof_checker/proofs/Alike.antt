@@ -26,7 +26,7 @@ use Rattle.schema_tree.specs.Relevant.{is_forward}
 use Rattle.schema_tree.specs.Sure.{Known, PairIs}
 use Rattle.schema_tree.proofs.Fuel.{all_same, not_same}
 use Rattle.proof_file.specs.Accepts.{AreStates}
-use Rattle.proof_checker.proofs.Allowed.{itself}
+use Rattle.bag_match.proofs.Allowed.{itself}
 
 Same : (TermId → Option ExprId → Type 0) → (TermId → Option ExprId → Type 0) → Type 0
 Same a b = (m : TermId) (v : Option ExprId) → a m v ↔ b m v

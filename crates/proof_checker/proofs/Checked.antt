@@ -1,31 +1,37 @@
 -- What the check of a whole proof rests on.
-use Rattle.std.proofs.Common.{◌≡◌, ℕ, ◌+◌, ◌^◌, ◌<◌, ◌≤◌, length, get_or, take, map, List, [], ◌∷◌, ◌++◌, refl, arith, ap, sym, subst, ◌∙◌}
+use Rattle.std.proofs.Common.{◌≡◌, ℕ, suc, ◌+◌, ◌^◌, ◌<◌, ◌≤◌, length, get_or, take, map, List, [], ◌∷◌, ◌++◌, refl, arith, ap, sym, subst, ◌∙◌}
 use Rattle.std.proofs.lemmas.List.{map-append, take_more, length-append}
-use Rattle.std.specs.Prelude.{Contains, Option, Some, None, slice_get, option_map}
+use Rattle.std.specs.Prelude.{All, Contains, Option, Some, None, slice_get, option_map}
 use Rattle.std.specs.List.{AllByRecursion, flat_map}
 use Rattle.rdf_terms.specs.declared.terms.TermId.{TermId}
 use Rattle.rdf_terms.specs.declared.terms.Term.{Term}
 use Rattle.rdf_terms.specs.declared.terms.Triple.{Triple}
 use Rattle.schema_tree.specs.declared.schema.Answer.{Answer}
 use Rattle.schema_tree.specs.declared.schema.Schema.{Schema}
-use Rattle.schema_tree.proofs.Lists.{in_map}
-use Rattle.schema_tree.proofs.Members.{all_at}
-use Rattle.std.proofs.lemmas.List.Elements.{Contains-append_right}
+use Rattle.lists.proofs.Members.{in_flat_map, in_map, is_later}
+use Rattle.lists.proofs.Quantifiers.{all_at}
+use Rattle.std.proofs.lemmas.List.Elements.{Contains-append_left, Contains-append_right}
 use Rattle.proof_file.specs.declared.Claim.{Claim}
+use Rattle.graph_index.specs.Contents.{Contents, IsSealedWith}
+use Rattle.graph_index.specs.Laws.{IsOfTable, SealingOutlivesGrowth}
+use Rattle.proof_file.specs.declared.Record.{Record}
+use Rattle.proof_file.specs.declared.RecordKind.{RecordKind}
+use Rattle.proof_file.specs.declared.RecordKind.TheVariants.{Plus, Minus}
 use Rattle.proof_file.specs.declared.Section.{Section}
 use Rattle.proof_file.specs.declared.Proof.{Proof}
-use Rattle.proof_file.specs.Accepts.{AreAccepted, IsAccepted, Setting, in_section, is_claim, items_of}
+use Rattle.proof_file.specs.Accepts.{AreAccepted, IsAccepted, Setting, in_section, is_claim, items_of, setting_of}
 use Rattle.proof_file.specs.Laws.{LinesAreFew}
-use Rattle.proof_file.specs.Text.{ProofText, lines_of, section_lines}
+use Rattle.proof_file.specs.Text.{IsKind, IsLine, ProofText, lines_of, section_lines}
 use Rattle.proof_file.specs.declared.line.Line.{Line}
 use Rattle.proof_file.specs.declared.line.Line.TheVariants as Lines
 use Rattle.proof_checker.specs.declared.items.Fault.{Fault}
-use Rattle.proof_checker.specs.Checks.{AreAnswers, IsReadAs, IsRejectedAs, answer_with, setting_of}
-use Rattle.proof_checker.specs.Faults.{FirstFault, proof_of, section_items}
+use Rattle.proof_checker.specs.Checks.{IsReadAs, IsRejectedAs, KeepsTerms}
+use Rattle.proof_file.specs.Answers.{AreClaimed, answer_with}
+use Rattle.proof_checker.specs.Faults.{AreRising, FirstFault, StatesRise, proof_of, section_items}
 use Rattle.proof_checker.proofs.Found.{fault_none, fault_some, map_long}
 
 pub answers_push : (nodes : List TermId) (claims : List Claim) (i : ℕ) (claim : Claim) (given : List Answer) (a : Answer) → i < length claims → claim ≡ get_or claims i claim →
-    option_map (answer_with claim) (slice_get nodes claim.node) ≡ Some a → AreAnswers nodes (take i claims) given → AreAnswers nodes (take (i + 1) claims) (given ++ a ∷ [])
+    option_map (answer_with claim) (slice_get nodes claim.node) ≡ Some a → AreClaimed nodes (take i claims) given → AreClaimed nodes (take (i + 1) claims) (given ++ a ∷ [])
 answers_push nodes claims i claim given a within is own before =
     ap (λ zs. map (λ c. option_map (answer_with c) (slice_get nodes c.node)) zs) (take_more claims i claim within ∙ ap (λ z. take i claims ++ z ∷ []) (sym is))
     ∙ map-append (λ c. option_map (answer_with c) (slice_get nodes c.node)) (take i claims) (claim ∷ [])
@@ -52,6 +58,30 @@ items_few p =
     let e = map_long (λ c. Lines.Claim c) p.claims in
     let f = sections_few p.sections in
     omega (arith, a, b, c, d, e, f)
+
+kind_rises : (kind : RecordKind) → IsKind kind → StatesRise kind
+kind_rises (Plus places) h = tt
+kind_rises (Minus rank states) h = h.1.1
+
+-- a graph that is sealed with a table is so with each that keeps its terms
+prefix_of : (old new : List Term) → KeepsTerms old new → (more : List Term) × (new ≡ old ++ more)
+prefix_of [] new keeps = (new, refl)
+prefix_of (t ∷ old) [] keeps = absurd (nothing (keeps 0 t refl))
+  where
+    nothing : {X : Type 0} {x : X} → None ≡ Some x → ⊥
+    nothing h = cc
+prefix_of (t ∷ old) (u ∷ new) keeps =
+    let first : u ≡ t = one (keeps 0 t refl) in
+    let (more, rest) = prefix_of old new (λ i x at. keeps (suc i) x at) in
+    (more, λ i. first i ∷ rest i)
+  where
+    one : {X : Type 0} {x y : X} → Some x ≡ Some y → x ≡ y
+    one h = cc
+
+pub still_sealed : SealingOutlivesGrowth → (old new : List Term) (g : Contents) → KeepsTerms old new → All (IsOfTable old) g.triples → IsSealedWith old g → IsSealedWith new g
+still_sealed law old new g keeps numbers sealed =
+    let (more, is) = prefix_of old new keeps in
+    subst (λ ts. IsSealedWith ts g) (sym is) (law old more g numbers sealed)
 
 module _ (p : Proof) (sections : List Section) (claims : List Claim) (same : sections ≡ p.sections) (alike : claims ≡ p.claims) where
   pub items_fit : LinesAreFew → (bytes : List ℕ) → ProofText p bytes → length bytes < 2 ^ 64 → length (items_of (proof_of sections claims)) < 2 ^ 64
@@ -88,3 +118,18 @@ module _ (p : Proof) (sections : List Section) (claims : List Claim) (same : sec
       (Contains-append_right (section_items p.sections) (map (λ d. is_claim d) p.claims) (is_claim c)
       (in_map (λ d. is_claim d) p.claims c (subst (λ cs. Contains cs c) alike held))) in
       item.0
+
+  -- the states of each record strictly rise
+  rises_at : (bytes : List ℕ) → ProofText p bytes → (x : Section) → Contains sections x → (r : Record) → Contains x.records r → StatesRise r.kind
+  rises_at bytes text x held r there = kind_rises r.kind line.1.1
+    where
+      line : IsLine (Lines.Record r)
+      line =
+          all_at IsLine (lines_of p) (Lines.Record r) text.keeps.lines
+          (Contains-append_right (map (λ t. Lines.Node t) p.nodes) (flat_map section_lines p.sections ++ map (λ c. Lines.Claim c) p.claims) (Lines.Record r)
+          (Contains-append_left (flat_map section_lines p.sections) (map (λ c. Lines.Claim c) p.claims) (Lines.Record r)
+          (in_flat_map section_lines p.sections x (Lines.Record r) (subst (λ xs. Contains xs x) same held)
+          (is_later (Lines.Section x.stratum) (map (λ r. Lines.Record r) x.records) (Lines.Record r) (in_map (λ r. Lines.Record r) x.records r there)))))
+
+  pub sections_rise : (bytes : List ℕ) → ProofText p bytes → AreRising sections
+  sections_rise bytes text = rises_at bytes text

@@ -16,8 +16,8 @@ use Rattle.schema_tree.specs.Edges.{level}
 use Rattle.schema_tree.specs.Labels.{labels_of}
 use Rattle.schema_tree.specs.Loaded.{IsLoaded, IsTarget}
 use Rattle.schema_tree.specs.Sure.{IsSure}
-use Rattle.schema_tree.proofs.Members.{from_map}
-use Rattle.rdf_terms.specs.Lists.{AreDistinct}
+use Rattle.lists.proofs.Members.{from_map}
+use Rattle.lists.specs.Distinct.{AreDistinct}
 use Rattle.proof_file.specs.declared.RecordKind.{RecordKind}
 use Rattle.proof_file.specs.declared.RecordKind.TheVariants.{Plus, Minus}
 use Rattle.proof_file.specs.declared.Record.{Record}

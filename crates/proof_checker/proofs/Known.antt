@@ -1,6 +1,6 @@
 -- What the standings let a reader use is what the records let it use.
 use Rattle.std.proofs.Common.{◌≡◌, ℕ, suc, ◌≤◌, ◌<◌, ◌⊎◌, inl, inr, List, [], ◌∷◌, refl, arith, ap, sym, subst, ◌∙◌, Bool, true, false, true≢false, cond, map, filter}
-use Rattle.std.proofs.lemmas.Bool.{cases_lt}
+use Rattle.std.proofs.lemmas.Bool.{cases_lt, and_from, and_parts}
 use Rattle.std.proofs.lemmas.Bool.Decides.{nat_tests}
 use Rattle.std.specs.Map.{lookup}
 use Rattle.std.specs.Prelude.{Contains, Option, Some, None, nat_lt, nat_eq, slice_index, ◌&&◌, ◌||◌, ◌↔◌, unwrap_or}
@@ -10,9 +10,8 @@ use Rattle.schema_tree.specs.declared.verdicts.Verdict.TheVariants.{Yes, No, Unk
 use Rattle.schema_tree.specs.Edges.{level}
 use Rattle.schema_tree.specs.Sure.{Known, PairIs}
 use Rattle.schema_tree.specs.Typings.{below}
-use Rattle.schema_tree.proofs.Lists.{in_filter, in_map}
-use Rattle.schema_tree.proofs.Members.{filter_has, from_map, is_first, is_later, not_in_none}
-use Rattle.schema_tree.proofs.Tests.{and_both, both_true}
+use Rattle.lists.proofs.Filters.{in_filter, filter_has}
+use Rattle.lists.proofs.Members.{in_map, from_map, is_first, is_later, not_in_none}
 use Rattle.proof_file.specs.Views.{Refuted, is_before, pairs_of}
 use Rattle.proof_checker.specs.declared.standings.Standing.{Standing}
 use Rattle.proof_checker.specs.declared.standings.Reader.{Reader}
@@ -88,7 +87,7 @@ module _ (f : List ℕ) (plus : List Pair) (minus : List Refuted) (es : List (Pa
       there : Contains (filter (is_plus f reader es) (map (λ e. e.0) es)) q → Contains (filter (λ q. sees_plus reader (level f q.shape)) plus) q
       there c =
           let (held, test) = in_filter (is_plus f reader es) (map (λ e. e.0) es) q c in
-          let (is, seen) = both_true (standing_in es q).confirmed (sees_plus reader (level f q.shape)) test in
+          let (is, seen) = and_parts (standing_in es q).confirmed (sees_plus reader (level f q.shape)) test in
           filter_has (λ q. sees_plus reader (level f q.shape)) plus q ((ok q).confirms is) seen
 
       back : Contains (filter (λ q. sees_plus reader (level f q.shape)) plus) q → Contains (filter (is_plus f reader es) (map (λ e. e.0) es)) q
@@ -96,7 +95,7 @@ module _ (f : List ℕ) (plus : List Pair) (minus : List Refuted) (es : List (Pa
           let (held, seen) = in_filter (λ q. sees_plus reader (level f q.shape)) plus q c in
           let is = (ok q).confirmed held in
           filter_has (is_plus f reader es) (map (λ e. e.0) es) q (confirmed_key q is)
-          (and_both (standing_in es q).confirmed (sees_plus reader (level f q.shape)) is seen)
+          (and_from (standing_in es q).confirmed (sees_plus reader (level f q.shape)) is seen)
 
   by_rank : (reader : Reader) (q : Pair) (o : Option ℕ) → (standing_in es q).rank ≡ o → sees_rank reader (level f q.shape) o ≡ true →
       Contains (pairs_of (filter (λ u. sees_minus reader (level f u.pair.shape) u.rank) minus)) q

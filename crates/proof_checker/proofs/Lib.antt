@@ -1,11 +1,9 @@
 pub mod Noted
 pub mod Known
-pub mod Allowed
-pub mod Counting
 pub mod Stating
 pub mod Alike
 pub mod Found
-pub mod Neighbours
 pub mod TakenUp
 pub mod Truthful
 pub mod Checked
+pub mod Halved

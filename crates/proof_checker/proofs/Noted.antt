@@ -1,6 +1,6 @@
 -- One more record changes the standing of its own pair alone.
 use Rattle.std.proofs.Common.{◌≡◌, ◌≢◌, ℕ, ◌+◌, ◌<◌, ◌≤◌, get_or, take, length, ◌⊎◌, inl, inr, List, [], ◌∷◌, ◌++◌, refl, arith, ap, sym, subst, ◌∙◌, Bool, true, false, true≢false, cond, if◌then◌else◌}
-use Rattle.std.proofs.lemmas.Bool.{cases_lt}
+use Rattle.std.proofs.lemmas.Bool.{cases_lt, and_parts}
 use Rattle.std.proofs.lemmas.Bool.Decides.{nat_tests}
 use Rattle.std.proofs.lemmas.List.Elements.{Contains-append_cases, Contains-append_left, Contains-append_right}
 use Rattle.std.proofs.Math.Nat.{min-eq_left, min-eq_right, min-le_left, min-le_right}
@@ -11,8 +11,7 @@ use Rattle.std.specs.Prelude.{unwrap_or, Contains, Option, Some, None, min, nat_
 use Rattle.rdf_terms.specs.declared.terms.TermId.{TermId}
 use Rattle.schema_tree.specs.declared.schema.ShapeId.{ShapeId}
 use Rattle.schema_tree.specs.declared.schema.Pair.{Pair}
-use Rattle.schema_tree.proofs.Members.{in_one, is_first, not_in_none}
-use Rattle.schema_tree.proofs.Tests.{both_true}
+use Rattle.lists.proofs.Members.{in_one, is_first, not_in_none}
 use Rattle.proof_file.specs.declared.RecordKind.{RecordKind}
 use Rattle.proof_file.specs.declared.RecordKind.TheVariants.{Plus, Minus}
 use Rattle.proof_file.specs.declared.Record.{Record}
@@ -23,7 +22,7 @@ use Rattle.proof_checker.specs.Standings.{AreStandings, IsAtMost, IsStanding, le
 
 pub pair_is : (a b : Pair) → same_pair a b ≡ true → a ≡ b
 pair_is a b h =
-    let (m, n) = both_true (nat_eq a.node.0 b.node.0) (nat_eq a.shape.0 b.shape.0) h in
+    let (m, n) = and_parts (nat_eq a.node.0 b.node.0) (nat_eq a.shape.0 b.shape.0) h in
     let node : a.node.0 ≡ b.node.0 = grind (arith, nat_tests, m) in
     let shape : a.shape.0 ≡ b.shape.0 = grind (arith, nat_tests, n) in
     ap (λ x. record { node = record { 0 = x }; shape = a.shape }) node ∙ ap (λ x. record { node = b.node; shape = record { 0 = x } }) shape

@@ -4,14 +4,14 @@ use Rattle.std.proofs.lemmas.List.{append_assoc, map-append}
 use Rattle.std.proofs.lemmas.List.Elements.{Contains-append_cases, Contains-append_left, Contains-append_right}
 use Rattle.std.proofs.lemmas.Option.{slice_get-get_or, slice_get_within}
 use Rattle.std.specs.Prelude.{Contains, Option, Some, None, slice_get, unwrap_or}
-use Rattle.rdf_terms.specs.Lists.{AreDistinct, Adds}
+use Rattle.lists.specs.Distinct.{AreDistinct}
+use Rattle.lists.specs.Additions.{Adds}
 use Rattle.rdf_terms.specs.declared.terms.TermId.{TermId}
 use Rattle.rdf_terms.specs.declared.terms.Term.{Term}
-use Rattle.schema_tree.proofs.Members.{in_one, in_rest, is_first, is_later, not_in_none}
+use Rattle.lists.proofs.Members.{in_one, in_rest, is_first, is_later, not_in_none, got_in}
 use Rattle.proof_file.specs.Accepts.{AreNumbers}
 use Rattle.proof_checker.specs.Checks.{CannotTake, KeepsTerms, TakesUp}
 use Rattle.rdf_terms.specs.Tables.{max_terms}
-use Rattle.rdf_terms.proofs.Distinct.{held_item}
 
 pub takes_push : (old ys mid : List Term) (t : Term) (new : List Term) → TakesUp old ys mid → Adds mid t new → TakesUp old (ys ++ t ∷ []) new
 takes_push old [] mid t new same adds = (new, subst (λ z. Adds z t new) same adds, refl)
@@ -117,12 +117,12 @@ fewer (t ∷ xs) new distinct holds =
 kept_in : (old new : List Term) (x : Term) → KeepsTerms old new → Contains old x → Contains new x
 kept_in old new x keeps (i, within, at) =
     let is : slice_get old i ≡ Some x = slice_get-get_or old i x within ∙ ap (λ z. Some z) at in
-    held_item new i x (keeps i x is)
+    got_in new i x (keeps i x is)
 
 distinct_more : (xs : List Term) (t : Term) → AreDistinct xs → (¬ Contains xs t) → AreDistinct (t ∷ xs)
 distinct_more xs t distinct fresh zero zero x a b = refl
-distinct_more xs t distinct fresh zero (suc j) x a b = absurd (fresh (subst (λ z. Contains xs z) (same_some x t (sym a)) (held_item xs j x b)))
-distinct_more xs t distinct fresh (suc i) zero x a b = absurd (fresh (subst (λ z. Contains xs z) (same_some x t (sym b)) (held_item xs i x a)))
+distinct_more xs t distinct fresh zero (suc j) x a b = absurd (fresh (subst (λ z. Contains xs z) (same_some x t (sym a)) (got_in xs j x b)))
+distinct_more xs t distinct fresh (suc i) zero x a b = absurd (fresh (subst (λ z. Contains xs z) (same_some x t (sym b)) (got_in xs i x a)))
 distinct_more xs t distinct fresh (suc i) (suc j) x a b = ap (λ k. suc k) (distinct i j x a b)
 
 -- one more item of those that are to come

@@ -1,6 +1,7 @@
 -- What a check of bytes that are given as a proof finds (own).
-use Rattle.std.specs.Prelude.{ℕ, List, [], ◌∷◌, ◌≡◌, ◌<◌, map, length, Option, Some, None, Contains, slice_get, option_map, ⊤}
-use Rattle.rdf_terms.specs.Lists.{AreDistinct, Adds}
+use Rattle.std.specs.Prelude.{ℕ, List, [], ◌∷◌, ◌≡◌, ◌<◌, length, Some, Contains, slice_get, ⊤}
+use Rattle.lists.specs.Distinct.{AreDistinct}
+use Rattle.lists.specs.Additions.{Adds}
 use Rattle.rdf_terms.specs.Tables.{max_terms}
 use Rattle.rdf_terms.specs.declared.terms.TermId.{TermId}
 use Rattle.rdf_terms.specs.declared.terms.Term.{Term}
@@ -9,24 +10,18 @@ use Rattle.schema_tree.specs.declared.schema.Schema.{Schema}
 use Rattle.schema_tree.specs.declared.schema.Answer.{Answer}
 use Rattle.schema_tree.specs.declared.schema.ExprId.{ExprId}
 use Rattle.schema_tree.specs.declared.schema.Pair.{Pair}
+use Rattle.schema_tree.specs.Edges.{IsStratum}
 use Rattle.schema_tree.specs.Loaded.{IsTarget}
 use Rattle.schema_tree.specs.Satisfies.{Sat}
 use Rattle.schema_tree.specs.Typings.{IsTheTyping}
-use Rattle.proof_file.specs.declared.Claim.{Claim}
 use Rattle.proof_file.specs.declared.Proof.{Proof}
 use Rattle.proof_file.specs.declared.Why.{Why}
-use Rattle.proof_file.specs.Accepts.{AreNumbers, AreAccepted, IsRejected, Setting}
+use Rattle.proof_file.specs.Accepts.{AreNumbers, AreAccepted, IsRejected, setting_of}
+use Rattle.proof_file.specs.Answers.{AreClaimed}
 use Rattle.proof_file.specs.Laws.{HoldsLines, IsTrueProof, Says}
 use Rattle.proof_file.specs.Text.{ProofText, IsFault}
-use Rattle.proof_checker.specs.declared.check.CheckError.{CheckError}
-use Rattle.proof_checker.specs.declared.check.CheckError.TheVariants.{Syntax, Rejected, Full, Memory}
-
-abbrev pub answer_with : Claim → TermId → Answer
-answer_with c n = record { node = n; target = c.target; holds = c.holds }
-
--- the answers that the claims give, in their order, each at the term of its node line
-abbrev pub AreAnswers : List TermId → List Claim → List Answer → Type 0
-AreAnswers nodes claims answers = map (λ c. option_map (answer_with c) (slice_get nodes c.node)) claims ≡ map (λ a. Some a) answers
+use Rattle.proof_checker.specs.declared.checking.CheckError.{CheckError}
+use Rattle.proof_checker.specs.declared.checking.CheckError.TheVariants.{Syntax, Rejected, Full, Memory}
 
 -- the table after the terms are put into it, one after another
 abbrev pub TakesUp : List Term → List Term → List Term → Type 0
@@ -39,9 +34,9 @@ CannotTake old lines =
     (new : List Term) → AreDistinct new → ((i : ℕ) (t : Term) → slice_get old i ≡ Some t → slice_get new i ≡ Some t) →
     ((t : Term) → Contains lines t → Contains new t) → max_terms < length new
 
--- what the proof is held against
-abbrev pub setting_of : List ℕ → Schema → List Term → List Triple → List TermId → Setting
-setting_of f s terms g nodes = record { schema = s; terms = terms; graph = g; strata = f; nodes = nodes }
+-- this is so with each Shape on its stratum
+abbrev pub OnStrata : Schema → (List ℕ → Type 0) → Type 0
+OnStrata s P = (f : List ℕ) × IsStratum s f × P f
 
 -- the bytes are the text of a proof, whose node lines' terms the table takes up and has under these numbers
 pub record IsReadAs (old terms : List Term) (bytes : List ℕ) (p : Proof) (nodes : List TermId) : Type 0 where
@@ -55,7 +50,7 @@ pub record IsAcceptedAs (f : List ℕ) (s : Schema) (old terms : List Term) (g :
   pub nodes : List TermId
   pub read : IsReadAs old terms bytes proof nodes
   pub accepted : AreAccepted (setting_of f s terms g nodes) proof
-  pub claims : AreAnswers nodes proof.claims answers
+  pub claims : AreClaimed nodes proof.claims answers
 
 -- the answer is true of the typing T: its target is declared, and its node satisfies the target's expression or not, as answered
 pub record IsTrueAnswer (s : Schema) (terms : List Term) (T : List Pair) (a : Answer) : Type 0 where
@@ -63,14 +58,14 @@ pub record IsTrueAnswer (s : Schema) (terms : List Term) (T : List Pair) (a : An
   pub is_target : IsTarget s a.target expr
   pub says : Says a.holds (Sat s terms T a.node expr)
 
--- the bytes are the text of a proof of which each record and each claim is true of every complete typing over terms that hold
--- its node lines, and so is each of the answers
-pub record IsTrueAs (f : List ℕ) (s : Schema) (old terms : List Term) (g : List Triple) (bytes : List ℕ) (answers : List Answer) : Type 0 where
+-- the bytes are the text of a proof of which each record and each claim is true of every complete typing of the schema over
+-- terms that hold its node lines, and so is each of the answers
+pub record IsTrueAs (s : Schema) (old terms : List Term) (g : List Triple) (bytes : List ℕ) (answers : List Answer) : Type 0 where
   pub proof : Proof
   pub nodes : List TermId
   pub read : IsReadAs old terms bytes proof nodes
-  pub truth : (U : List TermId) (T : List Pair) → HoldsLines U terms proof.nodes → IsTheTyping s terms g f U T → IsTrueProof s terms nodes T proof
-  pub replies : (U : List TermId) (T : List Pair) → HoldsLines U terms proof.nodes → IsTheTyping s terms g f U T → (a : Answer) → Contains answers a → IsTrueAnswer s terms T a
+  pub truth : (f : List ℕ) (U : List TermId) (T : List Pair) → IsStratum s f → HoldsLines U terms proof.nodes → IsTheTyping s terms g f U T → IsTrueProof s terms nodes T proof
+  pub replies : (f : List ℕ) (U : List TermId) (T : List Pair) → IsStratum s f → HoldsLines U terms proof.nodes → IsTheTyping s terms g f U T → (a : Answer) → Contains answers a → IsTrueAnswer s terms T a
 
 -- the bytes are the text of a proof whose item i is the first that is not accepted, by the check w
 pub record IsRejectedAs (f : List ℕ) (s : Schema) (old terms : List Term) (g : List Triple) (bytes : List ℕ) (i : ℕ) (w : Why) : Type 0 where
@@ -86,11 +81,11 @@ pub record IsFullFor (old : List Term) (bytes : List ℕ) : Type 0 where
   pub full : CannotTake old proof.nodes
 
 -- why bytes are not accepted
-abbrev pub FailsAs : List ℕ → Schema → List Term → List Term → List Triple → List ℕ → CheckError → Type 0
-FailsAs f s old terms g bytes (Syntax at) = IsFault bytes at
-FailsAs f s old terms g bytes (Rejected i w) = IsRejectedAs f s old terms g bytes i w
-FailsAs f s old terms g bytes Full = IsFullFor old bytes
-FailsAs f s old terms g bytes Memory = ⊤
+abbrev pub FailsAs : Schema → List Term → List Term → List Triple → List ℕ → CheckError → Type 0
+FailsAs s old terms g bytes (Syntax at) = IsFault bytes at
+FailsAs s old terms g bytes (Rejected i w) = OnStrata s (λ f. IsRejectedAs f s old terms g bytes i w)
+FailsAs s old terms g bytes Full = IsFullFor old bytes
+FailsAs s old terms g bytes Memory = ⊤
 
 -- the new table has the terms of the old one at their places
 abbrev pub KeepsTerms : List Term → List Term → Type 0

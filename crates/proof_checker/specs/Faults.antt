@@ -1,18 +1,22 @@
 -- The first check that fails, and the first item that is not accepted.
-use Rattle.std.specs.Prelude.{ℕ, List, [], ◌∷◌, ◌^◌, ◌<◌, map, take, length, Option, Some, None, slice_get}
+use Rattle.std.specs.Prelude.{ℕ, List, [], ◌∷◌, ◌^◌, ◌<◌, map, take, length, Contains, Option, Some, None, slice_get, ⊤}
 use Rattle.std.specs.List.{AllByRecursion, flat_map}
+use Rattle.proof_file.specs.declared.Record.{Record}
+use Rattle.proof_file.specs.declared.RecordKind.{RecordKind}
+use Rattle.proof_file.specs.declared.RecordKind.TheVariants.{Plus, Minus}
 use Rattle.proof_file.specs.declared.Section.{Section}
 use Rattle.proof_file.specs.declared.Claim.{Claim}
 use Rattle.proof_file.specs.declared.Proof.{Proof}
 use Rattle.proof_file.specs.declared.Why.{Why}
-use Rattle.proof_file.specs.Accepts.{FailsAt, FailsBy, IsAccepted, Item, Setting, in_section, no_of, yes_of}
+use Rattle.proof_file.specs.Accepts.{FailsAt, FailsBy, IsAccepted, Item, Setting, in_section, no_of, yes_of, setting_of}
+use Rattle.schema_tree.specs.States.{IsStateBefore}
+use Rattle.schema_tree.specs.Rising.{Rises}
 use Rattle.proof_checker.specs.declared.items.Fault.{Fault}
 use Rattle.schema_tree.specs.Loaded.{IsLoaded}
 use Rattle.schema_tree.specs.Sure.{Known}
 use Rattle.proof_checker.specs.declared.items.Held.{Held}
 use Rattle.proof_checker.specs.declared.standings.Reader.{Reader}
-use Rattle.graph_index.specs.Contents.{IsArranged}
-use Rattle.proof_checker.specs.Checks.{setting_of}
+use Rattle.graph_index.specs.Contents.{IsSealedWith}
 use Rattle.proof_checker.specs.Standings.{AreStandings, view_of}
 
 -- the checks pass, or the given one is the first that fails
@@ -34,9 +38,18 @@ FirstFault x p items None = AllByRecursion (IsAccepted x p) items
 FirstFault x p items (Some f) =
     (f.item < length items) × AllByRecursion (IsAccepted x p) (take f.item items) × FailsBy x p (slice_get items f.item) f.why
 
+-- the states that a record lists, if it lists any, strictly rise
+abbrev pub StatesRise : RecordKind → Type 0
+StatesRise (Plus places) = ⊤
+StatesRise (Minus rank states) = Rises IsStateBefore states
+
+-- those of each record of the sections do
+abbrev pub AreRising : List Section → Type 0
+AreRising sections = (x : Section) → Contains sections x → (r : Record) → Contains x.records r → StatesRise r.kind
+
 -- what is held: a proof against a schema, its strata, terms and a graph
 abbrev pub setting : Held → Setting
-setting h = setting_of h.strata.now h.schema.now h.terms.now h.graph.now h.nodes.now
+setting h = setting_of h.strata.now h.schema.now h.terms.now h.graph.now.triples h.nodes.now
 
 abbrev pub held : Held → Proof
 held h = proof_of h.sections.now h.claims.now
@@ -49,5 +62,6 @@ known_to h reader = view_of h.strata.now (yes_of (setting h) (held h)) (no_of (s
 pub record IsReady (h : Held) : Type 0 where
   pub loaded : IsLoaded h.schema.now
   pub standings : AreStandings (yes_of (setting h) (held h)) (no_of (setting h) (held h)) h.standings.now
-  pub arranged : IsArranged h.terms.now h.graph.now h.rows.now
-  pub few : length h.graph.now < 2 ^ 31
+  pub sealed : IsSealedWith h.terms.now h.graph.now
+  pub rising : AreRising h.sections.now
+  pub few : length h.graph.now.triples < 2 ^ 31

@@ -1,33 +1,29 @@
 -- What is asked of the states of a record that refutes, one at a time.
-use Rattle.std.specs.Prelude.{ℕ, suc, ⊤, slice_set, List, ◌+◌, ◌≡◌, ◌<◌, ◌≤◌, ◌⊎◌, Contains, Option, Some, length, slice_get, slice_index}
+use Rattle.std.specs.Prelude.{ℕ, List, ◌^◌, ◌≡◌, ◌<◌, ◌≤◌, ◌⊎◌, Contains, Option, Some, length, slice_get, slice_index}
+use Rattle.std.specs.Cmp.Lexicographic.{slice_cmp}
+use Rattle.std.specs.Ordering.{nat_cmp, ordering_then}
+use Rattle.std.specs.declared.cmp.Ordering.{Ordering}
 use Rattle.rdf_terms.specs.declared.terms.TermId.{TermId}
 use Rattle.rdf_terms.specs.declared.terms.Triple.{Triple}
 use Rattle.schema_tree.specs.declared.schema.ExprId.{ExprId}
-use Rattle.schema_tree.specs.declared.schema.Occurrence.{Occurrence}
 use Rattle.schema_tree.specs.declared.schema.Shape.{Shape}
 use Rattle.schema_tree.specs.declared.verdicts.Place.{Place}
-use Rattle.schema_tree.specs.declared.verdicts.Place.TheVariants.{At, Rest}
 use Rattle.schema_tree.specs.declared.verdicts.State.{State}
+use Rattle.schema_tree.specs.Loaded.{BodyOk}
 use Rattle.schema_tree.specs.Places.{IsAllowed}
-use Rattle.schema_tree.specs.States.{IsCovered, IsDead, after, fitting}
+use Rattle.schema_tree.specs.States.{IsCovered, IsDead, after, IsStateBefore}
+use Rattle.schema_tree.specs.Rising.{Rises}
 
-abbrev pub state_of : ℕ → List ℕ → State
-state_of done counts = record { done = done; counts = counts }
+-- by the number of triples done, and then the counts
+abbrev pub compare_states : State → State → Ordering
+compare_states a b = ordering_then (nat_cmp a.done b.done) (slice_cmp nat_cmp a.counts b.counts)
 
--- each count with the later triples that its occurrence fits
-abbrev pub AreHighest : List Occurrence → TermId → List Triple → List ℕ → List ℕ → Type 0
-AreHighest occs n later counts most =
-    (length most ≡ length occs) × ((i : ℕ) → i < length occs → slice_index most i ≡ slice_index counts i + fitting n later (slice_get occs i))
-
--- the place is the remainder, or one of so many occurrences
-abbrev pub IsPlaceOf : ℕ → Place → Type 0
-IsPlaceOf n (At i) = i < n
-IsPlaceOf n Rest = ⊤
-
--- the counts after one more triple has taken its place
-abbrev pub raised : List ℕ → Place → List ℕ
-raised counts (At i) = slice_set counts i (suc (slice_index counts i))
-raised counts Rest = counts
+-- states in their order, of a loaded Shape at a node with these relevant triples
+pub record IsListed (sh : Shape) (ts : List Triple) (states : List State) : Type 0 where
+  pub body : BodyOk sh.occs sh.body
+  pub few_occurrences : length sh.occs ≤ 256
+  pub few : length ts < 2 ^ 31
+  pub rising : Rises IsStateBefore states
 
 -- the state has one count for each occurrence, and neither more triples done nor a count than there are triples
 abbrev pub IsShapedBy : ℕ → ℕ → State → Type 0

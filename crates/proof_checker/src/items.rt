@@ -1,22 +1,25 @@
 //! Which check of which item of a proof fails first.
 
-ghost use Rattle.std.specs.Prelude.{◌≡◌, ◌↔◌, ◌<◌, ◌+◌, ◌^◌, [], ◌∷◌, map, IfOk, IsTrue, Some, length};
+ghost use Rattle.std.specs.Prelude.{◌≡◌, ◌↔◌, ◌<◌, ◌+◌, ◌^◌, [], ◌∷◌, map, Contains, IfOk, IsTrue, Some, length};
 ghost use Rattle.schema_tree.specs.Loaded.{IsShapeLoaded};
 ghost use Rattle.schema_tree.specs.Places.{MayFail, MayHold};
 ghost use Rattle.schema_tree.specs.Relevant.{relevant_in_order};
 ghost use Rattle.schema_tree.specs.Sure.{IsSure};
 ghost use Rattle.schema_tree.specs.declared.verdicts.Lean.TheVariants.{Possible};
 ghost use Rattle.proof_file.specs.Accepts.{AreStates, Passes, PassesKind, PassesMinus, PassesPlus, checks_of, in_section, is_claim, items_of, kind_checks, verdict_of};
+ghost use Rattle.schema_tree.specs.States.{IsStateBefore};
+ghost use Rattle.schema_tree.specs.Rising.{Rises};
+ghost use Rattle.proof_file.specs.declared.Record.{Record as Line};
 ghost use Rattle.proof_file.specs.declared.Why.TheVariants as Whys;
-ghost use Rattle.proof_checker.specs.Faults.{FirstFault, FoundBy, IsReady, held, known_to, setting};
+ghost use Rattle.proof_checker.specs.Faults.{FirstFault, FoundBy, IsReady, StatesRise, held, known_to, setting};
 ghost use Rattle.proof_checker.specs.declared.standings.Reader.TheVariants.{Refutes};
 
-use crate::arcs::{is_shut, relevant};
-use crate::counts::have_counts;
-use crate::places::{Form, Values, are_allowed};
 use crate::standings::{Reader, RecordView, Standings, stratum_of};
 use crate::states::Listing;
-use graph_index::rows::Rows;
+use bag_match::arcs::{is_shut, relevant};
+use bag_match::counts::have_counts;
+use bag_match::places::{Form, Values, are_allowed};
+use graph_index::graph::Graph;
 use proof_file::{Claim, Record, RecordKind, Section, Why};
 use rdf_terms::table::TermTable;
 use rdf_terms::terms::{TermId, Triple};
@@ -42,10 +45,8 @@ pub struct Held<'a> {
     pub schema: &'a Schema,
     /// The terms.
     pub terms: &'a TermTable,
-    /// The graph.
-    pub graph: &'a [Triple],
-    /// Its triples by their nodes, in order.
-    pub rows: &'a Rows,
+    /// The graph, which is sealed with the terms.
+    pub graph: &'a Graph,
     /// The stratum of each Shape.
     pub strata: &'a [u32],
     /// The numbers of the node lines' terms.
@@ -70,7 +71,7 @@ impl Held<'_> {
         places: &[Place],
     ) -> Result<bool, AllocError>
         requires ready { IsReady self.now }
-        requires triples { triples.now ≡ relevant_in_order self.now.terms.now self.now.graph.now shape.now node }
+        requires triples { triples.now ≡ relevant_in_order self.now.terms.now self.now.graph.now.triples shape.now node }
         ensures { IfOk result (λ b. IsTrue b ↔ PassesPlus (setting self.now) (held self.now) stratum node shape.now places.now Whys.Value) }
     {
         layers_are_meanings();
@@ -99,6 +100,7 @@ impl Held<'_> {
         states: &[State],
     ) -> Result<bool, AllocError>
         requires ready { IsReady self.now }
+        requires rising { Rises IsStateBefore states.now }
         requires shape { IsShapeLoaded self.now.schema.now shape.now }
         requires few { length triples.now < 2 ^ 31 }
         ensures { IfOk result (λ b. IsTrue b ↔ AreStates
@@ -139,10 +141,10 @@ impl Held<'_> {
         requires shape { IsShapeLoaded self.now.schema.now shape.now }
         ensures { IfOk result (FoundBy (PassesPlus (setting self.now) (held self.now) stratum node shape.now places.now) (Whys.Places ∷ Whys.Value ∷ Whys.Counts ∷ [])) }
     {
-        if is_shut(self.rows, shape, node) {
+        if is_shut(self.graph, shape, node) {
             return Ok(Some(Why::Places));
         }
-        let triples = relevant(alloc, self.rows, shape, node)?;
+        let triples = relevant(alloc, self.graph, shape, node)?;
         let triples = triples.as_slice();
         if !are_allowed(alloc, &Form, shape, node, triples, places)? {
             return Ok(Some(Why::Places));
@@ -168,13 +170,14 @@ impl Held<'_> {
         states: &[State],
     ) -> Result<Option<Why>, AllocError>
         requires ready { IsReady self.now }
+        requires rising { Rises IsStateBefore states.now }
         requires shape { IsShapeLoaded self.now.schema.now shape.now }
         ensures { IfOk result (FoundBy (PassesMinus (setting self.now) (held self.now) stratum node shape.now rank states.now) (Whys.States ∷ [])) }
     {
-        if is_shut(self.rows, shape, node) {
+        if is_shut(self.graph, shape, node) {
             return Ok(None);
         }
-        let triples = relevant(alloc, self.rows, shape, node)?;
+        let triples = relevant(alloc, self.graph, shape, node)?;
         if self.states_refute(
             alloc,
             stratum,
@@ -200,6 +203,7 @@ impl Held<'_> {
         shape: &Shape,
     ) -> Result<Option<Why>, AllocError>
         requires ready { IsReady self.now }
+        requires rising { StatesRise kind.now }
         requires shape { IsShapeLoaded self.now.schema.now shape.now }
         ensures { IfOk result (FoundBy (PassesKind (setting self.now) (held self.now) stratum kind.now (Some node) (Some shape.now)) (kind_checks kind.now)) }
     {
@@ -221,6 +225,7 @@ impl Held<'_> {
         entry: &Record,
     ) -> Result<Option<Why>, AllocError>
         requires ready { IsReady self.now }
+        requires rising { StatesRise entry.now.kind }
         ensures { IfOk result (FoundBy (Passes (setting self.now) (held self.now) (in_section stratum entry.now)) (checks_of (in_section stratum entry.now))) }
     {
         let Some(node) = self.nodes.get(entry.node as usize) else {
@@ -282,6 +287,7 @@ impl Held<'_> {
         records: &[Record],
     ) -> Result<Option<Fault>, AllocError>
         requires ready { IsReady self.now }
+        requires rising { (r : Line) → Contains records.now r → StatesRise r.kind }
         ensures { IfOk result (FirstFault (setting self.now) (held self.now) (map (λ r. in_section stratum r) records.now)) }
     {
         for i in 0..records.len() {

@@ -1,11 +1,12 @@
 //! The check of a proof: whether its claims are to be believed.
 #![tactic(auto)]
 
-pub mod arcs;
-pub mod check;
-pub mod counts;
-pub mod items;
-pub mod lines;
-pub mod places;
-pub mod standings;
-pub mod states;
+mod checking;
+mod claims;
+mod items;
+mod lines;
+mod standings;
+mod states;
+
+pub use checking::{CheckError, check};
+pub use claims::Claims;

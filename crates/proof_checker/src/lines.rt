@@ -1,7 +1,7 @@
 //! The terms of node lines in a table.
 
 ghost use Rattle.std.specs.Prelude.{◌≡◌, IfOk, OnOk};
-ghost use Rattle.rdf_terms.specs.Lists.{AreDistinct};
+ghost use Rattle.lists.specs.Distinct.{AreDistinct};
 ghost use Rattle.proof_file.specs.Accepts.{AreNumbers};
 ghost use Rattle.proof_checker.specs.Checks.{CannotTake, KeepsTerms, TakesUp};
 

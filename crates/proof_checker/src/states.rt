@@ -1,149 +1,43 @@
 //! Whether states leave no match.
 
-ghost use Rattle.std.specs.Prelude.{◌≡◌, ◌↔◌, ◌<◌, ◌≤◌, ◌+◌, ◌^◌, ℕ, Contains, false, IfOk, IsTrue, Some, drop, length, replicate, slice_get, slice_index};
+ghost use Rattle.std.specs.Prelude.{◌≡◌, ◌↔◌, ◌<◌, ◌≤◌, ◌+◌, ◌^◌, ℕ, Contains, false, IfOk, IsTrue, Some, length, slice_get, slice_index};
 ghost use Rattle.rdf_terms.specs.declared.terms.Triple.{Triple};
 ghost use Rattle.schema_tree.specs.declared.verdicts.Place.{Place};
-ghost use Rattle.schema_tree.specs.declared.verdicts.Place.TheVariants.{At};
 ghost use Rattle.schema_tree.specs.declared.verdicts.State.{State};
-ghost use Rattle.schema_tree.specs.Loaded.{BodyOk};
-ghost use Rattle.schema_tree.specs.States.{IsCovered, IsDead, count_fits, fitting, opening};
-ghost use Rattle.tally.specs.Plan.{plan_of};
-ghost use Rattle.tally.specs.Span.{HasSpan, IsSound, span};
-ghost use Rattle.tally.specs.Symbols.{Covers, IsDistinct};
-ghost use Rattle.proof_checker.specs.Stated.{AreHighest, AreShaped, AreShapedBy, IsPlaceOf, IsSettled, IsShaped, IsShapedBy, LeadsOn, raised, state_of};
+ghost use Rattle.schema_tree.specs.States.{IsCovered, opening, IsStateBefore};
+ghost use Rattle.bag_match.specs.Counts.{state_of};
 ghost use Rattle.proof_file.specs.Accepts.{AreStates};
+ghost use Rattle.schema_tree.specs.Rising.{Rises};
+ghost use Rattle.proof_checker.specs.Stated.{AreShaped, AreShapedBy, IsListed, IsSettled, IsShaped, IsShapedBy, LeadsOn, compare_states};
 
-use crate::places::{Judge, is_allowed};
+use bag_match::dying::is_dead_after;
+use bag_match::places::{Judge, is_allowed, occurrence};
+use bag_match::raising::{raised, zeros};
 use rdf_terms::terms::{TermId, Triple};
-use schema_tree::schema::{Occurrence, Shape};
+use schema_tree::schema::Shape;
 use schema_tree::verdicts::{Place, State};
 use std::alloc::{AllocError, Global};
-use tally::Count;
-use tally::counting::interval;
+use std::cmp::Ordering;
 
-/// How many of the triples the occurrence fits.
-fn fitting(o: Occurrence, node: TermId, triples: &[Triple]) -> u32
-    requires { length triples.now < 2 ^ 31 }
-    ensures count { result ≡ count_fits o node triples.now }
-    ensures most { result ≤ length triples.now }
+/// Compares a state with the one that has so many triples done and these counts: by the triples, and then the counts.
+fn compare(state: &State, done: u32, counts: &[u32]) -> Ordering
+    ensures { result ≡ compare_states state.now (state_of done counts.now) }
 {
-    let mut count = 0;
-    for triple in triples {
-        if o.fits(node, *triple) {
-            count += 1;
-        }
-    }
-    count
-}
-
-/// The counts with the later triples that fit: the most that each occurrence can come to.
-fn highest(
-    alloc: Global,
-    occs: &[Occurrence],
-    node: TermId,
-    later: &[Triple],
-    counts: &[u32],
-) -> Result<Vec<u32>, AllocError>
-    requires few { length later.now < 2 ^ 31 }
-    requires one_each { length counts.now ≡ length occs.now }
-    requires small { (i : ℕ) → slice_index counts.now i < 2 ^ 31 + 1 }
-    ensures { IfOk result (λ v. AreHighest occs.now node later.now counts.now v.items) }
-{
-    let mut most = Vec::with_capacity(alloc, occs.len())?;
-    for i in 0..occs.len() {
-        most.push(counts[i] + fitting(occs[i], node, later))?;
-    }
-    Ok(most)
-}
-
-/// The triples after the first so many.
-fn later(triples: &[Triple], done: usize) -> &[Triple]
-    requires { done ≤ length triples.now }
-    ensures { result.now ≡ drop done triples.now }
-{
-    &triples[done..]
-}
-
-/// So many zeros.
-fn zeros(alloc: Global, occurrences: usize) -> Result<Vec<u32>, AllocError>
-    ensures { IfOk result (λ v. v.items ≡ replicate occurrences 0) }
-{
-    vec![in alloc; 0u32; occurrences]
-}
-
-/// Whether the counts from low to high spell the expression once in no way.
-fn spell_never(body: &Count, low: &[u32], high: &[u32]) -> bool
-    requires distinct { IsDistinct (plan_of body.now) }
-    requires sound { IsSound (plan_of body.now) }
-    requires in_low { Covers (length low.now) (plan_of body.now) }
-    requires in_high { Covers (length high.now) (plan_of body.now) }
-    ensures { IsTrue result ↔ (¬ HasSpan (span (plan_of body.now) (slice_index low.now) (slice_index high.now)) 1) }
-{
-    match interval(body, low, high) {
-        Some(copies) => !copies.contains(1),
-        None => true,
+    match state.done.cmp(&done) {
+        Ordering::Equal => state.counts.as_slice().cmp(&counts),
+        other => other,
     }
 }
 
-/// Whether the counts, with any of the later triples that fit, spell the expression once in no way.
-fn spell_never_more(
-    alloc: Global,
-    body: &Count,
-    occs: &[Occurrence],
-    node: TermId,
-    later: &[Triple],
-    counts: &[u32],
-) -> Result<bool, AllocError>
-    requires distinct { IsDistinct (plan_of body.now) }
-    requires sound { IsSound (plan_of body.now) }
-    requires covered { Covers (length occs.now) (plan_of body.now) }
-    requires few { length later.now < 2 ^ 31 }
-    requires one_each { length counts.now ≡ length occs.now }
-    requires small { (i : ℕ) → slice_index counts.now i < 2 ^ 31 + 1 }
-    ensures { IfOk result (λ b. IsTrue b ↔ (¬ HasSpan (span (plan_of body.now) (slice_index counts.now) (λ i. slice_index counts.now i + fitting node later.now (slice_get occs.now i))) 1)) }
-{
-    let most = highest(alloc, occs, node, later, counts)?;
-    Ok(spell_never(body, counts, most.as_slice()))
-}
-
-/// Whether the state has these triples done and these counts.
-fn is_state(state: &State, done: u32, counts: &[u32]) -> bool
-    ensures { IsTrue result ↔ (state.now ≡ state_of done counts.now) }
-{
-    state.done == done && state.counts.as_slice() == counts
-}
-
-/// Whether a state with these triples done and these counts is listed.
+/// Whether a state with these triples done and these counts is listed, by halving.
 fn is_listed(states: &[State], done: u32, counts: &[u32]) -> bool
+    requires { Rises IsStateBefore states.now }
     ensures { IsTrue result ↔ Contains states.now (state_of done counts.now) }
 {
-    for state in states {
-        if is_state(state, done, counts) {
-            return true;
-        }
+    match states.binary_search_by(|state| compare(state, done, counts)) {
+        Ok(_) => true,
+        Err(_) => false,
     }
-    false
-}
-
-/// The place that is the occurrence of this number.
-fn occurrence(i: usize) -> Place
-    requires { i < 256 }
-    ensures { result ≡ At i }
-{
-    Place::At(i as u16)
-}
-
-/// The counts after one more triple has taken its place.
-fn raised(alloc: Global, counts: &[u32], place: Place) -> Result<Vec<u32>, AllocError>
-    requires small { (i : ℕ) → slice_index counts.now i < 2 ^ 31 }
-    requires there { IsPlaceOf (length counts.now) place }
-    ensures { IfOk result (λ v. v.items ≡ raised counts.now place) }
-{
-    let mut counts = counts.to_vec(alloc)?;
-    if let Place::At(i) = place {
-        counts[i as usize] += 1;
-    }
-    Ok(counts)
 }
 
 /// Whether the state has one count for each occurrence, and neither more triples done nor a count than there are triples.
@@ -181,7 +75,7 @@ fn are_shaped(states: &[State], occurrences: usize, triples: usize) -> bool
     true
 }
 
-/// A Shape at a node, with its relevant triples in their order, the states that are listed, and what judges values.
+/// A Shape at a node, with its relevant triples in their order, states in their order, and what judges values.
 #[derive(Drop)]
 pub struct Listing<'a, J> {
     /// The Shape.
@@ -197,37 +91,18 @@ pub struct Listing<'a, J> {
 }
 
 impl<J: Judge> Listing<'_, J> {
-    /// Whether a state with these triples done and these counts is dead.
-    fn is_dead(&self, alloc: Global, done: usize, counts: &[u32]) -> Result<bool, AllocError>
-        requires body { BodyOk self.now.shape.now.occs self.now.shape.now.body }
-        requires few { length self.now.triples.now < 2 ^ 31 }
-        requires one_each { length counts.now ≡ length self.now.shape.now.occs }
-        requires small { (i : ℕ) → slice_index counts.now i < 2 ^ 31 + 1 }
-        requires within { done ≤ length self.now.triples.now }
-        ensures { IfOk result (λ b. IsTrue b ↔ IsDead self.now.shape.now self.now.node self.now.triples.now (state_of done counts.now)) }
-    {
-        let occs = self.shape.occs.as_slice();
-        let later = later(self.triples, done);
-        match &self.shape.body {
-            Some(body) => spell_never_more(alloc, body, occs, self.node, later, counts),
-            None => Ok(false),
-        }
-    }
-
     /// Whether a state with these triples done and these counts is listed or dead.
-    fn is_covered(&self, alloc: Global, done: usize, counts: &[u32]) -> Result<bool, AllocError>
-        requires body { BodyOk self.now.shape.now.occs self.now.shape.now.body }
-        requires few { length self.now.triples.now < 2 ^ 31 }
+    fn is_covered(&self, done: usize, counts: &[u32]) -> bool
+        requires listed { IsListed self.now.shape.now self.now.triples.now self.now.states.now }
         requires one_each { length counts.now ≡ length self.now.shape.now.occs }
         requires small { (i : ℕ) → slice_index counts.now i < 2 ^ 31 + 1 }
         requires within { done ≤ length self.now.triples.now }
-        ensures { IfOk result (λ b. IsTrue b ↔ IsCovered self.now.shape.now self.now.node self.now.triples.now self.now.states.now (state_of done counts.now)) }
+        ensures { IsTrue result ↔ IsCovered self.now.shape.now self.now.node self.now.triples.now self.now.states.now (state_of done counts.now) }
     {
         if is_listed(self.states, done as u32, counts) {
-            Ok(true)
-        } else {
-            self.is_dead(alloc, done, counts)
+            return true;
         }
+        is_dead_after(self.shape, self.node, self.triples, done, counts)
     }
 
     /// Whether the place is not allowed for the next triple, or leads to a state that is listed or dead.
@@ -239,8 +114,7 @@ impl<J: Judge> Listing<'_, J> {
         place: Place,
     ) -> Result<bool, AllocError>
         requires ready { J.ready self.now.judge.now }
-        requires body { BodyOk self.now.shape.now.occs self.now.shape.now.body }
-        requires few { length self.now.triples.now < 2 ^ 31 }
+        requires listed { IsListed self.now.shape.now self.now.triples.now self.now.states.now }
         requires one_each { length counts.now ≡ length self.now.shape.now.occs }
         requires small { (i : ℕ) → slice_index counts.now i < 2 ^ 31 }
         requires within { done < length self.now.triples.now }
@@ -252,15 +126,13 @@ impl<J: Judge> Listing<'_, J> {
             return Ok(true);
         }
         let after = raised(alloc, counts, place)?;
-        self.is_covered(alloc, done + 1, after.as_slice())
+        Ok(self.is_covered(done + 1, after.as_slice()))
     }
 
     /// Whether each place does so.
     fn all_lead_on(&self, alloc: Global, done: usize, counts: &[u32]) -> Result<bool, AllocError>
         requires ready { J.ready self.now.judge.now }
-        requires body { BodyOk self.now.shape.now.occs self.now.shape.now.body }
-        requires few { length self.now.triples.now < 2 ^ 31 }
-        requires few_occurrences { length self.now.shape.now.occs ≤ 256 }
+        requires listed { IsListed self.now.shape.now self.now.triples.now self.now.states.now }
         requires one_each { length counts.now ≡ length self.now.shape.now.occs }
         requires small { (i : ℕ) → slice_index counts.now i < 2 ^ 31 }
         requires within { done < length self.now.triples.now }
@@ -278,15 +150,13 @@ impl<J: Judge> Listing<'_, J> {
     /// Whether the state is dead, or has triples left and leads to states that are listed or dead.
     fn is_settled(&self, alloc: Global, state: &State) -> Result<bool, AllocError>
         requires ready { J.ready self.now.judge.now }
-        requires body { BodyOk self.now.shape.now.occs self.now.shape.now.body }
-        requires few { length self.now.triples.now < 2 ^ 31 }
-        requires few_occurrences { length self.now.shape.now.occs ≤ 256 }
+        requires listed { IsListed self.now.shape.now self.now.triples.now self.now.states.now }
         requires shaped { IsShaped self.now.shape.now self.now.triples.now state.now }
         ensures { IfOk result (λ b. IsTrue b ↔ IsSettled (J.hold self.now.judge.now) (J.fail self.now.judge.now) self.now.shape.now self.now.node self.now.triples.now self.now.states.now state.now) }
     {
         let done = state.done as usize;
         let counts = state.counts.as_slice();
-        if self.is_dead(alloc, done, counts)? {
+        if is_dead_after(self.shape, self.node, self.triples, done, counts) {
             return Ok(true);
         }
         if done < self.triples.len() {
@@ -299,9 +169,7 @@ impl<J: Judge> Listing<'_, J> {
     /// Whether each listed state is so.
     fn all_settled(&self, alloc: Global) -> Result<bool, AllocError>
         requires ready { J.ready self.now.judge.now }
-        requires body { BodyOk self.now.shape.now.occs self.now.shape.now.body }
-        requires few { length self.now.triples.now < 2 ^ 31 }
-        requires few_occurrences { length self.now.shape.now.occs ≤ 256 }
+        requires listed { IsListed self.now.shape.now self.now.triples.now self.now.states.now }
         requires shaped { AreShaped self.now.shape.now self.now.triples.now self.now.states.now }
         ensures settled { IfOk result (λ b. IsTrue b → (x : State) → Contains self.now.states.now x →
             IsSettled (J.hold self.now.judge.now) (J.fail self.now.judge.now) self.now.shape.now self.now.node self.now.triples.now self.now.states.now x) }
@@ -329,20 +197,17 @@ impl<J: Judge> Listing<'_, J> {
 
     /// Whether the opening state is listed or dead.
     fn is_opened(&self, alloc: Global) -> Result<bool, AllocError>
-        requires body { BodyOk self.now.shape.now.occs self.now.shape.now.body }
-        requires few { length self.now.triples.now < 2 ^ 31 }
+        requires listed { IsListed self.now.shape.now self.now.triples.now self.now.states.now }
         ensures { IfOk result (λ b. IsTrue b ↔ IsCovered self.now.shape.now self.now.node self.now.triples.now self.now.states.now (opening self.now.shape.now)) }
     {
         let none = zeros(alloc, self.shape.occs.as_slice().len())?;
-        self.is_covered(alloc, 0, none.as_slice())
+        Ok(self.is_covered(0, none.as_slice()))
     }
 
     /// Whether the states show that no allowed places match.
     pub fn are_states(&self, alloc: Global) -> Result<bool, AllocError>
         requires ready { J.ready self.now.judge.now }
-        requires body { BodyOk self.now.shape.now.occs self.now.shape.now.body }
-        requires few { length self.now.triples.now < 2 ^ 31 }
-        requires few_occurrences { length self.now.shape.now.occs ≤ 256 }
+        requires listed { IsListed self.now.shape.now self.now.triples.now self.now.states.now }
         ensures { IfOk result (λ b. IsTrue b ↔ AreStates (J.hold self.now.judge.now) (J.fail self.now.judge.now) self.now.shape.now self.now.node self.now.triples.now self.now.states.now) }
     {
         if !self.are_shaped() {

@@ -7,7 +7,7 @@ use Rattle.std.specs.Fmt.{decimal}
 use Rattle.std.specs.List.{AllByRecursion, Contains, flat_map, join_with_byte}
 use Rattle.rdf_terms.specs.Written.{iri_text, term_text}
 use Rattle.rdf_terms.specs.declared.terms.Term.{Term}
-use Rattle.term_reader.proofs.TermTexts.{term_same}
+use Rattle.rdf_terms.proofs.TermTexts.{term_same}
 use Rattle.schema_documents.specs.declared.label.Label.TheVariants as Labels
 use Rattle.schema_tree.specs.declared.schema.Target.{Target}
 use Rattle.schema_tree.specs.declared.schema.Target.TheVariants as Targets
@@ -21,11 +21,12 @@ use Rattle.proof_file.specs.declared.Claim.{Claim}
 use Rattle.proof_file.specs.declared.Proof.{Proof}
 use Rattle.proof_file.specs.declared.line.Line.{Line}
 use Rattle.proof_file.specs.declared.line.Line.TheVariants as Lines
-use Rattle.proof_file.specs.Text.{place_text, kind_fields, kind_mark, claim_mark, record_fields, target_text, line_text, ended, lines_text, lines_of, section_lines, first_line, last_line, IsNumber, IsPlace, IsKind, IsLine, IsUnicode, HasNoFeed, ProofText}
+use Rattle.schema_tree.specs.Targets.{target_text}
+use Rattle.proof_file.specs.Text.{place_text, kind_fields, kind_mark, claim_mark, record_fields, line_text, ended, lines_text, lines_of, section_lines, first_line, last_line, IsNumber, IsPlace, IsKind, IsLine, IsUnicode, HasNoFeed, ProofText}
 use Rattle.proof_file.specs.Reader.{IsGood}
-use Rattle.proof_file.specs.Reading.{fields, IsWhole}
+use Rattle.proof_file.specs.Reading.{fields, IsWholeLine}
 use Rattle.proof_file.proofs.Gathered.{cons_head, cons_tail, same_number}
-use Rattle.proof_file.proofs.Joined.{all_append, all_back}
+use Rattle.lists.proofs.Quantifiers.{all_append, all_back}
 use Rattle.proof_file.proofs.Numbers.{digit_of}
 use Rattle.proof_file.proofs.Parts.{once, states_same}
 use Rattle.proof_file.proofs.Clean.{IsClean, clean_number, clean_record, record_cut}
@@ -150,7 +151,7 @@ first_is (Lines.Claim c) = first_of_claim c.holds (decimal c.node ++ (32 ∷ tar
 line_of_first : (l m : Line) → line_text l ≡ line_text m → first_byte l (get_or (line_text m) 0 0)
 line_of_first l m e = subst (λ z. first_byte l (get_or z 0 0)) e (first_is l)
 
-pub line_same : (l m : Line) → IsWhole l → IsWhole m → line_text l ≡ line_text m → l ≡ m
+pub line_same : (l m : Line) → IsWholeLine l → IsWholeLine m → line_text l ≡ line_text m → l ≡ m
 line_same (Lines.Node a) (Lines.Node b) h k e = ap (λ z. Lines.Node z) (term_same a b h k (append_cancel_left (codes "n ") (term_text a) (term_text b) e))
 line_same (Lines.Section a) (Lines.Section b) h k e = ap (λ z. Lines.Section z) (same_number a b h.0 k.0 (append_cancel_left (codes "s ") (decimal a) (decimal b) e))
 line_same (Lines.Record a) (Lines.Record b) h k e = ap (λ z. Lines.Record z) (record_same a b h.0 k.0 e)
@@ -185,7 +186,7 @@ not_end l e = by l (subst (λ z. first_byte l (get_or z 0 0)) e (first_is l))
 pub line_first : (l : List ℕ) (ls rest : List ℕ) → (ended l ++ ls) ++ rest ≡ l ++ 10 ∷ (ls ++ rest)
 line_first l ls rest = append_assoc (ended l) ls rest ∙ append_assoc l (10 ∷ []) (ls ++ rest)
 
-pub whole : (l : Line) → IsGood l → IsWhole l
+pub whole : (l : Line) → IsGood l → IsWholeLine l
 whole l h = (h.0, h.1.0)
 
 -- what the text of whole lines begins with is whole lines, and what follows them is the rest of the lines

@@ -15,10 +15,10 @@ use Rattle.proof_file.specs.declared.line.Line.{Line}
 use Rattle.proof_file.specs.declared.line.Line.TheVariants as Lines
 use Rattle.proof_file.specs.declared.fields.Stop.{Stop}
 use Rattle.proof_file.specs.Text.{place_text, state_text, kind_fields, kind_mark, claim_mark, record_fields, line_text, IsNumber, IsPlace, IsState, IsKind, IsLine}
-use Rattle.proof_file.specs.Reading.{Reads, fields, IsPlus, IsMinus, IsPlusKind, IsMinusKind, IsWhole}
+use Rattle.proof_file.specs.Reading.{Reads, fields, IsPlus, IsMinus, IsPlusKind, IsMinusKind, IsWholeLine}
 use Rattle.proof_file.proofs.Gathered.{blames, cut_joined, clean_decimal}
-use Rattle.proof_file.proofs.Joined.{all_append}
-use Rattle.proof_file.proofs.Parts.{by_recursion}
+use Rattle.lists.proofs.Quantifiers.{all_append}
+use Rattle.std.proofs.lemmas.List.Elements.{recursion_from_All, All-from_recursion}
 
 abbrev pub IsClean : ℕ → List ℕ → Type 0
 IsClean c xs = AllByRecursion (λ b. (b == c) ≡ false) xs
@@ -27,12 +27,8 @@ at_place : {X : Type 0} (P : X → Type 0) (x : X) (xs : List X) → P x → All
 at_place P x xs h hs zero d lt = h
 at_place P x xs h hs (suc k) d lt = hs k d (omega arith)
 
-by_place : {X : Type 0} (P : X → Type 0) (xs : List X) → AllByRecursion P xs → All P xs
-by_place P [] h = λ k d lt. absurd (omega arith)
-by_place P (x ∷ xs) (h, hs) = at_place P x xs h (by_place P xs hs)
-
 pub clean_number : (c n : ℕ) → c < 44 → IsNumber n → IsClean c (decimal n)
-clean_number c n low h = by_recursion (λ b. (b == c) ≡ false) (decimal n) (clean_decimal c n (λ b above below e. omega arith) h)
+clean_number c n low h = recursion_from_All (λ b. (b == c) ≡ false) (decimal n) (clean_decimal c n (λ b above below e. omega arith) h)
 
 clean_join : (c s : ℕ) → (s == c) ≡ false → (fs : List (List ℕ)) → AllByRecursion (IsClean c) fs → IsClean c (join_with_byte s fs)
 clean_join c s other [] h = tt
@@ -71,7 +67,7 @@ clean_record c low other r h = clean_join c 32 other (record_fields r) (clean_fi
 
 by_places : (c : ℕ) (fs : List (List ℕ)) → AllByRecursion (IsClean c) fs → AllByRecursion (λ f. All (λ b. (b == c) ≡ false) f) fs
 by_places c [] h = tt
-by_places c (f ∷ fs) (h, hs) = (by_place (λ b. (b == c) ≡ false) f h, by_places c fs hs)
+by_places c (f ∷ fs) (h, hs) = (All-from_recursion (λ b. (b == c) ≡ false) f h, by_places c fs hs)
 
 -- the fields of a record are cut where they were joined
 pub record_cut : (r : Record) → IsLine (Lines.Record r) → fields 32 (join_with_byte 32 (record_fields r)) ≡ record_fields r
@@ -88,7 +84,7 @@ not_claim : (a : ℕ) (xs ys : List ℕ) (holds : Bool) → a ≢ 99 → a ∷ x
 not_claim a xs ys true other e = other (ap (λ z. get_or z 0 0) e)
 not_claim a xs ys false other e = other (ap (λ z. get_or z 0 0) e)
 
-plus_part : (text rest : List ℕ) → text ≡ codes "+ " ++ rest → (l : Line) → IsWhole l → text ≡ line_text l → (r : Record) × (IsPlus r × (fields 32 rest ≡ record_fields r))
+plus_part : (text rest : List ℕ) → text ≡ codes "+ " ++ rest → (l : Line) → IsWholeLine l → text ≡ line_text l → (r : Record) × (IsPlus r × (fields 32 rest ≡ record_fields r))
 plus_part text rest is (Lines.Node t) h e = absurd (omega (arith, ap (λ z. get_or z 0 0) (sym is ∙ e)))
 plus_part text rest is (Lines.Section k) h e = absurd (omega (arith, ap (λ z. get_or z 0 0) (sym is ∙ e)))
 plus_part text rest is (Lines.Claim c) h e = absurd (not_claim 43 (32 ∷ rest) _ c.holds (λ o. omega (arith, o)) (sym is ∙ e))
@@ -100,8 +96,8 @@ plus_part text rest is (Lines.Record r) h e = by r.kind refl
         (r, ((h.0, subst IsPlusKind (sym kind) tt), ap (fields 32) same ∙ record_cut r h.0))
     by (Minus rank xs) kind = absurd (omega (arith, ap (λ z. get_or z 0 0) (sym is ∙ e ∙ ap (λ k. kind_mark k ++ join_with_byte 32 (record_fields r)) kind)))
 
-pub plus_stops : (text rest : List ℕ) (e : Stop) → text ≡ codes "+ " ++ rest → Reads record_fields IsPlus (fields 32 rest) (Err e) → Reads line_text IsWhole text (Err e)
-plus_stops text rest e is = blames record_fields IsPlus (fields 32 rest) line_text IsWhole text e (λ l good k. plus_part text rest is l good k)
+pub plus_stops : (text rest : List ℕ) (e : Stop) → text ≡ codes "+ " ++ rest → Reads record_fields IsPlus (fields 32 rest) (Err e) → Reads line_text IsWholeLine text (Err e)
+plus_stops text rest e is = blames record_fields IsPlus (fields 32 rest) line_text IsWholeLine text e (λ l good k. plus_part text rest is l good k)
 
 plus_mark : (k : RecordKind) → IsPlusKind k → codes "+ " ≡ kind_mark k
 plus_mark (Plus ps) h = refl
@@ -110,7 +106,7 @@ plus_mark (Minus rank xs) h = absurd h
 pub plus_found : (text rest : List ℕ) (r : Record) → text ≡ codes "+ " ++ rest → fields 32 rest ≡ record_fields r → IsPlus r → text ≡ line_text (Lines.Record r)
 plus_found text rest r is made h = is ∙ ap (λ m. m ++ rest) (plus_mark r.kind h.1) ∙ ap (λ z. kind_mark r.kind ++ z) (sym (join_with_byte-slice_split 32 rest) ∙ ap (join_with_byte 32) made)
 
-minus_part : (text rest : List ℕ) → text ≡ codes "- " ++ rest → (l : Line) → IsWhole l → text ≡ line_text l → (r : Record) × (IsMinus r × (fields 32 rest ≡ record_fields r))
+minus_part : (text rest : List ℕ) → text ≡ codes "- " ++ rest → (l : Line) → IsWholeLine l → text ≡ line_text l → (r : Record) × (IsMinus r × (fields 32 rest ≡ record_fields r))
 minus_part text rest is (Lines.Node t) h e = absurd (omega (arith, ap (λ z. get_or z 0 0) (sym is ∙ e)))
 minus_part text rest is (Lines.Section k) h e = absurd (omega (arith, ap (λ z. get_or z 0 0) (sym is ∙ e)))
 minus_part text rest is (Lines.Claim c) h e = absurd (not_claim 45 (32 ∷ rest) _ c.holds (λ o. omega (arith, o)) (sym is ∙ e))
@@ -122,8 +118,8 @@ minus_part text rest is (Lines.Record r) h e = by r.kind refl
         let same : rest ≡ join_with_byte 32 (record_fields r) = tail_two 45 32 rest (join_with_byte 32 (record_fields r)) (sym is ∙ e ∙ ap (λ k. kind_mark k ++ join_with_byte 32 (record_fields r)) kind) in
         (r, ((h.0, subst IsMinusKind (sym kind) tt), ap (fields 32) same ∙ record_cut r h.0))
 
-pub minus_stops : (text rest : List ℕ) (e : Stop) → text ≡ codes "- " ++ rest → Reads record_fields IsMinus (fields 32 rest) (Err e) → Reads line_text IsWhole text (Err e)
-minus_stops text rest e is = blames record_fields IsMinus (fields 32 rest) line_text IsWhole text e (λ l good k. minus_part text rest is l good k)
+pub minus_stops : (text rest : List ℕ) (e : Stop) → text ≡ codes "- " ++ rest → Reads record_fields IsMinus (fields 32 rest) (Err e) → Reads line_text IsWholeLine text (Err e)
+minus_stops text rest e is = blames record_fields IsMinus (fields 32 rest) line_text IsWholeLine text e (λ l good k. minus_part text rest is l good k)
 
 minus_mark : (k : RecordKind) → IsMinusKind k → codes "- " ≡ kind_mark k
 minus_mark (Minus rank xs) h = refl

@@ -1,14 +1,14 @@
 -- Where bytes cease to be a proof text.
 use Rattle.std.proofs.Common.{◌≡◌, ℕ, zero, suc, ◌<◌, ◌≤◌, ◌==◌, inr, subst, List, [], ◌∷◌, ◌++◌, refl, ap, sym, ◌∙◌, length, arith, map, append_assoc, true, false, true≢false, eq-eqb, codes, encode_utf8_all}
 use Rattle.std.proofs.Math.Utf8.{encode}
-use Rattle.std.proofs.lemmas.List.{append_cancel_left, length-append}
+use Rattle.std.proofs.lemmas.List.{append_cancel_left, length-append, append-nil}
 use Rattle.std.proofs.lemmas.Fmt.{IsAscii-decimal}
 use Rattle.std.proofs.lemmas.Str.{IsUtf8-append, IsUtf8-from_ascii}
 use Rattle.std.specs.Fmt.{decimal}
 use Rattle.std.specs.List.{AllByRecursion, Contains, join_with_byte}
 use Rattle.std.specs.Str.{IsUtf8}
 use Rattle.rdf_terms.specs.Written.{term_text}
-use Rattle.term_reader.proofs.TermTexts.{term_utf8}
+use Rattle.rdf_terms.proofs.TermTexts.{term_utf8}
 use Rattle.schema_documents.specs.declared.label.Label.TheVariants as Labels
 use Rattle.schema_tree.specs.declared.schema.Target.{Target}
 use Rattle.schema_tree.specs.declared.schema.Target.TheVariants as Targets
@@ -21,9 +21,10 @@ use Rattle.proof_file.specs.declared.Proof.{Proof}
 use Rattle.proof_file.specs.declared.line.Line.{Line}
 use Rattle.proof_file.specs.declared.line.Line.TheVariants as Lines
 use Rattle.proof_file.specs.declared.lines.Stage.TheVariants as Stages
-use Rattle.proof_file.specs.Text.{Keeps, IsUnicode, IsTextTarget, HasNoFeed, HasNoFeeds, ProofText, IsFault, IsNumber, IsPlace, IsState, IsKind, place_text, state_text, kind_fields, kind_mark, claim_mark, record_fields, target_text, line_text, ended, lines_text, lines_of, first_line, last_line, text_of}
+use Rattle.schema_tree.specs.Targets.{IsTextTarget, target_text}
+use Rattle.proof_file.specs.Text.{Keeps, IsUnicode, HasNoFeed, HasNoFeeds, ProofText, IsFault, IsNumber, IsPlace, IsState, IsKind, place_text, state_text, kind_fields, kind_mark, claim_mark, record_fields, line_text, ended, lines_text, lines_of, first_line, last_line, text_of}
 use Rattle.proof_file.specs.Reader.{behind_text, IsGood, Follows, Runs, stage_after, last_after}
-use Rattle.proof_file.proofs.Joined.{all_back}
+use Rattle.lists.proofs.Quantifiers.{all_back}
 use Rattle.proof_file.proofs.Parts.{once}
 use Rattle.proof_file.proofs.Clean.{IsClean}
 use Rattle.proof_file.proofs.Apart.{not_held, clean_line, prefix, line_first, good_lines, only_text}
@@ -98,12 +99,8 @@ after_lines p q rest good h =
     prefix (lines_of p) (lines_of q) [] rest good (good_lines q (behind_text p ++ rest) h)
     (append_cancel_left first_line (lines_text (lines_of q) ++ last_line) (lines_text (lines_of p) ++ rest) (sym h.spelled ∙ append_assoc first_line (lines_text (lines_of p)) rest))
 
-nil_end : {X : Type 0} (xs : List X) → xs ++ [] ≡ xs
-nil_end [] = refl
-nil_end (x ∷ xs) = ap (λ z. x ∷ z) (nil_end xs)
-
 ended_lines : (a : List ℕ) (ls : List Line) → (x : List ℕ) × (ended a ++ lines_text ls ≡ ended x)
-ended_lines a [] = (a, nil_end (ended a))
+ended_lines a [] = (a, append-nil (ended a))
 ended_lines a (l ∷ ls) =
     let k = ended_lines (ended a ++ line_text l) ls in
     (k.0, (sym (append_assoc (ended a) (ended (line_text l)) (lines_text ls)) ∙ ap (λ z. z ++ lines_text ls) (sym (append_assoc (ended a) (line_text l) (10 ∷ []))) ∙ k.1))
@@ -171,7 +168,7 @@ fault_after_end p whole rest at text parts place some = record {
   parts = parts;
   place = place;
   lines = inr (first_line ++ (lines_text (lines_of p) ++ codes "end"), ap (λ z. first_line ++ z) (sym (append_assoc (lines_text (lines_of p)) (codes "end") (10 ∷ []))) ∙ sym (append_assoc first_line (lines_text (lines_of p) ++ codes "end") (10 ∷ [])));
-  begins = (p, ([], subst (ProofText p) (sym (nil_end (text_of p))) text));
+  begins = (p, ([], subst (ProofText p) (sym (append-nil (text_of p))) text));
   stops = λ line more clean e (q, (ys, h)).
       let nothing = (only_text p q (text_of p) ((text_of p ++ ended line) ++ ys) (ended line ++ ys) text h (append_assoc (text_of p) (ended line) ys)).1 in
       omega (arith, ap length nothing, length-append (ended line) ys, length-append line (10 ∷ []));

@@ -13,9 +13,10 @@ use Rattle.proof_file.specs.declared.line.Line.{Line}
 use Rattle.proof_file.specs.declared.line.Line.TheVariants as Lines
 use Rattle.proof_file.specs.declared.lines.Stage.{Stage}
 use Rattle.proof_file.specs.declared.lines.Stage.TheVariants as Stages
-use Rattle.proof_file.specs.Text.{Keeps, IsLine, IsTermBefore, IsSectionBefore, IsRecordBefore, Rises, RisesFrom, line_text, lines_of, section_lines}
+use Rattle.schema_tree.specs.Rising.{Rises, RisesFrom}
+use Rattle.proof_file.specs.Text.{Keeps, IsLine, IsTermBefore, IsSectionBefore, IsRecordBefore, line_text, lines_of, section_lines}
 use Rattle.proof_file.specs.Reader.{IsBehind, Grows, node, section, entry, claim, Follows, next_stage, next_last, Runs, stage_after, last_after, InSection, Fits}
-use Rattle.proof_file.proofs.Joined.{all_append, all_front}
+use Rattle.lists.proofs.Quantifiers.{all_append, all_front}
 
 -- ---- lines of a proof that keeps the orders follow one another
 

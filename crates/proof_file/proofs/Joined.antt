@@ -4,12 +4,15 @@ use Rattle.std.proofs.lemmas.Grind.{flat_map-append}
 use Rattle.std.proofs.lemmas.List.Folds.{flat_map-map}
 use Rattle.std.specs.Fmt.{decimal}
 use Rattle.std.specs.List.{AllByRecursion, flat_map, join_with_byte}
-use Rattle.term_reader.specs.Values.{IsValue}
-use Rattle.proof_file.specs.Text.{ended, line_text, lines_text, section_lines, lines_of, first_line, last_line, text_of, IsUnicode, IsTextTarget}
+use Rattle.rdf_terms.specs.Values.{IsValue}
+use Rattle.schema_tree.specs.Targets.{IsTextTarget}
+use Rattle.proof_file.specs.Text.{ended, line_text, lines_text, section_lines, lines_of, first_line, last_line, text_of, IsUnicode}
 use Rattle.proof_file.specs.declared.Record.{Record}
 use Rattle.proof_file.specs.declared.Section.{Section}
 use Rattle.proof_file.specs.declared.Proof.{Proof}
 use Rattle.proof_file.specs.declared.line.Line.{Line}
+use Rattle.lists.proofs.Quantifiers.{all_mapped, all_append}
+use Rattle.std.proofs.Math.Seq.{take-length}
 use Rattle.proof_file.specs.declared.line.Line.TheVariants as Lines
 
 -- the fields behind the first have the byte before them
@@ -23,23 +26,6 @@ joined c x (y ∷ ys) = ap (λ z. x ++ c ∷ z) (joined c y ys)
 
 pub joined_map : {X : Type 0} (c : ℕ) (g : X → List ℕ) (x : List ℕ) (xs : List X) → join_with_byte c (x ∷ map g xs) ≡ x ++ flat_map (λ y. c ∷ g y) xs
 joined_map c g x xs = joined c x (map g xs) ∙ ap (λ z. x ++ z) (flat_map-map (λ f. c ∷ f) g xs)
-
--- a map into lines is written item by item
-pub all_map : {X Y : Type 0} (P : Y → Type 0) (g : X → Y) (xs : List X) → AllByRecursion (λ x. P (g x)) xs → AllByRecursion P (map g xs)
-all_map P g [] h = tt
-all_map P g (x ∷ xs) (h, hs) = (h, all_map P g xs hs)
-
-pub all_append : {X : Type 0} (P : X → Type 0) (xs ys : List X) → AllByRecursion P xs → AllByRecursion P ys → AllByRecursion P (xs ++ ys)
-all_append P [] ys h k = k
-all_append P (x ∷ xs) ys (h, hs) k = (h, all_append P xs ys hs k)
-
-pub all_front : {X : Type 0} (P : X → Type 0) (xs ys : List X) → AllByRecursion P (xs ++ ys) → AllByRecursion P xs
-all_front P [] ys h = tt
-all_front P (x ∷ xs) ys (h, hs) = (h, all_front P xs ys hs)
-
-pub all_back : {X : Type 0} (P : X → Type 0) (xs ys : List X) → AllByRecursion P (xs ++ ys) → AllByRecursion P ys
-all_back P [] ys h = h
-all_back P (x ∷ xs) ys (h, hs) = all_back P xs ys hs
 
 -- what `write` appends is the lines, piece by piece
 pub chained : (old a b e new w x y z : List ℕ) → a ≡ old ++ w → b ≡ a ++ x → e ≡ b ++ y → new ≡ e ++ z → new ≡ old ++ (w ++ (x ++ (y ++ z)))
@@ -82,7 +68,7 @@ proof_written p = ap (λ z. first_line ++ z) (
 
 -- the lines of sections hold no text of Unicode characters
 section_unicode : (x : Section) → AllByRecursion IsUnicode (section_lines x)
-section_unicode x = (tt, all_map IsUnicode (λ r. Lines.Record r) x.records (records x.records))
+section_unicode x = (tt, all_mapped IsUnicode (λ r. Lines.Record r) x.records (records x.records))
   where
     records : (rs : List Record) → AllByRecursion (λ r. IsUnicode (Lines.Record r)) rs
     records [] = tt
@@ -95,15 +81,11 @@ sections_unicode (x ∷ xs) = all_append IsUnicode (section_lines x) (flat_map s
 pub proof_unicode : (p : Proof) → AllByRecursion IsValue p.nodes → AllByRecursion (λ c. IsTextTarget c.target) p.claims → AllByRecursion IsUnicode (lines_of p)
 proof_unicode p nodes claims =
     all_append IsUnicode (map (λ t. Lines.Node t) p.nodes) (flat_map section_lines p.sections ++ map (λ c. Lines.Claim c) p.claims)
-    (all_map IsUnicode (λ t. Lines.Node t) p.nodes nodes)
-    (all_append IsUnicode (flat_map section_lines p.sections) (map (λ c. Lines.Claim c) p.claims) (sections_unicode p.sections) (all_map IsUnicode (λ c. Lines.Claim c) p.claims claims))
-
-take_all : {X : Type 0} (ys : List X) → take (length ys) ys ≡ ys
-take_all [] = refl
-take_all (y ∷ ys) = ap (λ z. y ∷ z) (take_all ys)
+    (all_mapped IsUnicode (λ t. Lines.Node t) p.nodes nodes)
+    (all_append IsUnicode (flat_map section_lines p.sections) (map (λ c. Lines.Claim c) p.claims) (sections_unicode p.sections) (all_mapped IsUnicode (λ c. Lines.Claim c) p.claims claims))
 
 pub numbers_written : (xs : List ℕ) → 1 ≤ length xs → decimal (get_or xs 0 0) ++ flat_map (λ n. 44 ∷ decimal n) (take (length xs - 1) (drop 1 xs)) ≡ join_with_byte 44 (map decimal xs)
 numbers_written [] h = absurd (omega arith)
 numbers_written (x ∷ ys) h =
     let e : length (x ∷ ys) - 1 ≡ length ys = omega arith in
-    ap (λ k. decimal x ++ flat_map (λ n. 44 ∷ decimal n) (take k ys)) e ∙ ap (λ l. decimal x ++ flat_map (λ n. 44 ∷ decimal n) l) (take_all ys) ∙ sym (joined_map 44 decimal (decimal x) ys)
+    ap (λ k. decimal x ++ flat_map (λ n. 44 ∷ decimal n) (take k ys)) e ∙ ap (λ l. decimal x ++ flat_map (λ n. 44 ∷ decimal n) l) (take-length ys) ∙ sym (joined_map 44 decimal (decimal x) ys)

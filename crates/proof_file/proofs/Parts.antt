@@ -1,26 +1,29 @@
 -- The parts of a line.
-use Rattle.std.proofs.Common.{◌≡◌, ℕ, suc, ◌<◌, ◌≤◌, ◌≢◌, ◌==◌, Bool, false, Option, Some, None, Bor, MatchOption, subst, lit<, List, [], ◌∷◌, ◌++◌, refl, ap, sym, ◌∙◌, length, get_or, take, drop, ◌+◌, ◌-◌, true≢false, arith, Err, map, codes, encode_utf8_all}
+use Rattle.std.proofs.Common.{◌≡◌, ℕ, ◌<◌, ◌≤◌, ◌≢◌, ◌==◌, Bool, false, Option, Some, None, Bor, MatchOption, subst, lit<, List, [], ◌∷◌, ◌++◌, refl, ap, sym, ◌∙◌, length, get_or, true≢false, arith, Err, map, encode_utf8_all}
 use Rattle.std.proofs.Common.{eq-eqb}
 use Rattle.std.proofs.lemmas.Fmt.{decimal_nonempty}
 use Rattle.std.proofs.lemmas.List.{length-append}
 use Rattle.std.proofs.lemmas.Str.{encodes-chars, scalars-chars}
-use Rattle.std.proofs.lemmas.Str.Pattern.{IsSplitOnceResult, split_after, strip_prefix_char, strip_suffix_char}
+use Rattle.std.proofs.lemmas.Str.Pattern.{IsSplitOnceResult, split_after}
 use Rattle.std.specs.Fmt.{decimal}
-use Rattle.std.specs.List.{All, AllByRecursion, flat_map, join_with_byte}
+use Rattle.std.specs.List.{AllByRecursion, flat_map, join_with_byte}
 use Rattle.std.specs.Str.{chars, IsUtf8}
-use Rattle.std.specs.Str.Pattern.{FindsCharPrefix, FindsCharSuffix}
 use Rattle.schema_tree.specs.declared.verdicts.Place.{Place}
 use Rattle.schema_tree.specs.declared.verdicts.State.{State}
 use Rattle.proof_file.specs.declared.RecordKind.{RecordKind}
 use Rattle.proof_file.specs.declared.RecordKind.TheVariants.{Plus, Minus}
 use Rattle.proof_file.specs.declared.Record.{Record}
 use Rattle.proof_file.specs.declared.Claim.{Claim}
-use Rattle.proof_file.specs.Text.{place_text, state_text, kind_fields, record_fields, target_text, IsNumber, IsPlace, IsState, IsKind, IsTextTarget, Rises, IsStateBefore}
+use Rattle.schema_tree.specs.Targets.{target_text, IsTextTarget}
+use Rattle.schema_tree.specs.Rising.{Rises}
+use Rattle.schema_tree.specs.States.{IsStateBefore}
+use Rattle.proof_file.specs.Text.{place_text, state_text, kind_fields, record_fields, IsNumber, IsPlace, IsState, IsKind}
 use Rattle.proof_file.specs.Reading.{Reads, fields, IsScalars, IsPlus, IsMinus, IsPlusKind, IsMinusKind, IsClaim, claim_rest}
 use Rattle.proof_file.specs.declared.fields.Stop.{Stop}
 use Rattle.proof_file.proofs.Numbers.{digit_of}
 use Rattle.proof_file.proofs.Gathered.{blames, cons_head, cons_tail, same_number, cut_joined, clean_decimal, clean_decimals}
 use Rattle.proof_file.proofs.Joined.{joined_map}
+use Rattle.std.proofs.lemmas.List.Elements.{recursion_from_All}
 
 -- ---- texts
 
@@ -97,18 +100,14 @@ once c (x ∷ a) (y ∷ b) r s (h, hs) (k, ks) e =
     let q = once c a b r s hs ks (cons_tail x y (a ++ c ∷ r) (b ++ c ∷ s) e) in
     (λ i. p i ∷ q.0 i, q.1)
 
-pub by_recursion : {X : Type 0} (P : X → Type 0) (xs : List X) → All P xs → AllByRecursion P xs
-by_recursion P [] h = tt
-by_recursion P (x ∷ xs) h = (h 0 x (omega arith), by_recursion P xs (λ k d lt. h (suc k) d (omega arith)))
-
 no_colon : (b : ℕ) → 48 ≤ b → b ≤ 57 → b ≢ 58
 no_colon b h k e = omega arith
 
 state_same : (x y : State) → IsState x → IsState y → state_text x ≡ state_text y → x ≡ y
 state_same x y h k e =
     let p = once 58 (decimal x.done) (decimal y.done) (join_with_byte 44 (map decimal x.counts)) (join_with_byte 44 (map decimal y.counts))
-    (by_recursion (λ b. (b == 58) ≡ false) (decimal x.done) (clean_decimal 58 x.done no_colon h.0))
-    (by_recursion (λ b. (b == 58) ≡ false) (decimal y.done) (clean_decimal 58 y.done no_colon k.0)) e in
+    (recursion_from_All (λ b. (b == 58) ≡ false) (decimal x.done) (clean_decimal 58 x.done no_colon h.0))
+    (recursion_from_All (λ b. (b == 58) ≡ false) (decimal y.done) (clean_decimal 58 y.done no_colon k.0)) e in
     let done = same_number x.done y.done h.0 k.0 p.0 in
     let counts = counts_same x.counts y.counts h.1 k.1 p.1 in
     λ i. record { done = done i; counts = counts i }

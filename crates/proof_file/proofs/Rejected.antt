@@ -3,8 +3,8 @@ use Rattle.std.proofs.Common.{◌≡◌, ℕ, zero, suc, ◌<◌, inl, inr, List
 use Rattle.std.specs.Prelude.{Contains, Option, Some, None, slice_get}
 use Rattle.std.specs.List.{AllByRecursion}
 use Rattle.std.proofs.lemmas.Bool.{cases_lt}
-use Rattle.schema_tree.proofs.Members.{all_at, is_first, is_later}
-use Rattle.schema_tree.proofs.Lists.{got_in}
+use Rattle.lists.proofs.Quantifiers.{all_at}
+use Rattle.lists.proofs.Members.{is_first, is_later, got_in}
 use Rattle.proof_file.specs.declared.Proof.{Proof}
 use Rattle.proof_file.specs.declared.Why.{Why}
 use Rattle.proof_file.specs.Accepts.{Setting, Item, items_of, Passes, checks_of, FailsAt, FailsBy, IsAccepted, AreAccepted, IsRejected}

@@ -1,6 +1,6 @@
 -- What an accepted proof says is true of every complete typing.
 use Rattle.std.proofs.Common.{◌≡◌, ℕ, zero, suc, ◌<◌, ◌≤◌, ◌⊎◌, inl, inr, List, ◌++◌, refl, arith, sym, subst, Bool, true, false, map, filter, length}
-use Rattle.std.proofs.lemmas.Bool.{cases_lt, eq-eqb, eqb-true}
+use Rattle.std.proofs.lemmas.Bool.{cases_lt, eq-eqb, eqb-true, lt-ltb}
 use Rattle.std.proofs.lemmas.Bool.Decides.{nat_tests}
 use Rattle.std.proofs.lemmas.List.Elements.{Contains-append_cases, Contains-append_left, Contains-append_right}
 use Rattle.std.specs.Prelude.{Contains, Option, Some, None, slice_get, nat_lt, nat_eq, option_map, ◌||◌, ◌&&◌}
@@ -18,12 +18,12 @@ use Rattle.schema_tree.specs.Sure.{Known, Agrees, IsSure}
 use Rattle.schema_tree.specs.Relevant.{relevant_in_order}
 use Rattle.schema_tree.specs.Loaded.{IsLoaded}
 use Rattle.schema_tree.specs.Places.{CanMatch, MayHold, MayFail, IsShut, PairCanMatch}
-use Rattle.schema_tree.proofs.Members.{not_in_none, in_one, filter_has, all_at, from_map}
-use Rattle.schema_tree.proofs.Lists.{from_flat_map, got_in, in_filter, in_flat_map, in_map}
+use Rattle.lists.proofs.Members.{not_in_none, in_one, from_map, from_flat_map, got_in, in_flat_map, in_map}
+use Rattle.lists.proofs.Filters.{filter_has, in_filter}
+use Rattle.lists.proofs.Quantifiers.{all_at}
 use Rattle.schema_tree.proofs.Below.{in_below, level_top, out_below}
 use Rattle.schema_tree.proofs.Leans.{sure_sound}
 use Rattle.schema_tree.proofs.Truth.{match_true, mismatch_true}
-use Rattle.schema_tree.proofs.Tests.{less_true}
 use Rattle.schema_tree.proofs.Closed.{states_refute}
 use Rattle.proof_file.specs.declared.RecordKind.{RecordKind}
 use Rattle.proof_file.specs.declared.RecordKind.TheVariants.{Plus, Minus}
@@ -176,7 +176,7 @@ module _ (x : Setting) (p : Proof) (loaded : IsLoaded x.schema) (accepted : AreA
                 | inr m ↦ (let lt = t.1 in let e = (out_kept q m).1 in absurd (omega arith))
               ]),
           (λ q c. let t = out_below f k T q c in
-              filter_has (λ r. nat_lt (level f r.shape) k) W q (Contains-append_left (below f k T) kept q c) (less_true (level f q.shape) k t.1)),
+              filter_has (λ r. nat_lt (level f r.shape) k) W q (Contains-append_left (below f k T) kept q c) (lt-ltb (level f q.shape) k t.1)),
         );
         correct = λ q c at. elim (Contains-append_cases (below f k T) kept q c) [
           | inl b ↦ (let lt = (out_below f k T q b).1 in absurd (omega arith))
@@ -240,7 +240,7 @@ module _ (x : Setting) (p : Proof) (loaded : IsLoaded x.schema) (accepted : AreA
         let low : AreTrueTo (below f (suc k) T) k = true_to k (below f (suc k) T) complete.1 in
         true_here (suc k) T complete.0
         (λ q c lt. (in_filter (λ r. nat_lt (level f r.shape) (suc k)) T q (low.ins q c (omega arith))).0)
-        (λ q c lt held. low.outs q c (omega arith) (filter_has (λ r. nat_lt (level f r.shape) (suc k)) T q.pair held (less_true (level f q.pair.shape) (suc k) lt)))
+        (λ q c lt held. low.outs q c (omega arith) (filter_has (λ r. nat_lt (level f r.shape) (suc k)) T q.pair held (lt-ltb (level f q.pair.shape) (suc k) lt)))
 
     -- a complete typing has each pair that a record confirms, and none that one refutes
     pub records_true : (T : List Pair) → IsTheTyping x.schema x.terms x.graph f U T →

@@ -1,8 +1,8 @@
 -- The reader of lines, line by line.
 use Rattle.std.proofs.Common.{◌≡◌, ℕ, zero, suc, ◌+◌, ◌-◌, ◌<◌, ◌≤◌, ◌==◌, ◌⊎◌, inl, inr, subst, List, [], ◌∷◌, ◌++◌, refl, ap, sym, ◌∙◌, length, get_or, take, drop, arith, append_assoc, Bool, true, false, true≢false, eq-eqb, eqb, ltb, cond, codes, Some, None, position}
-use Rattle.std.proofs.lemmas.List.{length-append, take_rest}
+use Rattle.std.proofs.lemmas.List.{length-append, take_rest, append-nil}
 use Rattle.std.proofs.lemmas.List.Quantifiers.{position-Some}
-use Rattle.std.proofs.lemmas.List.Elements.{All-from_get_or}
+use Rattle.std.proofs.lemmas.List.Elements.{All-from_get_or, recursion_from_All}
 use Rattle.std.proofs.lemmas.List.Sums.{fails_before_first}
 use Rattle.std.proofs.lemmas.Bool.{eqb-true, ltb-false}
 use Rattle.std.proofs.lemmas.Option.{none-some}
@@ -16,15 +16,11 @@ use Rattle.proof_file.specs.declared.lines.Stage.TheVariants as Stages
 use Rattle.proof_file.specs.declared.lines.Lines.{Lines as Reader}
 use Rattle.proof_file.specs.Text.{IsUnicode, HasNoFeed, ProofText, IsFault, line_text, ended, lines_text, lines_of, first_line, last_line, text_of}
 use Rattle.proof_file.specs.Reader.{behind_text, IsNext, IsPast, IsStuck, HasNoEnd, Grows, Follows, Fits, next_stage, next_last, stage_after, last_after, no_lines}
-use Rattle.proof_file.proofs.Joined.{all_append, all_back}
-use Rattle.proof_file.proofs.Parts.{once, by_recursion}
+use Rattle.lists.proofs.Quantifiers.{all_append, all_back}
+use Rattle.proof_file.proofs.Parts.{once}
 use Rattle.proof_file.proofs.Apart.{not_held}
 use Rattle.proof_file.proofs.Grown.{Grown, grow, stage_append, last_append}
 use Rattle.proof_file.proofs.Faults.{its_text, its_lines, fault_at_line, fault_after_end}
-
-nil_end : {X : Type 0} (xs : List X) → xs ++ [] ≡ xs
-nil_end [] = refl
-nil_end (x ∷ xs) = ap (λ z. x ∷ z) (nil_end xs)
 
 -- ---- the first line
 
@@ -49,7 +45,7 @@ none_below a n false h e = ltb-false a n h
 pub no_line_cut : (xs : List ℕ) → None ≡ position (λ b. b == 10) xs → HasNoEnd xs
 no_line_cut xs e =
     let far = none_below (position_or_len (λ b. b == 10) xs) (length xs) (ltb (position_or_len (λ b. b == 10) xs) (length xs)) refl e in
-    by_recursion (λ b. (b == 10) ≡ false) xs (All-from_get_or (λ b. (b == 10) ≡ false) xs 0 (λ k lt. fails_before_first (λ b. b == 10) xs k 0 (omega arith)))
+    recursion_from_All (λ b. (b == 10) ≡ false) xs (All-from_get_or (λ b. (b == 10) ≡ false) xs 0 (λ k lt. fails_before_first (λ b. b == 10) xs k 0 (omega arith)))
 
 -- ---- what may not follow
 
@@ -89,7 +85,7 @@ past_more old new p l past rest next whole stage last = (
 
     grown : behind_text g.whole ++ new.rest.now ≡ behind_text p ++ (line_text l ++ 10 ∷ new.rest.now)
     grown =
-        ap (λ z. (first_line ++ z) ++ new.rest.now) (ap lines_text g.lines ∙ flat_map-append (λ l. ended (line_text l)) (lines_of p) (l ∷ []) ∙ ap (λ z. lines_text (lines_of p) ++ z) (nil_end (ended (line_text l))))
+        ap (λ z. (first_line ++ z) ++ new.rest.now) (ap lines_text g.lines ∙ flat_map-append (λ l. ended (line_text l)) (lines_of p) (l ∷ []) ∙ ap (λ z. lines_text (lines_of p) ++ z) (append-nil (ended (line_text l))))
         ∙ ap (λ z. z ++ new.rest.now) (sym (append_assoc first_line (lines_text (lines_of p)) (ended (line_text l))))
         ∙ append_assoc (behind_text p) (ended (line_text l)) new.rest.now
         ∙ ap (λ z. behind_text p ++ z) (append_assoc (line_text l) (10 ∷ []) new.rest.now)
@@ -119,7 +115,7 @@ no_text = its_text no_lines (record { nodes = tt; few = omega arith; sections = 
 pub past_head : (r : Reader) → r.whole.now ≡ first_line ++ r.rest.now → r.stage ≡ Stages.Nodes 0 → r.last.now ≡ [] → IsPast r no_lines
 past_head r whole stage last = record {
   text = no_text;
-  parts = whole ∙ ap (λ z. z ++ r.rest.now) (sym (nil_end first_line));
+  parts = whole ∙ ap (λ z. z ++ r.rest.now) (sym (append-nil first_line));
   fits = subst (λ z. Fits no_lines z r.last.now) (sym stage) (refl, (refl, (refl, λ t lt. tt)));
   stage = stage;
   last = last;

@@ -37,6 +37,10 @@ pub record Setting : Type 0 where
   pub strata : List ℕ
   pub nodes : List TermId
 
+-- the same from its parts
+abbrev pub setting_of : List ℕ → Schema → List Term → List Triple → List TermId → Setting
+setting_of f s terms g nodes = record { schema = s; terms = terms; graph = g; strata = f; nodes = nodes }
+
 -- a record with the stratum of its section, or a claim
 pub data Item : Type 0 where
   in_section : ℕ → Record → Item
@@ -149,4 +153,4 @@ AreNumbers terms lines nodes = map (λ i. slice_get terms i.0) nodes ≡ map (λ
 pub record Accepts (f : List ℕ) (s : Schema) (terms : List Term) (g : List Triple) (p : Proof) : Type 0 where
   pub nodes : List TermId
   pub numbers : AreNumbers terms p.nodes nodes
-  pub items : AreAccepted (record { schema = s; terms = terms; graph = g; strata = f; nodes = nodes }) p
+  pub items : AreAccepted (setting_of f s terms g nodes) p

@@ -2,6 +2,7 @@ pub mod Views
 pub mod Accepts
 pub mod Laws
 pub mod Text
+pub mod Answers
 pub mod Reading
 pub mod Reader
 pub mod Faults

@@ -16,7 +16,8 @@ use Rattle.proof_file.specs.declared.lines.Step.{Step}
 use Rattle.proof_file.specs.declared.lines.Step.TheVariants as Heads
 use Rattle.proof_file.specs.declared.lines.Next.{Next}
 use Rattle.proof_file.specs.declared.lines.Next.TheVariants as Nexts
-use Rattle.proof_file.specs.Text.{IsLess, IsTermBefore, IsSectionBefore, IsRecordBefore, IsLine, IsUnicode, HasNoFeed, IsFault, ProofText, Rises, line_text, lines_of, lines_text, first_line, last_line, text_of}
+use Rattle.schema_tree.specs.Rising.{IsLess, Rises}
+use Rattle.proof_file.specs.Text.{IsTermBefore, IsSectionBefore, IsRecordBefore, IsLine, IsUnicode, HasNoFeed, IsFault, ProofText, line_text, lines_of, lines_text, first_line, last_line, text_of}
 
 -- q is p with one more line behind its last
 pub data Grows (p : Proof) : Line → Proof → Type 0 where

@@ -12,7 +12,8 @@ use Rattle.proof_file.specs.declared.line.Line.{Line}
 use Rattle.proof_file.specs.declared.line.Line.TheVariants as Lines
 use Rattle.proof_file.specs.declared.fields.Stop.{Stop}
 use Rattle.proof_file.specs.declared.fields.Stop.TheVariants.{Bad, Memory}
-use Rattle.proof_file.specs.Text.{IsNumber, IsLine, IsUnicode, IsTextTarget, target_text}
+use Rattle.schema_tree.specs.Targets.{IsTextTarget, target_text}
+use Rattle.proof_file.specs.Text.{IsNumber, IsLine, IsUnicode}
 
 -- the source is the text of what is read, which is as it has to be; or it is the text of nothing that is so
 abbrev pub Reads : {X T : Type 0} → (X → T) → (X → Type 0) → T → Result X Stop → Type 0
@@ -69,5 +70,5 @@ abbrev pub IsClaim : Bool → Claim → Type 0
 IsClaim holds c = (c.holds ≡ holds) × (IsNumber c.node × IsTextTarget c.target)
 
 -- a line within its limits, with texts of Unicode characters
-abbrev pub IsWhole : Line → Type 0
-IsWhole l = IsLine l × IsUnicode l
+abbrev pub IsWholeLine : Line → Type 0
+IsWholeLine l = IsLine l × IsUnicode l

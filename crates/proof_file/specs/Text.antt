@@ -1,20 +1,16 @@
 -- The text of a proof (own): lines of UTF-8, each ended by a line feed, whose fields are separated by one space.
-use Rattle.std.specs.Prelude.{ℕ, Bool, true, false, List, [], ◌∷◌, ◌++◌, ◌<◌, ◌≤◌, ◌≡◌, ◌⊎◌, length, map, codes, encode_utf8_all, Contains, ⊤}
-use Rattle.std.specs.Cmp.Lexicographic.{slice_cmp}
+use Rattle.std.specs.Prelude.{ℕ, Bool, true, false, List, [], ◌∷◌, ◌++◌, ◌<◌, ◌≤◌, ◌≡◌, ◌⊎◌, length, map, codes, Contains, ⊤}
 use Rattle.std.specs.Fmt.{decimal}
 use Rattle.std.specs.List.{AllByRecursion, flat_map, join_with_byte}
-use Rattle.std.specs.Ordering.{nat_cmp}
-use Rattle.std.specs.Str.{all_scalars}
-use Rattle.std.specs.declared.cmp.Ordering.TheVariants.{Less}
-use Rattle.term_reader.specs.Values.{IsValue, IsWhole}
-use Rattle.rdf_terms.specs.Written.{term_text, iri_text}
+use Rattle.rdf_terms.specs.Values.{IsValue, IsWhole}
+use Rattle.rdf_terms.specs.Written.{term_text}
 use Rattle.rdf_terms.specs.declared.terms.Term.{Term}
-use Rattle.schema_documents.specs.declared.label.Label.TheVariants as Labels
-use Rattle.schema_tree.specs.declared.schema.Target.{Target}
-use Rattle.schema_tree.specs.declared.schema.Target.TheVariants as Targets
 use Rattle.schema_tree.specs.declared.verdicts.Place.{Place}
 use Rattle.schema_tree.specs.declared.verdicts.Place.TheVariants.{At, Rest}
 use Rattle.schema_tree.specs.declared.verdicts.State.{State}
+use Rattle.schema_tree.specs.Rising.{IsLess, Rises}
+use Rattle.schema_tree.specs.States.{IsStateBefore}
+use Rattle.schema_tree.specs.Targets.{IsTextTarget, target_text}
 use Rattle.proof_file.specs.declared.RecordKind.{RecordKind}
 use Rattle.proof_file.specs.declared.RecordKind.TheVariants.{Plus, Minus}
 use Rattle.proof_file.specs.declared.Record.{Record}
@@ -46,12 +42,6 @@ kind_fields (Minus rank states) = decimal rank ∷ map state_text states
 
 abbrev pub record_fields : Record → List (List ℕ)
 record_fields r = decimal r.node ∷ decimal r.shape ∷ kind_fields r.kind
-
--- an IRI in angle brackets, _: and a blank node's label, or START
-abbrev pub target_text : Target → List ℕ
-target_text Targets.Start = codes "START"
-target_text (Targets.Label (Labels.Iri iri)) = iri_text iri
-target_text (Targets.Label (Labels.Blank label)) = codes "_:" ++ encode_utf8_all label
 
 abbrev pub claim_mark : Bool → List ℕ
 claim_mark true = codes "c + "
@@ -91,20 +81,6 @@ text_of p = first_line ++ (lines_text (lines_of p) ++ last_line)
 
 -- ---- the orders
 
--- each item comes before the next, and x before the first
-abbrev pub RisesFrom : {X : Type 0} → (X → X → Type 0) → X → List X → Type 0
-RisesFrom IsBefore x [] = ⊤
-RisesFrom IsBefore x (y ∷ ys) = IsBefore x y × RisesFrom IsBefore y ys
-
--- each item comes before the next
-abbrev pub Rises : {X : Type 0} → (X → X → Type 0) → List X → Type 0
-Rises IsBefore [] = ⊤
-Rises IsBefore (x ∷ xs) = RisesFrom IsBefore x xs
-
--- numbers, compared at the first place where they differ
-abbrev pub IsLess : List ℕ → List ℕ → Type 0
-IsLess a b = slice_cmp nat_cmp a b ≡ Less
-
 -- the text of the one term is below that of the other
 abbrev pub IsTermBefore : Term → Term → Type 0
 IsTermBefore a b = IsLess (term_text a) (term_text b)
@@ -115,10 +91,6 @@ IsSectionBefore a b = a.stratum < b.stratum
 -- by node and then Shape
 abbrev pub IsRecordBefore : Record → Record → Type 0
 IsRecordBefore a b = (a.node < b.node) ⊎ ((a.node ≡ b.node) × (a.shape < b.shape))
-
--- by the number of triples that have their places, and then the counts
-abbrev pub IsStateBefore : State → State → Type 0
-IsStateBefore a b = (a.done < b.done) ⊎ ((a.done ≡ b.done) × IsLess a.counts b.counts)
 
 -- ---- the limits
 
@@ -153,12 +125,6 @@ pub record Keeps (p : Proof) : Type 0 where
   pub lines : AllByRecursion IsLine (lines_of p)
 
 -- ---- the characters
-
--- the texts of a target are of Unicode scalar values, as each text of a program is
-abbrev pub IsTextTarget : Target → Type 0
-IsTextTarget Targets.Start = ⊤
-IsTextTarget (Targets.Label (Labels.Iri iri)) = all_scalars iri ≡ true
-IsTextTarget (Targets.Label (Labels.Blank label)) = all_scalars label ≡ true
 
 -- the line has a term or target as a program holds one
 abbrev pub IsUnicode : Line → Type 0

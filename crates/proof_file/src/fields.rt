@@ -3,7 +3,9 @@
 ghost use Rattle.std.specs.Prelude.{◌≡◌, ◌∷◌, ◌<◌, ◌↔◌, map, IsTrue};
 ghost use Rattle.std.specs.Fmt.{decimal};
 ghost use Rattle.std.specs.List.{AllByRecursion, join_with_byte};
-ghost use Rattle.proof_file.specs.Text.{place_text, state_text, IsNumber, IsPlace, IsState, Rises, RisesFrom, IsStateBefore};
+ghost use Rattle.schema_tree.specs.Rising.{Rises, RisesFrom};
+ghost use Rattle.schema_tree.specs.States.{IsStateBefore};
+ghost use Rattle.proof_file.specs.Text.{place_text, state_text, IsNumber, IsPlace, IsState};
 ghost use Rattle.proof_file.specs.Reading.{Reads, fields, fields_left, IsShorter, IsGiven};
 
 use rdf_terms::items::Items;

@@ -96,6 +96,3 @@ pub fn accepted_is_true()
 pub fn rejected_is_one()
     ensures { OneRejection }
 {}
-
-#[cfg(test)]
-mod tests;

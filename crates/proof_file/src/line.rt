@@ -1,19 +1,20 @@
 //! The lines of a proof's text.
 
 ghost use Rattle.std.specs.Prelude.{encode_utf8_all};
-ghost use Rattle.proof_file.specs.Text.{IsTextTarget, record_fields, target_text, line_text};
-ghost use Rattle.term_reader.specs.Values.{IsWholeTerm};
+ghost use Rattle.schema_tree.specs.Targets.{IsTextTarget, target_text};
+ghost use Rattle.proof_file.specs.Text.{record_fields, line_text};
+ghost use Rattle.rdf_terms.specs.Values.{IsWholeTerm};
 ghost use Rattle.rdf_terms.specs.Written.{term_text};
-ghost use Rattle.proof_file.specs.Reading.{Reads, fields, IsPlus, IsMinus, IsClaim, IsWhole, IsScalars, claim_rest};
+ghost use Rattle.proof_file.specs.Reading.{Reads, fields, IsPlus, IsMinus, IsClaim, IsWholeLine, IsScalars, claim_rest};
 
 use crate::fields::{Stop, are_rising, cut, number, places, states};
 use crate::{Claim, Record, RecordKind};
+use rdf_terms::reader::{read_term, within_brackets};
 use rdf_terms::terms::Term;
 use rdf_terms::text::Text;
 use schema_tree::labels::Label;
 use schema_tree::schema::Target;
 use std::alloc::Global;
-use term_reader::{read_term, within_brackets};
 
 /// A line of a proof's text between the first and the last.
 #[derive(Debug, Drop)]
@@ -30,7 +31,7 @@ pub enum Line {
 
 /// The line of this text, which has no line feed.
 pub(crate) fn read_line(alloc: Global, text: &str) -> Result<Line, Stop>
-    ensures { Reads line_text IsWhole text.now result }
+    ensures { Reads line_text IsWholeLine text.now result }
 {
     if let Some(term) = text.strip_prefix("n ") {
         return Ok(Line::Node(read_node(alloc, term)?));

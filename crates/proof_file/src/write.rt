@@ -3,23 +3,17 @@
 ghost use Rattle.std.specs.Prelude.{◌≡◌, ◌++◌, ◌∷◌, [], true, map, IfOk, OnOk, codes};
 ghost use Rattle.std.specs.Fmt.{decimal};
 ghost use Rattle.std.specs.List.{AllByRecursion, flat_map, join_with_byte};
-ghost use Rattle.std.specs.Str.{all_scalars};
-ghost use Rattle.term_reader.specs.Values.{IsValue};
-ghost use Rattle.rdf_terms.specs.Written.{iri_text};
-ghost use Rattle.proof_file.specs.Text.{place_text, state_text, kind_mark, kind_fields, target_text, ended, line_text, lines_text, section_lines, ProofText, Keeps, HasNoFeeds, IsTextTarget};
+ghost use Rattle.rdf_terms.specs.Values.{IsValue};
+ghost use Rattle.schema_tree.specs.Targets.{target_text, IsTextTarget};
+ghost use Rattle.proof_file.specs.Text.{place_text, state_text, kind_mark, kind_fields, ended, line_text, lines_text, section_lines, ProofText, Keeps, HasNoFeeds};
 ghost use Rattle.proof_file.specs.declared.line.Line.TheVariants as Lines;
-ghost use Rattle.schema_tree.specs.declared.schema.Target.TheVariants as Targets;
-ghost use Rattle.schema_documents.specs.declared.label.Label.TheVariants as Labels;
 
 use crate::{Claim, Proof, Record, RecordKind, Section};
 use rdf_terms::terms::Term;
-use rdf_terms::text::Text;
+use rdf_terms::values::term_is_value;
 use rdf_terms::written::write_term;
-use schema_tree::labels::Label;
-use schema_tree::schema::Target;
 use schema_tree::verdicts::{Place, State};
 use std::alloc::{AllocError, Global};
-use term_reader::term_is_value;
 
 /// The text of a proof that keeps the orders and limits, where no text of a term or target holds a line feed.
 pub fn write(alloc: Global, p: &Proof) -> Result<Vec<u8>, AllocError>
@@ -54,18 +48,6 @@ fn push_node(alloc: Global, node: &Term, out: &mut Vec<u8>) -> Result<(), AllocE
     out.extend_from_slice(b"n ")?;
     write_term(alloc, node, out)?;
     out.push(b'\n')?;
-    Ok(())
-}
-
-/// Appends an IRI in angle brackets.
-fn push_iri(iri: &Text, out: &mut Vec<u8>) -> Result<(), AllocError>
-    ensures bytes { OnOk result (out.new.items ≡ out.old.items ++ iri_text iri.now) }
-    ensures text { all_scalars iri.now ≡ true }
-{
-    let text = iri.as_str();
-    out.push(b'<')?;
-    out.extend_from_slice(text.as_bytes())?;
-    out.push(b'>')?;
     Ok(())
 }
 
@@ -251,29 +233,8 @@ fn push_claim(alloc: Global, claim: &Claim, out: &mut Vec<u8>) -> Result<(), All
     out.extend_from_slice(if claim.holds { b"c + " } else { b"c - " })?;
     push_number(alloc, claim.node, out)?;
     out.push(b' ')?;
-    push_target(&claim.target, out)?;
+    let target = claim.target.text(alloc)?;
+    out.extend_from_slice(target.as_bytes())?;
     out.push(b'\n')?;
     Ok(())
-}
-
-/// Appends a target.
-fn push_target(target: &Target, out: &mut Vec<u8>) -> Result<(), AllocError>
-    ensures bytes { OnOk result (out.new.items ≡ out.old.items ++ target_text target.now) }
-    ensures text { OnOk result (IsTextTarget target.now) }
-{
-    match target {
-        Target::Start => out.extend_from_slice(b"START"),
-        Target::Label(Label::Iri(iri)) => push_iri(iri, out),
-        Target::Label(Label::Blank(label)) => push_blank(label, out),
-    }
-}
-
-/// Appends `_:` and the label of a blank node.
-fn push_blank(label: &Text, out: &mut Vec<u8>) -> Result<(), AllocError>
-    ensures bytes { OnOk result (out.new.items ≡ out.old.items ++ target_text (Targets.Label (Labels.Blank label.now))) }
-    ensures text { all_scalars label.now ≡ true }
-{
-    let text = label.as_str();
-    out.extend_from_slice(b"_:")?;
-    out.extend_from_slice(text.as_bytes())
 }

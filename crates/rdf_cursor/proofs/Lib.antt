@@ -1,4 +1,12 @@
+pub mod Answers
+pub mod Locality
+pub mod Consuming
+pub mod Loops
+pub mod Soundness
+pub mod Completeness
+pub mod Blocking
+pub mod Agreement
+pub mod Numbers
 pub mod Streams
 pub mod Places
 pub mod Moves
-pub mod Meanings

@@ -59,9 +59,9 @@ of_kind m source t u had = ∥∥₁_elim had (hlevel props) (λ k.
     let f = reached_first m source t u k in
     ap (is_kind t.kind) (to_kind m t.kind (chars t.text.now) f.longest.spelled) ∙ some_is_kind t.kind (Some t.kind) refl)
 
-pub lends : (m : Mode) (source : List ℕ) (next : Lexed) (t : Token) → ∥ IsUtf8 source ∥₁ → next ≡ lexed.Token t → ∥ IsReached m source next ∥₁ → Lends m (ahead_of m source next) (Some t)
+pub lends : (m : Mode) (source : List ℕ) (next : Lexed) (t : Token) → ∥ IsUtf8 source ∥₁ → next ≡ lexed.Token t → ∥ IsReached m source next ∥₁ → Lends (ahead_of m source next) (Some t)
 lends m source next t u e had =
     let reached : ∥ IsReached m source (lexed.Token t) ∥₁ = subst (λ (l : Lexed). ∥ IsReached m source l ∥₁) e had in (
       (stream_from m source (t.at + length t.text.now), ap (ahead_of m source) e),
-      from_kind m t.kind (chars t.text.now) (is_kind_some t.kind (kind_from m Start (chars t.text.now)) (of_kind m source t (IsUtf8-had source u) reached)),
+      (m, from_kind m t.kind (chars t.text.now) (is_kind_some t.kind (kind_from m Start (chars t.text.now)) (of_kind m source t (IsUtf8-had source u) reached))),
     )

@@ -3,9 +3,9 @@ use Rattle.std.proofs.Common.{◌≡◌, ℕ, ◌+◌, List, [], ◌∷◌, ◌+
 use Rattle.std.proofs.Math.Logic.{∥∥₁_elim}
 use Rattle.std.proofs.Props.{props}
 use Rattle.std.specs.Str.{IsUtf8, IsCharBoundary}
-use Rattle.token_readers.specs.Ahead.{Ahead, finished, token, prepend, count, SameNext}
-use Rattle.token_readers.specs.Properties.{Blocked}
-use Rattle.token_readers.proofs.Locality.{prepend-append}
+use Rattle.rdf_cursor.specs.Ahead.{Ahead, finished, token, prepend, count, SameNext}
+use Rattle.rdf_cursor.specs.Properties.{Blocked}
+use Rattle.rdf_cursor.proofs.Locality.{prepend-append}
 use Rattle.rdf_lex.specs.declared.kinds.Mode.{Mode}
 use Rattle.rdf_lex.specs.declared.lexed.Lexed.{Lexed}
 use Rattle.rdf_lex.specs.declared.lexed.Lexed.TheVariants as lexed

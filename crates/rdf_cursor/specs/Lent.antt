@@ -1,14 +1,13 @@
 -- What comes next, as a cursor keeps it.
 use Rattle.std.specs.Prelude.{◌≡◌, ℕ, ◌+◌, List, length, Option, Some, None, true, false}
 use Rattle.std.specs.Str.{chars}
-use Rattle.token_readers.specs.Ahead.{Ahead, finished, broken, token, next_is}
+use Rattle.rdf_cursor.specs.Ahead.{Ahead, finished, broken, token, next_is}
 use Rattle.rdf_lex.specs.declared.kinds.Mode.{Mode}
 use Rattle.rdf_lex.specs.declared.lexed.Lexed.{Lexed}
 use Rattle.rdf_lex.specs.declared.lexed.Lexed.TheVariants as lexed
 use Rattle.rdf_lex.specs.declared.lexed.Token.{Token}
-use Rattle.rdf_lex.specs.Phrases.{Spells}
+use Rattle.rdf_lex.specs.Escapes.{IsSpelled}
 use Rattle.rdf_lex.specs.Scan.{next_of, seen}
-use Rattle.rdf_lex.specs.Spelling.{Spelling}
 use Rattle.rdf_lex.specs.Tokens.{Spelled, Between}
 use Rattle.rdf_cursor.specs.Streams.{stream_from}
 
@@ -41,10 +40,10 @@ pub record IsReached (m : Mode) (source : List ℕ) (next : Lexed) : Type 0 wher
   pub passed : Between m source 0 front from
   pub sought : seen next ≡ next_of m source from
 
--- the token that is next, whose text spells its kind
-abbrev pub Lends : Mode → Ahead Spelled → Option Token → Type 0
-Lends m ahead (Some t) = ((rest : Ahead Spelled) × (ahead ≡ token (spelled t) rest)) × Spells (Spelling m t.kind) (chars t.text.now)
-Lends m ahead None = next_is (λ t. true) ahead ≡ false
+-- the token that is next, whose text spells its kind in some language
+abbrev pub Lends : Ahead Spelled → Option Token → Type 0
+Lends ahead (Some t) = ((rest : Ahead Spelled) × (ahead ≡ token (spelled t) rest)) × IsSpelled t.kind (chars t.text.now)
+Lends ahead None = next_is (λ t. true) ahead ≡ false
 
 -- what lies ahead behind the next token
 abbrev pub behind_next : Ahead Spelled → Ahead Spelled

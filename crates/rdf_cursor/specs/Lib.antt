@@ -1,7 +1,11 @@
-pub mod Terminals
+pub mod Ahead
+pub mod Readers
+pub mod Phrases
+pub mod Properties
+pub mod Symbols
+pub mod Marks
 pub mod Streams
 pub mod Lent
-pub mod Meanings
 pub mod Stops
 pub mod Cursors
 pub mod Places

@@ -1,6 +1,6 @@
 -- The tokens that lie ahead of a place of a text.
 use Rattle.std.specs.Prelude.{ℕ, zero, suc, ◌+◌, List, length}
-use Rattle.token_readers.specs.Ahead.{Ahead, finished, broken, token}
+use Rattle.rdf_cursor.specs.Ahead.{Ahead, finished, broken, token}
 use Rattle.rdf_lex.specs.declared.kinds.Mode.{Mode}
 use Rattle.rdf_lex.specs.Tokens.{Spelled}
 use Rattle.rdf_lex.specs.Scan.{Next, at_end, at_bad, at_token, next_of}

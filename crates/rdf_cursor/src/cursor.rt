@@ -5,7 +5,7 @@ ghost use Rattle.std.specs.Str.{IsCharBoundary, IsUtf8};
 ghost use Rattle.rdf_cursor.specs.Lent.{IsReached, behind_place};
 
 use crate::stops::{Fault, Stop};
-use crate::terminals::Terminal;
+use crate::symbols::Symbol;
 use rdf_lex::{Lexed, Mode, Token, next};
 
 /// A place among the tokens of a text. What comes next is kept, so that each token is sought once.
@@ -30,20 +30,19 @@ fn end_of(source: &str, token: Token<'_>) -> u64
 
 impl<'a> Cursor<'a> {
     ghost use Rattle.std.specs.Prelude.{◌≡◌};
-    ghost use Rattle.token_readers.specs.Ahead.{next_is};
-    ghost use Rattle.token_readers.specs.Readers.{one, finish};
+    ghost use Rattle.rdf_cursor.specs.Ahead.{next_is};
+    ghost use Rattle.rdf_cursor.specs.Readers.{one, finish};
     ghost use Rattle.rdf_cursor.specs.declared.stops.Fault.TheVariants.{Syntax};
-    ghost use Rattle.rdf_cursor.specs.Stops.{Gives, of_terminal};
+    ghost use Rattle.rdf_cursor.specs.Stops.{Gives};
     ghost use Rattle.rdf_cursor.specs.Streams.{stream_from};
-    ghost use Rattle.rdf_cursor.specs.Terminals.{is_terminal, is_any};
+    ghost use Rattle.rdf_cursor.specs.Symbols.{is_symbol, is_any, of_symbol};
     ghost use Rattle.rdf_cursor.specs.Lent.{Lends, Stands, behind_next, spelled};
-    ghost use Rattle.rdf_cursor.specs.Cursors.{ahead, mode_of, source_of};
+    ghost use Rattle.rdf_cursor.specs.Cursors.{ahead, mode_of, source_of, source_in};
 
     /// A cursor before the first token of a text.
     pub fn new(source: &'a str, mode: Mode) -> Cursor<'a>
         ensures ahead { ahead result ≡ stream_from mode source.entry.now 0 }
-        ensures mode { mode_of result ≡ mode }
-        ensures source { source_of result ≡ source.entry.now }
+        ensures source { source_in result ≡ record { mode = mode; text = source.entry.now } }
     {
         let next = next(source, 0, mode);
         Cursor { source, mode, next }
@@ -51,7 +50,7 @@ impl<'a> Cursor<'a> {
 
     /// The next token, which is not taken; `None` where none is next.
     pub fn peek(&self) -> Option<Token<'a>>
-        ensures { Lends (mode_of self.now) (ahead self.now) result }
+        ensures { Lends (ahead self.now) result }
     {
         match self.next {
             Lexed::Token(token) => Some(token),
@@ -69,12 +68,13 @@ impl<'a> Cursor<'a> {
         }
     }
 
-    /// Whether the next token is this terminal.
-    pub fn is_at(&self, sought: Terminal) -> bool
-        ensures { result ≡ next_is (is_terminal sought) (ahead self.now) }
+    /// Whether the next token is this symbol.
+    #[tactic(auto, unfolding(crate::specs::Symbols::is_symbol))]
+    pub fn is_at(&self, sought: Symbol) -> bool
+        ensures { result ≡ next_is (is_symbol sought) (ahead self.now) }
     {
         match self.next {
-            Lexed::Token(token) => Terminal::of(token).is(sought),
+            Lexed::Token(token) => Symbol::of(token).is(sought),
             Lexed::End | Lexed::Bad(_) => false,
         }
     }
@@ -82,22 +82,21 @@ impl<'a> Cursor<'a> {
     /// Takes the next token; where none is next, nothing changes.
     pub fn advance(&mut self)
         ensures ahead { ahead self.new ≡ behind_next (ahead self.old) }
-        ensures mode { mode_of self.new ≡ mode_of self.old }
-        ensures source { source_of self.new ≡ source_of self.old }
+        ensures source { source_in self.new ≡ source_in self.old }
     {
         if let Lexed::Token(token) = self.next {
             self.next = next(self.source, end_of(self.source, token), self.mode);
         }
     }
 
-    /// Takes the next token, which is to be this terminal, and lends it.
-    pub fn take(&mut self, sought: Terminal) -> Result<Token<'a>, Stop>
-        ensures gives { Gives spelled result (ahead self.new) (one Syntax (of_terminal sought) (ahead self.old)) }
-        ensures mode { mode_of self.new ≡ mode_of self.old }
-        ensures source { source_of self.new ≡ source_of self.old }
+    /// Takes the next token, which is to be this symbol, and lends it.
+    #[tactic(auto, unfolding(crate::specs::Symbols::is_symbol))]
+    pub fn take(&mut self, sought: Symbol) -> Result<Token<'a>, Stop>
+        ensures gives { Gives spelled result (ahead self.new) (one Syntax (of_symbol sought) (ahead self.old)) }
+        ensures source { source_in self.new ≡ source_in self.old }
     {
         match self.next {
-            Lexed::Token(token) if Terminal::of(token).is(sought) => {
+            Lexed::Token(token) if Symbol::of(token).is(sought) => {
                 self.advance();
                 Ok(token)
             }

@@ -17,3 +17,4 @@ pub mod Skipping
 pub mod TermTokens
 pub mod Theorem
 pub mod Unescaping
+pub mod TokenLines

@@ -6,7 +6,7 @@ use Rattle.rdf_lex.specs.declared.escapes.Inside.{Inside}
 use Rattle.rdf_lex.specs.declared.escapes.Inside.TheVariants.{Local}
 use Rattle.rdf_lex.specs.declared.kinds.Kind.{Kind}
 use Rattle.rdf_lex.specs.declared.kinds.Kind.TheVariants as kinds
-use Rattle.rdf_lex.specs.declared.kinds.Mode.TheVariants.{NTriples, Turtle, Map}
+use Rattle.rdf_lex.specs.declared.kinds.Mode.TheVariants.{NTriples, Turtle, Map, Schema}
 use Rattle.rdf_lex.specs.Characters.{name_base, name_char, short_char, long_char}
 use Rattle.rdf_lex.specs.Escapes.{StandsFor, ends, inside_of, IsBehindColon, Body, holds_text, Means, IsSpelled}
 use Rattle.rdf_lex.specs.Phrases.{Phrase, ◌⨾◌, ◌∣◌, Spells, char, maybe}
@@ -76,4 +76,5 @@ has_meaning kinds.PnameLn text e (m, h) = name_means kinds.PnameLn text (λ body
 has_meaning kinds.AtName text e (NTriples, h) = absurd h
 has_meaning kinds.AtName text e (Turtle, h) = absurd h
 has_meaning kinds.AtName text e (Map, h) = at_name_means text h
+has_meaning kinds.AtName text e (Schema, h) = at_name_means text h
 has_meaning k text e h = absurd cc

@@ -9,86 +9,187 @@ use Rattle.std.proofs.lemmas.Str.{IsUtf8-drop, IsCharBoundary-from_drop, len_utf
 use Rattle.rdf_lex.specs.declared.kinds.Kind.{Kind}
 use Rattle.rdf_lex.specs.declared.kinds.Mode.{Mode}
 use Rattle.rdf_lex.specs.declared.machine.State.TheVariants.{Start}
+use Rattle.rdf_lex.specs.declared.lexed.Blank.{Blank}
+use Rattle.rdf_lex.specs.declared.lexed.Blank.TheVariants as blank
 use Rattle.rdf_lex.specs.declared.lexed.Lexed.{Lexed}
 use Rattle.rdf_lex.specs.declared.lexed.Lexed.TheVariants as lexed
 use Rattle.rdf_lex.specs.Phrases.{Spells}
 use Rattle.rdf_lex.specs.Spelling.{Spelling}
-use Rattle.rdf_lex.specs.Tokens.{Blanks, ends, stops, white, comment, is_white, ends_line, IsLineEnd, IsLongest, BeginsNone, IsSkipped, IsFirst, Lexes}
-use Rattle.rdf_lex.specs.Scan.{blank_on, blank_from, scan_from, Next, at_end, at_bad, at_token, next_in, next_of, seen}
+use Rattle.rdf_lex.specs.Tokens.{Blanks, ends, stops, white, comment, block, is_white, ends_line, has_blocks, behind_block, behind_open, behind_comment, IsLineEnd, IsLongest, BeginsNone, IsSkipped, IsFirst, Lexes}
+use Rattle.rdf_lex.specs.Scan.{between_step, blank_on, blank_from, scan_from, Next, at_end, at_bad, at_token, next_in, next_of, seen}
 use Rattle.rdf_lex.proofs.Cuts.{cut_at}
-use Rattle.rdf_lex.proofs.Languages.{heads}
+use Rattle.rdf_lex.proofs.Languages.{heads, and_true}
 use Rattle.rdf_lex.proofs.Recognised.{kind_from, to_kind, from_kind}
 use Rattle.rdf_lex.proofs.Theorem.{size, HasLongest, Longest, scan_longest}
 
--- white space and comments, as the scan passes them
-abbrev Within : Mode → Bool → List ℕ → List ℕ → Type 0
-Within m false cs rest = Blanks m cs rest
-Within m true cs rest = (note : List ℕ) × (behind : List ℕ) × (cs ≡ note ++ behind) × NonePass ends_line note × IsLineEnd behind × Blanks m behind rest
-
-record Passed (m : Mode) (inside : Bool) (cs : List ℕ) (n : ℕ) : Type 0 where
+-- characters in front that take the bytes from n to a place, and what comes behind them
+record Leads (Holds : List ℕ → Type 0) (cs : List ℕ) (n place : ℕ) : Type 0 where
   front : List ℕ
   rest : List ℕ
   parts : cs ≡ front ++ rest
-  bytes : size front ≡ n
-  within : Within m inside cs rest
+  bytes : n + size front ≡ place
+  holds : Holds rest
+
+one_more : (P Q : List ℕ → Type 0) (c : ℕ) (cs : List ℕ) (n place : ℕ) → ((rest : List ℕ) → Q rest → P rest) → Leads Q cs (n + len_utf8 c) place → Leads P (c ∷ cs) n place
+one_more P Q c cs n place f p = record {
+  front = c ∷ p.front;
+  rest = p.rest;
+  parts = ap (λ (v : List ℕ). c ∷ v) p.parts;
+  bytes = (let e = p.bytes in omega arith);
+  holds = f p.rest p.holds;
+}
+
+no_more : (P : List ℕ → Type 0) (cs : List ℕ) (n place : ℕ) → n ≡ place → P cs → Leads P cs n place
+no_more P cs n place e h = record { front = []; rest = cs; parts = refl; bytes = omega arith; holds = h }
+
+-- in a comment to the end of its line, and in one that ends with `*/`
+Noted : Mode → List ℕ → List ℕ → Type 0
+Noted m cs rest = (note : List ℕ) × (behind : List ℕ) × (cs ≡ note ++ behind) × NonePass ends_line note × IsLineEnd behind × Blanks m behind rest
+
+Ended : Mode → Option (List ℕ) → List ℕ → Type 0
+Ended m o rest = (behind : List ℕ) × (o ≡ Some behind) × Blanks m behind rest
+
+-- the comment ends, and white space goes on behind it, or it does not, and white space ended before it
+Blocked : Mode → Option (List ℕ) → ℕ → List ℕ → ℕ → ℕ → Type 0
+Blocked m o k cs n place = Leads (Ended m o) cs n place ⊎ ((o ≡ None) × (place ≡ k))
+
+-- white space and comments, as the scan passes them
+Passed : Mode → Blank → List ℕ → ℕ → ℕ → Type 0
+Passed m blank.Between cs n place = Leads (Blanks m cs) cs n place
+Passed m blank.Line cs n place = Leads (Noted m cs) cs n place
+Passed m (blank.Slash k) cs n place = Blocked m (behind_open (47 ∷ cs)) k cs n place
+Passed m (blank.Block k) cs n place = Blocked m (behind_block false cs) k cs n place
+Passed m (blank.Star k) cs n place = Blocked m (behind_block true cs) k cs n place
 
 is_true : (b : Bool) → not b ≡ false → b ≡ true
 is_true true e = refl
 is_true false e = absurd cc
 
-line_ended : (m : Mode) (inside : Bool) (c : ℕ) (cs rest : List ℕ) → (inside && not (ends_line c)) ≡ false → Blanks m (c ∷ cs) rest → Within m inside (c ∷ cs) rest
-line_ended m false c cs rest e h = h
-line_ended m true c cs rest e h = ([], c ∷ cs, refl, tt, is_true (ends_line c) e, h)
+noted : (m : Mode) (c : ℕ) (cs rest : List ℕ) → ends_line c ≡ false → Noted m cs rest → Noted m (c ∷ cs) rest
+unfolding Noted
+noted m c cs rest e (note, behind, p, none, line, h) = (c ∷ note, behind, ap (λ (v : List ℕ). c ∷ v) p, (e, none), line, h)
 
-noted : (m : Mode) (inside : Bool) (c : ℕ) (cs rest : List ℕ) → (inside && not (ends_line c)) ≡ true → Within m true cs rest → Within m inside (c ∷ cs) rest
-noted m false c cs rest e h = absurd cc
-noted m true c cs rest e (note, behind, p, none, line, h) = (c ∷ note, behind, ap (λ (v : List ℕ). c ∷ v) p, (no_end (ends_line c) e, none), line, h)
-  where
-    no_end : (b : Bool) → not b ≡ true → b ≡ false
-    no_end true e = absurd cc
-    no_end false e = refl
+line_ended : (m : Mode) (c : ℕ) (cs rest : List ℕ) → ends_line c ≡ true → Blanks m (c ∷ cs) rest → Noted m (c ∷ cs) rest
+unfolding Noted
+line_ended m c cs rest e h = ([], c ∷ cs, refl, tt, e, h)
 
-hash_begins : (m : Mode) (c : ℕ) (cs rest : List ℕ) → nat_eq c 35 ≡ true → Within m true cs rest → Blanks m (c ∷ cs) rest
+hash_begins : (m : Mode) (c : ℕ) (cs rest : List ℕ) → nat_eq c 35 ≡ true → Noted m cs rest → Blanks m (c ∷ cs) rest
+unfolding Noted
 hash_begins m c cs rest e (note, behind, p, none, line, h) = subst (λ (d : ℕ). Blanks m (d ∷ cs) rest) (sym (eqb-true c 35 e)) (comment note behind p none line h)
 
-one_more : (m : Mode) (inside next : Bool) (c : ℕ) (cs : List ℕ) → ((rest : List ℕ) → Within m next cs rest → Within m inside (c ∷ cs) rest)
-    → Passed m next cs (blank_from m cs next) → Passed m inside (c ∷ cs) (len_utf8 c + blank_from m cs next)
-one_more m inside next c cs f p = record {
-  front = c ∷ p.front;
-  rest = p.rest;
-  parts = ap (λ (v : List ℕ). c ∷ v) p.parts;
-  bytes = ap (λ (n : ℕ). len_utf8 c + n) p.bytes;
-  within = f p.rest p.within;
-}
+slashed : (m : Mode) (c : ℕ) (cs : List ℕ) → has_blocks m ≡ true → nat_eq c 47 ≡ true → behind_comment m (c ∷ cs) ≡ behind_open (47 ∷ cs)
+slashed m c cs e f = rw e (ap (λ (x : ℕ). behind_open (x ∷ cs)) (eqb-true c 47 f))
 
-pass_by : (m : Mode) (inside : Bool) (c : ℕ) (cs : List ℕ) (a b d : Bool) → (inside && not (ends_line c)) ≡ a → is_white m c ≡ b → nat_eq c 35 ≡ d
-    → ((next : Bool) → Passed m next cs (blank_from m cs next))
-    → Passed m inside (c ∷ cs) (blank_on (blank_from m cs) (cond a (Some true) (cond b (Some false) (cond d (Some true) None))) (len_utf8 c))
-pass_by m inside c cs true b d e f g ih = one_more m inside true c cs (λ rest h. noted m inside c cs rest e h) (ih true)
-pass_by m inside c cs false true d e f g ih = one_more m inside false c cs (λ rest h. line_ended m inside c cs rest e (white f h)) (ih false)
-pass_by m inside c cs false false true e f g ih = one_more m inside true c cs (λ rest h. line_ended m inside c cs rest e (hash_begins m c cs rest g h)) (ih true)
-pass_by m inside c cs false false false e f g ih = record {
-  front = [];
-  rest = c ∷ cs;
-  parts = refl;
-  bytes = refl;
-  within = line_ended m inside c cs (c ∷ cs) e (stops f g);
-}
+block_begins : (m : Mode) (c : ℕ) (cs rest : List ℕ) → has_blocks m ≡ true → nat_eq c 47 ≡ true → Ended m (behind_open (47 ∷ cs)) rest → Blanks m (c ∷ cs) rest
+unfolding Ended
+block_begins m c cs rest e f (behind, is, h) = block behind (slashed m c cs e f ∙ is) h
 
-passed : (m : Mode) (cs : List ℕ) (inside : Bool) → Passed m inside cs (blank_from m cs inside)
-passed m [] false = record { front = []; rest = []; parts = refl; bytes = refl; within = ends }
-passed m [] true = record { front = []; rest = []; parts = refl; bytes = refl; within = ([], [], refl, tt, tt, ends) }
-passed m (c ∷ cs) inside = pass_by m inside c cs (inside && not (ends_line c)) (is_white m c) (nat_eq c 35) refl refl refl (λ next. passed m cs next)
+open_none : (c : ℕ) (cs : List ℕ) → nat_eq c 47 ≡ false → behind_open (c ∷ cs) ≡ None
+open_none c [] e = refl
+open_none c (d ∷ cs) e = rw e refl
+
+comment_none : (m : Mode) (c : ℕ) (cs : List ℕ) (b : Bool) → has_blocks m ≡ b → (has_blocks m && nat_eq c 47) ≡ false → behind_comment m (c ∷ cs) ≡ None
+comment_none m c cs false e f = rw e refl
+comment_none m c cs true e f = rw e (open_none c cs (let g : nat_eq c 47 ≡ false = (ap (λ (b : Bool). b && nat_eq c 47) (sym e)) ∙ f in g))
+
+pub no_comment : (m : Mode) (c : ℕ) (cs : List ℕ) → nat_eq c 47 ≡ false → behind_comment m (c ∷ cs) ≡ None
+no_comment m c cs e = comment_none m c cs (has_blocks m) refl (both (has_blocks m))
+  where
+    both : (b : Bool) → (b && nat_eq c 47) ≡ false
+    both true = e
+    both false = refl
+
+-- what comes next is passed from each place
+Onward : Mode → List ℕ → ℕ → Type 0
+Onward m cs n = (b : Blank) → Passed m b cs n (blank_from m cs b n)
+
+pass_between : (m : Mode) (c : ℕ) (cs : List ℕ) (n : ℕ) (p q r : Bool) → is_white m c ≡ p → nat_eq c 35 ≡ q → (has_blocks m && nat_eq c 47) ≡ r
+    → Onward m cs (n + len_utf8 c)
+    → Leads (Blanks m (c ∷ cs)) (c ∷ cs) n (blank_on (λ next. blank_from m cs next (n + len_utf8 c)) (cond p (Some blank.Between) (cond q (Some blank.Line) (cond r (Some (blank.Slash n)) None))) n)
+unfolding Onward Passed Blocked
+pass_between m c cs n true q r e f g ih = one_more (Blanks m (c ∷ cs)) (Blanks m cs) c cs n _ (λ rest h. white e h) (ih blank.Between)
+pass_between m c cs n false true r e f g ih = one_more (Blanks m (c ∷ cs)) (Noted m cs) c cs n _ (λ rest h. hash_begins m c cs rest f h) (ih blank.Line)
+pass_between m c cs n false false true e f g ih = by (ih (blank.Slash n))
+  where
+    by : Blocked m (behind_open (47 ∷ cs)) n cs (n + len_utf8 c) (blank_from m cs (blank.Slash n) (n + len_utf8 c)) → Leads (Blanks m (c ∷ cs)) (c ∷ cs) n (blank_from m cs (blank.Slash n) (n + len_utf8 c))
+    by (inl l) = one_more (Blanks m (c ∷ cs)) (Ended m (behind_open (47 ∷ cs))) c cs n _ (λ rest h. block_begins m c cs rest (and_true (has_blocks m) (nat_eq c 47) g).0 (and_true (has_blocks m) (nat_eq c 47) g).1 h) l
+    by (inr (none, at)) = no_more (Blanks m (c ∷ cs)) (c ∷ cs) n _ (sym at) (stops e f (slashed m c cs (and_true (has_blocks m) (nat_eq c 47) g).0 (and_true (has_blocks m) (nat_eq c 47) g).1 ∙ none))
+pass_between m c cs n false false false e f g ih = no_more (Blanks m (c ∷ cs)) (c ∷ cs) n n refl (stops e f (comment_none m c cs (has_blocks m) refl g))
+
+pass_line : (m : Mode) (c : ℕ) (cs : List ℕ) (n : ℕ) (p : Bool) → ends_line c ≡ p → Onward m cs (n + len_utf8 c)
+    → Leads (Noted m (c ∷ cs)) (c ∷ cs) n (blank_on (λ next. blank_from m cs next (n + len_utf8 c)) (cond p (between_step m n c) (Some blank.Line)) n)
+unfolding Onward Passed
+pass_line m c cs n true e ih =
+    let l = pass_between m c cs n (is_white m c) (nat_eq c 35) (has_blocks m && nat_eq c 47) refl refl refl ih in
+    record { front = l.front; rest = l.rest; parts = l.parts; bytes = l.bytes; holds = line_ended m c cs l.rest e l.holds }
+pass_line m c cs n false e ih = one_more (Noted m (c ∷ cs)) (Noted m cs) c cs n _ (λ rest h. noted m c cs rest e h) (ih blank.Line)
+
+-- inside a comment
+block_more : (m : Mode) (o all : Option (List ℕ)) (k c : ℕ) (cs : List ℕ) (n place : ℕ) → all ≡ o → Blocked m o k cs (n + len_utf8 c) place → Blocked m all k (c ∷ cs) n place
+unfolding Blocked
+block_more m o all k c cs n place e (inl l) = inl (one_more (Ended m all) (Ended m o) c cs n place (λ rest h. subst (λ (v : Option (List ℕ)). Ended m v rest) (sym e) h) l)
+block_more m o all k c cs n place e (inr (none, at)) = inr (e ∙ none, at)
+
+pass_slash : (m : Mode) (k c : ℕ) (cs : List ℕ) (n : ℕ) (p : Bool) → nat_eq c 42 ≡ p → Onward m cs (n + len_utf8 c)
+    → Blocked m (behind_open (47 ∷ c ∷ cs)) k (c ∷ cs) n (blank_on (λ next. blank_from m cs next (n + len_utf8 c)) (cond p (Some (blank.Block k)) None) k)
+unfolding Onward Passed Blocked
+pass_slash m k c cs n true e ih = block_more m (behind_block false cs) (behind_open (47 ∷ c ∷ cs)) k c cs n _ (rw e refl) (ih (blank.Block k))
+pass_slash m k c cs n false e ih = not_ended
+  where
+    not_ended : Blocked m (behind_open (47 ∷ c ∷ cs)) k (c ∷ cs) n k
+    not_ended = inr (rw e refl, refl)
+
+pass_block : (m : Mode) (k c : ℕ) (cs : List ℕ) (n : ℕ) (p : Bool) → nat_eq c 42 ≡ p → Onward m cs (n + len_utf8 c)
+    → Blocked m (behind_block p cs) k (c ∷ cs) n (blank_on (λ next. blank_from m cs next (n + len_utf8 c)) (cond p (Some (blank.Star k)) (Some (blank.Block k))) k)
+unfolding Onward Passed
+pass_block m k c cs n true e ih = block_more m (behind_block true cs) (behind_block true cs) k c cs n _ refl (ih (blank.Star k))
+pass_block m k c cs n false e ih = block_more m (behind_block false cs) (behind_block false cs) k c cs n _ refl (ih (blank.Block k))
+
+block_over : (m : Mode) (k c : ℕ) (cs : List ℕ) (n place : ℕ) → Leads (Blanks m cs) cs (n + len_utf8 c) place → Blocked m (Some cs) k (c ∷ cs) n place
+unfolding Blocked Ended
+block_over m k c cs n place l = inl (one_more (Ended m (Some cs)) (Blanks m cs) c cs n place (λ rest h. (cs, refl, h)) l)
+
+pass_star : (m : Mode) (k c : ℕ) (cs : List ℕ) (n : ℕ) (p q : Bool) → nat_eq c 47 ≡ p → nat_eq c 42 ≡ q → Onward m cs (n + len_utf8 c)
+    → Blocked m (cond p (Some cs) (behind_block q cs)) k (c ∷ cs) n
+    (blank_on (λ next. blank_from m cs next (n + len_utf8 c)) (cond p (Some blank.Between) (cond q (Some (blank.Star k)) (Some (blank.Block k)))) k)
+unfolding Onward Passed
+pass_star m k c cs n true q e f ih = block_over m k c cs n _ (ih blank.Between)
+pass_star m k c cs n false true e f ih = block_more m (behind_block true cs) (behind_block true cs) k c cs n _ refl (ih (blank.Star k))
+pass_star m k c cs n false false e f ih = block_more m (behind_block false cs) (behind_block false cs) k c cs n _ refl (ih (blank.Block k))
+
+pass_end : (m : Mode) (n : ℕ) → Onward m [] n
+unfolding Onward Passed Blocked Noted
+pass_end m n blank.Between = no_more (Blanks m []) [] n n refl ends
+pass_end m n blank.Line = no_more (Noted m []) [] n n refl ([], [], refl, tt, tt, ends)
+pass_end m n (blank.Slash k) = inr (refl, refl)
+pass_end m n (blank.Block k) = inr (refl, refl)
+pass_end m n (blank.Star k) = inr (refl, refl)
+
+pass_by : (m : Mode) (c : ℕ) (cs : List ℕ) (n : ℕ) → Onward m cs (n + len_utf8 c) → Onward m (c ∷ cs) n
+unfolding Onward Passed
+pass_by m c cs n ih blank.Between = pass_between m c cs n (is_white m c) (nat_eq c 35) (has_blocks m && nat_eq c 47) refl refl refl ih
+pass_by m c cs n ih blank.Line = pass_line m c cs n (ends_line c) refl ih
+pass_by m c cs n ih (blank.Slash k) = pass_slash m k c cs n (nat_eq c 42) refl ih
+pass_by m c cs n ih (blank.Block k) = pass_block m k c cs n (nat_eq c 42) refl ih
+pass_by m c cs n ih (blank.Star k) = pass_star m k c cs n (nat_eq c 47) (nat_eq c 42) refl refl ih
+
+passed : (m : Mode) (cs : List ℕ) (n : ℕ) → Onward m cs n
+passed m [] n = pass_end m n
+passed m (c ∷ cs) n = pass_by m c cs n (passed m cs (n + len_utf8 c))
+
+passed_between : (m : Mode) (cs : List ℕ) → Leads (Blanks m cs) cs 0 (blank_from m cs blank.Between 0)
+unfolding Onward Passed
+passed_between m cs = passed m cs 0 blank.Between
 
 -- the place behind white space and comments
 abbrev pub start_of : Mode → List ℕ → ℕ → ℕ
-start_of m source at = at + blank_from m (chars (drop at source)) false
+start_of m source at = at + blank_from m (chars (drop at source)) blank.Between 0
 
 pub skipped : (m : Mode) (source : List ℕ) (at : ℕ) → IsUtf8 source → IsCharBoundary source at → IsSkipped m source at (start_of m source at)
 skipped m source at u b =
-    let p = passed m (chars (drop at source)) false in
+    let p = passed_between m (chars (drop at source)) in
     let cut = cut_at (drop at source) p.front p.rest (IsUtf8-drop source at u b) p.parts in
-    let n = p.bytes in
+    let n : size p.front ≡ blank_from m (chars (drop at source)) blank.Between 0 = (let e = p.bytes in omega arith) in
     let place : drop (size p.front) (drop at source) ≡ drop (start_of m source at) source = drop-drop (size p.front) at source ∙ ap (λ (i : ℕ). drop (at + i) source) n in
     let l = length-drop at source in
     let r = cut.room in
@@ -96,7 +197,7 @@ skipped m source at u b =
     record {
       onward = omega arith;
       cut = IsCharBoundary-from_drop source (start_of m source at) (omega arith) (subst IsUtf8 place cut.last_utf8);
-      blanks = subst (λ (rest : List ℕ). Blanks m (chars (drop at source)) rest) (sym cut.rest_is ∙ ap chars place) p.within;
+      blanks = subst (λ (rest : List ℕ). Blanks m (chars (drop at source)) rest) (sym cut.rest_is ∙ ap chars place) p.holds;
     }
 
 -- a longer piece takes more bytes

@@ -7,17 +7,18 @@ use Rattle.std.proofs.lemmas.Str.{IsUtf8-drop, IsCharBoundary-from_drop}
 use Rattle.rdf_lex.specs.declared.kinds.Kind.{Kind}
 use Rattle.rdf_lex.specs.declared.kinds.Kind.TheVariants as kinds
 use Rattle.rdf_lex.specs.declared.kinds.Mode.{Mode}
-use Rattle.rdf_lex.specs.declared.kinds.Mode.TheVariants.{NTriples, Turtle, Map}
+use Rattle.rdf_lex.specs.declared.kinds.Mode.TheVariants.{NTriples, Turtle, Map, Schema}
 use Rattle.rdf_lex.specs.declared.machine.State.{State}
 use Rattle.rdf_lex.specs.declared.machine.MarkPart.TheVariants as mark
 use Rattle.rdf_lex.specs.declared.machine.State.TheVariants.{Start, Mark}
-use Rattle.rdf_lex.specs.Characters.{digit, letter, letter_or_digit, hexadecimal, name_base, name_char, local_start, local_char, label_start, local_escaped, text_escaped, iri_char, short_char, long_char, line_end, turtle_mark, map_mark}
+use Rattle.rdf_lex.specs.Characters.{digit, letter, letter_or_digit, hexadecimal, name_base, name_char, local_start, local_char, label_start, local_escaped, text_escaped, iri_char, short_char, long_char, line_end, turtle_mark, brace, schema_mark, pattern_start, pattern_char, flag, any_char}
 use Rattle.rdf_lex.specs.Machine.{step_of, label_of}
 use Rattle.rdf_lex.specs.Phrases.{Spells}
 use Rattle.rdf_lex.specs.Spelling.{Spelling}
 use Rattle.rdf_lex.specs.Tokens.{Blanks, stops, is_white, IsLongest, IsFirst}
 use Rattle.rdf_lex.proofs.Cuts.{cut_at, size-length}
 use Rattle.rdf_lex.proofs.Languages.{heads, and_true}
+use Rattle.rdf_lex.proofs.Nexts.{no_comment}
 use Rattle.rdf_lex.proofs.Recognised.{kind_from, then_from, to_kind, from_kind}
 use Rattle.rdf_lex.proofs.Residuals.{every_state, every_state_is, is_kind, some_is_kind}
 use Rattle.rdf_lex.proofs.Theorem.{size}
@@ -95,21 +96,26 @@ abbrev stuck_behind : Mode → State → Bool
 stuck_behind m s = implies (is_kind kinds.Str (label_of m s)) (is_none (step_of s 64) && is_none (step_of s 94))
 
 stuck_ntriples : every_state (stuck_behind NTriples) ≡ true
-unfolding digit letter letter_or_digit hexadecimal name_base name_char local_start local_char label_start local_escaped text_escaped iri_char short_char long_char line_end turtle_mark map_mark implies
+unfolding digit letter letter_or_digit hexadecimal name_base name_char local_start local_char label_start local_escaped text_escaped iri_char short_char long_char line_end turtle_mark brace schema_mark pattern_start pattern_char flag any_char implies
 stuck_ntriples = refl
 
 stuck_turtle : every_state (stuck_behind Turtle) ≡ true
-unfolding digit letter letter_or_digit hexadecimal name_base name_char local_start local_char label_start local_escaped text_escaped iri_char short_char long_char line_end turtle_mark map_mark implies
+unfolding digit letter letter_or_digit hexadecimal name_base name_char local_start local_char label_start local_escaped text_escaped iri_char short_char long_char line_end turtle_mark brace schema_mark pattern_start pattern_char flag any_char implies
 stuck_turtle = refl
 
 stuck_map : every_state (stuck_behind Map) ≡ true
-unfolding digit letter letter_or_digit hexadecimal name_base name_char local_start local_char label_start local_escaped text_escaped iri_char short_char long_char line_end turtle_mark map_mark implies
+unfolding digit letter letter_or_digit hexadecimal name_base name_char local_start local_char label_start local_escaped text_escaped iri_char short_char long_char line_end turtle_mark brace schema_mark pattern_start pattern_char flag any_char implies
 stuck_map = refl
+
+stuck_schema : every_state (stuck_behind Schema) ≡ true
+unfolding digit letter letter_or_digit hexadecimal name_base name_char local_start local_char label_start local_escaped text_escaped iri_char short_char long_char line_end turtle_mark brace schema_mark pattern_start pattern_char flag any_char implies
+stuck_schema = refl
 
 all_stuck : (m : Mode) (s : State) → stuck_behind m s ≡ true
 all_stuck NTriples s = every_state_is (stuck_behind NTriples) stuck_ntriples s
 all_stuck Turtle s = every_state_is (stuck_behind Turtle) stuck_turtle s
 all_stuck Map s = every_state_is (stuck_behind Map) stuck_map s
+all_stuck Schema s = every_state_is (stuck_behind Schema) stuck_schema s
 
 implied : (a b : Bool) → a ≡ true → implies a b ≡ true → b ≡ true
 unfolding implies
@@ -134,16 +140,17 @@ str_over_caret m front rest h = let t = reached m kinds.Str front Start (to_kind
 
 -- `^^`
 carets_kind : (m : Mode) → kind_from m Start (94 ∷ 94 ∷ []) ≡ Some kinds.Punct
-unfolding digit letter letter_or_digit hexadecimal name_base name_char local_start local_char label_start local_escaped text_escaped iri_char short_char long_char line_end turtle_mark map_mark
+unfolding digit letter letter_or_digit hexadecimal name_base name_char local_start local_char label_start local_escaped text_escaped iri_char short_char long_char line_end turtle_mark brace schema_mark pattern_start pattern_char flag any_char
 carets_kind NTriples = refl
 carets_kind Turtle = refl
 carets_kind Map = refl
+carets_kind Schema = refl
 
 pub carets_spelled : (m : Mode) → Spells (Spelling m kinds.Punct) (94 ∷ 94 ∷ [])
 carets_spelled m = from_kind m kinds.Punct (94 ∷ 94 ∷ []) (carets_kind m)
 
 carets_stop : (rest : List ℕ) → (t : State) × (state_after Start (94 ∷ 94 ∷ []) ≡ Some t) × (step_of t 60 ≡ None)
-unfolding digit letter letter_or_digit hexadecimal name_base name_char local_start local_char label_start local_escaped text_escaped iri_char short_char long_char line_end turtle_mark map_mark
+unfolding digit letter letter_or_digit hexadecimal name_base name_char local_start local_char label_start local_escaped text_escaped iri_char short_char long_char line_end turtle_mark brace schema_mark pattern_start pattern_char flag any_char
 carets_stop rest = (Mark mark.Carets, refl, refl)
 
 pub carets_over : (m : Mode) (rest : List ℕ) → IsOver m (94 ∷ 94 ∷ []) (60 ∷ rest)
@@ -155,12 +162,12 @@ pub record StandsHere (m : Mode) (source : List ℕ) (place : ℕ) (k : Kind) (f
   pub cut : IsCharBoundary source (place + length (encode_utf8_all front))
   pub behind : chars (drop (place + length (encode_utf8_all front)) source) ≡ rest
 
-blanks_stop : (m : Mode) (cs : List ℕ) (c : ℕ) (ds : List ℕ) → cs ≡ c ∷ ds → is_white m c ≡ false → nat_eq c 35 ≡ false → Blanks m cs cs
-blanks_stop m cs c ds e f g = subst (λ (v : List ℕ). Blanks m v v) (sym e) (stops f g)
+blanks_stop : (m : Mode) (cs : List ℕ) (c : ℕ) (ds : List ℕ) → cs ≡ c ∷ ds → is_white m c ≡ false → nat_eq c 35 ≡ false → nat_eq c 47 ≡ false → Blanks m cs cs
+blanks_stop m cs c ds e f g h = subst (λ (v : List ℕ). Blanks m v v) (sym e) (stops f g (no_comment m c ds h))
 
 pub stands_here : (m : Mode) (source : List ℕ) (place : ℕ) (k : Kind) (c : ℕ) (front rest : List ℕ) → IsUtf8 source → IsCharBoundary source place → chars (drop place source) ≡ (c ∷ front) ++ rest
-    → is_white m c ≡ false → nat_eq c 35 ≡ false → Spells (Spelling m k) (c ∷ front) → IsOver m (c ∷ front) rest → StandsHere m source place k (c ∷ front) rest
-stands_here m source place k c front rest u b e f g h over =
+    → is_white m c ≡ false → nat_eq c 35 ≡ false → nat_eq c 47 ≡ false → Spells (Spelling m k) (c ∷ front) → IsOver m (c ∷ front) rest → StandsHere m source place k (c ∷ front) rest
+stands_here m source place k c front rest u b e f g slash h over =
     let all = c ∷ front in
     let cut = cut_at (drop place source) all rest (IsUtf8-drop source place u b) e in
     let n : size all ≡ length (encode_utf8_all all) = sym (size-length all) in
@@ -173,7 +180,7 @@ stands_here m source place k c front rest u b e f g h over =
     let end = IsCharBoundary-from_drop source (place + length (encode_utf8_all all)) (omega arith) (subst IsUtf8 on cut.last_utf8) in
     record {
       first = record {
-        skipped = record { onward = omega arith; cut = b; blanks = blanks_stop m (chars (drop place source)) c (front ++ rest) e f g };
+        skipped = record { onward = omega arith; cut = b; blanks = blanks_stop m (chars (drop place source)) c (front ++ rest) e f g slash };
         longest = subst (λ (v : List ℕ). IsLongest m (chars (drop place source)) k v) text
             (record { rest = rest; parts = e; spelled = h; longest = λ j piece behind p s. over j piece behind (sym e ∙ p) s });
         lent = sym taken;

@@ -5,7 +5,7 @@ use Rattle.std.proofs.lemmas.Bool.{eqb-true, eq-eqb}
 use Rattle.rdf_lex.specs.declared.kinds.Kind.{Kind}
 use Rattle.rdf_lex.specs.declared.kinds.Kind.TheVariants as kinds
 use Rattle.rdf_lex.specs.declared.kinds.Mode.{Mode}
-use Rattle.rdf_lex.specs.declared.kinds.Mode.TheVariants.{NTriples, Turtle, Map}
+use Rattle.rdf_lex.specs.declared.kinds.Mode.TheVariants.{NTriples, Turtle, Map, Schema}
 use Rattle.rdf_lex.specs.declared.machine.Left.{Left}
 use Rattle.rdf_lex.specs.declared.machine.Left.TheVariants as left
 use Rattle.rdf_lex.specs.declared.machine.Quote.{Quote}
@@ -26,9 +26,11 @@ use Rattle.rdf_lex.specs.declared.machine.LabelPart.{LabelPart}
 use Rattle.rdf_lex.specs.declared.machine.LabelPart.TheVariants as label
 use Rattle.rdf_lex.specs.declared.machine.MarkPart.{MarkPart}
 use Rattle.rdf_lex.specs.declared.machine.MarkPart.TheVariants as mark
+use Rattle.rdf_lex.specs.declared.machine.PatternPart.{PatternPart}
+use Rattle.rdf_lex.specs.declared.machine.PatternPart.TheVariants as pattern
 use Rattle.rdf_lex.specs.declared.machine.State.{State}
-use Rattle.rdf_lex.specs.declared.machine.State.TheVariants.{Start, Iri, Text, Number, Name, Tag, Label, Mark, Line}
-use Rattle.rdf_lex.specs.Characters.{digit, letter, letter_or_digit, hexadecimal, name_base, name_char, local_start, local_char, label_start, local_escaped, text_escaped, iri_char, short_char, long_char, line_end, turtle_mark, map_mark}
+use Rattle.rdf_lex.specs.declared.machine.State.TheVariants.{Start, Iri, Text, Number, Name, Tag, Label, Mark, Line, Pattern}
+use Rattle.rdf_lex.specs.Characters.{digit, letter, letter_or_digit, hexadecimal, name_base, name_char, local_start, local_char, label_start, local_escaped, text_escaped, iri_char, short_char, long_char, line_end, turtle_mark, brace, schema_mark, pattern_start, pattern_char, flag, any_char}
 use Rattle.rdf_lex.specs.Machine.{Rows, rows_of, step_of, label_of, mark_of}
 use Rattle.rdf_lex.specs.Phrases.{Phrase, nothing}
 use Rattle.rdf_lex.specs.Spelling.{Spelling}
@@ -118,9 +120,18 @@ label_way label.ColonsDot = 58 ∷ 58 ∷ 46 ∷ []
 abbrev mark_way : MarkPart → List ℕ
 mark_way mark.Comma = 44 ∷ []
 mark_way mark.Turtle = 40 ∷ []
-mark_way mark.Map = 123 ∷ []
+mark_way mark.Brace = 123 ∷ []
+mark_way mark.Exclamation = 33 ∷ []
+mark_way mark.Schema = 42 ∷ []
+mark_way mark.Slashes = 47 ∷ 47 ∷ []
 mark_way mark.Caret = 94 ∷ []
 mark_way mark.Carets = 94 ∷ 94 ∷ []
+
+abbrev pattern_way : PatternPart → List ℕ
+pattern_way pattern.Slash = []
+pattern_way pattern.Body = 65 ∷ []
+pattern_way pattern.Escape = 92 ∷ []
+pattern_way pattern.Flags = 65 ∷ 47 ∷ []
 
 abbrev pub way : State → List ℕ
 way Start = []
@@ -133,6 +144,7 @@ way (Tag part) = 64 ∷ tag_way part
 way (Label part) = 95 ∷ label_way part
 way (Mark part) = mark_way part
 way Line = 10 ∷ []
+way (Pattern part) = 47 ∷ pattern_way part
 
 -- what is left of a kind's phrase in a state
 abbrev pub residual : Mode → State → Kind → Phrase
@@ -143,30 +155,32 @@ residual_on m None k = nothing
 residual_on m (Some s) k = residual m s k
 
 abbrev pub every_kind : (Kind → Bool) → Bool
-every_kind p = p kinds.IriRef && (p kinds.PnameNs && (p kinds.PnameLn && (p kinds.BlankLabel && (p kinds.LangTag && (p kinds.AtName && (p kinds.Str && (p kinds.Integer && (p kinds.Decimal && (p kinds.Double && (p kinds.Word && (p kinds.Punct && p kinds.Line)))))))))))
+every_kind p = p kinds.IriRef && (p kinds.PnameNs && (p kinds.PnameLn && (p kinds.BlankLabel && (p kinds.LangTag && (p kinds.AtName && (p kinds.Str && (p kinds.Integer && (p kinds.Decimal && (p kinds.Double && (p kinds.Word && (p kinds.Punct && (p kinds.Line && p kinds.Pattern))))))))))))
 
 pub every_kind_is : (p : Kind → Bool) → every_kind p ≡ true → (v : Kind) → p v ≡ true
-every_kind_is p e kinds.IriRef = (and_true (p kinds.IriRef) (p kinds.PnameNs && (p kinds.PnameLn && (p kinds.BlankLabel && (p kinds.LangTag && (p kinds.AtName && (p kinds.Str && (p kinds.Integer && (p kinds.Decimal && (p kinds.Double && (p kinds.Word && (p kinds.Punct && p kinds.Line))))))))))) e).0
-every_kind_is p e kinds.PnameNs = let e1 = (and_true (p kinds.IriRef) (p kinds.PnameNs && (p kinds.PnameLn && (p kinds.BlankLabel && (p kinds.LangTag && (p kinds.AtName && (p kinds.Str && (p kinds.Integer && (p kinds.Decimal && (p kinds.Double && (p kinds.Word && (p kinds.Punct && p kinds.Line))))))))))) e).1 in (and_true (p kinds.PnameNs) (p kinds.PnameLn && (p kinds.BlankLabel && (p kinds.LangTag && (p kinds.AtName && (p kinds.Str && (p kinds.Integer && (p kinds.Decimal && (p kinds.Double && (p kinds.Word && (p kinds.Punct && p kinds.Line)))))))))) e1).0
-every_kind_is p e kinds.PnameLn = let e1 = (and_true (p kinds.IriRef) (p kinds.PnameNs && (p kinds.PnameLn && (p kinds.BlankLabel && (p kinds.LangTag && (p kinds.AtName && (p kinds.Str && (p kinds.Integer && (p kinds.Decimal && (p kinds.Double && (p kinds.Word && (p kinds.Punct && p kinds.Line))))))))))) e).1 in let e2 = (and_true (p kinds.PnameNs) (p kinds.PnameLn && (p kinds.BlankLabel && (p kinds.LangTag && (p kinds.AtName && (p kinds.Str && (p kinds.Integer && (p kinds.Decimal && (p kinds.Double && (p kinds.Word && (p kinds.Punct && p kinds.Line)))))))))) e1).1 in (and_true (p kinds.PnameLn) (p kinds.BlankLabel && (p kinds.LangTag && (p kinds.AtName && (p kinds.Str && (p kinds.Integer && (p kinds.Decimal && (p kinds.Double && (p kinds.Word && (p kinds.Punct && p kinds.Line))))))))) e2).0
-every_kind_is p e kinds.BlankLabel = let e1 = (and_true (p kinds.IriRef) (p kinds.PnameNs && (p kinds.PnameLn && (p kinds.BlankLabel && (p kinds.LangTag && (p kinds.AtName && (p kinds.Str && (p kinds.Integer && (p kinds.Decimal && (p kinds.Double && (p kinds.Word && (p kinds.Punct && p kinds.Line))))))))))) e).1 in let e2 = (and_true (p kinds.PnameNs) (p kinds.PnameLn && (p kinds.BlankLabel && (p kinds.LangTag && (p kinds.AtName && (p kinds.Str && (p kinds.Integer && (p kinds.Decimal && (p kinds.Double && (p kinds.Word && (p kinds.Punct && p kinds.Line)))))))))) e1).1 in let e3 = (and_true (p kinds.PnameLn) (p kinds.BlankLabel && (p kinds.LangTag && (p kinds.AtName && (p kinds.Str && (p kinds.Integer && (p kinds.Decimal && (p kinds.Double && (p kinds.Word && (p kinds.Punct && p kinds.Line))))))))) e2).1 in (and_true (p kinds.BlankLabel) (p kinds.LangTag && (p kinds.AtName && (p kinds.Str && (p kinds.Integer && (p kinds.Decimal && (p kinds.Double && (p kinds.Word && (p kinds.Punct && p kinds.Line)))))))) e3).0
-every_kind_is p e kinds.LangTag = let e1 = (and_true (p kinds.IriRef) (p kinds.PnameNs && (p kinds.PnameLn && (p kinds.BlankLabel && (p kinds.LangTag && (p kinds.AtName && (p kinds.Str && (p kinds.Integer && (p kinds.Decimal && (p kinds.Double && (p kinds.Word && (p kinds.Punct && p kinds.Line))))))))))) e).1 in let e2 = (and_true (p kinds.PnameNs) (p kinds.PnameLn && (p kinds.BlankLabel && (p kinds.LangTag && (p kinds.AtName && (p kinds.Str && (p kinds.Integer && (p kinds.Decimal && (p kinds.Double && (p kinds.Word && (p kinds.Punct && p kinds.Line)))))))))) e1).1 in let e3 = (and_true (p kinds.PnameLn) (p kinds.BlankLabel && (p kinds.LangTag && (p kinds.AtName && (p kinds.Str && (p kinds.Integer && (p kinds.Decimal && (p kinds.Double && (p kinds.Word && (p kinds.Punct && p kinds.Line))))))))) e2).1 in let e4 = (and_true (p kinds.BlankLabel) (p kinds.LangTag && (p kinds.AtName && (p kinds.Str && (p kinds.Integer && (p kinds.Decimal && (p kinds.Double && (p kinds.Word && (p kinds.Punct && p kinds.Line)))))))) e3).1 in (and_true (p kinds.LangTag) (p kinds.AtName && (p kinds.Str && (p kinds.Integer && (p kinds.Decimal && (p kinds.Double && (p kinds.Word && (p kinds.Punct && p kinds.Line))))))) e4).0
-every_kind_is p e kinds.AtName = let e1 = (and_true (p kinds.IriRef) (p kinds.PnameNs && (p kinds.PnameLn && (p kinds.BlankLabel && (p kinds.LangTag && (p kinds.AtName && (p kinds.Str && (p kinds.Integer && (p kinds.Decimal && (p kinds.Double && (p kinds.Word && (p kinds.Punct && p kinds.Line))))))))))) e).1 in let e2 = (and_true (p kinds.PnameNs) (p kinds.PnameLn && (p kinds.BlankLabel && (p kinds.LangTag && (p kinds.AtName && (p kinds.Str && (p kinds.Integer && (p kinds.Decimal && (p kinds.Double && (p kinds.Word && (p kinds.Punct && p kinds.Line)))))))))) e1).1 in let e3 = (and_true (p kinds.PnameLn) (p kinds.BlankLabel && (p kinds.LangTag && (p kinds.AtName && (p kinds.Str && (p kinds.Integer && (p kinds.Decimal && (p kinds.Double && (p kinds.Word && (p kinds.Punct && p kinds.Line))))))))) e2).1 in let e4 = (and_true (p kinds.BlankLabel) (p kinds.LangTag && (p kinds.AtName && (p kinds.Str && (p kinds.Integer && (p kinds.Decimal && (p kinds.Double && (p kinds.Word && (p kinds.Punct && p kinds.Line)))))))) e3).1 in let e5 = (and_true (p kinds.LangTag) (p kinds.AtName && (p kinds.Str && (p kinds.Integer && (p kinds.Decimal && (p kinds.Double && (p kinds.Word && (p kinds.Punct && p kinds.Line))))))) e4).1 in (and_true (p kinds.AtName) (p kinds.Str && (p kinds.Integer && (p kinds.Decimal && (p kinds.Double && (p kinds.Word && (p kinds.Punct && p kinds.Line)))))) e5).0
-every_kind_is p e kinds.Str = let e1 = (and_true (p kinds.IriRef) (p kinds.PnameNs && (p kinds.PnameLn && (p kinds.BlankLabel && (p kinds.LangTag && (p kinds.AtName && (p kinds.Str && (p kinds.Integer && (p kinds.Decimal && (p kinds.Double && (p kinds.Word && (p kinds.Punct && p kinds.Line))))))))))) e).1 in let e2 = (and_true (p kinds.PnameNs) (p kinds.PnameLn && (p kinds.BlankLabel && (p kinds.LangTag && (p kinds.AtName && (p kinds.Str && (p kinds.Integer && (p kinds.Decimal && (p kinds.Double && (p kinds.Word && (p kinds.Punct && p kinds.Line)))))))))) e1).1 in let e3 = (and_true (p kinds.PnameLn) (p kinds.BlankLabel && (p kinds.LangTag && (p kinds.AtName && (p kinds.Str && (p kinds.Integer && (p kinds.Decimal && (p kinds.Double && (p kinds.Word && (p kinds.Punct && p kinds.Line))))))))) e2).1 in let e4 = (and_true (p kinds.BlankLabel) (p kinds.LangTag && (p kinds.AtName && (p kinds.Str && (p kinds.Integer && (p kinds.Decimal && (p kinds.Double && (p kinds.Word && (p kinds.Punct && p kinds.Line)))))))) e3).1 in let e5 = (and_true (p kinds.LangTag) (p kinds.AtName && (p kinds.Str && (p kinds.Integer && (p kinds.Decimal && (p kinds.Double && (p kinds.Word && (p kinds.Punct && p kinds.Line))))))) e4).1 in let e6 = (and_true (p kinds.AtName) (p kinds.Str && (p kinds.Integer && (p kinds.Decimal && (p kinds.Double && (p kinds.Word && (p kinds.Punct && p kinds.Line)))))) e5).1 in (and_true (p kinds.Str) (p kinds.Integer && (p kinds.Decimal && (p kinds.Double && (p kinds.Word && (p kinds.Punct && p kinds.Line))))) e6).0
-every_kind_is p e kinds.Integer = let e1 = (and_true (p kinds.IriRef) (p kinds.PnameNs && (p kinds.PnameLn && (p kinds.BlankLabel && (p kinds.LangTag && (p kinds.AtName && (p kinds.Str && (p kinds.Integer && (p kinds.Decimal && (p kinds.Double && (p kinds.Word && (p kinds.Punct && p kinds.Line))))))))))) e).1 in let e2 = (and_true (p kinds.PnameNs) (p kinds.PnameLn && (p kinds.BlankLabel && (p kinds.LangTag && (p kinds.AtName && (p kinds.Str && (p kinds.Integer && (p kinds.Decimal && (p kinds.Double && (p kinds.Word && (p kinds.Punct && p kinds.Line)))))))))) e1).1 in let e3 = (and_true (p kinds.PnameLn) (p kinds.BlankLabel && (p kinds.LangTag && (p kinds.AtName && (p kinds.Str && (p kinds.Integer && (p kinds.Decimal && (p kinds.Double && (p kinds.Word && (p kinds.Punct && p kinds.Line))))))))) e2).1 in let e4 = (and_true (p kinds.BlankLabel) (p kinds.LangTag && (p kinds.AtName && (p kinds.Str && (p kinds.Integer && (p kinds.Decimal && (p kinds.Double && (p kinds.Word && (p kinds.Punct && p kinds.Line)))))))) e3).1 in let e5 = (and_true (p kinds.LangTag) (p kinds.AtName && (p kinds.Str && (p kinds.Integer && (p kinds.Decimal && (p kinds.Double && (p kinds.Word && (p kinds.Punct && p kinds.Line))))))) e4).1 in let e6 = (and_true (p kinds.AtName) (p kinds.Str && (p kinds.Integer && (p kinds.Decimal && (p kinds.Double && (p kinds.Word && (p kinds.Punct && p kinds.Line)))))) e5).1 in let e7 = (and_true (p kinds.Str) (p kinds.Integer && (p kinds.Decimal && (p kinds.Double && (p kinds.Word && (p kinds.Punct && p kinds.Line))))) e6).1 in (and_true (p kinds.Integer) (p kinds.Decimal && (p kinds.Double && (p kinds.Word && (p kinds.Punct && p kinds.Line)))) e7).0
-every_kind_is p e kinds.Decimal = let e1 = (and_true (p kinds.IriRef) (p kinds.PnameNs && (p kinds.PnameLn && (p kinds.BlankLabel && (p kinds.LangTag && (p kinds.AtName && (p kinds.Str && (p kinds.Integer && (p kinds.Decimal && (p kinds.Double && (p kinds.Word && (p kinds.Punct && p kinds.Line))))))))))) e).1 in let e2 = (and_true (p kinds.PnameNs) (p kinds.PnameLn && (p kinds.BlankLabel && (p kinds.LangTag && (p kinds.AtName && (p kinds.Str && (p kinds.Integer && (p kinds.Decimal && (p kinds.Double && (p kinds.Word && (p kinds.Punct && p kinds.Line)))))))))) e1).1 in let e3 = (and_true (p kinds.PnameLn) (p kinds.BlankLabel && (p kinds.LangTag && (p kinds.AtName && (p kinds.Str && (p kinds.Integer && (p kinds.Decimal && (p kinds.Double && (p kinds.Word && (p kinds.Punct && p kinds.Line))))))))) e2).1 in let e4 = (and_true (p kinds.BlankLabel) (p kinds.LangTag && (p kinds.AtName && (p kinds.Str && (p kinds.Integer && (p kinds.Decimal && (p kinds.Double && (p kinds.Word && (p kinds.Punct && p kinds.Line)))))))) e3).1 in let e5 = (and_true (p kinds.LangTag) (p kinds.AtName && (p kinds.Str && (p kinds.Integer && (p kinds.Decimal && (p kinds.Double && (p kinds.Word && (p kinds.Punct && p kinds.Line))))))) e4).1 in let e6 = (and_true (p kinds.AtName) (p kinds.Str && (p kinds.Integer && (p kinds.Decimal && (p kinds.Double && (p kinds.Word && (p kinds.Punct && p kinds.Line)))))) e5).1 in let e7 = (and_true (p kinds.Str) (p kinds.Integer && (p kinds.Decimal && (p kinds.Double && (p kinds.Word && (p kinds.Punct && p kinds.Line))))) e6).1 in let e8 = (and_true (p kinds.Integer) (p kinds.Decimal && (p kinds.Double && (p kinds.Word && (p kinds.Punct && p kinds.Line)))) e7).1 in (and_true (p kinds.Decimal) (p kinds.Double && (p kinds.Word && (p kinds.Punct && p kinds.Line))) e8).0
-every_kind_is p e kinds.Double = let e1 = (and_true (p kinds.IriRef) (p kinds.PnameNs && (p kinds.PnameLn && (p kinds.BlankLabel && (p kinds.LangTag && (p kinds.AtName && (p kinds.Str && (p kinds.Integer && (p kinds.Decimal && (p kinds.Double && (p kinds.Word && (p kinds.Punct && p kinds.Line))))))))))) e).1 in let e2 = (and_true (p kinds.PnameNs) (p kinds.PnameLn && (p kinds.BlankLabel && (p kinds.LangTag && (p kinds.AtName && (p kinds.Str && (p kinds.Integer && (p kinds.Decimal && (p kinds.Double && (p kinds.Word && (p kinds.Punct && p kinds.Line)))))))))) e1).1 in let e3 = (and_true (p kinds.PnameLn) (p kinds.BlankLabel && (p kinds.LangTag && (p kinds.AtName && (p kinds.Str && (p kinds.Integer && (p kinds.Decimal && (p kinds.Double && (p kinds.Word && (p kinds.Punct && p kinds.Line))))))))) e2).1 in let e4 = (and_true (p kinds.BlankLabel) (p kinds.LangTag && (p kinds.AtName && (p kinds.Str && (p kinds.Integer && (p kinds.Decimal && (p kinds.Double && (p kinds.Word && (p kinds.Punct && p kinds.Line)))))))) e3).1 in let e5 = (and_true (p kinds.LangTag) (p kinds.AtName && (p kinds.Str && (p kinds.Integer && (p kinds.Decimal && (p kinds.Double && (p kinds.Word && (p kinds.Punct && p kinds.Line))))))) e4).1 in let e6 = (and_true (p kinds.AtName) (p kinds.Str && (p kinds.Integer && (p kinds.Decimal && (p kinds.Double && (p kinds.Word && (p kinds.Punct && p kinds.Line)))))) e5).1 in let e7 = (and_true (p kinds.Str) (p kinds.Integer && (p kinds.Decimal && (p kinds.Double && (p kinds.Word && (p kinds.Punct && p kinds.Line))))) e6).1 in let e8 = (and_true (p kinds.Integer) (p kinds.Decimal && (p kinds.Double && (p kinds.Word && (p kinds.Punct && p kinds.Line)))) e7).1 in let e9 = (and_true (p kinds.Decimal) (p kinds.Double && (p kinds.Word && (p kinds.Punct && p kinds.Line))) e8).1 in (and_true (p kinds.Double) (p kinds.Word && (p kinds.Punct && p kinds.Line)) e9).0
-every_kind_is p e kinds.Word = let e1 = (and_true (p kinds.IriRef) (p kinds.PnameNs && (p kinds.PnameLn && (p kinds.BlankLabel && (p kinds.LangTag && (p kinds.AtName && (p kinds.Str && (p kinds.Integer && (p kinds.Decimal && (p kinds.Double && (p kinds.Word && (p kinds.Punct && p kinds.Line))))))))))) e).1 in let e2 = (and_true (p kinds.PnameNs) (p kinds.PnameLn && (p kinds.BlankLabel && (p kinds.LangTag && (p kinds.AtName && (p kinds.Str && (p kinds.Integer && (p kinds.Decimal && (p kinds.Double && (p kinds.Word && (p kinds.Punct && p kinds.Line)))))))))) e1).1 in let e3 = (and_true (p kinds.PnameLn) (p kinds.BlankLabel && (p kinds.LangTag && (p kinds.AtName && (p kinds.Str && (p kinds.Integer && (p kinds.Decimal && (p kinds.Double && (p kinds.Word && (p kinds.Punct && p kinds.Line))))))))) e2).1 in let e4 = (and_true (p kinds.BlankLabel) (p kinds.LangTag && (p kinds.AtName && (p kinds.Str && (p kinds.Integer && (p kinds.Decimal && (p kinds.Double && (p kinds.Word && (p kinds.Punct && p kinds.Line)))))))) e3).1 in let e5 = (and_true (p kinds.LangTag) (p kinds.AtName && (p kinds.Str && (p kinds.Integer && (p kinds.Decimal && (p kinds.Double && (p kinds.Word && (p kinds.Punct && p kinds.Line))))))) e4).1 in let e6 = (and_true (p kinds.AtName) (p kinds.Str && (p kinds.Integer && (p kinds.Decimal && (p kinds.Double && (p kinds.Word && (p kinds.Punct && p kinds.Line)))))) e5).1 in let e7 = (and_true (p kinds.Str) (p kinds.Integer && (p kinds.Decimal && (p kinds.Double && (p kinds.Word && (p kinds.Punct && p kinds.Line))))) e6).1 in let e8 = (and_true (p kinds.Integer) (p kinds.Decimal && (p kinds.Double && (p kinds.Word && (p kinds.Punct && p kinds.Line)))) e7).1 in let e9 = (and_true (p kinds.Decimal) (p kinds.Double && (p kinds.Word && (p kinds.Punct && p kinds.Line))) e8).1 in let e10 = (and_true (p kinds.Double) (p kinds.Word && (p kinds.Punct && p kinds.Line)) e9).1 in (and_true (p kinds.Word) (p kinds.Punct && p kinds.Line) e10).0
-every_kind_is p e kinds.Punct = let e1 = (and_true (p kinds.IriRef) (p kinds.PnameNs && (p kinds.PnameLn && (p kinds.BlankLabel && (p kinds.LangTag && (p kinds.AtName && (p kinds.Str && (p kinds.Integer && (p kinds.Decimal && (p kinds.Double && (p kinds.Word && (p kinds.Punct && p kinds.Line))))))))))) e).1 in let e2 = (and_true (p kinds.PnameNs) (p kinds.PnameLn && (p kinds.BlankLabel && (p kinds.LangTag && (p kinds.AtName && (p kinds.Str && (p kinds.Integer && (p kinds.Decimal && (p kinds.Double && (p kinds.Word && (p kinds.Punct && p kinds.Line)))))))))) e1).1 in let e3 = (and_true (p kinds.PnameLn) (p kinds.BlankLabel && (p kinds.LangTag && (p kinds.AtName && (p kinds.Str && (p kinds.Integer && (p kinds.Decimal && (p kinds.Double && (p kinds.Word && (p kinds.Punct && p kinds.Line))))))))) e2).1 in let e4 = (and_true (p kinds.BlankLabel) (p kinds.LangTag && (p kinds.AtName && (p kinds.Str && (p kinds.Integer && (p kinds.Decimal && (p kinds.Double && (p kinds.Word && (p kinds.Punct && p kinds.Line)))))))) e3).1 in let e5 = (and_true (p kinds.LangTag) (p kinds.AtName && (p kinds.Str && (p kinds.Integer && (p kinds.Decimal && (p kinds.Double && (p kinds.Word && (p kinds.Punct && p kinds.Line))))))) e4).1 in let e6 = (and_true (p kinds.AtName) (p kinds.Str && (p kinds.Integer && (p kinds.Decimal && (p kinds.Double && (p kinds.Word && (p kinds.Punct && p kinds.Line)))))) e5).1 in let e7 = (and_true (p kinds.Str) (p kinds.Integer && (p kinds.Decimal && (p kinds.Double && (p kinds.Word && (p kinds.Punct && p kinds.Line))))) e6).1 in let e8 = (and_true (p kinds.Integer) (p kinds.Decimal && (p kinds.Double && (p kinds.Word && (p kinds.Punct && p kinds.Line)))) e7).1 in let e9 = (and_true (p kinds.Decimal) (p kinds.Double && (p kinds.Word && (p kinds.Punct && p kinds.Line))) e8).1 in let e10 = (and_true (p kinds.Double) (p kinds.Word && (p kinds.Punct && p kinds.Line)) e9).1 in let e11 = (and_true (p kinds.Word) (p kinds.Punct && p kinds.Line) e10).1 in (and_true (p kinds.Punct) (p kinds.Line) e11).0
-every_kind_is p e kinds.Line = let e1 = (and_true (p kinds.IriRef) (p kinds.PnameNs && (p kinds.PnameLn && (p kinds.BlankLabel && (p kinds.LangTag && (p kinds.AtName && (p kinds.Str && (p kinds.Integer && (p kinds.Decimal && (p kinds.Double && (p kinds.Word && (p kinds.Punct && p kinds.Line))))))))))) e).1 in let e2 = (and_true (p kinds.PnameNs) (p kinds.PnameLn && (p kinds.BlankLabel && (p kinds.LangTag && (p kinds.AtName && (p kinds.Str && (p kinds.Integer && (p kinds.Decimal && (p kinds.Double && (p kinds.Word && (p kinds.Punct && p kinds.Line)))))))))) e1).1 in let e3 = (and_true (p kinds.PnameLn) (p kinds.BlankLabel && (p kinds.LangTag && (p kinds.AtName && (p kinds.Str && (p kinds.Integer && (p kinds.Decimal && (p kinds.Double && (p kinds.Word && (p kinds.Punct && p kinds.Line))))))))) e2).1 in let e4 = (and_true (p kinds.BlankLabel) (p kinds.LangTag && (p kinds.AtName && (p kinds.Str && (p kinds.Integer && (p kinds.Decimal && (p kinds.Double && (p kinds.Word && (p kinds.Punct && p kinds.Line)))))))) e3).1 in let e5 = (and_true (p kinds.LangTag) (p kinds.AtName && (p kinds.Str && (p kinds.Integer && (p kinds.Decimal && (p kinds.Double && (p kinds.Word && (p kinds.Punct && p kinds.Line))))))) e4).1 in let e6 = (and_true (p kinds.AtName) (p kinds.Str && (p kinds.Integer && (p kinds.Decimal && (p kinds.Double && (p kinds.Word && (p kinds.Punct && p kinds.Line)))))) e5).1 in let e7 = (and_true (p kinds.Str) (p kinds.Integer && (p kinds.Decimal && (p kinds.Double && (p kinds.Word && (p kinds.Punct && p kinds.Line))))) e6).1 in let e8 = (and_true (p kinds.Integer) (p kinds.Decimal && (p kinds.Double && (p kinds.Word && (p kinds.Punct && p kinds.Line)))) e7).1 in let e9 = (and_true (p kinds.Decimal) (p kinds.Double && (p kinds.Word && (p kinds.Punct && p kinds.Line))) e8).1 in let e10 = (and_true (p kinds.Double) (p kinds.Word && (p kinds.Punct && p kinds.Line)) e9).1 in let e11 = (and_true (p kinds.Word) (p kinds.Punct && p kinds.Line) e10).1 in let e12 = (and_true (p kinds.Punct) (p kinds.Line) e11).1 in e12
+every_kind_is p e kinds.IriRef = (and_true (p kinds.IriRef) (p kinds.PnameNs && (p kinds.PnameLn && (p kinds.BlankLabel && (p kinds.LangTag && (p kinds.AtName && (p kinds.Str && (p kinds.Integer && (p kinds.Decimal && (p kinds.Double && (p kinds.Word && (p kinds.Punct && (p kinds.Line && p kinds.Pattern)))))))))))) e).0
+every_kind_is p e kinds.PnameNs = let e1 = (and_true (p kinds.IriRef) (p kinds.PnameNs && (p kinds.PnameLn && (p kinds.BlankLabel && (p kinds.LangTag && (p kinds.AtName && (p kinds.Str && (p kinds.Integer && (p kinds.Decimal && (p kinds.Double && (p kinds.Word && (p kinds.Punct && (p kinds.Line && p kinds.Pattern)))))))))))) e).1 in (and_true (p kinds.PnameNs) (p kinds.PnameLn && (p kinds.BlankLabel && (p kinds.LangTag && (p kinds.AtName && (p kinds.Str && (p kinds.Integer && (p kinds.Decimal && (p kinds.Double && (p kinds.Word && (p kinds.Punct && (p kinds.Line && p kinds.Pattern))))))))))) e1).0
+every_kind_is p e kinds.PnameLn = let e1 = (and_true (p kinds.IriRef) (p kinds.PnameNs && (p kinds.PnameLn && (p kinds.BlankLabel && (p kinds.LangTag && (p kinds.AtName && (p kinds.Str && (p kinds.Integer && (p kinds.Decimal && (p kinds.Double && (p kinds.Word && (p kinds.Punct && (p kinds.Line && p kinds.Pattern)))))))))))) e).1 in let e2 = (and_true (p kinds.PnameNs) (p kinds.PnameLn && (p kinds.BlankLabel && (p kinds.LangTag && (p kinds.AtName && (p kinds.Str && (p kinds.Integer && (p kinds.Decimal && (p kinds.Double && (p kinds.Word && (p kinds.Punct && (p kinds.Line && p kinds.Pattern))))))))))) e1).1 in (and_true (p kinds.PnameLn) (p kinds.BlankLabel && (p kinds.LangTag && (p kinds.AtName && (p kinds.Str && (p kinds.Integer && (p kinds.Decimal && (p kinds.Double && (p kinds.Word && (p kinds.Punct && (p kinds.Line && p kinds.Pattern)))))))))) e2).0
+every_kind_is p e kinds.BlankLabel = let e1 = (and_true (p kinds.IriRef) (p kinds.PnameNs && (p kinds.PnameLn && (p kinds.BlankLabel && (p kinds.LangTag && (p kinds.AtName && (p kinds.Str && (p kinds.Integer && (p kinds.Decimal && (p kinds.Double && (p kinds.Word && (p kinds.Punct && (p kinds.Line && p kinds.Pattern)))))))))))) e).1 in let e2 = (and_true (p kinds.PnameNs) (p kinds.PnameLn && (p kinds.BlankLabel && (p kinds.LangTag && (p kinds.AtName && (p kinds.Str && (p kinds.Integer && (p kinds.Decimal && (p kinds.Double && (p kinds.Word && (p kinds.Punct && (p kinds.Line && p kinds.Pattern))))))))))) e1).1 in let e3 = (and_true (p kinds.PnameLn) (p kinds.BlankLabel && (p kinds.LangTag && (p kinds.AtName && (p kinds.Str && (p kinds.Integer && (p kinds.Decimal && (p kinds.Double && (p kinds.Word && (p kinds.Punct && (p kinds.Line && p kinds.Pattern)))))))))) e2).1 in (and_true (p kinds.BlankLabel) (p kinds.LangTag && (p kinds.AtName && (p kinds.Str && (p kinds.Integer && (p kinds.Decimal && (p kinds.Double && (p kinds.Word && (p kinds.Punct && (p kinds.Line && p kinds.Pattern))))))))) e3).0
+every_kind_is p e kinds.LangTag = let e1 = (and_true (p kinds.IriRef) (p kinds.PnameNs && (p kinds.PnameLn && (p kinds.BlankLabel && (p kinds.LangTag && (p kinds.AtName && (p kinds.Str && (p kinds.Integer && (p kinds.Decimal && (p kinds.Double && (p kinds.Word && (p kinds.Punct && (p kinds.Line && p kinds.Pattern)))))))))))) e).1 in let e2 = (and_true (p kinds.PnameNs) (p kinds.PnameLn && (p kinds.BlankLabel && (p kinds.LangTag && (p kinds.AtName && (p kinds.Str && (p kinds.Integer && (p kinds.Decimal && (p kinds.Double && (p kinds.Word && (p kinds.Punct && (p kinds.Line && p kinds.Pattern))))))))))) e1).1 in let e3 = (and_true (p kinds.PnameLn) (p kinds.BlankLabel && (p kinds.LangTag && (p kinds.AtName && (p kinds.Str && (p kinds.Integer && (p kinds.Decimal && (p kinds.Double && (p kinds.Word && (p kinds.Punct && (p kinds.Line && p kinds.Pattern)))))))))) e2).1 in let e4 = (and_true (p kinds.BlankLabel) (p kinds.LangTag && (p kinds.AtName && (p kinds.Str && (p kinds.Integer && (p kinds.Decimal && (p kinds.Double && (p kinds.Word && (p kinds.Punct && (p kinds.Line && p kinds.Pattern))))))))) e3).1 in (and_true (p kinds.LangTag) (p kinds.AtName && (p kinds.Str && (p kinds.Integer && (p kinds.Decimal && (p kinds.Double && (p kinds.Word && (p kinds.Punct && (p kinds.Line && p kinds.Pattern)))))))) e4).0
+every_kind_is p e kinds.AtName = let e1 = (and_true (p kinds.IriRef) (p kinds.PnameNs && (p kinds.PnameLn && (p kinds.BlankLabel && (p kinds.LangTag && (p kinds.AtName && (p kinds.Str && (p kinds.Integer && (p kinds.Decimal && (p kinds.Double && (p kinds.Word && (p kinds.Punct && (p kinds.Line && p kinds.Pattern)))))))))))) e).1 in let e2 = (and_true (p kinds.PnameNs) (p kinds.PnameLn && (p kinds.BlankLabel && (p kinds.LangTag && (p kinds.AtName && (p kinds.Str && (p kinds.Integer && (p kinds.Decimal && (p kinds.Double && (p kinds.Word && (p kinds.Punct && (p kinds.Line && p kinds.Pattern))))))))))) e1).1 in let e3 = (and_true (p kinds.PnameLn) (p kinds.BlankLabel && (p kinds.LangTag && (p kinds.AtName && (p kinds.Str && (p kinds.Integer && (p kinds.Decimal && (p kinds.Double && (p kinds.Word && (p kinds.Punct && (p kinds.Line && p kinds.Pattern)))))))))) e2).1 in let e4 = (and_true (p kinds.BlankLabel) (p kinds.LangTag && (p kinds.AtName && (p kinds.Str && (p kinds.Integer && (p kinds.Decimal && (p kinds.Double && (p kinds.Word && (p kinds.Punct && (p kinds.Line && p kinds.Pattern))))))))) e3).1 in let e5 = (and_true (p kinds.LangTag) (p kinds.AtName && (p kinds.Str && (p kinds.Integer && (p kinds.Decimal && (p kinds.Double && (p kinds.Word && (p kinds.Punct && (p kinds.Line && p kinds.Pattern)))))))) e4).1 in (and_true (p kinds.AtName) (p kinds.Str && (p kinds.Integer && (p kinds.Decimal && (p kinds.Double && (p kinds.Word && (p kinds.Punct && (p kinds.Line && p kinds.Pattern))))))) e5).0
+every_kind_is p e kinds.Str = let e1 = (and_true (p kinds.IriRef) (p kinds.PnameNs && (p kinds.PnameLn && (p kinds.BlankLabel && (p kinds.LangTag && (p kinds.AtName && (p kinds.Str && (p kinds.Integer && (p kinds.Decimal && (p kinds.Double && (p kinds.Word && (p kinds.Punct && (p kinds.Line && p kinds.Pattern)))))))))))) e).1 in let e2 = (and_true (p kinds.PnameNs) (p kinds.PnameLn && (p kinds.BlankLabel && (p kinds.LangTag && (p kinds.AtName && (p kinds.Str && (p kinds.Integer && (p kinds.Decimal && (p kinds.Double && (p kinds.Word && (p kinds.Punct && (p kinds.Line && p kinds.Pattern))))))))))) e1).1 in let e3 = (and_true (p kinds.PnameLn) (p kinds.BlankLabel && (p kinds.LangTag && (p kinds.AtName && (p kinds.Str && (p kinds.Integer && (p kinds.Decimal && (p kinds.Double && (p kinds.Word && (p kinds.Punct && (p kinds.Line && p kinds.Pattern)))))))))) e2).1 in let e4 = (and_true (p kinds.BlankLabel) (p kinds.LangTag && (p kinds.AtName && (p kinds.Str && (p kinds.Integer && (p kinds.Decimal && (p kinds.Double && (p kinds.Word && (p kinds.Punct && (p kinds.Line && p kinds.Pattern))))))))) e3).1 in let e5 = (and_true (p kinds.LangTag) (p kinds.AtName && (p kinds.Str && (p kinds.Integer && (p kinds.Decimal && (p kinds.Double && (p kinds.Word && (p kinds.Punct && (p kinds.Line && p kinds.Pattern)))))))) e4).1 in let e6 = (and_true (p kinds.AtName) (p kinds.Str && (p kinds.Integer && (p kinds.Decimal && (p kinds.Double && (p kinds.Word && (p kinds.Punct && (p kinds.Line && p kinds.Pattern))))))) e5).1 in (and_true (p kinds.Str) (p kinds.Integer && (p kinds.Decimal && (p kinds.Double && (p kinds.Word && (p kinds.Punct && (p kinds.Line && p kinds.Pattern)))))) e6).0
+every_kind_is p e kinds.Integer = let e1 = (and_true (p kinds.IriRef) (p kinds.PnameNs && (p kinds.PnameLn && (p kinds.BlankLabel && (p kinds.LangTag && (p kinds.AtName && (p kinds.Str && (p kinds.Integer && (p kinds.Decimal && (p kinds.Double && (p kinds.Word && (p kinds.Punct && (p kinds.Line && p kinds.Pattern)))))))))))) e).1 in let e2 = (and_true (p kinds.PnameNs) (p kinds.PnameLn && (p kinds.BlankLabel && (p kinds.LangTag && (p kinds.AtName && (p kinds.Str && (p kinds.Integer && (p kinds.Decimal && (p kinds.Double && (p kinds.Word && (p kinds.Punct && (p kinds.Line && p kinds.Pattern))))))))))) e1).1 in let e3 = (and_true (p kinds.PnameLn) (p kinds.BlankLabel && (p kinds.LangTag && (p kinds.AtName && (p kinds.Str && (p kinds.Integer && (p kinds.Decimal && (p kinds.Double && (p kinds.Word && (p kinds.Punct && (p kinds.Line && p kinds.Pattern)))))))))) e2).1 in let e4 = (and_true (p kinds.BlankLabel) (p kinds.LangTag && (p kinds.AtName && (p kinds.Str && (p kinds.Integer && (p kinds.Decimal && (p kinds.Double && (p kinds.Word && (p kinds.Punct && (p kinds.Line && p kinds.Pattern))))))))) e3).1 in let e5 = (and_true (p kinds.LangTag) (p kinds.AtName && (p kinds.Str && (p kinds.Integer && (p kinds.Decimal && (p kinds.Double && (p kinds.Word && (p kinds.Punct && (p kinds.Line && p kinds.Pattern)))))))) e4).1 in let e6 = (and_true (p kinds.AtName) (p kinds.Str && (p kinds.Integer && (p kinds.Decimal && (p kinds.Double && (p kinds.Word && (p kinds.Punct && (p kinds.Line && p kinds.Pattern))))))) e5).1 in let e7 = (and_true (p kinds.Str) (p kinds.Integer && (p kinds.Decimal && (p kinds.Double && (p kinds.Word && (p kinds.Punct && (p kinds.Line && p kinds.Pattern)))))) e6).1 in (and_true (p kinds.Integer) (p kinds.Decimal && (p kinds.Double && (p kinds.Word && (p kinds.Punct && (p kinds.Line && p kinds.Pattern))))) e7).0
+every_kind_is p e kinds.Decimal = let e1 = (and_true (p kinds.IriRef) (p kinds.PnameNs && (p kinds.PnameLn && (p kinds.BlankLabel && (p kinds.LangTag && (p kinds.AtName && (p kinds.Str && (p kinds.Integer && (p kinds.Decimal && (p kinds.Double && (p kinds.Word && (p kinds.Punct && (p kinds.Line && p kinds.Pattern)))))))))))) e).1 in let e2 = (and_true (p kinds.PnameNs) (p kinds.PnameLn && (p kinds.BlankLabel && (p kinds.LangTag && (p kinds.AtName && (p kinds.Str && (p kinds.Integer && (p kinds.Decimal && (p kinds.Double && (p kinds.Word && (p kinds.Punct && (p kinds.Line && p kinds.Pattern))))))))))) e1).1 in let e3 = (and_true (p kinds.PnameLn) (p kinds.BlankLabel && (p kinds.LangTag && (p kinds.AtName && (p kinds.Str && (p kinds.Integer && (p kinds.Decimal && (p kinds.Double && (p kinds.Word && (p kinds.Punct && (p kinds.Line && p kinds.Pattern)))))))))) e2).1 in let e4 = (and_true (p kinds.BlankLabel) (p kinds.LangTag && (p kinds.AtName && (p kinds.Str && (p kinds.Integer && (p kinds.Decimal && (p kinds.Double && (p kinds.Word && (p kinds.Punct && (p kinds.Line && p kinds.Pattern))))))))) e3).1 in let e5 = (and_true (p kinds.LangTag) (p kinds.AtName && (p kinds.Str && (p kinds.Integer && (p kinds.Decimal && (p kinds.Double && (p kinds.Word && (p kinds.Punct && (p kinds.Line && p kinds.Pattern)))))))) e4).1 in let e6 = (and_true (p kinds.AtName) (p kinds.Str && (p kinds.Integer && (p kinds.Decimal && (p kinds.Double && (p kinds.Word && (p kinds.Punct && (p kinds.Line && p kinds.Pattern))))))) e5).1 in let e7 = (and_true (p kinds.Str) (p kinds.Integer && (p kinds.Decimal && (p kinds.Double && (p kinds.Word && (p kinds.Punct && (p kinds.Line && p kinds.Pattern)))))) e6).1 in let e8 = (and_true (p kinds.Integer) (p kinds.Decimal && (p kinds.Double && (p kinds.Word && (p kinds.Punct && (p kinds.Line && p kinds.Pattern))))) e7).1 in (and_true (p kinds.Decimal) (p kinds.Double && (p kinds.Word && (p kinds.Punct && (p kinds.Line && p kinds.Pattern)))) e8).0
+every_kind_is p e kinds.Double = let e1 = (and_true (p kinds.IriRef) (p kinds.PnameNs && (p kinds.PnameLn && (p kinds.BlankLabel && (p kinds.LangTag && (p kinds.AtName && (p kinds.Str && (p kinds.Integer && (p kinds.Decimal && (p kinds.Double && (p kinds.Word && (p kinds.Punct && (p kinds.Line && p kinds.Pattern)))))))))))) e).1 in let e2 = (and_true (p kinds.PnameNs) (p kinds.PnameLn && (p kinds.BlankLabel && (p kinds.LangTag && (p kinds.AtName && (p kinds.Str && (p kinds.Integer && (p kinds.Decimal && (p kinds.Double && (p kinds.Word && (p kinds.Punct && (p kinds.Line && p kinds.Pattern))))))))))) e1).1 in let e3 = (and_true (p kinds.PnameLn) (p kinds.BlankLabel && (p kinds.LangTag && (p kinds.AtName && (p kinds.Str && (p kinds.Integer && (p kinds.Decimal && (p kinds.Double && (p kinds.Word && (p kinds.Punct && (p kinds.Line && p kinds.Pattern)))))))))) e2).1 in let e4 = (and_true (p kinds.BlankLabel) (p kinds.LangTag && (p kinds.AtName && (p kinds.Str && (p kinds.Integer && (p kinds.Decimal && (p kinds.Double && (p kinds.Word && (p kinds.Punct && (p kinds.Line && p kinds.Pattern))))))))) e3).1 in let e5 = (and_true (p kinds.LangTag) (p kinds.AtName && (p kinds.Str && (p kinds.Integer && (p kinds.Decimal && (p kinds.Double && (p kinds.Word && (p kinds.Punct && (p kinds.Line && p kinds.Pattern)))))))) e4).1 in let e6 = (and_true (p kinds.AtName) (p kinds.Str && (p kinds.Integer && (p kinds.Decimal && (p kinds.Double && (p kinds.Word && (p kinds.Punct && (p kinds.Line && p kinds.Pattern))))))) e5).1 in let e7 = (and_true (p kinds.Str) (p kinds.Integer && (p kinds.Decimal && (p kinds.Double && (p kinds.Word && (p kinds.Punct && (p kinds.Line && p kinds.Pattern)))))) e6).1 in let e8 = (and_true (p kinds.Integer) (p kinds.Decimal && (p kinds.Double && (p kinds.Word && (p kinds.Punct && (p kinds.Line && p kinds.Pattern))))) e7).1 in let e9 = (and_true (p kinds.Decimal) (p kinds.Double && (p kinds.Word && (p kinds.Punct && (p kinds.Line && p kinds.Pattern)))) e8).1 in (and_true (p kinds.Double) (p kinds.Word && (p kinds.Punct && (p kinds.Line && p kinds.Pattern))) e9).0
+every_kind_is p e kinds.Word = let e1 = (and_true (p kinds.IriRef) (p kinds.PnameNs && (p kinds.PnameLn && (p kinds.BlankLabel && (p kinds.LangTag && (p kinds.AtName && (p kinds.Str && (p kinds.Integer && (p kinds.Decimal && (p kinds.Double && (p kinds.Word && (p kinds.Punct && (p kinds.Line && p kinds.Pattern)))))))))))) e).1 in let e2 = (and_true (p kinds.PnameNs) (p kinds.PnameLn && (p kinds.BlankLabel && (p kinds.LangTag && (p kinds.AtName && (p kinds.Str && (p kinds.Integer && (p kinds.Decimal && (p kinds.Double && (p kinds.Word && (p kinds.Punct && (p kinds.Line && p kinds.Pattern))))))))))) e1).1 in let e3 = (and_true (p kinds.PnameLn) (p kinds.BlankLabel && (p kinds.LangTag && (p kinds.AtName && (p kinds.Str && (p kinds.Integer && (p kinds.Decimal && (p kinds.Double && (p kinds.Word && (p kinds.Punct && (p kinds.Line && p kinds.Pattern)))))))))) e2).1 in let e4 = (and_true (p kinds.BlankLabel) (p kinds.LangTag && (p kinds.AtName && (p kinds.Str && (p kinds.Integer && (p kinds.Decimal && (p kinds.Double && (p kinds.Word && (p kinds.Punct && (p kinds.Line && p kinds.Pattern))))))))) e3).1 in let e5 = (and_true (p kinds.LangTag) (p kinds.AtName && (p kinds.Str && (p kinds.Integer && (p kinds.Decimal && (p kinds.Double && (p kinds.Word && (p kinds.Punct && (p kinds.Line && p kinds.Pattern)))))))) e4).1 in let e6 = (and_true (p kinds.AtName) (p kinds.Str && (p kinds.Integer && (p kinds.Decimal && (p kinds.Double && (p kinds.Word && (p kinds.Punct && (p kinds.Line && p kinds.Pattern))))))) e5).1 in let e7 = (and_true (p kinds.Str) (p kinds.Integer && (p kinds.Decimal && (p kinds.Double && (p kinds.Word && (p kinds.Punct && (p kinds.Line && p kinds.Pattern)))))) e6).1 in let e8 = (and_true (p kinds.Integer) (p kinds.Decimal && (p kinds.Double && (p kinds.Word && (p kinds.Punct && (p kinds.Line && p kinds.Pattern))))) e7).1 in let e9 = (and_true (p kinds.Decimal) (p kinds.Double && (p kinds.Word && (p kinds.Punct && (p kinds.Line && p kinds.Pattern)))) e8).1 in let e10 = (and_true (p kinds.Double) (p kinds.Word && (p kinds.Punct && (p kinds.Line && p kinds.Pattern))) e9).1 in (and_true (p kinds.Word) (p kinds.Punct && (p kinds.Line && p kinds.Pattern)) e10).0
+every_kind_is p e kinds.Punct = let e1 = (and_true (p kinds.IriRef) (p kinds.PnameNs && (p kinds.PnameLn && (p kinds.BlankLabel && (p kinds.LangTag && (p kinds.AtName && (p kinds.Str && (p kinds.Integer && (p kinds.Decimal && (p kinds.Double && (p kinds.Word && (p kinds.Punct && (p kinds.Line && p kinds.Pattern)))))))))))) e).1 in let e2 = (and_true (p kinds.PnameNs) (p kinds.PnameLn && (p kinds.BlankLabel && (p kinds.LangTag && (p kinds.AtName && (p kinds.Str && (p kinds.Integer && (p kinds.Decimal && (p kinds.Double && (p kinds.Word && (p kinds.Punct && (p kinds.Line && p kinds.Pattern))))))))))) e1).1 in let e3 = (and_true (p kinds.PnameLn) (p kinds.BlankLabel && (p kinds.LangTag && (p kinds.AtName && (p kinds.Str && (p kinds.Integer && (p kinds.Decimal && (p kinds.Double && (p kinds.Word && (p kinds.Punct && (p kinds.Line && p kinds.Pattern)))))))))) e2).1 in let e4 = (and_true (p kinds.BlankLabel) (p kinds.LangTag && (p kinds.AtName && (p kinds.Str && (p kinds.Integer && (p kinds.Decimal && (p kinds.Double && (p kinds.Word && (p kinds.Punct && (p kinds.Line && p kinds.Pattern))))))))) e3).1 in let e5 = (and_true (p kinds.LangTag) (p kinds.AtName && (p kinds.Str && (p kinds.Integer && (p kinds.Decimal && (p kinds.Double && (p kinds.Word && (p kinds.Punct && (p kinds.Line && p kinds.Pattern)))))))) e4).1 in let e6 = (and_true (p kinds.AtName) (p kinds.Str && (p kinds.Integer && (p kinds.Decimal && (p kinds.Double && (p kinds.Word && (p kinds.Punct && (p kinds.Line && p kinds.Pattern))))))) e5).1 in let e7 = (and_true (p kinds.Str) (p kinds.Integer && (p kinds.Decimal && (p kinds.Double && (p kinds.Word && (p kinds.Punct && (p kinds.Line && p kinds.Pattern)))))) e6).1 in let e8 = (and_true (p kinds.Integer) (p kinds.Decimal && (p kinds.Double && (p kinds.Word && (p kinds.Punct && (p kinds.Line && p kinds.Pattern))))) e7).1 in let e9 = (and_true (p kinds.Decimal) (p kinds.Double && (p kinds.Word && (p kinds.Punct && (p kinds.Line && p kinds.Pattern)))) e8).1 in let e10 = (and_true (p kinds.Double) (p kinds.Word && (p kinds.Punct && (p kinds.Line && p kinds.Pattern))) e9).1 in let e11 = (and_true (p kinds.Word) (p kinds.Punct && (p kinds.Line && p kinds.Pattern)) e10).1 in (and_true (p kinds.Punct) (p kinds.Line && p kinds.Pattern) e11).0
+every_kind_is p e kinds.Line = let e1 = (and_true (p kinds.IriRef) (p kinds.PnameNs && (p kinds.PnameLn && (p kinds.BlankLabel && (p kinds.LangTag && (p kinds.AtName && (p kinds.Str && (p kinds.Integer && (p kinds.Decimal && (p kinds.Double && (p kinds.Word && (p kinds.Punct && (p kinds.Line && p kinds.Pattern)))))))))))) e).1 in let e2 = (and_true (p kinds.PnameNs) (p kinds.PnameLn && (p kinds.BlankLabel && (p kinds.LangTag && (p kinds.AtName && (p kinds.Str && (p kinds.Integer && (p kinds.Decimal && (p kinds.Double && (p kinds.Word && (p kinds.Punct && (p kinds.Line && p kinds.Pattern))))))))))) e1).1 in let e3 = (and_true (p kinds.PnameLn) (p kinds.BlankLabel && (p kinds.LangTag && (p kinds.AtName && (p kinds.Str && (p kinds.Integer && (p kinds.Decimal && (p kinds.Double && (p kinds.Word && (p kinds.Punct && (p kinds.Line && p kinds.Pattern)))))))))) e2).1 in let e4 = (and_true (p kinds.BlankLabel) (p kinds.LangTag && (p kinds.AtName && (p kinds.Str && (p kinds.Integer && (p kinds.Decimal && (p kinds.Double && (p kinds.Word && (p kinds.Punct && (p kinds.Line && p kinds.Pattern))))))))) e3).1 in let e5 = (and_true (p kinds.LangTag) (p kinds.AtName && (p kinds.Str && (p kinds.Integer && (p kinds.Decimal && (p kinds.Double && (p kinds.Word && (p kinds.Punct && (p kinds.Line && p kinds.Pattern)))))))) e4).1 in let e6 = (and_true (p kinds.AtName) (p kinds.Str && (p kinds.Integer && (p kinds.Decimal && (p kinds.Double && (p kinds.Word && (p kinds.Punct && (p kinds.Line && p kinds.Pattern))))))) e5).1 in let e7 = (and_true (p kinds.Str) (p kinds.Integer && (p kinds.Decimal && (p kinds.Double && (p kinds.Word && (p kinds.Punct && (p kinds.Line && p kinds.Pattern)))))) e6).1 in let e8 = (and_true (p kinds.Integer) (p kinds.Decimal && (p kinds.Double && (p kinds.Word && (p kinds.Punct && (p kinds.Line && p kinds.Pattern))))) e7).1 in let e9 = (and_true (p kinds.Decimal) (p kinds.Double && (p kinds.Word && (p kinds.Punct && (p kinds.Line && p kinds.Pattern)))) e8).1 in let e10 = (and_true (p kinds.Double) (p kinds.Word && (p kinds.Punct && (p kinds.Line && p kinds.Pattern))) e9).1 in let e11 = (and_true (p kinds.Word) (p kinds.Punct && (p kinds.Line && p kinds.Pattern)) e10).1 in let e12 = (and_true (p kinds.Punct) (p kinds.Line && p kinds.Pattern) e11).1 in (and_true (p kinds.Line) (p kinds.Pattern) e12).0
+every_kind_is p e kinds.Pattern = let e1 = (and_true (p kinds.IriRef) (p kinds.PnameNs && (p kinds.PnameLn && (p kinds.BlankLabel && (p kinds.LangTag && (p kinds.AtName && (p kinds.Str && (p kinds.Integer && (p kinds.Decimal && (p kinds.Double && (p kinds.Word && (p kinds.Punct && (p kinds.Line && p kinds.Pattern)))))))))))) e).1 in let e2 = (and_true (p kinds.PnameNs) (p kinds.PnameLn && (p kinds.BlankLabel && (p kinds.LangTag && (p kinds.AtName && (p kinds.Str && (p kinds.Integer && (p kinds.Decimal && (p kinds.Double && (p kinds.Word && (p kinds.Punct && (p kinds.Line && p kinds.Pattern))))))))))) e1).1 in let e3 = (and_true (p kinds.PnameLn) (p kinds.BlankLabel && (p kinds.LangTag && (p kinds.AtName && (p kinds.Str && (p kinds.Integer && (p kinds.Decimal && (p kinds.Double && (p kinds.Word && (p kinds.Punct && (p kinds.Line && p kinds.Pattern)))))))))) e2).1 in let e4 = (and_true (p kinds.BlankLabel) (p kinds.LangTag && (p kinds.AtName && (p kinds.Str && (p kinds.Integer && (p kinds.Decimal && (p kinds.Double && (p kinds.Word && (p kinds.Punct && (p kinds.Line && p kinds.Pattern))))))))) e3).1 in let e5 = (and_true (p kinds.LangTag) (p kinds.AtName && (p kinds.Str && (p kinds.Integer && (p kinds.Decimal && (p kinds.Double && (p kinds.Word && (p kinds.Punct && (p kinds.Line && p kinds.Pattern)))))))) e4).1 in let e6 = (and_true (p kinds.AtName) (p kinds.Str && (p kinds.Integer && (p kinds.Decimal && (p kinds.Double && (p kinds.Word && (p kinds.Punct && (p kinds.Line && p kinds.Pattern))))))) e5).1 in let e7 = (and_true (p kinds.Str) (p kinds.Integer && (p kinds.Decimal && (p kinds.Double && (p kinds.Word && (p kinds.Punct && (p kinds.Line && p kinds.Pattern)))))) e6).1 in let e8 = (and_true (p kinds.Integer) (p kinds.Decimal && (p kinds.Double && (p kinds.Word && (p kinds.Punct && (p kinds.Line && p kinds.Pattern))))) e7).1 in let e9 = (and_true (p kinds.Decimal) (p kinds.Double && (p kinds.Word && (p kinds.Punct && (p kinds.Line && p kinds.Pattern)))) e8).1 in let e10 = (and_true (p kinds.Double) (p kinds.Word && (p kinds.Punct && (p kinds.Line && p kinds.Pattern))) e9).1 in let e11 = (and_true (p kinds.Word) (p kinds.Punct && (p kinds.Line && p kinds.Pattern)) e10).1 in let e12 = (and_true (p kinds.Punct) (p kinds.Line && p kinds.Pattern) e11).1 in let e13 = (and_true (p kinds.Line) (p kinds.Pattern) e12).1 in e13
 
 abbrev pub every_mode : (Mode → Bool) → Bool
-every_mode p = p NTriples && (p Turtle && p Map)
+every_mode p = p NTriples && (p Turtle && (p Map && p Schema))
 
 pub every_mode_is : (p : Mode → Bool) → every_mode p ≡ true → (v : Mode) → p v ≡ true
-every_mode_is p e NTriples = (and_true (p NTriples) (p Turtle && p Map) e).0
-every_mode_is p e Turtle = let e1 = (and_true (p NTriples) (p Turtle && p Map) e).1 in (and_true (p Turtle) (p Map) e1).0
-every_mode_is p e Map = let e1 = (and_true (p NTriples) (p Turtle && p Map) e).1 in let e2 = (and_true (p Turtle) (p Map) e1).1 in e2
+every_mode_is p e NTriples = (and_true (p NTriples) (p Turtle && (p Map && p Schema)) e).0
+every_mode_is p e Turtle = let e1 = (and_true (p NTriples) (p Turtle && (p Map && p Schema)) e).1 in (and_true (p Turtle) (p Map && p Schema) e1).0
+every_mode_is p e Map = let e1 = (and_true (p NTriples) (p Turtle && (p Map && p Schema)) e).1 in let e2 = (and_true (p Turtle) (p Map && p Schema) e1).1 in (and_true (p Map) (p Schema) e2).0
+every_mode_is p e Schema = let e1 = (and_true (p NTriples) (p Turtle && (p Map && p Schema)) e).1 in let e2 = (and_true (p Turtle) (p Map && p Schema) e1).1 in let e3 = (and_true (p Map) (p Schema) e2).1 in e3
 
 abbrev pub every_left : (Left → Bool) → Bool
 every_left p = p left.One && (p left.Two && (p left.Three && (p left.Four && (p left.Five && (p left.Six && (p left.Seven && p left.Eight))))))
@@ -269,28 +283,41 @@ every_label_is p e label.Colons = let e1 = (and_true (p label.Underscore) (p lab
 every_label_is p e label.ColonsDot = let e1 = (and_true (p label.Underscore) (p label.Colon && (p label.Label && (p label.LabelDot && (p label.Colons && p label.ColonsDot)))) e).1 in let e2 = (and_true (p label.Colon) (p label.Label && (p label.LabelDot && (p label.Colons && p label.ColonsDot))) e1).1 in let e3 = (and_true (p label.Label) (p label.LabelDot && (p label.Colons && p label.ColonsDot)) e2).1 in let e4 = (and_true (p label.LabelDot) (p label.Colons && p label.ColonsDot) e3).1 in let e5 = (and_true (p label.Colons) (p label.ColonsDot) e4).1 in e5
 
 abbrev pub every_mark : (MarkPart → Bool) → Bool
-every_mark p = p mark.Comma && (p mark.Turtle && (p mark.Map && (p mark.Caret && p mark.Carets)))
+every_mark p = p mark.Comma && (p mark.Turtle && (p mark.Brace && (p mark.Exclamation && (p mark.Schema && (p mark.Caret && (p mark.Carets && p mark.Slashes))))))
 
 pub every_mark_is : (p : MarkPart → Bool) → every_mark p ≡ true → (v : MarkPart) → p v ≡ true
-every_mark_is p e mark.Comma = (and_true (p mark.Comma) (p mark.Turtle && (p mark.Map && (p mark.Caret && p mark.Carets))) e).0
-every_mark_is p e mark.Turtle = let e1 = (and_true (p mark.Comma) (p mark.Turtle && (p mark.Map && (p mark.Caret && p mark.Carets))) e).1 in (and_true (p mark.Turtle) (p mark.Map && (p mark.Caret && p mark.Carets)) e1).0
-every_mark_is p e mark.Map = let e1 = (and_true (p mark.Comma) (p mark.Turtle && (p mark.Map && (p mark.Caret && p mark.Carets))) e).1 in let e2 = (and_true (p mark.Turtle) (p mark.Map && (p mark.Caret && p mark.Carets)) e1).1 in (and_true (p mark.Map) (p mark.Caret && p mark.Carets) e2).0
-every_mark_is p e mark.Caret = let e1 = (and_true (p mark.Comma) (p mark.Turtle && (p mark.Map && (p mark.Caret && p mark.Carets))) e).1 in let e2 = (and_true (p mark.Turtle) (p mark.Map && (p mark.Caret && p mark.Carets)) e1).1 in let e3 = (and_true (p mark.Map) (p mark.Caret && p mark.Carets) e2).1 in (and_true (p mark.Caret) (p mark.Carets) e3).0
-every_mark_is p e mark.Carets = let e1 = (and_true (p mark.Comma) (p mark.Turtle && (p mark.Map && (p mark.Caret && p mark.Carets))) e).1 in let e2 = (and_true (p mark.Turtle) (p mark.Map && (p mark.Caret && p mark.Carets)) e1).1 in let e3 = (and_true (p mark.Map) (p mark.Caret && p mark.Carets) e2).1 in let e4 = (and_true (p mark.Caret) (p mark.Carets) e3).1 in e4
+every_mark_is p e mark.Comma = (and_true (p mark.Comma) (p mark.Turtle && (p mark.Brace && (p mark.Exclamation && (p mark.Schema && (p mark.Caret && (p mark.Carets && p mark.Slashes)))))) e).0
+every_mark_is p e mark.Turtle = let e1 = (and_true (p mark.Comma) (p mark.Turtle && (p mark.Brace && (p mark.Exclamation && (p mark.Schema && (p mark.Caret && (p mark.Carets && p mark.Slashes)))))) e).1 in (and_true (p mark.Turtle) (p mark.Brace && (p mark.Exclamation && (p mark.Schema && (p mark.Caret && (p mark.Carets && p mark.Slashes))))) e1).0
+every_mark_is p e mark.Brace = let e1 = (and_true (p mark.Comma) (p mark.Turtle && (p mark.Brace && (p mark.Exclamation && (p mark.Schema && (p mark.Caret && (p mark.Carets && p mark.Slashes)))))) e).1 in let e2 = (and_true (p mark.Turtle) (p mark.Brace && (p mark.Exclamation && (p mark.Schema && (p mark.Caret && (p mark.Carets && p mark.Slashes))))) e1).1 in (and_true (p mark.Brace) (p mark.Exclamation && (p mark.Schema && (p mark.Caret && (p mark.Carets && p mark.Slashes)))) e2).0
+every_mark_is p e mark.Exclamation = let e1 = (and_true (p mark.Comma) (p mark.Turtle && (p mark.Brace && (p mark.Exclamation && (p mark.Schema && (p mark.Caret && (p mark.Carets && p mark.Slashes)))))) e).1 in let e2 = (and_true (p mark.Turtle) (p mark.Brace && (p mark.Exclamation && (p mark.Schema && (p mark.Caret && (p mark.Carets && p mark.Slashes))))) e1).1 in let e3 = (and_true (p mark.Brace) (p mark.Exclamation && (p mark.Schema && (p mark.Caret && (p mark.Carets && p mark.Slashes)))) e2).1 in (and_true (p mark.Exclamation) (p mark.Schema && (p mark.Caret && (p mark.Carets && p mark.Slashes))) e3).0
+every_mark_is p e mark.Schema = let e1 = (and_true (p mark.Comma) (p mark.Turtle && (p mark.Brace && (p mark.Exclamation && (p mark.Schema && (p mark.Caret && (p mark.Carets && p mark.Slashes)))))) e).1 in let e2 = (and_true (p mark.Turtle) (p mark.Brace && (p mark.Exclamation && (p mark.Schema && (p mark.Caret && (p mark.Carets && p mark.Slashes))))) e1).1 in let e3 = (and_true (p mark.Brace) (p mark.Exclamation && (p mark.Schema && (p mark.Caret && (p mark.Carets && p mark.Slashes)))) e2).1 in let e4 = (and_true (p mark.Exclamation) (p mark.Schema && (p mark.Caret && (p mark.Carets && p mark.Slashes))) e3).1 in (and_true (p mark.Schema) (p mark.Caret && (p mark.Carets && p mark.Slashes)) e4).0
+every_mark_is p e mark.Caret = let e1 = (and_true (p mark.Comma) (p mark.Turtle && (p mark.Brace && (p mark.Exclamation && (p mark.Schema && (p mark.Caret && (p mark.Carets && p mark.Slashes)))))) e).1 in let e2 = (and_true (p mark.Turtle) (p mark.Brace && (p mark.Exclamation && (p mark.Schema && (p mark.Caret && (p mark.Carets && p mark.Slashes))))) e1).1 in let e3 = (and_true (p mark.Brace) (p mark.Exclamation && (p mark.Schema && (p mark.Caret && (p mark.Carets && p mark.Slashes)))) e2).1 in let e4 = (and_true (p mark.Exclamation) (p mark.Schema && (p mark.Caret && (p mark.Carets && p mark.Slashes))) e3).1 in let e5 = (and_true (p mark.Schema) (p mark.Caret && (p mark.Carets && p mark.Slashes)) e4).1 in (and_true (p mark.Caret) (p mark.Carets && p mark.Slashes) e5).0
+every_mark_is p e mark.Carets = let e1 = (and_true (p mark.Comma) (p mark.Turtle && (p mark.Brace && (p mark.Exclamation && (p mark.Schema && (p mark.Caret && (p mark.Carets && p mark.Slashes)))))) e).1 in let e2 = (and_true (p mark.Turtle) (p mark.Brace && (p mark.Exclamation && (p mark.Schema && (p mark.Caret && (p mark.Carets && p mark.Slashes))))) e1).1 in let e3 = (and_true (p mark.Brace) (p mark.Exclamation && (p mark.Schema && (p mark.Caret && (p mark.Carets && p mark.Slashes)))) e2).1 in let e4 = (and_true (p mark.Exclamation) (p mark.Schema && (p mark.Caret && (p mark.Carets && p mark.Slashes))) e3).1 in let e5 = (and_true (p mark.Schema) (p mark.Caret && (p mark.Carets && p mark.Slashes)) e4).1 in let e6 = (and_true (p mark.Caret) (p mark.Carets && p mark.Slashes) e5).1 in (and_true (p mark.Carets) (p mark.Slashes) e6).0
+every_mark_is p e mark.Slashes = let e1 = (and_true (p mark.Comma) (p mark.Turtle && (p mark.Brace && (p mark.Exclamation && (p mark.Schema && (p mark.Caret && (p mark.Carets && p mark.Slashes)))))) e).1 in let e2 = (and_true (p mark.Turtle) (p mark.Brace && (p mark.Exclamation && (p mark.Schema && (p mark.Caret && (p mark.Carets && p mark.Slashes))))) e1).1 in let e3 = (and_true (p mark.Brace) (p mark.Exclamation && (p mark.Schema && (p mark.Caret && (p mark.Carets && p mark.Slashes)))) e2).1 in let e4 = (and_true (p mark.Exclamation) (p mark.Schema && (p mark.Caret && (p mark.Carets && p mark.Slashes))) e3).1 in let e5 = (and_true (p mark.Schema) (p mark.Caret && (p mark.Carets && p mark.Slashes)) e4).1 in let e6 = (and_true (p mark.Caret) (p mark.Carets && p mark.Slashes) e5).1 in let e7 = (and_true (p mark.Carets) (p mark.Slashes) e6).1 in e7
+
+abbrev pub every_pattern : (PatternPart → Bool) → Bool
+every_pattern p = p pattern.Slash && (p pattern.Body && (p pattern.Escape && p pattern.Flags))
+
+pub every_pattern_is : (p : PatternPart → Bool) → every_pattern p ≡ true → (v : PatternPart) → p v ≡ true
+every_pattern_is p e pattern.Slash = (and_true (p pattern.Slash) (p pattern.Body && (p pattern.Escape && p pattern.Flags)) e).0
+every_pattern_is p e pattern.Body = let e1 = (and_true (p pattern.Slash) (p pattern.Body && (p pattern.Escape && p pattern.Flags)) e).1 in (and_true (p pattern.Body) (p pattern.Escape && p pattern.Flags) e1).0
+every_pattern_is p e pattern.Escape = let e1 = (and_true (p pattern.Slash) (p pattern.Body && (p pattern.Escape && p pattern.Flags)) e).1 in let e2 = (and_true (p pattern.Body) (p pattern.Escape && p pattern.Flags) e1).1 in (and_true (p pattern.Escape) (p pattern.Flags) e2).0
+every_pattern_is p e pattern.Flags = let e1 = (and_true (p pattern.Slash) (p pattern.Body && (p pattern.Escape && p pattern.Flags)) e).1 in let e2 = (and_true (p pattern.Body) (p pattern.Escape && p pattern.Flags) e1).1 in let e3 = (and_true (p pattern.Escape) (p pattern.Flags) e2).1 in e3
 
 abbrev pub every_state : (State → Bool) → Bool
-every_state p = p Start && (every_iri (λ x. p (Iri x)) && (every_quote (λ q. every_text (λ x. p (Text q x))) && (every_number (λ x. p (Number x)) && (every_lead (λ q. every_name (λ x. p (Name q x))) && (every_tag (λ x. p (Tag x)) && (every_label (λ x. p (Label x)) && (every_mark (λ x. p (Mark x)) && p Line)))))))
+every_state p = p Start && (every_iri (λ x. p (Iri x)) && (every_quote (λ q. every_text (λ x. p (Text q x))) && (every_number (λ x. p (Number x)) && (every_lead (λ q. every_name (λ x. p (Name q x))) && (every_tag (λ x. p (Tag x)) && (every_label (λ x. p (Label x)) && (every_mark (λ x. p (Mark x)) && (p Line && every_pattern (λ x. p (Pattern x))))))))))
 
 pub every_state_is : (p : State → Bool) → every_state p ≡ true → (v : State) → p v ≡ true
-every_state_is p e Start = (and_true (p Start) (every_iri (λ x. p (Iri x)) && (every_quote (λ q. every_text (λ x. p (Text q x))) && (every_number (λ x. p (Number x)) && (every_lead (λ q. every_name (λ x. p (Name q x))) && (every_tag (λ x. p (Tag x)) && (every_label (λ x. p (Label x)) && (every_mark (λ x. p (Mark x)) && p Line))))))) e).0
-every_state_is p e (Iri x) = let e1 = (and_true (p Start) (every_iri (λ x. p (Iri x)) && (every_quote (λ q. every_text (λ x. p (Text q x))) && (every_number (λ x. p (Number x)) && (every_lead (λ q. every_name (λ x. p (Name q x))) && (every_tag (λ x. p (Tag x)) && (every_label (λ x. p (Label x)) && (every_mark (λ x. p (Mark x)) && p Line))))))) e).1 in every_iri_is (λ x. p (Iri x)) (and_true (every_iri (λ x. p (Iri x))) (every_quote (λ q. every_text (λ x. p (Text q x))) && (every_number (λ x. p (Number x)) && (every_lead (λ q. every_name (λ x. p (Name q x))) && (every_tag (λ x. p (Tag x)) && (every_label (λ x. p (Label x)) && (every_mark (λ x. p (Mark x)) && p Line)))))) e1).0 x
-every_state_is p e (Text q x) = let e1 = (and_true (p Start) (every_iri (λ x. p (Iri x)) && (every_quote (λ q. every_text (λ x. p (Text q x))) && (every_number (λ x. p (Number x)) && (every_lead (λ q. every_name (λ x. p (Name q x))) && (every_tag (λ x. p (Tag x)) && (every_label (λ x. p (Label x)) && (every_mark (λ x. p (Mark x)) && p Line))))))) e).1 in let e2 = (and_true (every_iri (λ x. p (Iri x))) (every_quote (λ q. every_text (λ x. p (Text q x))) && (every_number (λ x. p (Number x)) && (every_lead (λ q. every_name (λ x. p (Name q x))) && (every_tag (λ x. p (Tag x)) && (every_label (λ x. p (Label x)) && (every_mark (λ x. p (Mark x)) && p Line)))))) e1).1 in every_text_is (λ x. p (Text q x)) (every_quote_is (λ q. every_text (λ x. p (Text q x))) (and_true (every_quote (λ q. every_text (λ x. p (Text q x)))) (every_number (λ x. p (Number x)) && (every_lead (λ q. every_name (λ x. p (Name q x))) && (every_tag (λ x. p (Tag x)) && (every_label (λ x. p (Label x)) && (every_mark (λ x. p (Mark x)) && p Line))))) e2).0 q) x
-every_state_is p e (Number x) = let e1 = (and_true (p Start) (every_iri (λ x. p (Iri x)) && (every_quote (λ q. every_text (λ x. p (Text q x))) && (every_number (λ x. p (Number x)) && (every_lead (λ q. every_name (λ x. p (Name q x))) && (every_tag (λ x. p (Tag x)) && (every_label (λ x. p (Label x)) && (every_mark (λ x. p (Mark x)) && p Line))))))) e).1 in let e2 = (and_true (every_iri (λ x. p (Iri x))) (every_quote (λ q. every_text (λ x. p (Text q x))) && (every_number (λ x. p (Number x)) && (every_lead (λ q. every_name (λ x. p (Name q x))) && (every_tag (λ x. p (Tag x)) && (every_label (λ x. p (Label x)) && (every_mark (λ x. p (Mark x)) && p Line)))))) e1).1 in let e3 = (and_true (every_quote (λ q. every_text (λ x. p (Text q x)))) (every_number (λ x. p (Number x)) && (every_lead (λ q. every_name (λ x. p (Name q x))) && (every_tag (λ x. p (Tag x)) && (every_label (λ x. p (Label x)) && (every_mark (λ x. p (Mark x)) && p Line))))) e2).1 in every_number_is (λ x. p (Number x)) (and_true (every_number (λ x. p (Number x))) (every_lead (λ q. every_name (λ x. p (Name q x))) && (every_tag (λ x. p (Tag x)) && (every_label (λ x. p (Label x)) && (every_mark (λ x. p (Mark x)) && p Line)))) e3).0 x
-every_state_is p e (Name q x) = let e1 = (and_true (p Start) (every_iri (λ x. p (Iri x)) && (every_quote (λ q. every_text (λ x. p (Text q x))) && (every_number (λ x. p (Number x)) && (every_lead (λ q. every_name (λ x. p (Name q x))) && (every_tag (λ x. p (Tag x)) && (every_label (λ x. p (Label x)) && (every_mark (λ x. p (Mark x)) && p Line))))))) e).1 in let e2 = (and_true (every_iri (λ x. p (Iri x))) (every_quote (λ q. every_text (λ x. p (Text q x))) && (every_number (λ x. p (Number x)) && (every_lead (λ q. every_name (λ x. p (Name q x))) && (every_tag (λ x. p (Tag x)) && (every_label (λ x. p (Label x)) && (every_mark (λ x. p (Mark x)) && p Line)))))) e1).1 in let e3 = (and_true (every_quote (λ q. every_text (λ x. p (Text q x)))) (every_number (λ x. p (Number x)) && (every_lead (λ q. every_name (λ x. p (Name q x))) && (every_tag (λ x. p (Tag x)) && (every_label (λ x. p (Label x)) && (every_mark (λ x. p (Mark x)) && p Line))))) e2).1 in let e4 = (and_true (every_number (λ x. p (Number x))) (every_lead (λ q. every_name (λ x. p (Name q x))) && (every_tag (λ x. p (Tag x)) && (every_label (λ x. p (Label x)) && (every_mark (λ x. p (Mark x)) && p Line)))) e3).1 in every_name_is (λ x. p (Name q x)) (every_lead_is (λ q. every_name (λ x. p (Name q x))) (and_true (every_lead (λ q. every_name (λ x. p (Name q x)))) (every_tag (λ x. p (Tag x)) && (every_label (λ x. p (Label x)) && (every_mark (λ x. p (Mark x)) && p Line))) e4).0 q) x
-every_state_is p e (Tag x) = let e1 = (and_true (p Start) (every_iri (λ x. p (Iri x)) && (every_quote (λ q. every_text (λ x. p (Text q x))) && (every_number (λ x. p (Number x)) && (every_lead (λ q. every_name (λ x. p (Name q x))) && (every_tag (λ x. p (Tag x)) && (every_label (λ x. p (Label x)) && (every_mark (λ x. p (Mark x)) && p Line))))))) e).1 in let e2 = (and_true (every_iri (λ x. p (Iri x))) (every_quote (λ q. every_text (λ x. p (Text q x))) && (every_number (λ x. p (Number x)) && (every_lead (λ q. every_name (λ x. p (Name q x))) && (every_tag (λ x. p (Tag x)) && (every_label (λ x. p (Label x)) && (every_mark (λ x. p (Mark x)) && p Line)))))) e1).1 in let e3 = (and_true (every_quote (λ q. every_text (λ x. p (Text q x)))) (every_number (λ x. p (Number x)) && (every_lead (λ q. every_name (λ x. p (Name q x))) && (every_tag (λ x. p (Tag x)) && (every_label (λ x. p (Label x)) && (every_mark (λ x. p (Mark x)) && p Line))))) e2).1 in let e4 = (and_true (every_number (λ x. p (Number x))) (every_lead (λ q. every_name (λ x. p (Name q x))) && (every_tag (λ x. p (Tag x)) && (every_label (λ x. p (Label x)) && (every_mark (λ x. p (Mark x)) && p Line)))) e3).1 in let e5 = (and_true (every_lead (λ q. every_name (λ x. p (Name q x)))) (every_tag (λ x. p (Tag x)) && (every_label (λ x. p (Label x)) && (every_mark (λ x. p (Mark x)) && p Line))) e4).1 in every_tag_is (λ x. p (Tag x)) (and_true (every_tag (λ x. p (Tag x))) (every_label (λ x. p (Label x)) && (every_mark (λ x. p (Mark x)) && p Line)) e5).0 x
-every_state_is p e (Label x) = let e1 = (and_true (p Start) (every_iri (λ x. p (Iri x)) && (every_quote (λ q. every_text (λ x. p (Text q x))) && (every_number (λ x. p (Number x)) && (every_lead (λ q. every_name (λ x. p (Name q x))) && (every_tag (λ x. p (Tag x)) && (every_label (λ x. p (Label x)) && (every_mark (λ x. p (Mark x)) && p Line))))))) e).1 in let e2 = (and_true (every_iri (λ x. p (Iri x))) (every_quote (λ q. every_text (λ x. p (Text q x))) && (every_number (λ x. p (Number x)) && (every_lead (λ q. every_name (λ x. p (Name q x))) && (every_tag (λ x. p (Tag x)) && (every_label (λ x. p (Label x)) && (every_mark (λ x. p (Mark x)) && p Line)))))) e1).1 in let e3 = (and_true (every_quote (λ q. every_text (λ x. p (Text q x)))) (every_number (λ x. p (Number x)) && (every_lead (λ q. every_name (λ x. p (Name q x))) && (every_tag (λ x. p (Tag x)) && (every_label (λ x. p (Label x)) && (every_mark (λ x. p (Mark x)) && p Line))))) e2).1 in let e4 = (and_true (every_number (λ x. p (Number x))) (every_lead (λ q. every_name (λ x. p (Name q x))) && (every_tag (λ x. p (Tag x)) && (every_label (λ x. p (Label x)) && (every_mark (λ x. p (Mark x)) && p Line)))) e3).1 in let e5 = (and_true (every_lead (λ q. every_name (λ x. p (Name q x)))) (every_tag (λ x. p (Tag x)) && (every_label (λ x. p (Label x)) && (every_mark (λ x. p (Mark x)) && p Line))) e4).1 in let e6 = (and_true (every_tag (λ x. p (Tag x))) (every_label (λ x. p (Label x)) && (every_mark (λ x. p (Mark x)) && p Line)) e5).1 in every_label_is (λ x. p (Label x)) (and_true (every_label (λ x. p (Label x))) (every_mark (λ x. p (Mark x)) && p Line) e6).0 x
-every_state_is p e (Mark x) = let e1 = (and_true (p Start) (every_iri (λ x. p (Iri x)) && (every_quote (λ q. every_text (λ x. p (Text q x))) && (every_number (λ x. p (Number x)) && (every_lead (λ q. every_name (λ x. p (Name q x))) && (every_tag (λ x. p (Tag x)) && (every_label (λ x. p (Label x)) && (every_mark (λ x. p (Mark x)) && p Line))))))) e).1 in let e2 = (and_true (every_iri (λ x. p (Iri x))) (every_quote (λ q. every_text (λ x. p (Text q x))) && (every_number (λ x. p (Number x)) && (every_lead (λ q. every_name (λ x. p (Name q x))) && (every_tag (λ x. p (Tag x)) && (every_label (λ x. p (Label x)) && (every_mark (λ x. p (Mark x)) && p Line)))))) e1).1 in let e3 = (and_true (every_quote (λ q. every_text (λ x. p (Text q x)))) (every_number (λ x. p (Number x)) && (every_lead (λ q. every_name (λ x. p (Name q x))) && (every_tag (λ x. p (Tag x)) && (every_label (λ x. p (Label x)) && (every_mark (λ x. p (Mark x)) && p Line))))) e2).1 in let e4 = (and_true (every_number (λ x. p (Number x))) (every_lead (λ q. every_name (λ x. p (Name q x))) && (every_tag (λ x. p (Tag x)) && (every_label (λ x. p (Label x)) && (every_mark (λ x. p (Mark x)) && p Line)))) e3).1 in let e5 = (and_true (every_lead (λ q. every_name (λ x. p (Name q x)))) (every_tag (λ x. p (Tag x)) && (every_label (λ x. p (Label x)) && (every_mark (λ x. p (Mark x)) && p Line))) e4).1 in let e6 = (and_true (every_tag (λ x. p (Tag x))) (every_label (λ x. p (Label x)) && (every_mark (λ x. p (Mark x)) && p Line)) e5).1 in let e7 = (and_true (every_label (λ x. p (Label x))) (every_mark (λ x. p (Mark x)) && p Line) e6).1 in every_mark_is (λ x. p (Mark x)) (and_true (every_mark (λ x. p (Mark x))) (p Line) e7).0 x
-every_state_is p e Line = let e1 = (and_true (p Start) (every_iri (λ x. p (Iri x)) && (every_quote (λ q. every_text (λ x. p (Text q x))) && (every_number (λ x. p (Number x)) && (every_lead (λ q. every_name (λ x. p (Name q x))) && (every_tag (λ x. p (Tag x)) && (every_label (λ x. p (Label x)) && (every_mark (λ x. p (Mark x)) && p Line))))))) e).1 in let e2 = (and_true (every_iri (λ x. p (Iri x))) (every_quote (λ q. every_text (λ x. p (Text q x))) && (every_number (λ x. p (Number x)) && (every_lead (λ q. every_name (λ x. p (Name q x))) && (every_tag (λ x. p (Tag x)) && (every_label (λ x. p (Label x)) && (every_mark (λ x. p (Mark x)) && p Line)))))) e1).1 in let e3 = (and_true (every_quote (λ q. every_text (λ x. p (Text q x)))) (every_number (λ x. p (Number x)) && (every_lead (λ q. every_name (λ x. p (Name q x))) && (every_tag (λ x. p (Tag x)) && (every_label (λ x. p (Label x)) && (every_mark (λ x. p (Mark x)) && p Line))))) e2).1 in let e4 = (and_true (every_number (λ x. p (Number x))) (every_lead (λ q. every_name (λ x. p (Name q x))) && (every_tag (λ x. p (Tag x)) && (every_label (λ x. p (Label x)) && (every_mark (λ x. p (Mark x)) && p Line)))) e3).1 in let e5 = (and_true (every_lead (λ q. every_name (λ x. p (Name q x)))) (every_tag (λ x. p (Tag x)) && (every_label (λ x. p (Label x)) && (every_mark (λ x. p (Mark x)) && p Line))) e4).1 in let e6 = (and_true (every_tag (λ x. p (Tag x))) (every_label (λ x. p (Label x)) && (every_mark (λ x. p (Mark x)) && p Line)) e5).1 in let e7 = (and_true (every_label (λ x. p (Label x))) (every_mark (λ x. p (Mark x)) && p Line) e6).1 in let e8 = (and_true (every_mark (λ x. p (Mark x))) (p Line) e7).1 in e8
+every_state_is p e Start = (and_true (p Start) (every_iri (λ x. p (Iri x)) && (every_quote (λ q. every_text (λ x. p (Text q x))) && (every_number (λ x. p (Number x)) && (every_lead (λ q. every_name (λ x. p (Name q x))) && (every_tag (λ x. p (Tag x)) && (every_label (λ x. p (Label x)) && (every_mark (λ x. p (Mark x)) && (p Line && every_pattern (λ x. p (Pattern x)))))))))) e).0
+every_state_is p e (Iri x) = let e1 = (and_true (p Start) (every_iri (λ x. p (Iri x)) && (every_quote (λ q. every_text (λ x. p (Text q x))) && (every_number (λ x. p (Number x)) && (every_lead (λ q. every_name (λ x. p (Name q x))) && (every_tag (λ x. p (Tag x)) && (every_label (λ x. p (Label x)) && (every_mark (λ x. p (Mark x)) && (p Line && every_pattern (λ x. p (Pattern x)))))))))) e).1 in every_iri_is (λ x. p (Iri x)) ((and_true (every_iri (λ x. p (Iri x))) (every_quote (λ q. every_text (λ x. p (Text q x))) && (every_number (λ x. p (Number x)) && (every_lead (λ q. every_name (λ x. p (Name q x))) && (every_tag (λ x. p (Tag x)) && (every_label (λ x. p (Label x)) && (every_mark (λ x. p (Mark x)) && (p Line && every_pattern (λ x. p (Pattern x))))))))) e1).0) x
+every_state_is p e (Text q x) = let e1 = (and_true (p Start) (every_iri (λ x. p (Iri x)) && (every_quote (λ q. every_text (λ x. p (Text q x))) && (every_number (λ x. p (Number x)) && (every_lead (λ q. every_name (λ x. p (Name q x))) && (every_tag (λ x. p (Tag x)) && (every_label (λ x. p (Label x)) && (every_mark (λ x. p (Mark x)) && (p Line && every_pattern (λ x. p (Pattern x)))))))))) e).1 in let e2 = (and_true (every_iri (λ x. p (Iri x))) (every_quote (λ q. every_text (λ x. p (Text q x))) && (every_number (λ x. p (Number x)) && (every_lead (λ q. every_name (λ x. p (Name q x))) && (every_tag (λ x. p (Tag x)) && (every_label (λ x. p (Label x)) && (every_mark (λ x. p (Mark x)) && (p Line && every_pattern (λ x. p (Pattern x))))))))) e1).1 in every_text_is (λ x. p (Text q x)) (every_quote_is (λ q. every_text (λ x. p (Text q x))) ((and_true (every_quote (λ q. every_text (λ x. p (Text q x)))) (every_number (λ x. p (Number x)) && (every_lead (λ q. every_name (λ x. p (Name q x))) && (every_tag (λ x. p (Tag x)) && (every_label (λ x. p (Label x)) && (every_mark (λ x. p (Mark x)) && (p Line && every_pattern (λ x. p (Pattern x)))))))) e2).0) q) x
+every_state_is p e (Number x) = let e1 = (and_true (p Start) (every_iri (λ x. p (Iri x)) && (every_quote (λ q. every_text (λ x. p (Text q x))) && (every_number (λ x. p (Number x)) && (every_lead (λ q. every_name (λ x. p (Name q x))) && (every_tag (λ x. p (Tag x)) && (every_label (λ x. p (Label x)) && (every_mark (λ x. p (Mark x)) && (p Line && every_pattern (λ x. p (Pattern x)))))))))) e).1 in let e2 = (and_true (every_iri (λ x. p (Iri x))) (every_quote (λ q. every_text (λ x. p (Text q x))) && (every_number (λ x. p (Number x)) && (every_lead (λ q. every_name (λ x. p (Name q x))) && (every_tag (λ x. p (Tag x)) && (every_label (λ x. p (Label x)) && (every_mark (λ x. p (Mark x)) && (p Line && every_pattern (λ x. p (Pattern x))))))))) e1).1 in let e3 = (and_true (every_quote (λ q. every_text (λ x. p (Text q x)))) (every_number (λ x. p (Number x)) && (every_lead (λ q. every_name (λ x. p (Name q x))) && (every_tag (λ x. p (Tag x)) && (every_label (λ x. p (Label x)) && (every_mark (λ x. p (Mark x)) && (p Line && every_pattern (λ x. p (Pattern x)))))))) e2).1 in every_number_is (λ x. p (Number x)) ((and_true (every_number (λ x. p (Number x))) (every_lead (λ q. every_name (λ x. p (Name q x))) && (every_tag (λ x. p (Tag x)) && (every_label (λ x. p (Label x)) && (every_mark (λ x. p (Mark x)) && (p Line && every_pattern (λ x. p (Pattern x))))))) e3).0) x
+every_state_is p e (Name q x) = let e1 = (and_true (p Start) (every_iri (λ x. p (Iri x)) && (every_quote (λ q. every_text (λ x. p (Text q x))) && (every_number (λ x. p (Number x)) && (every_lead (λ q. every_name (λ x. p (Name q x))) && (every_tag (λ x. p (Tag x)) && (every_label (λ x. p (Label x)) && (every_mark (λ x. p (Mark x)) && (p Line && every_pattern (λ x. p (Pattern x)))))))))) e).1 in let e2 = (and_true (every_iri (λ x. p (Iri x))) (every_quote (λ q. every_text (λ x. p (Text q x))) && (every_number (λ x. p (Number x)) && (every_lead (λ q. every_name (λ x. p (Name q x))) && (every_tag (λ x. p (Tag x)) && (every_label (λ x. p (Label x)) && (every_mark (λ x. p (Mark x)) && (p Line && every_pattern (λ x. p (Pattern x))))))))) e1).1 in let e3 = (and_true (every_quote (λ q. every_text (λ x. p (Text q x)))) (every_number (λ x. p (Number x)) && (every_lead (λ q. every_name (λ x. p (Name q x))) && (every_tag (λ x. p (Tag x)) && (every_label (λ x. p (Label x)) && (every_mark (λ x. p (Mark x)) && (p Line && every_pattern (λ x. p (Pattern x)))))))) e2).1 in let e4 = (and_true (every_number (λ x. p (Number x))) (every_lead (λ q. every_name (λ x. p (Name q x))) && (every_tag (λ x. p (Tag x)) && (every_label (λ x. p (Label x)) && (every_mark (λ x. p (Mark x)) && (p Line && every_pattern (λ x. p (Pattern x))))))) e3).1 in every_name_is (λ x. p (Name q x)) (every_lead_is (λ q. every_name (λ x. p (Name q x))) ((and_true (every_lead (λ q. every_name (λ x. p (Name q x)))) (every_tag (λ x. p (Tag x)) && (every_label (λ x. p (Label x)) && (every_mark (λ x. p (Mark x)) && (p Line && every_pattern (λ x. p (Pattern x)))))) e4).0) q) x
+every_state_is p e (Tag x) = let e1 = (and_true (p Start) (every_iri (λ x. p (Iri x)) && (every_quote (λ q. every_text (λ x. p (Text q x))) && (every_number (λ x. p (Number x)) && (every_lead (λ q. every_name (λ x. p (Name q x))) && (every_tag (λ x. p (Tag x)) && (every_label (λ x. p (Label x)) && (every_mark (λ x. p (Mark x)) && (p Line && every_pattern (λ x. p (Pattern x)))))))))) e).1 in let e2 = (and_true (every_iri (λ x. p (Iri x))) (every_quote (λ q. every_text (λ x. p (Text q x))) && (every_number (λ x. p (Number x)) && (every_lead (λ q. every_name (λ x. p (Name q x))) && (every_tag (λ x. p (Tag x)) && (every_label (λ x. p (Label x)) && (every_mark (λ x. p (Mark x)) && (p Line && every_pattern (λ x. p (Pattern x))))))))) e1).1 in let e3 = (and_true (every_quote (λ q. every_text (λ x. p (Text q x)))) (every_number (λ x. p (Number x)) && (every_lead (λ q. every_name (λ x. p (Name q x))) && (every_tag (λ x. p (Tag x)) && (every_label (λ x. p (Label x)) && (every_mark (λ x. p (Mark x)) && (p Line && every_pattern (λ x. p (Pattern x)))))))) e2).1 in let e4 = (and_true (every_number (λ x. p (Number x))) (every_lead (λ q. every_name (λ x. p (Name q x))) && (every_tag (λ x. p (Tag x)) && (every_label (λ x. p (Label x)) && (every_mark (λ x. p (Mark x)) && (p Line && every_pattern (λ x. p (Pattern x))))))) e3).1 in let e5 = (and_true (every_lead (λ q. every_name (λ x. p (Name q x)))) (every_tag (λ x. p (Tag x)) && (every_label (λ x. p (Label x)) && (every_mark (λ x. p (Mark x)) && (p Line && every_pattern (λ x. p (Pattern x)))))) e4).1 in every_tag_is (λ x. p (Tag x)) ((and_true (every_tag (λ x. p (Tag x))) (every_label (λ x. p (Label x)) && (every_mark (λ x. p (Mark x)) && (p Line && every_pattern (λ x. p (Pattern x))))) e5).0) x
+every_state_is p e (Label x) = let e1 = (and_true (p Start) (every_iri (λ x. p (Iri x)) && (every_quote (λ q. every_text (λ x. p (Text q x))) && (every_number (λ x. p (Number x)) && (every_lead (λ q. every_name (λ x. p (Name q x))) && (every_tag (λ x. p (Tag x)) && (every_label (λ x. p (Label x)) && (every_mark (λ x. p (Mark x)) && (p Line && every_pattern (λ x. p (Pattern x)))))))))) e).1 in let e2 = (and_true (every_iri (λ x. p (Iri x))) (every_quote (λ q. every_text (λ x. p (Text q x))) && (every_number (λ x. p (Number x)) && (every_lead (λ q. every_name (λ x. p (Name q x))) && (every_tag (λ x. p (Tag x)) && (every_label (λ x. p (Label x)) && (every_mark (λ x. p (Mark x)) && (p Line && every_pattern (λ x. p (Pattern x))))))))) e1).1 in let e3 = (and_true (every_quote (λ q. every_text (λ x. p (Text q x)))) (every_number (λ x. p (Number x)) && (every_lead (λ q. every_name (λ x. p (Name q x))) && (every_tag (λ x. p (Tag x)) && (every_label (λ x. p (Label x)) && (every_mark (λ x. p (Mark x)) && (p Line && every_pattern (λ x. p (Pattern x)))))))) e2).1 in let e4 = (and_true (every_number (λ x. p (Number x))) (every_lead (λ q. every_name (λ x. p (Name q x))) && (every_tag (λ x. p (Tag x)) && (every_label (λ x. p (Label x)) && (every_mark (λ x. p (Mark x)) && (p Line && every_pattern (λ x. p (Pattern x))))))) e3).1 in let e5 = (and_true (every_lead (λ q. every_name (λ x. p (Name q x)))) (every_tag (λ x. p (Tag x)) && (every_label (λ x. p (Label x)) && (every_mark (λ x. p (Mark x)) && (p Line && every_pattern (λ x. p (Pattern x)))))) e4).1 in let e6 = (and_true (every_tag (λ x. p (Tag x))) (every_label (λ x. p (Label x)) && (every_mark (λ x. p (Mark x)) && (p Line && every_pattern (λ x. p (Pattern x))))) e5).1 in every_label_is (λ x. p (Label x)) ((and_true (every_label (λ x. p (Label x))) (every_mark (λ x. p (Mark x)) && (p Line && every_pattern (λ x. p (Pattern x)))) e6).0) x
+every_state_is p e (Mark x) = let e1 = (and_true (p Start) (every_iri (λ x. p (Iri x)) && (every_quote (λ q. every_text (λ x. p (Text q x))) && (every_number (λ x. p (Number x)) && (every_lead (λ q. every_name (λ x. p (Name q x))) && (every_tag (λ x. p (Tag x)) && (every_label (λ x. p (Label x)) && (every_mark (λ x. p (Mark x)) && (p Line && every_pattern (λ x. p (Pattern x)))))))))) e).1 in let e2 = (and_true (every_iri (λ x. p (Iri x))) (every_quote (λ q. every_text (λ x. p (Text q x))) && (every_number (λ x. p (Number x)) && (every_lead (λ q. every_name (λ x. p (Name q x))) && (every_tag (λ x. p (Tag x)) && (every_label (λ x. p (Label x)) && (every_mark (λ x. p (Mark x)) && (p Line && every_pattern (λ x. p (Pattern x))))))))) e1).1 in let e3 = (and_true (every_quote (λ q. every_text (λ x. p (Text q x)))) (every_number (λ x. p (Number x)) && (every_lead (λ q. every_name (λ x. p (Name q x))) && (every_tag (λ x. p (Tag x)) && (every_label (λ x. p (Label x)) && (every_mark (λ x. p (Mark x)) && (p Line && every_pattern (λ x. p (Pattern x)))))))) e2).1 in let e4 = (and_true (every_number (λ x. p (Number x))) (every_lead (λ q. every_name (λ x. p (Name q x))) && (every_tag (λ x. p (Tag x)) && (every_label (λ x. p (Label x)) && (every_mark (λ x. p (Mark x)) && (p Line && every_pattern (λ x. p (Pattern x))))))) e3).1 in let e5 = (and_true (every_lead (λ q. every_name (λ x. p (Name q x)))) (every_tag (λ x. p (Tag x)) && (every_label (λ x. p (Label x)) && (every_mark (λ x. p (Mark x)) && (p Line && every_pattern (λ x. p (Pattern x)))))) e4).1 in let e6 = (and_true (every_tag (λ x. p (Tag x))) (every_label (λ x. p (Label x)) && (every_mark (λ x. p (Mark x)) && (p Line && every_pattern (λ x. p (Pattern x))))) e5).1 in let e7 = (and_true (every_label (λ x. p (Label x))) (every_mark (λ x. p (Mark x)) && (p Line && every_pattern (λ x. p (Pattern x)))) e6).1 in every_mark_is (λ x. p (Mark x)) ((and_true (every_mark (λ x. p (Mark x))) (p Line && every_pattern (λ x. p (Pattern x))) e7).0) x
+every_state_is p e Line = let e1 = (and_true (p Start) (every_iri (λ x. p (Iri x)) && (every_quote (λ q. every_text (λ x. p (Text q x))) && (every_number (λ x. p (Number x)) && (every_lead (λ q. every_name (λ x. p (Name q x))) && (every_tag (λ x. p (Tag x)) && (every_label (λ x. p (Label x)) && (every_mark (λ x. p (Mark x)) && (p Line && every_pattern (λ x. p (Pattern x)))))))))) e).1 in let e2 = (and_true (every_iri (λ x. p (Iri x))) (every_quote (λ q. every_text (λ x. p (Text q x))) && (every_number (λ x. p (Number x)) && (every_lead (λ q. every_name (λ x. p (Name q x))) && (every_tag (λ x. p (Tag x)) && (every_label (λ x. p (Label x)) && (every_mark (λ x. p (Mark x)) && (p Line && every_pattern (λ x. p (Pattern x))))))))) e1).1 in let e3 = (and_true (every_quote (λ q. every_text (λ x. p (Text q x)))) (every_number (λ x. p (Number x)) && (every_lead (λ q. every_name (λ x. p (Name q x))) && (every_tag (λ x. p (Tag x)) && (every_label (λ x. p (Label x)) && (every_mark (λ x. p (Mark x)) && (p Line && every_pattern (λ x. p (Pattern x)))))))) e2).1 in let e4 = (and_true (every_number (λ x. p (Number x))) (every_lead (λ q. every_name (λ x. p (Name q x))) && (every_tag (λ x. p (Tag x)) && (every_label (λ x. p (Label x)) && (every_mark (λ x. p (Mark x)) && (p Line && every_pattern (λ x. p (Pattern x))))))) e3).1 in let e5 = (and_true (every_lead (λ q. every_name (λ x. p (Name q x)))) (every_tag (λ x. p (Tag x)) && (every_label (λ x. p (Label x)) && (every_mark (λ x. p (Mark x)) && (p Line && every_pattern (λ x. p (Pattern x)))))) e4).1 in let e6 = (and_true (every_tag (λ x. p (Tag x))) (every_label (λ x. p (Label x)) && (every_mark (λ x. p (Mark x)) && (p Line && every_pattern (λ x. p (Pattern x))))) e5).1 in let e7 = (and_true (every_label (λ x. p (Label x))) (every_mark (λ x. p (Mark x)) && (p Line && every_pattern (λ x. p (Pattern x)))) e6).1 in let e8 = (and_true (every_mark (λ x. p (Mark x))) (p Line && every_pattern (λ x. p (Pattern x))) e7).1 in (and_true (p Line) (every_pattern (λ x. p (Pattern x))) e8).0
+every_state_is p e (Pattern x) = let e1 = (and_true (p Start) (every_iri (λ x. p (Iri x)) && (every_quote (λ q. every_text (λ x. p (Text q x))) && (every_number (λ x. p (Number x)) && (every_lead (λ q. every_name (λ x. p (Name q x))) && (every_tag (λ x. p (Tag x)) && (every_label (λ x. p (Label x)) && (every_mark (λ x. p (Mark x)) && (p Line && every_pattern (λ x. p (Pattern x)))))))))) e).1 in let e2 = (and_true (every_iri (λ x. p (Iri x))) (every_quote (λ q. every_text (λ x. p (Text q x))) && (every_number (λ x. p (Number x)) && (every_lead (λ q. every_name (λ x. p (Name q x))) && (every_tag (λ x. p (Tag x)) && (every_label (λ x. p (Label x)) && (every_mark (λ x. p (Mark x)) && (p Line && every_pattern (λ x. p (Pattern x))))))))) e1).1 in let e3 = (and_true (every_quote (λ q. every_text (λ x. p (Text q x)))) (every_number (λ x. p (Number x)) && (every_lead (λ q. every_name (λ x. p (Name q x))) && (every_tag (λ x. p (Tag x)) && (every_label (λ x. p (Label x)) && (every_mark (λ x. p (Mark x)) && (p Line && every_pattern (λ x. p (Pattern x)))))))) e2).1 in let e4 = (and_true (every_number (λ x. p (Number x))) (every_lead (λ q. every_name (λ x. p (Name q x))) && (every_tag (λ x. p (Tag x)) && (every_label (λ x. p (Label x)) && (every_mark (λ x. p (Mark x)) && (p Line && every_pattern (λ x. p (Pattern x))))))) e3).1 in let e5 = (and_true (every_lead (λ q. every_name (λ x. p (Name q x)))) (every_tag (λ x. p (Tag x)) && (every_label (λ x. p (Label x)) && (every_mark (λ x. p (Mark x)) && (p Line && every_pattern (λ x. p (Pattern x)))))) e4).1 in let e6 = (and_true (every_tag (λ x. p (Tag x))) (every_label (λ x. p (Label x)) && (every_mark (λ x. p (Mark x)) && (p Line && every_pattern (λ x. p (Pattern x))))) e5).1 in let e7 = (and_true (every_label (λ x. p (Label x))) (every_mark (λ x. p (Mark x)) && (p Line && every_pattern (λ x. p (Pattern x)))) e6).1 in let e8 = (and_true (every_mark (λ x. p (Mark x))) (p Line && every_pattern (λ x. p (Pattern x))) e7).1 in let e9 = (and_true (p Line) (every_pattern (λ x. p (Pattern x))) e8).1 in every_pattern_is (λ x. p (Pattern x)) (e9) x
 
 -- kinds by their numbers
 abbrev pub number_of : Kind → ℕ
@@ -307,9 +334,10 @@ number_of kinds.Double = 9
 number_of kinds.Word = 10
 number_of kinds.Punct = 11
 number_of kinds.Line = 12
+number_of kinds.Pattern = 13
 
 abbrev kind_of : ℕ → Kind
-kind_of n = if nat_eq n 0 then kinds.IriRef else if nat_eq n 1 then kinds.PnameNs else if nat_eq n 2 then kinds.PnameLn else if nat_eq n 3 then kinds.BlankLabel else if nat_eq n 4 then kinds.LangTag else if nat_eq n 5 then kinds.AtName else if nat_eq n 6 then kinds.Str else if nat_eq n 7 then kinds.Integer else if nat_eq n 8 then kinds.Decimal else if nat_eq n 9 then kinds.Double else if nat_eq n 10 then kinds.Word else if nat_eq n 11 then kinds.Punct else kinds.Line
+kind_of n = if nat_eq n 0 then kinds.IriRef else if nat_eq n 1 then kinds.PnameNs else if nat_eq n 2 then kinds.PnameLn else if nat_eq n 3 then kinds.BlankLabel else if nat_eq n 4 then kinds.LangTag else if nat_eq n 5 then kinds.AtName else if nat_eq n 6 then kinds.Str else if nat_eq n 7 then kinds.Integer else if nat_eq n 8 then kinds.Decimal else if nat_eq n 9 then kinds.Double else if nat_eq n 10 then kinds.Word else if nat_eq n 11 then kinds.Punct else if nat_eq n 12 then kinds.Line else kinds.Pattern
 
 kind_back : (k : Kind) → kind_of (number_of k) ≡ k
 kind_back kinds.IriRef = refl
@@ -325,6 +353,7 @@ kind_back kinds.Double = refl
 kind_back kinds.Word = refl
 kind_back kinds.Punct = refl
 kind_back kinds.Line = refl
+kind_back kinds.Pattern = refl
 
 abbrev pub is_kind : Kind → Option Kind → Bool
 is_kind k None = false
@@ -353,31 +382,39 @@ abbrev pub steady : Mode → State → Bool
 steady m s = every (agrees m s) samples && labelled m s
 
 steady_ntriples : every_state (steady NTriples) ≡ true
-unfolding digit letter letter_or_digit hexadecimal name_base name_char local_start local_char label_start local_escaped text_escaped iri_char short_char long_char line_end turtle_mark map_mark
+unfolding digit letter letter_or_digit hexadecimal name_base name_char local_start local_char label_start local_escaped text_escaped iri_char short_char long_char line_end turtle_mark brace schema_mark pattern_start pattern_char flag any_char
 steady_ntriples = refl
 
 plain_ntriples : every_kind (λ k. plain (Spelling NTriples k)) ≡ true
-unfolding digit letter letter_or_digit hexadecimal name_base name_char local_start local_char label_start local_escaped text_escaped iri_char short_char long_char line_end turtle_mark map_mark
+unfolding digit letter letter_or_digit hexadecimal name_base name_char local_start local_char label_start local_escaped text_escaped iri_char short_char long_char line_end turtle_mark brace schema_mark pattern_start pattern_char flag any_char
 plain_ntriples = refl
 
 steady_turtle : every_state (steady Turtle) ≡ true
-unfolding digit letter letter_or_digit hexadecimal name_base name_char local_start local_char label_start local_escaped text_escaped iri_char short_char long_char line_end turtle_mark map_mark
+unfolding digit letter letter_or_digit hexadecimal name_base name_char local_start local_char label_start local_escaped text_escaped iri_char short_char long_char line_end turtle_mark brace schema_mark pattern_start pattern_char flag any_char
 steady_turtle = refl
 
 plain_turtle : every_kind (λ k. plain (Spelling Turtle k)) ≡ true
-unfolding digit letter letter_or_digit hexadecimal name_base name_char local_start local_char label_start local_escaped text_escaped iri_char short_char long_char line_end turtle_mark map_mark
+unfolding digit letter letter_or_digit hexadecimal name_base name_char local_start local_char label_start local_escaped text_escaped iri_char short_char long_char line_end turtle_mark brace schema_mark pattern_start pattern_char flag any_char
 plain_turtle = refl
 
 steady_map : every_state (steady Map) ≡ true
-unfolding digit letter letter_or_digit hexadecimal name_base name_char local_start local_char label_start local_escaped text_escaped iri_char short_char long_char line_end turtle_mark map_mark
+unfolding digit letter letter_or_digit hexadecimal name_base name_char local_start local_char label_start local_escaped text_escaped iri_char short_char long_char line_end turtle_mark brace schema_mark pattern_start pattern_char flag any_char
 steady_map = refl
 
 plain_map : every_kind (λ k. plain (Spelling Map k)) ≡ true
-unfolding digit letter letter_or_digit hexadecimal name_base name_char local_start local_char label_start local_escaped text_escaped iri_char short_char long_char line_end turtle_mark map_mark
+unfolding digit letter letter_or_digit hexadecimal name_base name_char local_start local_char label_start local_escaped text_escaped iri_char short_char long_char line_end turtle_mark brace schema_mark pattern_start pattern_char flag any_char
 plain_map = refl
 
+steady_schema : every_state (steady Schema) ≡ true
+unfolding digit letter letter_or_digit hexadecimal name_base name_char local_start local_char label_start local_escaped text_escaped iri_char short_char long_char line_end turtle_mark brace schema_mark pattern_start pattern_char flag any_char
+steady_schema = refl
+
+plain_schema : every_kind (λ k. plain (Spelling Schema k)) ≡ true
+unfolding digit letter letter_or_digit hexadecimal name_base name_char local_start local_char label_start local_escaped text_escaped iri_char short_char long_char line_end turtle_mark brace schema_mark pattern_start pattern_char flag any_char
+plain_schema = refl
+
 plain_states : every_state (λ s. plain_rows (rows_of s)) ≡ true
-unfolding digit letter letter_or_digit hexadecimal name_base name_char local_start local_char label_start local_escaped text_escaped iri_char short_char long_char line_end turtle_mark map_mark
+unfolding digit letter letter_or_digit hexadecimal name_base name_char local_start local_char label_start local_escaped text_escaped iri_char short_char long_char line_end turtle_mark brace schema_mark pattern_start pattern_char flag any_char
 plain_states = refl
 
 pub rows_plain : (s : State) → plain_rows (rows_of s) ≡ true
@@ -387,11 +424,13 @@ pub is_steady : (m : Mode) (s : State) → steady m s ≡ true
 is_steady NTriples s = every_state_is (steady NTriples) steady_ntriples s
 is_steady Turtle s = every_state_is (steady Turtle) steady_turtle s
 is_steady Map s = every_state_is (steady Map) steady_map s
+is_steady Schema s = every_state_is (steady Schema) steady_schema s
 
 pub spelling_plain : (m : Mode) (k : Kind) → plain (Spelling m k) ≡ true
 spelling_plain NTriples k = every_kind_is (λ k. plain (Spelling NTriples k)) plain_ntriples k
 spelling_plain Turtle k = every_kind_is (λ k. plain (Spelling Turtle k)) plain_turtle k
 spelling_plain Map k = every_kind_is (λ k. plain (Spelling Map k)) plain_map k
+spelling_plain Schema k = every_kind_is (λ k. plain (Spelling Schema k)) plain_schema k
 
 -- a sample is one of the samples
 abbrev is_in : ℕ → List ℕ → Bool

@@ -1,19 +1,21 @@
 -- What comes next in a text is one thing.
 use Rattle.std.proofs.Common.{◌≡◌, ℕ, ◌+◌, ◌-◌, ◌≤◌, ◌<◌, Bool, true, false, List, [], ◌∷◌, ◌++◌, length, take, drop, length-drop, encode_utf8_all, Option, Some, None, refl, sym, ap, subst, ◌∙◌, arith}
-use Rattle.std.specs.Prelude.{nat_eq}
+use Rattle.std.specs.Prelude.{nat_eq, ◌&&◌}
+use Rattle.std.proofs.Common.{cond}
+use Rattle.std.proofs.lemmas.Bool.{eqb-true}
 use Rattle.std.specs.Str.{chars, IsUtf8, IsCharBoundary, NonePass}
 use Rattle.std.proofs.lemmas.Str.{encodes-chars, IsUtf8-drop, IsUtf8-between, chars-nil}
 use Rattle.std.proofs.lemmas.List.{nil_from_length}
 use Rattle.rdf_lex.specs.declared.kinds.Kind.{Kind}
 use Rattle.rdf_lex.specs.declared.kinds.Mode.{Mode}
-use Rattle.rdf_lex.specs.declared.kinds.Mode.TheVariants.{NTriples, Turtle, Map}
+use Rattle.rdf_lex.specs.declared.kinds.Mode.TheVariants.{NTriples, Turtle, Map, Schema}
 use Rattle.rdf_lex.specs.declared.lexed.Lexed.{Lexed}
 use Rattle.rdf_lex.specs.declared.lexed.Lexed.TheVariants as lexed
 use Rattle.rdf_lex.specs.Phrases.{Spells}
 use Rattle.rdf_lex.specs.Scan.{Next, at_end, at_bad, at_token, next_of, seen}
 use Rattle.rdf_lex.specs.Spelling.{Spelling}
-use Rattle.rdf_lex.specs.Tokens.{Blanks, ends, stops, white, comment, is_white, ends_line, IsLineEnd, IsLongest, BeginsNone, IsSkipped, IsFirst, Lexes, Spelled, Between, here, onward, Tokens}
-use Rattle.rdf_lex.proofs.Languages.{heads}
+use Rattle.rdf_lex.specs.Tokens.{Blanks, ends, stops, white, comment, block, has_blocks, behind_block, behind_open, behind_comment, is_white, ends_line, IsLineEnd, IsLongest, BeginsNone, IsSkipped, IsFirst, Lexes, Spelled, Between, here, onward, Tokens}
+use Rattle.rdf_lex.proofs.Languages.{heads, and_true}
 use Rattle.rdf_lex.proofs.Nexts.{IsNext, is_next}
 use Rattle.rdf_lex.proofs.Recognised.{to_kind}
 
@@ -31,6 +33,7 @@ hash_not_white : (m : Mode) → is_white m 35 ≡ false
 hash_not_white NTriples = refl
 hash_not_white Turtle = refl
 hash_not_white Map = refl
+hash_not_white Schema = refl
 
 no_cons : (c : ℕ) (cs : List ℕ) → Path (List ℕ) [] (c ∷ cs) → ⊥
 no_cons c cs e = cc
@@ -45,26 +48,76 @@ one_note [] behind (c ∷ other) after e h l (k, ks) n = absurd (apart (ends_lin
 one_note (c ∷ note) behind [] after e (h, hs) l k n = absurd (apart (ends_line c) (line_goes after behind c note (sym e) n) h)
 one_note (c ∷ note) behind (d ∷ other) after e (h, hs) l (k, ks) n = one_note note behind other after (heads c d (note ++ behind) (other ++ after) e).1 hs l ks n
 
+-- where a comment from `/*` to `*/` begins, a slash stands, so no other white space
+slash_opens : (cs behind : List ℕ) → behind_open cs ≡ Some behind → (ds : List ℕ) × (cs ≡ 47 ∷ ds)
+slash_opens [] behind e = absurd cc
+slash_opens (c ∷ []) behind e = absurd cc
+slash_opens (c ∷ d ∷ cs) behind e = (d ∷ cs, ap (λ (x : ℕ). x ∷ d ∷ cs) (eqb-true c 47 (and_true (nat_eq c 47) (nat_eq d 42) (by (nat_eq c 47 && nat_eq d 42) e)).0))
+  where
+    by : (b : Bool) → cond b (behind_block false cs) None ≡ Some behind → b ≡ true
+    by true e = refl
+    by false e = absurd cc
+
+slash_begins : (m : Mode) (cs behind : List ℕ) → behind_comment m cs ≡ Some behind → (ds : List ℕ) × (cs ≡ 47 ∷ ds)
+slash_begins m cs behind e = by (has_blocks m) e
+  where
+    by : (b : Bool) → cond b (behind_open cs) None ≡ Some behind → (ds : List ℕ) × (cs ≡ 47 ∷ ds)
+    by true e = slash_opens cs behind e
+    by false e = absurd cc
+
+slash_not_white : (m : Mode) → is_white m 47 ≡ false
+slash_not_white NTriples = refl
+slash_not_white Turtle = refl
+slash_not_white Map = refl
+slash_not_white Schema = refl
+
+slash_head : (m : Mode) (c : ℕ) (cs ds behind : List ℕ) → c ∷ cs ≡ ds → behind_comment m ds ≡ Some behind → c ≡ 47
+slash_head m c cs ds behind e h = let (es, f) = slash_begins m ds behind h in (heads c 47 cs es (e ∙ f)).0
+
+no_slash : (m : Mode) (ds behind : List ℕ) → Path (List ℕ) [] ds → behind_comment m ds ≡ Some behind → ⊥
+no_slash m ds behind e h = let (es, f) = slash_begins m ds behind h in no_cons 47 es (e ∙ f)
+
+white_slash : (m : Mode) (c : ℕ) (cs ds behind : List ℕ) → c ∷ cs ≡ ds → is_white m c ≡ true → behind_comment m ds ≡ Some behind → ⊥
+white_slash m c cs ds behind e w h = apart (is_white m c) w (ap (is_white m) (slash_head m c cs ds behind e h) ∙ slash_not_white m)
+
+hash_slash : (m : Mode) (cs ds behind : List ℕ) → 35 ∷ cs ≡ ds → behind_comment m ds ≡ Some behind → ⊥
+hash_slash m cs ds behind e h = let f : Path ℕ 35 47 = slash_head m 35 cs ds behind e h in omega arith
+
+none_some_list : (o : Option (List ℕ)) (behind : List ℕ) → o ≡ None → o ≡ Some behind → ⊥
+none_some_list o behind e f = cc
+
+some_list : (xs ys : List ℕ) → Path (Option (List ℕ)) (Some xs) (Some ys) → xs ≡ ys
+some_list xs ys e = cc
+
 one_blanks : (m : Mode) (cs ds r s : List ℕ) → cs ≡ ds → Blanks m cs r → Blanks m ds s → r ≡ s
 one_blanks m cs ds r s e ends ends = refl
-one_blanks m cs ds r s e ends (stops {c = c} {cs = ys} p q) = absurd (no_cons c ys e)
+one_blanks m cs ds r s e ends (stops {c = c} {cs = ys} p q o) = absurd (no_cons c ys e)
 one_blanks m cs ds r s e ends (white {c = c} {cs = ys} p k) = absurd (no_cons c ys e)
 one_blanks m cs ds r s e ends (comment {cs = ys} note behind p n l k) = absurd (no_cons 35 ys e)
-one_blanks m cs ds r s e (stops {c = c} {cs = xs} p q) ends = absurd (no_cons c xs (sym e))
-one_blanks m cs ds r s e (stops p q) (stops f g) = e
-one_blanks m cs ds r s e (stops {c = c} {cs = xs} p q) (white {c = d} {cs = ys} f k) = absurd (apart (is_white m c) (ap (is_white m) (heads c d xs ys e).0 ∙ f) p)
-one_blanks m cs ds r s e (stops {c = c} {cs = xs} p q) (comment {cs = ys} note behind f n l k) = absurd (apart (nat_eq c 35) (ap (λ (x : ℕ). nat_eq x 35) (heads c 35 xs ys e).0) q)
+one_blanks m cs ds r s e ends (block behind p k) = absurd (no_slash m ds behind e p)
+one_blanks m cs ds r s e (stops {c = c} {cs = xs} p q o) ends = absurd (no_cons c xs (sym e))
+one_blanks m cs ds r s e (stops p q o) (stops f g n) = e
+one_blanks m cs ds r s e (stops {c = c} {cs = xs} p q o) (white {c = d} {cs = ys} f k) = absurd (apart (is_white m c) (ap (is_white m) (heads c d xs ys e).0 ∙ f) p)
+one_blanks m cs ds r s e (stops {c = c} {cs = xs} p q o) (comment {cs = ys} note behind f n l k) = absurd (apart (nat_eq c 35) (ap (λ (x : ℕ). nat_eq x 35) (heads c 35 xs ys e).0) q)
+one_blanks m cs ds r s e (stops {c = c} {cs = xs} p q o) (block behind f k) = absurd (none_some_list (behind_comment m ds) behind (ap (behind_comment m) (sym e) ∙ o) f)
 one_blanks m cs ds r s e (white {c = c} {cs = xs} p h) ends = absurd (no_cons c xs (sym e))
-one_blanks m cs ds r s e (white {c = c} {cs = xs} p h) (stops {c = d} {cs = ys} f g) = absurd (apart (is_white m d) (ap (is_white m) (sym (heads c d xs ys e).0) ∙ p) f)
+one_blanks m cs ds r s e (white {c = c} {cs = xs} p h) (stops {c = d} {cs = ys} f g o) = absurd (apart (is_white m d) (ap (is_white m) (sym (heads c d xs ys e).0) ∙ p) f)
 one_blanks m cs ds r s e (white {c = c} {cs = xs} p h) (white {c = d} {cs = ys} f k) = one_blanks m xs ys r s (heads c d xs ys e).1 h k
 one_blanks m cs ds r s e (white {c = c} {cs = xs} p h) (comment {cs = ys} note behind f n l k) =
     absurd (apart (is_white m c) p (ap (is_white m) (heads c 35 xs ys e).0 ∙ hash_not_white m))
+one_blanks m cs ds r s e (white {c = c} {cs = xs} p h) (block behind f k) = absurd (white_slash m c xs ds behind e p f)
 one_blanks m cs ds r s e (comment {cs = xs} note behind f n l h) ends = absurd (no_cons 35 xs (sym e))
-one_blanks m cs ds r s e (comment {cs = xs} note behind f n l h) (stops {c = d} {cs = ys} p q) = absurd (apart (nat_eq d 35) (ap (λ (x : ℕ). nat_eq x 35) (sym (heads 35 d xs ys e).0)) q)
+one_blanks m cs ds r s e (comment {cs = xs} note behind f n l h) (stops {c = d} {cs = ys} p q o) = absurd (apart (nat_eq d 35) (ap (λ (x : ℕ). nat_eq x 35) (sym (heads 35 d xs ys e).0)) q)
 one_blanks m cs ds r s e (comment {cs = xs} note behind f n l h) (white {c = d} {cs = ys} p k) =
     absurd (apart (is_white m d) p (ap (is_white m) (sym (heads 35 d xs ys e).0) ∙ hash_not_white m))
 one_blanks m cs ds r s e (comment {cs = xs} note behind f n l h) (comment {cs = ys} other after g o i k) =
     one_blanks m behind after r s (one_note note behind other after (sym f ∙ (heads 35 35 xs ys e).1 ∙ g) n l o i) h k
+one_blanks m cs ds r s e (comment {cs = xs} note behind f n l h) (block after p k) = absurd (hash_slash m xs ds after e p)
+one_blanks m cs ds r s e (block behind f h) ends = absurd (no_slash m cs behind (sym e) f)
+one_blanks m cs ds r s e (block behind f h) (stops p q o) = absurd (none_some_list (behind_comment m ds) behind o (ap (behind_comment m) (sym e) ∙ f))
+one_blanks m cs ds r s e (block behind f h) (white {c = d} {cs = ys} p k) = absurd (white_slash m d ys cs behind (sym e) p f)
+one_blanks m cs ds r s e (block behind f h) (comment {cs = ys} note after p n l k) = absurd (hash_slash m ys cs behind (sym e) f)
+one_blanks m cs ds r s e (block behind f h) (block after p k) = one_blanks m behind after r s (some_list behind after (sym f ∙ ap (behind_comment m) e ∙ p)) h k
 
 -- a place by what is left from there on
 same_place : (source : List ℕ) (a b : ℕ) → IsUtf8 source → IsCharBoundary source a → IsCharBoundary source b → chars (drop a source) ≡ chars (drop b source) → a ≡ b

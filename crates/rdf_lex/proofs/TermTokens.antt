@@ -7,7 +7,8 @@ use Rattle.std.proofs.lemmas.Bool.{eqb-true}
 use Rattle.std.proofs.lemmas.Bool.Decides.{nat_tests}
 use Rattle.std.proofs.lemmas.List.{append-nil, nil_from_length}
 use Rattle.std.proofs.lemmas.Str.{chars-encodes, encodes-append, IsCharBoundary-start, IsCharBoundary-end, chars-nil}
-use Rattle.rdf_terms.specs.Literals.{LiteralParts, xsd_string}
+use Rattle.rdf_terms.specs.Literals.{LiteralParts}
+use Rattle.rdf_terms.specs.Vocabulary.{xsd_string}
 use Rattle.rdf_terms.specs.Texts.{same_text}
 use Rattle.rdf_terms.specs.Written.{iri_text, literal_text, term_text, suffix_text}
 use Rattle.rdf_terms.specs.Written as words
@@ -16,7 +17,7 @@ use Rattle.rdf_lex.specs.declared.escapes.Inside.TheVariants as inside
 use Rattle.rdf_lex.specs.declared.kinds.Kind.{Kind}
 use Rattle.rdf_lex.specs.declared.kinds.Kind.TheVariants as kinds
 use Rattle.rdf_lex.specs.declared.kinds.Mode.{Mode}
-use Rattle.rdf_lex.specs.declared.kinds.Mode.TheVariants.{NTriples, Turtle, Map}
+use Rattle.rdf_lex.specs.declared.kinds.Mode.TheVariants.{NTriples, Turtle, Map, Schema}
 use Rattle.rdf_lex.specs.Characters.{has, iri_char, short_char, text_escaped}
 use Rattle.rdf_lex.specs.Escapes.{StandsFor, ends, plain, named, inside_of, IsEnclosed, Body, has_long_marks, Means, IsMeaning}
 use Rattle.rdf_lex.specs.Escapes as escapes
@@ -192,6 +193,7 @@ not_white : (m : Mode) → (is_white m 34 ≡ false) × (is_white m 64 ≡ false
 not_white NTriples = (refl, refl, refl, refl)
 not_white Turtle = (refl, refl, refl, refl)
 not_white Map = (refl, refl, refl, refl)
+not_white Schema = (refl, refl, refl, refl)
 
 at_end : (m : Mode) (source : List ℕ) (place : ℕ) → IsCharBoundary source place → chars (drop place source) ≡ [] → IsSkipped m source place (length source)
 at_end m source place b e =
@@ -222,7 +224,7 @@ token_as m source place to k text bytes ts e b = subst (λ (v : List ℕ). Betwe
 iri_to_end : (m : Mode) (source : List ℕ) (place : ℕ) (iri : List ℕ) → IsUtf8 source → IsCharBoundary source place → chars (drop place source) ≡ 60 ∷ (iri ++ 62 ∷ []) → list_all (has iri_char) iri ≡ true
     → (to : ℕ) × Between m source place (iri_token iri ∷ []) to × IsSkipped m source to (length source)
 iri_to_end m source place iri u b e p =
-    let s = stands_here m source place kinds.IriRef 60 (iri ++ 62 ∷ []) [] u b (e ∙ sym (append-nil (60 ∷ (iri ++ 62 ∷ [])))) (not_white m).3 refl (iri_spelled m iri p) (over_nil m (60 ∷ (iri ++ 62 ∷ []))) in
+    let s = stands_here m source place kinds.IriRef 60 (iri ++ 62 ∷ []) [] u b (e ∙ sym (append-nil (60 ∷ (iri ++ 62 ∷ [])))) (not_white m).3 refl refl (iri_spelled m iri p) (over_nil m (60 ∷ (iri ++ 62 ∷ []))) in
     let to = place + length (encode_utf8_all (60 ∷ (iri ++ 62 ∷ []))) in
     (to, token_as m source place to kinds.IriRef (encode_utf8_all (60 ∷ (iri ++ 62 ∷ []))) (iri_text iri) [] (iri_bytes iri) (onward s.first here), at_end m source to s.cut s.behind)
 
@@ -250,14 +252,14 @@ after_string : (m : Mode) (l : LiteralParts) (w : LexWritten l.lex) (suffix : Li
     → Tokens m (literal_text l) (record { kind = kinds.Str; text = quoted_text l } ∷ ts)
 after_string m l w suffix ts src over rest =
     let all = 34 ∷ (w.chars_of ++ 34 ∷ []) in
-    let s = stands_here m (literal_text l) 0 kinds.Str 34 (w.chars_of ++ 34 ∷ []) suffix src.utf8 src.begins src.are (not_white m).0 refl (quoted_spelled m l.lex w) over in
+    let s = stands_here m (literal_text l) 0 kinds.Str 34 (w.chars_of ++ 34 ∷ []) suffix src.utf8 src.begins src.are (not_white m).0 refl refl (quoted_spelled m l.lex w) over in
     let (to, b, e) = rest (0 + length (encode_utf8_all all)) s.cut s.behind in
     (to, token_as m (literal_text l) 0 to kinds.Str (encode_utf8_all all) (quoted_text l) ts (quoted_bytes l w) (onward s.first b), e)
 
 tag_to_end : (m : Mode) (source : List ℕ) (place : ℕ) (tag : List ℕ) → IsUtf8 source → IsCharBoundary source place → chars (drop place source) ≡ 64 ∷ tag → Spells lang_tag (64 ∷ tag)
     → (to : ℕ) × Between m source place (record { kind = kinds.LangTag; text = codes "@" ++ encode_utf8_all tag } ∷ []) to × IsSkipped m source to (length source)
 tag_to_end m source place tag u b e h =
-    let s = stands_here m source place kinds.LangTag 64 tag [] u b (e ∙ sym (append-nil (64 ∷ tag))) (not_white m).1 refl h (over_nil m (64 ∷ tag)) in
+    let s = stands_here m source place kinds.LangTag 64 tag [] u b (e ∙ sym (append-nil (64 ∷ tag))) (not_white m).1 refl refl h (over_nil m (64 ∷ tag)) in
     let to = place + length (encode_utf8_all (64 ∷ tag)) in
     (to, token_as m source place to kinds.LangTag (encode_utf8_all (64 ∷ tag)) (codes "@" ++ encode_utf8_all tag) [] (sym (quote_byte 64 tag (omega arith))) (onward s.first here), at_end m source to s.cut s.behind)
 
@@ -267,7 +269,7 @@ carets_bytes cs = quote_byte 94 (94 ∷ cs) (omega arith) ∙ ap (λ (v : List �
 datatype_to_end : (m : Mode) (source : List ℕ) (place : ℕ) (iri : List ℕ) → IsUtf8 source → IsCharBoundary source place → chars (drop place source) ≡ 94 ∷ 94 ∷ 60 ∷ (iri ++ 62 ∷ []) → list_all (has iri_char) iri ≡ true
     → (to : ℕ) × Between m source place (record { kind = kinds.Punct; text = codes "^^" } ∷ iri_token iri ∷ []) to × IsSkipped m source to (length source)
 datatype_to_end m source place iri u b e p =
-    let s = stands_here m source place kinds.Punct 94 (94 ∷ []) (60 ∷ (iri ++ 62 ∷ [])) u b e (not_white m).2 refl (carets_spelled m) (carets_over m (iri ++ 62 ∷ [])) in
+    let s = stands_here m source place kinds.Punct 94 (94 ∷ []) (60 ∷ (iri ++ 62 ∷ [])) u b e (not_white m).2 refl refl (carets_spelled m) (carets_over m (iri ++ 62 ∷ [])) in
     let (to, c, d) = iri_to_end m source (place + length (encode_utf8_all (94 ∷ 94 ∷ []))) iri u s.cut s.behind p in
     (to, token_as m source place to kinds.Punct (encode_utf8_all (94 ∷ 94 ∷ [])) (codes "^^") (iri_token iri ∷ []) (sym (carets_bytes [])) (onward s.first c), d)
 

@@ -96,10 +96,30 @@ long_char quote = Except ((quote, quote) ∷ (92, 92) ∷ [])
 unfoldable pub line_end : Class
 line_end = Among ((10, 10) ∷ (13, 13) ∷ [])
 
--- marks that Turtle has and shape maps have not: `( ) ; [ ]`
+-- marks that Turtle and ShExC have and shape maps have not: `( ) ; [ ]`
 unfoldable pub turtle_mark : Class
 turtle_mark = Among ((40, 41) ∷ (59, 59) ∷ (91, 91) ∷ (93, 93) ∷ [])
 
--- marks that only shape maps have: `! { }`
-unfoldable pub map_mark : Class
-map_mark = Among ((33, 33) ∷ (123, 123) ∷ (125, 125) ∷ [])
+-- braces, which shape maps and ShExC have
+unfoldable pub brace : Class
+brace = Among ((123, 123) ∷ (125, 125) ∷ [])
+
+-- marks that only ShExC has: `| ~ = $ & * ? %` (ShEx 2.1, section 6)
+unfoldable pub schema_mark : Class
+schema_mark = Among ((36, 38) ∷ (42, 42) ∷ (61, 61) ∷ (63, 63) ∷ (124, 124) ∷ (126, 126) ∷ [])
+
+-- what a pattern may begin with as it is: all but `/ * \`, LF and CR (own: so that it is neither `//` nor a comment)
+unfoldable pub pattern_start : Class
+pattern_start = Except ((42, 42) ∷ (47, 47) ∷ (92, 92) ∷ (10, 10) ∷ (13, 13) ∷ [])
+
+-- what stands in a pattern as it is: all but `/ \`, LF and CR (own)
+unfoldable pub pattern_char : Class
+pattern_char = Except ((47, 47) ∷ (92, 92) ∷ (10, 10) ∷ (13, 13) ∷ [])
+
+-- a flag of a pattern: a to z (own)
+unfoldable pub flag : Class
+flag = Among ((97, 122) ∷ [])
+
+-- any character, behind a backslash in a pattern
+unfoldable pub any_char : Class
+any_char = Except []

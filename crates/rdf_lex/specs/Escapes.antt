@@ -103,6 +103,7 @@ Body kinds.Double text body = ⊥
 Body kinds.Word text body = ⊥
 Body kinds.Punct text body = ⊥
 Body kinds.Line text body = ⊥
+Body kinds.Pattern text body = ⊥
 
 -- a token of the kind has such a part
 abbrev pub holds_text : Kind → Bool
@@ -119,6 +120,7 @@ holds_text kinds.Double = false
 holds_text kinds.Word = false
 holds_text kinds.Punct = false
 holds_text kinds.Line = false
+holds_text kinds.Pattern = false
 
 -- the text of a token of this kind stands for characters of these numbers
 abbrev pub Means : Kind → List ℕ → List ℕ → Type 0

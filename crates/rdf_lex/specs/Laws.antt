@@ -2,7 +2,8 @@
 use Rattle.std.specs.Prelude.{◌≡◌, ℕ, ◌+◌, ◌<◌, ◌≤◌, length, true, if◌then◌else◌, List, [], ◌∷◌, ◌++◌, Option, Some, None, codes, encode_utf8_all}
 use Rattle.std.specs.List.{list_all, flat_map}
 use Rattle.std.specs.Str.{chars, all_scalars, IsUtf8, IsCharBoundary}
-use Rattle.rdf_terms.specs.Literals.{LiteralParts, xsd_string}
+use Rattle.rdf_terms.specs.Literals.{LiteralParts}
+use Rattle.rdf_terms.specs.Vocabulary.{xsd_string}
 use Rattle.rdf_terms.specs.Texts.{same_text}
 use Rattle.rdf_terms.specs.Written.{iri_text, escaped, literal_text, term_text}
 use Rattle.rdf_terms.specs.declared.terms.Term.TheVariants.{Iri}

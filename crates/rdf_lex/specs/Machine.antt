@@ -3,7 +3,7 @@ use Rattle.std.specs.Prelude.{ℕ, List, [], ◌∷◌, Option, Some, None, if�
 use Rattle.rdf_lex.specs.declared.kinds.Kind.{Kind}
 use Rattle.rdf_lex.specs.declared.kinds.Kind.TheVariants as kinds
 use Rattle.rdf_lex.specs.declared.kinds.Mode.{Mode}
-use Rattle.rdf_lex.specs.declared.kinds.Mode.TheVariants.{NTriples, Turtle, Map}
+use Rattle.rdf_lex.specs.declared.kinds.Mode.TheVariants.{NTriples, Turtle, Map, Schema}
 use Rattle.rdf_lex.specs.declared.machine.Left.{Left}
 use Rattle.rdf_lex.specs.declared.machine.Left.TheVariants as left
 use Rattle.rdf_lex.specs.declared.machine.Quote.{Quote}
@@ -24,9 +24,11 @@ use Rattle.rdf_lex.specs.declared.machine.LabelPart.{LabelPart}
 use Rattle.rdf_lex.specs.declared.machine.LabelPart.TheVariants as label
 use Rattle.rdf_lex.specs.declared.machine.MarkPart.{MarkPart}
 use Rattle.rdf_lex.specs.declared.machine.MarkPart.TheVariants as mark
+use Rattle.rdf_lex.specs.declared.machine.PatternPart.{PatternPart}
+use Rattle.rdf_lex.specs.declared.machine.PatternPart.TheVariants as pattern
 use Rattle.rdf_lex.specs.declared.machine.State.{State}
-use Rattle.rdf_lex.specs.declared.machine.State.TheVariants.{Start, Iri, Text, Number, Name, Tag, Label, Mark, Line}
-use Rattle.rdf_lex.specs.Characters.{Class, Only, has, digit, letter, letter_or_digit, hexadecimal, name_base, name_char, local_start, local_char, label_start, local_escaped, text_escaped, iri_char, short_char, long_char, line_end, turtle_mark, map_mark}
+use Rattle.rdf_lex.specs.declared.machine.State.TheVariants.{Start, Iri, Text, Number, Name, Tag, Label, Mark, Line, Pattern}
+use Rattle.rdf_lex.specs.Characters.{Class, Only, has, digit, letter, letter_or_digit, hexadecimal, name_base, name_char, local_start, local_char, label_start, local_escaped, text_escaped, iri_char, short_char, long_char, line_end, turtle_mark, brace, schema_mark, pattern_start, pattern_char, flag, any_char}
 
 -- classes with what they lead to; the first that has the character counts
 abbrev pub following : {T : Type 0} → List (Class × T) → ℕ → Option T
@@ -140,14 +142,25 @@ abbrev pub mark_rows : MarkPart → Rows
 mark_rows mark.Caret = (Only 94, Mark mark.Carets) ∷ []
 mark_rows mark.Comma = []
 mark_rows mark.Turtle = []
-mark_rows mark.Map = []
+mark_rows mark.Brace = []
+mark_rows mark.Exclamation = []
+mark_rows mark.Schema = []
+mark_rows mark.Slashes = []
 mark_rows mark.Carets = []
+
+-- behind a slash, in a pattern, behind a backslash in it, and behind the slash that ends it
+abbrev pub pattern_rows : PatternPart → Rows
+pattern_rows pattern.Slash = (Only 47, Mark mark.Slashes) ∷ (Only 92, Pattern pattern.Escape) ∷ (pattern_start, Pattern pattern.Body) ∷ []
+pattern_rows pattern.Body = (Only 47, Pattern pattern.Flags) ∷ (Only 92, Pattern pattern.Escape) ∷ (pattern_char, Pattern pattern.Body) ∷ []
+pattern_rows pattern.Escape = (any_char, Pattern pattern.Body) ∷ []
+pattern_rows pattern.Flags = (flag, Pattern pattern.Flags) ∷ []
 
 abbrev pub start_rows : Rows
 start_rows = (Only 60, Iri iri.Body) ∷ (Only 34, Text quotes.Double text.Opened) ∷ (Only 39, Text quotes.Single text.Opened) ∷ (Only 64, Tag tag.At)
     ∷ (Only 43, Number number.Sign) ∷ (Only 45, Number number.Sign) ∷ (digit, Number number.Digits) ∷ (Only 46, Number number.Point)
     ∷ (letter, Name lead.Alone name.Word) ∷ (name_base, Name lead.Alone name.Prefix) ∷ (Only 58, Name lead.Alone name.Colon) ∷ (Only 95, Label label.Underscore)
-    ∷ (Only 94, Mark mark.Caret) ∷ (Only 44, Mark mark.Comma) ∷ (turtle_mark, Mark mark.Turtle) ∷ (map_mark, Mark mark.Map) ∷ (line_end, Line) ∷ []
+    ∷ (Only 94, Mark mark.Caret) ∷ (Only 44, Mark mark.Comma) ∷ (turtle_mark, Mark mark.Turtle) ∷ (brace, Mark mark.Brace) ∷ (Only 33, Mark mark.Exclamation)
+    ∷ (Only 47, Pattern pattern.Slash) ∷ (schema_mark, Mark mark.Schema) ∷ (line_end, Line) ∷ []
 
 abbrev pub rows_of : State → Rows
 rows_of Start = start_rows
@@ -159,6 +172,7 @@ rows_of (Tag part) = tag_rows part
 rows_of (Label part) = label_rows part
 rows_of (Mark part) = mark_rows part
 rows_of Line = (line_end, Line) ∷ []
+rows_of (Pattern part) = pattern_rows part
 
 -- where a token is after one more character
 abbrev pub step_of : State → ℕ → Option State
@@ -177,16 +191,25 @@ text_label text.LongQuotes = None
 text_label text.LongEscape = None
 text_label (text.LongDigits l) = None
 
-abbrev pub point_label : Mode → Option Kind
-point_label NTriples = Some kinds.Punct
-point_label Turtle = Some kinds.Punct
-point_label Map = None
+-- a kind that only ShExC has
+abbrev pub in_schemas : Mode → Kind → Option Kind
+in_schemas Schema k = Some k
+in_schemas NTriples k = None
+in_schemas Turtle k = None
+in_schemas Map k = None
+
+-- a kind that shape maps and ShExC have
+abbrev pub behind_at : Mode → Kind → Option Kind
+behind_at Map k = Some k
+behind_at Schema k = Some k
+behind_at NTriples k = None
+behind_at Turtle k = None
 
 abbrev pub number_label : Mode → NumberPart → Option Kind
-number_label m number.Sign = None
+number_label m number.Sign = in_schemas m kinds.Punct
 number_label m number.Digits = Some kinds.Integer
 number_label m number.DigitsPoint = None
-number_label m number.Point = point_label m
+number_label m number.Point = Some kinds.Punct
 number_label m number.SignPoint = None
 number_label m number.Fraction = Some kinds.Decimal
 number_label m number.Exponent = None
@@ -209,10 +232,11 @@ abbrev pub in_maps : Mode → Kind → Option Kind
 in_maps Map k = Some k
 in_maps NTriples k = None
 in_maps Turtle k = None
+in_maps Schema k = None
 
 abbrev pub at_name_label : Mode → NamePart → Option Kind
-at_name_label m name.Colon = in_maps m kinds.AtName
-at_name_label m name.Local = in_maps m kinds.AtName
+at_name_label m name.Colon = behind_at m kinds.AtName
+at_name_label m name.Local = behind_at m kinds.AtName
 at_name_label m name.Word = None
 at_name_label m name.Prefix = None
 at_name_label m name.PrefixDot = None
@@ -222,7 +246,7 @@ at_name_label m name.PercentDigit = None
 at_name_label m name.LocalEscape = None
 
 abbrev pub tag_label : Mode → TagPart → Option Kind
-tag_label m tag.At = in_maps m kinds.Punct
+tag_label m tag.At = behind_at m kinds.Punct
 tag_label m tag.Tag = Some kinds.LangTag
 tag_label m tag.Dash = None
 tag_label m tag.More = Some kinds.LangTag
@@ -231,6 +255,7 @@ abbrev pub colons_label : Mode → Option Kind
 colons_label NTriples = Some kinds.BlankLabel
 colons_label Turtle = None
 colons_label Map = Some kinds.BlankLabel
+colons_label Schema = None
 
 abbrev pub label_label : Mode → LabelPart → Option Kind
 label_label m label.Underscore = in_maps m kinds.Punct
@@ -244,11 +269,16 @@ abbrev pub mark_label : Mode → MarkPart → Option Kind
 mark_label NTriples mark.Comma = None
 mark_label Turtle mark.Comma = Some kinds.Punct
 mark_label Map mark.Comma = Some kinds.Punct
+mark_label Schema mark.Comma = Some kinds.Punct
 mark_label NTriples mark.Turtle = None
 mark_label Turtle mark.Turtle = Some kinds.Punct
 mark_label Map mark.Turtle = None
-mark_label m mark.Map = in_maps m kinds.Punct
-mark_label m mark.Caret = None
+mark_label Schema mark.Turtle = Some kinds.Punct
+mark_label m mark.Brace = behind_at m kinds.Punct
+mark_label m mark.Exclamation = in_maps m kinds.Punct
+mark_label m mark.Schema = in_schemas m kinds.Punct
+mark_label m mark.Slashes = in_schemas m kinds.Punct
+mark_label m mark.Caret = in_schemas m kinds.Punct
 mark_label m mark.Carets = Some kinds.Punct
 
 abbrev pub iri_label : IriPart → Option Kind
@@ -261,6 +291,13 @@ abbrev pub line_label : Mode → Option Kind
 line_label NTriples = Some kinds.Line
 line_label Turtle = None
 line_label Map = None
+line_label Schema = None
+
+abbrev pub pattern_label : Mode → PatternPart → Option Kind
+pattern_label m pattern.Flags = in_schemas m kinds.Pattern
+pattern_label m pattern.Slash = None
+pattern_label m pattern.Body = None
+pattern_label m pattern.Escape = None
 
 -- the kind of a token that ends here
 abbrev pub label_of : Mode → State → Option Kind
@@ -274,3 +311,4 @@ label_of m (Tag part) = tag_label m part
 label_of m (Label part) = label_label m part
 label_of m (Mark part) = mark_label m part
 label_of m Line = line_label m
+label_of m (Pattern part) = pattern_label m part

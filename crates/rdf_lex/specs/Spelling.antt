@@ -1,10 +1,10 @@
--- What characters spell a token of each kind (RDF 1.1 Turtle, section 6.5; RDF 1.1 N-Triples, section 7).
+-- What characters spell a token of each kind (RDF 1.1 Turtle, section 6.5; RDF 1.1 N-Triples, section 7; ShEx 2.1, section 6).
 use Rattle.std.specs.Prelude.{ℕ}
 use Rattle.rdf_lex.specs.declared.kinds.Kind.{Kind}
 use Rattle.rdf_lex.specs.declared.kinds.Kind.TheVariants as kinds
 use Rattle.rdf_lex.specs.declared.kinds.Mode.{Mode}
-use Rattle.rdf_lex.specs.declared.kinds.Mode.TheVariants.{NTriples, Turtle, Map}
-use Rattle.rdf_lex.specs.Characters.{Class, digit, letter, letter_or_digit, hexadecimal, name_base, name_char, local_start, local_char, label_start, local_escaped, text_escaped, iri_char, short_char, long_char, line_end, turtle_mark, map_mark}
+use Rattle.rdf_lex.specs.declared.kinds.Mode.TheVariants.{NTriples, Turtle, Map, Schema}
+use Rattle.rdf_lex.specs.Characters.{Class, digit, letter, letter_or_digit, hexadecimal, name_base, name_char, local_start, local_char, label_start, local_escaped, text_escaped, iri_char, short_char, long_char, line_end, turtle_mark, brace, schema_mark, pattern_start, pattern_char, flag, any_char}
 use Rattle.rdf_lex.specs.Phrases.{Phrase, nothing, one, ◌⨾◌, ◌∣◌, each, char, maybe, some}
 
 abbrev pub four_digits : Phrase
@@ -97,11 +97,23 @@ exponent = (char 101 ∣ char 69) ⨾ sign ⨾ number_digits
 abbrev pub double : Phrase
 double = sign ⨾ (number_digits ⨾ char 46 ⨾ each (one digit) ⨾ exponent ∣ char 46 ⨾ number_digits ⨾ exponent ∣ number_digits ⨾ exponent)
 
--- the marks of each mode: `.` and `^^` in N-Triples; `, . ; ( ) [ ]` and `^^` in Turtle; `, @ _ ! { }` and `^^` in shape maps
+-- REGEXP: a pattern between slashes, in which a backslash takes any character with it, and its flags (ShEx 2.1, section 6; own)
+abbrev pub pattern_escape : Phrase
+pattern_escape = char 92 ⨾ one any_char
+
+abbrev pub pattern_body : Phrase
+pattern_body = (one pattern_start ∣ pattern_escape) ⨾ each (one pattern_char ∣ pattern_escape)
+
+abbrev pub pattern : Phrase
+pattern = char 47 ⨾ pattern_body ⨾ char 47 ⨾ each (one flag)
+
+-- the marks of each mode: `.` and `^^` in N-Triples; `, . ; ( ) [ ]` and `^^` in Turtle; `, . @ _ ! { }` and `^^` in shape maps; in ShExC
+-- `, . ; ( ) [ ] @ { } | ~ = $ & * ? % + -` and `^ ^^ //`
 abbrev pub mark : Mode → Phrase
 mark NTriples = char 46 ∣ char 94 ⨾ char 94
 mark Turtle = char 44 ∣ char 46 ∣ one turtle_mark ∣ char 94 ⨾ char 94
-mark Map = char 44 ∣ char 64 ∣ char 95 ∣ one map_mark ∣ char 94 ⨾ char 94
+mark Map = char 44 ∣ char 46 ∣ char 64 ∣ char 95 ∣ char 33 ∣ one brace ∣ char 94 ⨾ char 94
+mark Schema = char 44 ∣ char 46 ∣ one turtle_mark ∣ char 64 ∣ one brace ∣ one schema_mark ∣ char 43 ∣ char 45 ∣ char 94 ∣ char 94 ⨾ char 94 ∣ char 47 ⨾ char 47
 
 abbrev pub Spelling : Mode → Kind → Phrase
 Spelling m kinds.IriRef = iri_ref
@@ -110,8 +122,10 @@ Spelling m kinds.PnameLn = pname_ln
 Spelling Turtle kinds.BlankLabel = blank_label label_start name_char
 Spelling NTriples kinds.BlankLabel = blank_label local_start local_char
 Spelling Map kinds.BlankLabel = blank_label local_start local_char
+Spelling Schema kinds.BlankLabel = blank_label label_start name_char
 Spelling m kinds.LangTag = lang_tag
 Spelling Map kinds.AtName = at_name
+Spelling Schema kinds.AtName = at_name
 Spelling NTriples kinds.AtName = nothing
 Spelling Turtle kinds.AtName = nothing
 Spelling m kinds.Str = any_text
@@ -123,3 +137,8 @@ Spelling m kinds.Punct = mark m
 Spelling NTriples kinds.Line = some (one line_end)
 Spelling Turtle kinds.Line = nothing
 Spelling Map kinds.Line = nothing
+Spelling Schema kinds.Line = nothing
+Spelling Schema kinds.Pattern = pattern
+Spelling NTriples kinds.Pattern = nothing
+Spelling Turtle kinds.Pattern = nothing
+Spelling Map kinds.Pattern = nothing

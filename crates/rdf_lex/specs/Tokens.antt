@@ -1,9 +1,9 @@
 -- The longest token at a place, and the tokens of a text.
-use Rattle.std.specs.Prelude.{◌≡◌, ℕ, ◌+◌, ◌≤◌, ◌<◌, Bool, true, false, List, [], ◌∷◌, ◌++◌, length, take, drop, nat_eq, ◌||◌}
+use Rattle.std.specs.Prelude.{◌≡◌, ℕ, ◌+◌, ◌≤◌, ◌<◌, Bool, true, false, Option, Some, None, List, [], ◌∷◌, ◌++◌, length, take, drop, nat_eq, ◌||◌, ◌&&◌, if◌then◌else◌}
 use Rattle.std.specs.Str.{chars, IsCharBoundary, NonePass}
 use Rattle.rdf_lex.specs.declared.kinds.Kind.{Kind}
 use Rattle.rdf_lex.specs.declared.kinds.Mode.{Mode}
-use Rattle.rdf_lex.specs.declared.kinds.Mode.TheVariants.{NTriples, Turtle, Map}
+use Rattle.rdf_lex.specs.declared.kinds.Mode.TheVariants.{NTriples, Turtle, Map, Schema}
 use Rattle.rdf_lex.specs.declared.lexed.Lexed.{Lexed}
 use Rattle.rdf_lex.specs.declared.lexed.Lexed.TheVariants as lexed
 use Rattle.rdf_lex.specs.Phrases.{Spells}
@@ -14,6 +14,7 @@ abbrev pub is_white : Mode → ℕ → Bool
 is_white NTriples c = nat_eq c 32 || nat_eq c 9
 is_white Turtle c = nat_eq c 32 || (nat_eq c 9 || (nat_eq c 13 || nat_eq c 10))
 is_white Map c = nat_eq c 32 || (nat_eq c 9 || (nat_eq c 13 || nat_eq c 10))
+is_white Schema c = nat_eq c 32 || (nat_eq c 9 || (nat_eq c 13 || nat_eq c 10))
 
 -- CR or LF, before which a comment ends (RDF 1.1 Turtle, section 6.2)
 abbrev pub ends_line : ℕ → Bool
@@ -24,12 +25,34 @@ abbrev pub IsLineEnd : List ℕ → Type 0
 IsLineEnd [] = Unit {0}
 IsLineEnd (c ∷ cs) = ends_line c ≡ true
 
+-- comments from `/*` to the next `*/` are those of ShExC (ShEx 2.1, section 6)
+abbrev pub has_blocks : Mode → Bool
+has_blocks Schema = true
+has_blocks NTriples = false
+has_blocks Turtle = false
+has_blocks Map = false
+
+-- what stands behind the next `*/`, if there is one; the flag says that a `*` stands right before
+abbrev pub behind_block : Bool → List ℕ → Option (List ℕ)
+behind_block star [] = None
+behind_block star (c ∷ cs) = if star && nat_eq c 47 then Some cs else behind_block (nat_eq c 42) cs
+
+-- what stands behind a comment that begins here with `/*`, if one does and ends
+abbrev pub behind_open : List ℕ → Option (List ℕ)
+behind_open [] = None
+behind_open (c ∷ []) = None
+behind_open (c ∷ d ∷ cs) = if nat_eq c 47 && nat_eq d 42 then behind_block false cs else None
+
+abbrev pub behind_comment : Mode → List ℕ → Option (List ℕ)
+behind_comment m cs = if has_blocks m then behind_open cs else None
+
 -- all white space and comments in front of the first characters lead to the second
 pub data Blanks (m : Mode) : List ℕ → List ℕ → Type 0 where
   ends : Blanks m [] []
-  stops : {c : ℕ} {cs : List ℕ} → is_white m c ≡ false → nat_eq c 35 ≡ false → Blanks m (c ∷ cs) (c ∷ cs)
+  stops : {c : ℕ} {cs : List ℕ} → is_white m c ≡ false → nat_eq c 35 ≡ false → behind_comment m (c ∷ cs) ≡ None → Blanks m (c ∷ cs) (c ∷ cs)
   white : {c : ℕ} {cs rest : List ℕ} → is_white m c ≡ true → Blanks m cs rest → Blanks m (c ∷ cs) rest
   comment : {cs rest : List ℕ} (note behind : List ℕ) → cs ≡ note ++ behind → NonePass ends_line note → IsLineEnd behind → Blanks m behind rest → Blanks m (35 ∷ cs) rest
+  block : {cs rest : List ℕ} (behind : List ℕ) → behind_comment m cs ≡ Some behind → Blanks m behind rest → Blanks m cs rest
 
 -- the characters begin with this token, and with none that is longer
 pub record IsLongest (m : Mode) (cs : List ℕ) (k : Kind) (text : List ℕ) : Type 0 where

@@ -26,7 +26,8 @@ pub fn body_of<'a>(token: Token<'a>) -> &'a str
         | Kind::Double
         | Kind::Word
         | Kind::Punct
-        | Kind::Line => unreachable!(),
+        | Kind::Line
+        | Kind::Pattern => unreachable!(),
     }
 }
 

@@ -1,7 +1,7 @@
 // Sets of characters (RDF 1.1 Turtle, section 6.5).
 
 ghost use Rattle.std.specs.Prelude.{◌≡◌};
-ghost use Rattle.rdf_lex.specs.Characters.{Only, has, digit, letter, letter_or_digit, hexadecimal, name_base, name_char, local_start, local_char, label_start, local_escaped, text_escaped, iri_char, short_char, long_char, line_end, turtle_mark, map_mark};
+ghost use Rattle.rdf_lex.specs.Characters.{Only, has, digit, letter, letter_or_digit, hexadecimal, name_base, name_char, local_start, local_char, label_start, local_escaped, text_escaped, iri_char, short_char, long_char, line_end, turtle_mark, brace, schema_mark, pattern_start, pattern_char, flag, any_char};
 ghost use Rattle.rdf_lex.specs.Machine.{mark_of};
 
 use crate::machine::Quote;
@@ -97,7 +97,7 @@ pub fn is_text_escaped(ch: char) -> bool
     matches!(ch, 't' | 'b' | 'n' | 'r' | 'f' | '"' | '\'' | '\\')
 }
 
-// What stands in an IRI as it is ([18]).
+/// Whether a character may stand in an IRI as it is (RDF 1.1 Turtle, section 6.5, IRIREF).
 #[tactic(auto, unfolding(crate::specs::Characters::iri_char))]
 pub fn is_iri_char(ch: char) -> bool
     ensures { result ≡ has iri_char ch }
@@ -146,7 +146,7 @@ pub fn is_line_end(ch: char) -> bool
     matches!(ch, '\r' | '\n')
 }
 
-// A mark that only Turtle has.
+// A mark that Turtle and ShExC have.
 #[tactic(auto, unfolding(crate::specs::Characters::turtle_mark))]
 pub fn is_turtle_mark(ch: char) -> bool
     ensures { result ≡ has turtle_mark ch }
@@ -154,10 +154,42 @@ pub fn is_turtle_mark(ch: char) -> bool
     matches!(ch, '('..=')' | ';' | '[' | ']')
 }
 
-// A mark that only shape maps have.
-#[tactic(auto, unfolding(crate::specs::Characters::map_mark))]
-pub fn is_map_mark(ch: char) -> bool
-    ensures { result ≡ has map_mark ch }
+// A brace.
+#[tactic(auto, unfolding(crate::specs::Characters::brace))]
+pub fn is_brace(ch: char) -> bool
+    ensures { result ≡ has brace ch }
 {
-    matches!(ch, '!' | '{' | '}')
+    matches!(ch, '{' | '}')
+}
+
+// A mark that only ShExC has.
+#[tactic(auto, unfolding(crate::specs::Characters::schema_mark))]
+pub fn is_schema_mark(ch: char) -> bool
+    ensures { result ≡ has schema_mark ch }
+{
+    matches!(ch, '$'..='&' | '*' | '=' | '?' | '|' | '~')
+}
+
+// What a pattern may begin with as it is.
+#[tactic(auto, unfolding(crate::specs::Characters::pattern_start))]
+pub fn is_pattern_start(ch: char) -> bool
+    ensures { result ≡ has pattern_start ch }
+{
+    !matches!(ch, '*' | '/' | '\\' | '\n' | '\r')
+}
+
+// What stands in a pattern as it is.
+#[tactic(auto, unfolding(crate::specs::Characters::pattern_char))]
+pub fn is_pattern_char(ch: char) -> bool
+    ensures { result ≡ has pattern_char ch }
+{
+    !matches!(ch, '/' | '\\' | '\n' | '\r')
+}
+
+// A flag of a pattern.
+#[tactic(auto, unfolding(crate::specs::Characters::flag))]
+pub fn is_flag(ch: char) -> bool
+    ensures { result ≡ has flag ch }
+{
+    matches!(ch, 'a'..='z')
 }

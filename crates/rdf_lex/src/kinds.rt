@@ -1,6 +1,6 @@
 // The kinds of tokens, and the languages that have them.
 
-/// The language that a text is read in. Turtle's tokens are in all three.
+/// The language that a text is read in. Turtle's tokens are in all four.
 #[derive(Clone, Copy, Debug, PartialEq, Eq)]
 pub enum Mode {
     /// N-Triples (RDF 1.1 N-Triples, section 7): line ends are tokens.
@@ -9,6 +9,9 @@ pub enum Mode {
     Turtle,
     /// Shape maps: a prefixed name behind `@` is a token of its own.
     Map,
+    /// ShExC, the compact syntax of schemas (ShEx 2.1, section 6): patterns, marks of its own, and comments from `/*` to
+    /// `*/`.
+    Schema,
 }
 
 /// What a token is. The names in parentheses are those of the grammars of RDF 1.1 Turtle and N-Triples.
@@ -24,7 +27,7 @@ pub enum Kind {
     BlankLabel,
     /// A language tag behind `@` (LANGTAG).
     LangTag,
-    /// `@` and a prefix or a prefixed name, in shape maps.
+    /// `@` and a prefix or a prefixed name, in shape maps and ShExC (ATPNAME_NS, ATPNAME_LN).
     AtName,
     /// A text in quotation marks, on one line or on many (String).
     Str,
@@ -40,6 +43,8 @@ pub enum Kind {
     Punct,
     /// One or more line ends, in N-Triples (EOL).
     Line,
+    /// A regular expression between slashes with its flags, in ShExC (REGEXP).
+    Pattern,
 }
 
 impl Kind {
@@ -59,7 +64,8 @@ impl Kind {
             | Kind::Double
             | Kind::Word
             | Kind::Punct
-            | Kind::Line => false,
+            | Kind::Line
+            | Kind::Pattern => false,
         }
     }
 }

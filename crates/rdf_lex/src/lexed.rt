@@ -1,9 +1,10 @@
 // The next token of a text.
 
-ghost use Rattle.std.specs.Prelude.{◌≡◌, ◌+◌, ◌≤◌, length, false};
+ghost use Rattle.std.specs.Prelude.{◌≡◌, ◌+◌, ◌≤◌, length};
 ghost use Rattle.std.specs.Str.{chars, IsCharBoundary};
-ghost use Rattle.rdf_lex.specs.Scan.{blank_step, blank_from, next_of, seen};
-ghost use Rattle.rdf_lex.specs.Tokens.{is_white, ends_line, Lexes};
+ghost use Rattle.rdf_lex.specs.declared.lexed.Blank.TheVariants.{Between};
+ghost use Rattle.rdf_lex.specs.Scan.{between_step, blank_step, blank_from, held, next_of, seen};
+ghost use Rattle.rdf_lex.specs.Tokens.{is_white, ends_line, has_blocks, Lexes};
 
 use crate::kinds::{Kind, Mode};
 use crate::scan::{add_len, longest};
@@ -32,7 +33,7 @@ fn is_space(mode: Mode, ch: char) -> bool
 {
     match mode {
         Mode::NTriples => matches!(ch, ' ' | '\t'),
-        Mode::Turtle | Mode::Map => matches!(ch, ' ' | '\t' | '\r' | '\n'),
+        Mode::Turtle | Mode::Map | Mode::Schema => matches!(ch, ' ' | '\t' | '\r' | '\n'),
     }
 }
 
@@ -42,36 +43,85 @@ fn ends_comment(ch: char) -> bool
     ch == '\r' || ch == '\n'
 }
 
-// Whether the next character is in a comment, or None where a token begins.
-fn blank(mode: Mode, inside: bool, ch: char) -> Option<bool>
-    ensures { result ≡ blank_step mode inside ch }
+/// A place in white space and comments: between them, in a comment to the end of its line, behind a slash, or in a comment
+/// from `/*` to `*/`, there also behind a star. The numbers are of the bytes before the slash.
+#[derive(Clone, Copy)]
+pub enum Blank {
+    Between,
+    Line,
+    Slash(usize),
+    Block(usize),
+    Star(usize),
+}
+
+// Whether the language has comments from `/*` to `*/`.
+fn knows_blocks(mode: Mode) -> bool
+    ensures { result ≡ has_blocks mode }
 {
-    if inside && !ends_comment(ch) {
-        Some(true)
-    } else if is_space(mode, ch) {
-        Some(false)
+    match mode {
+        Mode::Schema => true,
+        Mode::NTriples | Mode::Turtle | Mode::Map => false,
+    }
+}
+
+// Behind so many bytes and outside comments, what one more character makes, or None where a token begins.
+fn outside(mode: Mode, len: usize, ch: char) -> Option<Blank>
+    ensures { result ≡ between_step mode len ch }
+{
+    if is_space(mode, ch) {
+        Some(Blank::Between)
     } else if ch == '#' {
-        Some(true)
+        Some(Blank::Line)
+    } else if knows_blocks(mode) && ch == '/' {
+        Some(Blank::Slash(len))
     } else {
         None
     }
 }
 
+// Behind so many bytes, what one more character makes, or None where a token begins.
+fn next_blank(mode: Mode, before: Blank, len: usize, ch: char) -> Option<Blank>
+    ensures { result ≡ blank_step mode before len ch }
+{
+    match before {
+        Blank::Between => outside(mode, len, ch),
+        Blank::Line if ends_comment(ch) => outside(mode, len, ch),
+        Blank::Line => Some(Blank::Line),
+        Blank::Slash(start) if ch == '*' => Some(Blank::Block(start)),
+        Blank::Slash(_) => None,
+        Blank::Star(_) if ch == '/' => Some(Blank::Between),
+        Blank::Block(start) | Blank::Star(start) => match ch {
+            '*' => Some(Blank::Star(start)),
+            _ => Some(Blank::Block(start)),
+        },
+    }
+}
+
+// Where white space and comments end, if nothing more of them follows.
+fn end_of_blanks(before: Blank, len: usize) -> usize
+    ensures { result ≡ held before len }
+{
+    match before {
+        Blank::Between | Blank::Line => len,
+        Blank::Slash(start) | Blank::Block(start) | Blank::Star(start) => start,
+    }
+}
+
 // The bytes of white space and comments in front.
 fn blanks(mode: Mode, source: &str) -> usize
-    ensures count { result ≡ blank_from mode (chars source.now) false }
+    ensures count { result ≡ blank_from mode (chars source.now) Between 0 }
     ensures boundary { IsCharBoundary source.now result }
 {
-    let mut inside = false;
+    let mut before = Blank::Between;
     let mut len = 0;
     for ch in source.chars() {
-        let Some(next) = blank(mode, inside, ch) else {
-            return len;
+        let Some(next) = next_blank(mode, before, len, ch) else {
+            return end_of_blanks(before, len);
         };
-        inside = next;
+        before = next;
         len = add_len(len, ch, source);
     }
-    len
+    end_of_blanks(before, len)
 }
 
 /// The next token from `at` on, the longest one behind white space and comments, lent from the

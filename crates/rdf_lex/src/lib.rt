@@ -1,4 +1,4 @@
-//! Tokens of N-Triples, Turtle and shape maps, lent from their source; what their texts stand for; and a
+//! Tokens of N-Triples, Turtle, shape maps and ShExC, lent from their source; what their texts stand for; and a
 //! document's base and prefixes (RDF 1.1 Turtle, section 6; RDF 1.1 N-Triples, section 7).
 #![tactic(auto)]
 
@@ -11,9 +11,8 @@ mod lexed;
 mod machine;
 mod prefixes;
 mod scan;
-#[cfg(test)]
-mod tests;
 
+pub use characters::is_iri_char;
 pub use escapes::{LexError, unescape};
 pub use kinds::{Kind, Mode};
 pub use laws::{

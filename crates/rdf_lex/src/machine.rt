@@ -1,12 +1,13 @@
 // The machine that reads tokens: a state for each thing that a token may have come to.
 
 ghost use Rattle.std.specs.Prelude.{◌≡◌};
-ghost use Rattle.rdf_lex.specs.Machine.{fewer_of, iri_behind, short_behind, long_behind, following, iri_rows, short_rows, long_rows, escape_rows, text_rows, number_rows, name_rows, prefix_rows, local_rows, tag_rows, label_rows, start_rows, step_of, text_label, number_label, name_label, in_maps, at_name_label, tag_label, label_label, mark_label, label_of};
+ghost use Rattle.rdf_lex.specs.Machine.{fewer_of, iri_behind, short_behind, long_behind, following, iri_rows, short_rows, long_rows, escape_rows, text_rows, number_rows, name_rows, prefix_rows, local_rows, tag_rows, label_rows, pattern_rows, start_rows, step_of, text_label, number_label, name_label, in_maps, in_schemas, behind_at, at_name_label, tag_label, label_label, mark_label, pattern_label, label_of};
 
 use crate::characters::{
-    is_digit, is_hexadecimal, is_iri_char, is_label_start, is_letter, is_letter_or_digit,
-    is_line_end, is_local_char, is_local_escaped, is_local_start, is_long_char, is_map_mark,
-    is_mark, is_name_base, is_name_char, is_short_char, is_text_escaped, is_turtle_mark,
+    is_brace, is_digit, is_flag, is_hexadecimal, is_iri_char, is_label_start, is_letter,
+    is_letter_or_digit, is_line_end, is_local_char, is_local_escaped, is_local_start, is_long_char,
+    is_mark, is_name_base, is_name_char, is_pattern_char, is_pattern_start, is_schema_mark,
+    is_short_char, is_text_escaped, is_turtle_mark,
 };
 use crate::kinds::{Kind, Mode};
 
@@ -115,9 +116,21 @@ pub enum LabelPart {
 pub enum MarkPart {
     Comma,
     Turtle,
-    Map,
+    Brace,
+    Exclamation,
+    Schema,
     Caret,
     Carets,
+    Slashes,
+}
+
+/// A place in a pattern: behind its first slash, in it, behind a backslash in it, or behind its last slash.
+#[derive(Clone, Copy)]
+pub enum PatternPart {
+    Slash,
+    Body,
+    Escape,
+    Flags,
 }
 
 /// How far a token has come.
@@ -132,6 +145,7 @@ pub enum State {
     Label(LabelPart),
     Mark(MarkPart),
     Line,
+    Pattern(PatternPart),
 }
 
 /// One digit fewer, if there is one.
@@ -392,6 +406,29 @@ fn label_step(part: LabelPart, ch: char) -> Option<State>
     }
 }
 
+#[tactic(auto, unfolding(crate::specs::Characters::any_char))]
+fn pattern_step(part: PatternPart, ch: char) -> Option<State>
+    ensures { result ≡ following (pattern_rows part) ch }
+{
+    match part {
+        PatternPart::Slash => match ch {
+            '/' => Some(State::Mark(MarkPart::Slashes)),
+            '\\' => Some(State::Pattern(PatternPart::Escape)),
+            _ if is_pattern_start(ch) => Some(State::Pattern(PatternPart::Body)),
+            _ => None,
+        },
+        PatternPart::Body => match ch {
+            '/' => Some(State::Pattern(PatternPart::Flags)),
+            '\\' => Some(State::Pattern(PatternPart::Escape)),
+            _ if is_pattern_char(ch) => Some(State::Pattern(PatternPart::Body)),
+            _ => None,
+        },
+        PatternPart::Escape => Some(State::Pattern(PatternPart::Body)),
+        PatternPart::Flags if is_flag(ch) => Some(State::Pattern(PatternPart::Flags)),
+        PatternPart::Flags => None,
+    }
+}
+
 fn first_step(ch: char) -> Option<State>
     ensures { result ≡ following start_rows ch }
 {
@@ -410,7 +447,10 @@ fn first_step(ch: char) -> Option<State>
         '^' => Some(State::Mark(MarkPart::Caret)),
         ',' => Some(State::Mark(MarkPart::Comma)),
         _ if is_turtle_mark(ch) => Some(State::Mark(MarkPart::Turtle)),
-        _ if is_map_mark(ch) => Some(State::Mark(MarkPart::Map)),
+        _ if is_brace(ch) => Some(State::Mark(MarkPart::Brace)),
+        '!' => Some(State::Mark(MarkPart::Exclamation)),
+        '/' => Some(State::Pattern(PatternPart::Slash)),
+        _ if is_schema_mark(ch) => Some(State::Mark(MarkPart::Schema)),
         _ if is_line_end(ch) => Some(State::Line),
         _ => None,
     }
@@ -432,6 +472,7 @@ pub fn step(state: State, ch: char) -> Option<State>
         State::Mark(_) => None,
         State::Line if is_line_end(ch) => Some(State::Line),
         State::Line => None,
+        State::Pattern(part) => pattern_step(part, ch),
     }
 }
 
@@ -459,12 +500,9 @@ fn number_kind(mode: Mode, part: NumberPart) -> Option<Kind>
         NumberPart::Digits => Some(Kind::Integer),
         NumberPart::Fraction => Some(Kind::Decimal),
         NumberPart::ExponentDigits => Some(Kind::Double),
-        NumberPart::Point => match mode {
-            Mode::NTriples | Mode::Turtle => Some(Kind::Punct),
-            Mode::Map => None,
-        },
-        NumberPart::Sign
-        | NumberPart::DigitsPoint
+        NumberPart::Point => Some(Kind::Punct),
+        NumberPart::Sign => only_in_schemas(mode, Kind::Punct),
+        NumberPart::DigitsPoint
         | NumberPart::SignPoint
         | NumberPart::Exponent
         | NumberPart::ExponentSign => None,
@@ -493,6 +531,26 @@ fn only_in_maps(mode: Mode, kind: Kind) -> Option<Kind>
 {
     match mode {
         Mode::Map => Some(kind),
+        Mode::NTriples | Mode::Turtle | Mode::Schema => None,
+    }
+}
+
+// A kind that only ShExC has.
+fn only_in_schemas(mode: Mode, kind: Kind) -> Option<Kind>
+    ensures { result ≡ in_schemas mode kind }
+{
+    match mode {
+        Mode::Schema => Some(kind),
+        Mode::NTriples | Mode::Turtle | Mode::Map => None,
+    }
+}
+
+// A kind that shape maps and ShExC have.
+fn in_maps_and_schemas(mode: Mode, kind: Kind) -> Option<Kind>
+    ensures { result ≡ behind_at mode kind }
+{
+    match mode {
+        Mode::Map | Mode::Schema => Some(kind),
         Mode::NTriples | Mode::Turtle => None,
     }
 }
@@ -501,7 +559,7 @@ fn at_name_kind(mode: Mode, part: NamePart) -> Option<Kind>
     ensures { result ≡ at_name_label mode part }
 {
     match part {
-        NamePart::Colon | NamePart::Local => only_in_maps(mode, Kind::AtName),
+        NamePart::Colon | NamePart::Local => in_maps_and_schemas(mode, Kind::AtName),
         NamePart::Word
         | NamePart::Prefix
         | NamePart::PrefixDot
@@ -516,7 +574,7 @@ fn tag_kind(mode: Mode, part: TagPart) -> Option<Kind>
     ensures { result ≡ tag_label mode part }
 {
     match part {
-        TagPart::At => only_in_maps(mode, Kind::Punct),
+        TagPart::At => in_maps_and_schemas(mode, Kind::Punct),
         TagPart::Tag | TagPart::More => Some(Kind::LangTag),
         TagPart::Dash => None,
     }
@@ -530,7 +588,7 @@ fn label_kind(mode: Mode, part: LabelPart) -> Option<Kind>
         LabelPart::Label => Some(Kind::BlankLabel),
         LabelPart::Colons => match mode {
             Mode::NTriples | Mode::Map => Some(Kind::BlankLabel),
-            Mode::Turtle => None,
+            Mode::Turtle | Mode::Schema => None,
         },
         LabelPart::Colon | LabelPart::LabelDot | LabelPart::ColonsDot => None,
     }
@@ -541,10 +599,23 @@ fn mark_kind(mode: Mode, part: MarkPart) -> Option<Kind>
 {
     match (mode, part) {
         (_, MarkPart::Carets)
-        | (Mode::Turtle | Mode::Map, MarkPart::Comma)
-        | (Mode::Turtle, MarkPart::Turtle)
-        | (Mode::Map, MarkPart::Map) => Some(Kind::Punct),
+        | (Mode::Turtle | Mode::Map | Mode::Schema, MarkPart::Comma)
+        | (Mode::Turtle | Mode::Schema, MarkPart::Turtle)
+        | (Mode::Map | Mode::Schema, MarkPart::Brace)
+        | (Mode::Map, MarkPart::Exclamation)
+        | (Mode::Schema, MarkPart::Schema | MarkPart::Caret | MarkPart::Slashes) => {
+            Some(Kind::Punct)
+        }
         _ => None,
+    }
+}
+
+fn pattern_kind(mode: Mode, part: PatternPart) -> Option<Kind>
+    ensures { result ≡ pattern_label mode part }
+{
+    match part {
+        PatternPart::Flags => only_in_schemas(mode, Kind::Pattern),
+        PatternPart::Slash | PatternPart::Body | PatternPart::Escape => None,
     }
 }
 
@@ -565,7 +636,8 @@ pub fn label(mode: Mode, state: State) -> Option<Kind>
         State::Mark(part) => mark_kind(mode, part),
         State::Line => match mode {
             Mode::NTriples => Some(Kind::Line),
-            Mode::Turtle | Mode::Map => None,
+            Mode::Turtle | Mode::Map | Mode::Schema => None,
         },
+        State::Pattern(part) => pattern_kind(mode, part),
     }
 }

@@ -7,7 +7,8 @@ use Rattle.std.proofs.lemmas.List.{append-nil}
 use Rattle.std.proofs.lemmas.Str.{encode_ascii}
 use Rattle.std.specs.List.{flat_map}
 use Rattle.rdf_terms.specs.TextBytes.{escaped_byte}
-use Rattle.rdf_terms.specs.Literals.{LiteralParts, xsd_string}
+use Rattle.rdf_terms.specs.Literals.{LiteralParts}
+use Rattle.rdf_terms.specs.Vocabulary.{xsd_string}
 use Rattle.rdf_terms.specs.Texts.{same_text}
 use Rattle.rdf_terms.specs.Written.{escaped, suffix_text}
 use Rattle.rdf_terms.proofs.Characters.{high_bytes, low_or_high}
@@ -37,7 +38,8 @@ high_stay (b ∷ bs) high =
     ap (λ z. z ++ flat_map escaped_byte bs) (plain_high b (b ∷ []) (high 0 (omega arith)))
     ∙ cons_same refl (high_stay bs (λ k h. high (suc k) (omega arith)))
 
-escaped_character : (c : ℕ) → escaped c ≡ flat_map escaped_byte (encode c)
+-- the bytes of a character of a quoted string
+pub escaped_character : (c : ℕ) → escaped c ≡ flat_map escaped_byte (encode c)
 escaped_character c = by (low_or_high c)
   where
     by : (c < 128) ⊎ (128 ≤ c) → escaped c ≡ flat_map escaped_byte (encode c)

@@ -1,7 +1,12 @@
 pub mod Anonymous
 pub mod Characters
-pub mod Distinct
 pub mod DistinctTexts
 pub mod Escapes
+pub mod Orders
 pub mod PrintedNames
 pub mod SameTerms
+pub mod TermReading
+pub mod TermTexts
+pub mod OneLine
+pub mod TermLines
+pub mod AddedLines

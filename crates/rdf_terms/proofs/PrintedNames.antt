@@ -1,19 +1,18 @@
 -- Printed names are read as their names.
-use Rattle.std.proofs.Common.{◌≡◌, ℕ, ◌≤◌, List, [], ◌∷◌, ◌++◌, refl, ap, sym, ◌∙◌, get_or, drop, arith, codes, nat_eq, Bool, true, false, true≢false, encode_utf8_all, if◌then◌else◌, subst}
+use Rattle.std.proofs.Common.{◌≡◌, ℕ, ◌≤◌, List, [], ◌∷◌, ◌++◌, refl, ap, sym, ◌∙◌, get_or, drop, arith, codes, nat_eq, Bool, true, false, true≢false, encode_utf8_all, if◌then◌else◌, subst, cond}
 use Rattle.std.proofs.lemmas.Bool.{cond-false}
 use Rattle.std.proofs.lemmas.Fmt.{decimal_is_IsNumeral, decimal_injective}
 use Rattle.std.proofs.lemmas.List.{append_cancel_left}
-use Rattle.std.proofs.lemmas.Str.{chars-IsAscii, chars-encodes}
+use Rattle.std.proofs.lemmas.Str.{chars-IsAscii, chars-encodes, encodes_same}
 use Rattle.std.proofs.lemmas.Str.Parse.{digit_at}
 use Rattle.std.specs.Fmt.{decimal}
 use Rattle.std.specs.List.{starts_with}
 use Rattle.std.specs.Str.{chars, all_scalars}
 use Rattle.rdf_terms.specs.Laws.{PrintedNamesAreRead, NamesAreOne, PrintedNamesAreDistinct}
 use Rattle.rdf_terms.specs.Names.{IsNameOf, written_label}
-use Rattle.rdf_terms.specs.Written.{printed_name}
 use Rattle.rdf_terms.specs.declared.terms.Name.TheVariants.{Label, Fresh}
 use Rattle.rdf_terms.proofs.Anonymous.{ascii_name}
-use Rattle.rdf_terms.proofs.Characters.{starts, starts_not, front_chars, ascii_codes}
+use Rattle.rdf_terms.proofs.Characters.{starts, starts_not, starts_encodes, front_chars, ascii_codes}
 
 -- the digits of a number have no underscore
 no_underscore : (n : ℕ) (rest : List ℕ) → n ≤ 4294967295 → 95 ∷ rest ≡ decimal n → ⊥
@@ -53,5 +52,27 @@ names_one text (Fresh m) (Fresh n) h k =
     let low : n ≤ 4294967295 = k.last in
     ap (λ z. Fresh z) (decimal_injective m n (omega arith) (omega arith) (append_cancel_left (codes "anon") (decimal m) (decimal n) (sym h.spelled ∙ k.spelled)))
 
+-- what stands before a label
+abbrev mark : Bool → List ℕ
+mark b = cond b (codes "anon_") []
+
+-- a label begins with the name of an anonymous node, or not
+same_start : (l m : List ℕ) → encode_utf8_all l ≡ m → starts_with nat_eq l (codes "anon") ≡ starts_with nat_eq m (codes "anon")
+same_start l m e = sym (starts_encodes l (codes "anon") refl) ∙ ap (λ z. starts_with nat_eq z (codes "anon")) e
+
+labels_apart : (a b : List ℕ) (p q : Bool) → starts_with nat_eq a (codes "anon") ≡ p → starts_with nat_eq b (codes "anon") ≡ q → mark p ++ encode_utf8_all a ≡ mark q ++ encode_utf8_all b → a ≡ b
+labels_apart a b true true s t e = encodes_same a b (append_cancel_left (codes "anon_") (encode_utf8_all a) (encode_utf8_all b) e)
+labels_apart a b false false s t e = encodes_same a b e
+labels_apart a b true false s t e = absurd (true≢false (sym (same_start b (mark true ++ encode_utf8_all a) (sym e)) ∙ t))
+labels_apart a b false true s t e = absurd (true≢false (sym (same_start a (mark true ++ encode_utf8_all b) e) ∙ s))
+
+label_not_number : (a : List ℕ) (n : ℕ) (p : Bool) → starts_with nat_eq a (codes "anon") ≡ p → n ≤ 4294967295 → mark p ++ encode_utf8_all a ≡ codes "anon" ++ decimal n → ⊥
+label_not_number a n true s few e = no_underscore n (encode_utf8_all a) few (append_cancel_left (codes "anon") (95 ∷ encode_utf8_all a) (decimal n) e)
+label_not_number a n false s few e = true≢false (sym (same_start a (codes "anon" ++ decimal n) e) ∙ s)
+
+-- no two nodes share a printed name
 pub printed_distinct : PrintedNamesAreDistinct
-printed_distinct a b h k e = names_one (chars (printed_name b)) a b (subst (λ z. IsNameOf (chars z) a) e (printed_read a h)) (printed_read b k)
+printed_distinct (Label a) (Label b) h k e = ap (λ z. Label z) (labels_apart a b (starts_with nat_eq a (codes "anon")) (starts_with nat_eq b (codes "anon")) refl refl e)
+printed_distinct (Label a) (Fresh n) h k e = absurd (label_not_number a n (starts_with nat_eq a (codes "anon")) refl k e)
+printed_distinct (Fresh m) (Label b) h k e = absurd (label_not_number b m (starts_with nat_eq b (codes "anon")) refl h (sym e))
+printed_distinct (Fresh m) (Fresh n) h k e = ap (λ z. Fresh z) (decimal_injective m n (omega (arith, h)) (omega (arith, k)) (append_cancel_left (codes "anon") (decimal m) (decimal n) e))

@@ -1,8 +1,10 @@
 -- `==` on terms decides equality of terms.
-use Rattle.std.proofs.Common.{◌≡◌, Bool, ap, eq-eqb}
+use Rattle.std.proofs.Common.{◌≡◌, Bool, true, ap, eq-eqb}
 use borrow.Author.Tests.{eqb-true}
 use Rattle.std.specs.Bool.{Decides}
 use Rattle.rdf_terms.specs.Sameness.{text_decides, literal_decides}
+use Rattle.rdf_terms.specs.Graphs.{same_id}
+use Rattle.rdf_terms.specs.declared.terms.TermId.{TermId}
 use Rattle.rdf_terms.specs.declared.terms.Name.{Name}
 use Rattle.rdf_terms.specs.declared.terms.Name.TheVariants.{Label, Fresh}
 use Rattle.rdf_terms.specs.declared.terms.Term.{Term}
@@ -32,3 +34,7 @@ term_decides (Blank a) (Lit b) = (λ h. cc, λ e. cc)
 term_decides (Lit a) (Iri b) = (λ h. cc, λ e. cc)
 term_decides (Lit a) (Blank b) = (λ h. cc, λ e. cc)
 term_decides (Lit a) (Lit b) = (λ h. ap (λ x. Lit x) ((literal_decides a b).0 h), λ e. (literal_decides a b).1 (cc))
+
+-- terms of the same number are the same
+pub same_is : (a b : TermId) → same_id a b ≡ true → a ≡ b
+same_is a b e = let h : a.0 ≡ b.0 = eqb-true a.0 b.0 e in λ i. record { 0 = h i }

@@ -1,11 +1,14 @@
 pub mod Graphs
 pub mod Laws
-pub mod Lists
 pub mod Literals
 pub mod Names
+pub mod OneLine
 pub mod Order
+pub mod Reading
 pub mod Sameness
 pub mod Tables
 pub mod TextBytes
 pub mod Texts
+pub mod Values
+pub mod Vocabulary
 pub mod Written

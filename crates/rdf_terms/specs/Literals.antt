@@ -1,24 +1,17 @@
 -- The parts of a literal, and what holds of them.
-use Rattle.std.specs.Prelude.{ℕ, Bool, true, ◌&&◌, ◌≡◌, ◌↔◌, not, nat_le, List, Option, Some, None, IsSome, codes, ⊤}
+use Rattle.std.specs.Prelude.{ℕ, Bool, true, ◌&&◌, ◌≡◌, ◌↔◌, not, nat_le, List, Option, Some, None, IsSome, ⊤}
 use Rattle.std.specs.List.{list_all}
 use Rattle.std.specs.Option.{option_eq}
 use Rattle.std.specs.Hash.{HashWrites, option}
 use Rattle.std.specs.Prelude.{◌++◌}
 use Rattle.rdf_terms.specs.Texts.{same_text, text_fed}
+use Rattle.rdf_terms.specs.Vocabulary.{rdf_lang_string}
 
 -- lexical form, datatype and language tag (RDF 1.1 Concepts, section 3.3)
 pub record LiteralParts : Type 0 where
   pub lex : List ℕ
   pub datatype : List ℕ
   pub lang : Option (List ℕ)
-
--- the datatype of language-tagged strings (RDF 1.1 Concepts, section 3.3)
-abbrev pub rdf_lang_string : List ℕ
-rdf_lang_string = codes "http://www.w3.org/1999/02/22-rdf-syntax-ns#langString"
-
--- the datatype of plain strings (RDF 1.1 Concepts, section 3.3)
-abbrev pub xsd_string : List ℕ
-xsd_string = codes "http://www.w3.org/2001/XMLSchema#string"
 
 -- no letter from A to Z
 abbrev pub is_lowered : List ℕ → Bool

@@ -2,7 +2,8 @@
 use Rattle.std.specs.Prelude.{ℕ, List, [], ◌++◌, ◌==◌, if◌then◌else◌, Option, Some, None, codes, nat_eq, encode_utf8, encode_utf8_all}
 use Rattle.std.specs.List.{starts_with, flat_map}
 use Rattle.std.specs.Fmt.{decimal}
-use Rattle.rdf_terms.specs.Literals.{LiteralParts, xsd_string}
+use Rattle.rdf_terms.specs.Literals.{LiteralParts}
+use Rattle.rdf_terms.specs.Vocabulary.{xsd_string}
 use Rattle.rdf_terms.specs.Texts.{same_text}
 use Rattle.rdf_terms.specs.declared.terms.Name.{Name}
 use Rattle.rdf_terms.specs.declared.terms.Name.TheVariants.{Label, Fresh}

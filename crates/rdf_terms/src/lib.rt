@@ -4,9 +4,10 @@
 pub mod items;
 pub mod laws;
 pub mod order;
+pub mod reader;
 pub mod table;
 pub mod terms;
-#[cfg(test)]
-mod tests;
 pub mod text;
+pub mod values;
+pub mod vocabulary;
 pub mod written;

@@ -1,20 +1,27 @@
-//! Terms in the order of their texts.
+//! Terms in the order of their texts, and numbers of a table in that of their terms.
 
-ghost use Rattle.std.specs.Prelude.{◌≡◌, ◌++◌, [], codes, length, ◌↔◌, IsSome, IfSome, IfNone, IsNone, ◌∷◌, MatchOption};
+ghost use Rattle.std.specs.Prelude.{◌≡◌, ◌++◌, [], codes, length, ◌↔◌, IsSome, IfSome, IfNone, IsNone, ◌∷◌, MatchOption, ◌≤◌, slice_get, Contains, OnOk};
 ghost use Rattle.std.specs.Cmp.Lexicographic.{slice_cmp};
 ghost use Rattle.std.specs.Fmt.{decimal};
 ghost use Rattle.std.specs.Iterator.{YieldsFirst, item_count};
 ghost use Rattle.std.specs.List.{flat_map};
+ghost use Rattle.std.specs.List.Sorted.{IsStrictlySortedBy};
+ghost use Rattle.std.specs.Option.{option_copied};
 ghost use Rattle.std.specs.Ordering.{nat_cmp};
-ghost use Rattle.rdf_terms.specs.Literals.{xsd_string};
+ghost use Rattle.rdf_terms.specs.Order.{compare_at, text_at};
 ghost use Rattle.rdf_terms.specs.Texts.{same_text};
+ghost use Rattle.rdf_terms.specs.Vocabulary.{xsd_string};
 ghost use Rattle.rdf_terms.specs.TextBytes.{bytes_left, escaped_byte, number_in, number_of_name};
+ghost use Rattle.rdf_terms.specs.declared.terms.TermId.{TermId as Id};
 ghost use Rattle.rdf_terms.specs.Written.{escaped, term_text, literal_text, printed_name};
 
-use crate::terms::{Literal, Name, Term, XSD_STRING};
+use crate::table::TermTable;
+use crate::terms::{Literal, Name, Term, TermId};
 use crate::text::Text;
+use crate::vocabulary::XSD_STRING;
 use crate::written::begins_with_anon;
 use itoa::Buffer;
+use std::alloc::AllocError;
 use std::cmp::Ordering;
 
 /// Compares the texts of two terms byte by byte, a proper prefix first. It takes no memory.
@@ -28,12 +35,59 @@ pub fn compare_texts(a: &Term, b: &Term) -> Ordering
     TextBytes::of(a, digits_left).cmp(TextBytes::of(b, digits_right))
 }
 
+/// Compares two numbers by the texts of their terms, and numbers of one text by their size.
+pub fn compare_ids(terms: &TermTable, a: TermId, b: TermId) -> Ordering
+    ensures { result ≡ compare_at terms.now a b }
+{
+    if a.0 == b.0 {
+        return Ordering::Equal;
+    }
+    match compare_texts_at(terms, a, b) {
+        Ordering::Equal => a.0.cmp(&b.0),
+        other => other,
+    }
+}
+
+/// Puts numbers into the order of the texts of their terms, each once. A refusal leaves numbers of any order.
+pub fn put_in_order(terms: &TermTable, ids: &mut Vec<TermId>) -> Result<(), AllocError>
+    ensures sorted { OnOk result (IsStrictlySortedBy (compare_at terms.now) ids.new.items) }
+    ensures few { OnOk result (length ids.new.items ≤ length ids.old.items) }
+    ensures same { OnOk result ((n : Id) → Contains ids.new.items n ↔ Contains ids.old.items n) }
+{
+    ids.sort_by(|a, b| compare_ids(terms, *a, *b))?;
+    ids.dedup();
+    Ok(())
+}
+
+/// Compares the texts of two numbers, where a number that is not of the table has none.
+fn compare_texts_at(terms: &TermTable, a: TermId, b: TermId) -> Ordering
+    ensures { result ≡ slice_cmp nat_cmp (text_at terms.now a) (text_at terms.now b) }
+{
+    match (term_at(terms, a), term_at(terms, b)) {
+        (Some(one), Some(other)) => compare_texts(one, other),
+        (Some(_), None) => Ordering::Greater,
+        (None, Some(_)) => Ordering::Less,
+        (None, None) => Ordering::Equal,
+    }
+}
+
+/// The term of a number, if it is of the table.
+fn term_at(terms: &TermTable, id: TermId) -> Option<&Term>
+    ensures { option_copied result ≡ slice_get terms.now id.0 }
+{
+    if (id.0 as usize) < terms.len() {
+        Some(terms.get(id))
+    } else {
+        None
+    }
+}
+
 /// The number of an anonymous node, and 0 for any other term.
 fn number_of(term: &Term) -> u32
     ensures { result ≡ number_in term.now }
 {
     match term {
-        Term::Blank(Name::Fresh(n)) => *n,
+        Term::Blank(Name::Fresh(number)) => number.get(),
         _ => 0,
     }
 }

@@ -1,7 +1,8 @@
 //! The table that numbers terms.
 
 ghost use Rattle.std.specs.Prelude.{List, ℕ, ◌≡◌, ◌≤◌, ◌<◌, ◌↔◌, [], ◌==◌, length, slice_get, Some, IfOk, IfSome, IsNone, OnOk, OnErr, Contains};
-ghost use Rattle.rdf_terms.specs.Lists.{AreDistinct, Adds};
+ghost use Rattle.lists.specs.Distinct.{AreDistinct};
+ghost use Rattle.lists.specs.Additions.{Adds};
 ghost use Rattle.rdf_terms.specs.Tables.{max_terms};
 
 use crate::terms::{Term, TermId};

@@ -1,6 +1,6 @@
 //! Terms and triples of their numbers.
 
-ghost use Rattle.std.specs.Prelude.{List, ℕ, ◌≡◌, IfOk, string_bytes, length, encode_utf8_all, ◌&&◌, None, Some, codes, ◌↔◌, IsSome, IfSome, IsNone, ◌++◌, is_some, map};
+ghost use Rattle.std.specs.Prelude.{List, ℕ, ◌≡◌, ◌≤◌, IfOk, string_bytes, length, encode_utf8_all, ◌&&◌, None, Some, codes, ◌↔◌, IsSome, IfSome, IsNone, ◌++◌, is_some, map};
 ghost use Rattle.std.specs.Option.{option_copied};
 ghost use Rattle.std.specs.Str.{chars};
 ghost use Rattle.std.specs.Char.{to_ascii_lowercase};
@@ -9,11 +9,14 @@ ghost use Rattle.std.specs.Cmp.Lexicographic.{nat_list_eq_equiv};
 ghost use Rattle.std.specs.Hash as fed;
 ghost use Rattle.std.specs.Cmp.Rules.{comparing, hashing};
 ghost use Rattle.std.proofs.Common.{rules};
-ghost use Rattle.rdf_terms.specs.Literals.{LiteralParts, IsLiteral, same_literal, xsd_string, rdf_lang_string, literal_fed};
-ghost use Rattle.rdf_terms.specs.Sameness.{decided_equiv, literal_decides, literal_alike};
+ghost use Rattle.rdf_terms.specs.Literals.{LiteralParts, IsLiteral, same_literal, literal_fed};
+ghost use Rattle.lists.specs.Equality.{decided_equiv};
+ghost use Rattle.rdf_terms.specs.Sameness.{literal_decides, literal_alike};
 ghost use Rattle.rdf_terms.specs.Texts.{same_text};
+ghost use Rattle.rdf_terms.specs.Vocabulary.{xsd_string, rdf_lang_string};
 
 use crate::text::Text;
+use crate::vocabulary::{RDF_LANG_STRING, XSD_STRING};
 use std::alloc::{AllocError, Global};
 use std::hash::{Hash, Hasher};
 use std::marker::Model;
@@ -38,8 +41,57 @@ pub struct Triple {
 pub enum Name {
     /// A label as written, without `_:`.
     Label(Text),
-    /// The number of an anonymous node, at least 1.
-    Fresh(u32),
+    /// The number of an anonymous node.
+    Fresh(FreshNumber),
+}
+
+impl Name {
+    /// A copy of the name.
+    pub fn try_clone(&self, alloc: Global) -> Result<Name, AllocError>
+        ensures { IfOk result (λ n. n ≡ self.now) }
+    {
+        match self {
+            Name::Label(label) => Ok(Name::Label(label.try_clone(alloc)?)),
+            Name::Fresh(number) => Ok(Name::Fresh(*number)),
+        }
+    }
+}
+
+/// The number of an anonymous node, from 1 to 4,294,967,295, which contracts see as a number.
+#[derive(Clone, Copy, Debug, PartialEq, Eq, Hash)]
+pub struct FreshNumber {
+    number: u32,
+}
+
+impl Model for FreshNumber {
+    ghost use Rattle.std.specs.Prelude.{ℕ, ◌≤◌};
+
+    ghost Value = { ℕ };
+
+    ghost view = { λ f. f.number };
+
+    ghost inverse = { λ n. record { number = n } };
+
+    ghost invariant = { λ f. (1 ≤ f.number) × (f.number ≤ 4294967295) };
+}
+
+impl FreshNumber {
+    /// The number of the n-th anonymous node, n from 1.
+    pub fn new(number: u32) -> FreshNumber
+        requires { 1 ≤ number }
+        ensures { result ≡ number }
+    {
+        FreshNumber { number }
+    }
+
+    /// The number.
+    pub fn get(self) -> u32
+        ensures value { result ≡ self }
+        ensures first { 1 ≤ result }
+        ensures last { result ≤ 4294967295 }
+    {
+        self.number
+    }
 }
 
 /// A literal: lexical form, datatype and language tag (RDF 1.1 Concepts, section 3.3). A tag is there exactly where
@@ -60,10 +112,6 @@ impl Model for Literal {
 
     ghost invariant = { λ l. IsLiteral (record { lex = l.lex; datatype = l.datatype; lang = l.lang }) };
 }
-
-const RDF_LANG_STRING: &str = "http://www.w3.org/1999/02/22-rdf-syntax-ns#langString";
-
-pub(crate) const XSD_STRING: &str = "http://www.w3.org/2001/XMLSchema#string";
 
 impl Literal {
     /// A plain string, whose datatype is xsd:string.
@@ -108,6 +156,27 @@ impl Literal {
         })
     }
 
+    /// What is known of each literal: a tag is there exactly where the datatype is rdf:langString, in lower case.
+    pub fn parts_agree(&self)
+        ensures { IsLiteral self.now }
+    {
+        let _lang = &self.lang;
+    }
+
+    /// A copy of the literal.
+    pub fn try_clone(&self, alloc: Global) -> Result<Literal, AllocError>
+        ensures { IfOk result (λ l. l ≡ self.now) }
+    {
+        let lex = self.lex.try_clone(alloc)?;
+        let datatype = self.datatype.try_clone(alloc)?;
+        let lang = copied_tag(alloc, self.lang.as_ref())?;
+        Ok(Literal {
+            lex,
+            datatype,
+            lang,
+        })
+    }
+
     /// The lexical form.
     pub fn lex(&self) -> &Text
         ensures { result.now ≡ self.now.lex }
@@ -127,6 +196,16 @@ impl Literal {
         ensures { option_copied result ≡ self.now.lang }
     {
         self.lang.as_ref()
+    }
+}
+
+/// A copy of a language tag, where there is one.
+fn copied_tag(alloc: Global, tag: Option<&Text>) -> Result<Option<Text>, AllocError>
+    ensures { IfOk result (λ t. t ≡ option_copied tag.entry) }
+{
+    match tag {
+        Some(tag) => Ok(Some(tag.try_clone(alloc)?)),
+        None => Ok(None),
     }
 }
 
@@ -165,4 +244,17 @@ pub enum Term {
     Blank(Name),
     /// A literal.
     Lit(Literal),
+}
+
+impl Term {
+    /// A copy of the term.
+    pub fn try_clone(&self, alloc: Global) -> Result<Term, AllocError>
+        ensures { IfOk result (λ t. t ≡ self.now) }
+    {
+        match self {
+            Term::Iri(iri) => Ok(Term::Iri(iri.try_clone(alloc)?)),
+            Term::Blank(name) => Ok(Term::Blank(name.try_clone(alloc)?)),
+            Term::Lit(literal) => Ok(Term::Lit(literal.try_clone(alloc)?)),
+        }
+    }
 }

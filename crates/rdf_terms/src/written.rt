@@ -7,8 +7,9 @@ ghost use Rattle.std.specs.Str.{chars};
 ghost use Rattle.rdf_terms.specs.Names.{IsNameOf, IsAnonymous, written_label};
 ghost use Rattle.rdf_terms.specs.Written.{iri_text, printed_name, escaped, suffix_text, literal_text, term_text};
 
-use crate::terms::{Literal, Name, Term, XSD_STRING};
+use crate::terms::{FreshNumber, Literal, Name, Term};
 use crate::text::Text;
+use crate::vocabulary::XSD_STRING;
 use std::alloc::{AllocError, Global};
 
 /// Appends the text of the term: its spelling in N-Triples (N-Triples, section 2), where only quote, backslash, line feed
@@ -39,31 +40,44 @@ fn push_iri(iri: &Text, out: &mut String) -> Result<(), AllocError>
 fn push_blank(alloc: Global, name: &Name, out: &mut String) -> Result<(), AllocError>
     ensures { OnOk result (string_bytes out.new ≡ string_bytes out.old ++ (codes "_:" ++ printed_name name.now)) }
 {
+    out.push_str("_:")?;
+    push_name(alloc, name, out)
+}
+
+/// The printed name of a blank node, without `_:`.
+pub fn printed_name(alloc: Global, name: &Name) -> Result<String, AllocError>
+    ensures { IfOk result (λ s. string_bytes s ≡ printed_name name.now) }
+{
+    let mut text = String::new(alloc);
+    push_name(alloc, name, &mut text)?;
+    Ok(text)
+}
+
+/// Appends the printed name of a blank node.
+fn push_name(alloc: Global, name: &Name, out: &mut String) -> Result<(), AllocError>
+    ensures { OnOk result (string_bytes out.new ≡ string_bytes out.old ++ printed_name name.now) }
+{
     match name {
         Name::Label(label) => {
             out.push_str(mark(label))?;
             out.push_str(label.as_str())
         }
-        Name::Fresh(n) => {
-            out.push_str("_:anon")?;
-            out.push_str(n.to_string(alloc)?.as_str())
+        Name::Fresh(number) => {
+            out.push_str("anon")?;
+            out.push_str(number.get().to_string(alloc)?.as_str())
         }
     }
 }
 
-/// What stands before a label in its text.
+/// What stands before a label in its printed name, so that it is not that of an anonymous node.
 fn mark(label: &Text) -> &'static str
-    ensures { result.now ≡ codes "_:" ++ (if starts_with nat_eq label.now (codes "anon") then codes "anon_" else []) }
+    ensures { result.now ≡ (if starts_with nat_eq label.now (codes "anon") then codes "anon_" else []) }
 {
-    if begins_with_anon(label) {
-        "_:anon_"
-    } else {
-        "_:"
-    }
+    if begins_with_anon(label) { "anon_" } else { "" }
 }
 
 /// Whether a label begins as the printed name of an anonymous node does.
-pub(crate) fn begins_with_anon(label: &Text) -> bool
+pub fn begins_with_anon(label: &Text) -> bool
     ensures { result ≡ starts_with nat_eq label.now (codes "anon") }
 {
     label.as_str().starts_with("anon")
@@ -126,7 +140,7 @@ pub fn name_from(alloc: Global, text: &str) -> Result<Name, AllocError>
     ensures { IfOk result (λ name. IsNameOf (chars text.now) name) }
 {
     match anonymous(text) {
-        Some(n) => Ok(Name::Fresh(n)),
+        Some(n) => Ok(Name::Fresh(FreshNumber::new(n))),
         None => Ok(Name::Label(Text::from_str(alloc, written(text))?)),
     }
 }

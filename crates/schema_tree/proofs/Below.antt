@@ -4,9 +4,8 @@ use Rattle.std.specs.Prelude.{Contains, nat_lt}
 use Rattle.schema_tree.specs.declared.schema.Pair.{Pair}
 use Rattle.schema_tree.specs.Edges.{level}
 use Rattle.schema_tree.specs.Typings.{below, top_of}
-use Rattle.schema_tree.proofs.Lists.{in_filter}
-use Rattle.schema_tree.proofs.Members.{filter_has}
-use Rattle.schema_tree.proofs.Tests.{less_true, true_less}
+use Rattle.lists.proofs.Filters.{in_filter, filter_has}
+use Rattle.std.proofs.lemmas.Bool.{lt-ltb, ltb-true}
 
 -- no number of a list is above its greatest
 pub level_top : (f : List ℕ) (i : ℕ) → get_or f i 0 ≤ top_of f
@@ -22,8 +21,8 @@ past_end (k ∷ f) (suc i) h = past_end f i (omega arith)
 
 -- a pair whose number is below k is below k
 pub in_below : (f : List ℕ) (k : ℕ) (T : List Pair) (q : Pair) → Contains T q → level f q.shape < k → Contains (below f k T) q
-in_below f k T q c lt = filter_has (λ r. nat_lt (level f r.shape) k) T q c (less_true (level f q.shape) k lt)
+in_below f k T q c lt = filter_has (λ r. nat_lt (level f r.shape) k) T q c (lt-ltb (level f q.shape) k lt)
 
 -- and there are no others
 pub out_below : (f : List ℕ) (k : ℕ) (T : List Pair) (q : Pair) → Contains (below f k T) q → Contains T q × (level f q.shape < k)
-out_below f k T q c = let t = in_filter (λ r. nat_lt (level f r.shape) k) T q c in (t.0, true_less (level f q.shape) k t.1)
+out_below f k T q c = let t = in_filter (λ r. nat_lt (level f r.shape) k) T q c in (t.0, ltb-true (level f q.shape) k t.1)

@@ -6,8 +6,7 @@ use Rattle.std.proofs.lemmas.Option.{slice_get_within}
 use Rattle.std.specs.Prelude.{Option, Some, None, slice_get, slice_index, nat_eq}
 use Rattle.rdf_terms.specs.declared.terms.TermId.{TermId}
 use Rattle.rdf_terms.specs.declared.terms.Triple.{Triple}
-use Rattle.tally.specs.declared.Count.{Count}
-use Rattle.tally.specs.Plan.{plan_of}
+use Rattle.tally.specs.Plan.{Plan}
 use Rattle.tally.specs.Span.{span}
 use Rattle.tally.proofs.Exact.{copies_box}
 use Rattle.schema_tree.specs.declared.schema.Occurrence.{Occurrence}
@@ -18,7 +17,8 @@ use Rattle.schema_tree.specs.declared.verdicts.Place.{Place}
 use Rattle.schema_tree.specs.declared.verdicts.Place.TheVariants.{At, Rest}
 use Rattle.schema_tree.specs.Matches.{fits}
 use Rattle.schema_tree.specs.Places.{HasPlaces, HaveCounts, MayTake, IsAllowed, AreAllowed, times}
-use Rattle.schema_tree.proofs.Decide.{Decided, decide_not, decide_span}
+use Rattle.schema_tree.proofs.Decide.{decide_span}
+use Rattle.lists.proofs.Decided.{Decided, decide_not}
 use Rattle.schema_tree.proofs.ToPlaces.{counts_agree}
 use Rattle.schema_tree.specs.States.{AreClosed, IsCovered, IsDead, opening, no_counts, after, count_fits, fitting, IsDeadBody}
 
@@ -37,7 +37,7 @@ end_of (suc d) [] h e = absurd (omega arith)
 end_of (suc d) (u ∷ us) h e = ap suc (end_of d us (omega arith) e)
 
 -- the opening state counts nothing
-zeros : (occs : List Occurrence) (i : ℕ) → slice_index (no_counts occs) i ≡ 0
+pub zeros : (occs : List Occurrence) (i : ℕ) → slice_index (no_counts occs) i ≡ 0
 zeros [] i = refl
 zeros (o ∷ os) zero = refl
 zeros (o ∷ os) (suc i) = zeros os i
@@ -81,22 +81,22 @@ module _ (hold fail : TermId → Option ExprId → Type 0) (sh : Shape) (n : Ter
       go below false e = other (slice_get sh.occs i) below
 
   -- nothing comes of a dead state
-  dead_ends :
-      (x : State) (body : Option Count) → IsDeadBody sh n (drop x.done ts) (slice_index x.counts) body →
+  pub dead_ends :
+      (x : State) (body : Option Plan) → IsDeadBody sh n (drop x.done ts) (slice_index x.counts) body →
       (ps : List Place) → AreAllowed hold fail sh n (drop x.done ts) ps → ¬ HaveCounts body (λ i. slice_index x.counts i + times ps i)
   dead_ends x None dead ps a spelled = dead
   dead_ends x (Some c) dead ps a spelled =
-      dead (copies_box (plan_of c) (slice_index x.counts) (λ i. slice_index x.counts i + times ps i) (λ i. slice_index x.counts i + fitting n (drop x.done ts) (slice_get sh.occs i))
+      dead (copies_box c (slice_index x.counts) (λ i. slice_index x.counts i + times ps i) (λ i. slice_index x.counts i + fitting n (drop x.done ts) (slice_get sh.occs i))
       (λ i. (let most = times_fit (drop x.done ts) ps a i in (omega arith, omega arith))) 1 spelled)
 
   -- a state is dead or it is not
-  decide_dead : (x : State) (body : Option Count) → Decided (IsDeadBody sh n (drop x.done ts) (slice_index x.counts) body)
+  pub decide_dead : (x : State) (body : Option Plan) → Decided (IsDeadBody sh n (drop x.done ts) (slice_index x.counts) body)
   decide_dead x None = inr (λ dead. dead)
   decide_dead x (Some c) =
-      decide_not (decide_span (span (plan_of c) (slice_index x.counts) (λ i. slice_index x.counts i + fitting n (drop x.done ts) (slice_get sh.occs i))) 1)
+      decide_not (decide_span (span c (slice_index x.counts) (λ i. slice_index x.counts i + fitting n (drop x.done ts) (slice_get sh.occs i))) 1)
 
   -- the counts after a place
-  count_after :
+  pub count_after :
       (x : State) → length x.counts ≡ length sh.occs → (t : Triple) (p : Place) → IsAllowed hold fail sh n t p → (ps : List Place) (i : ℕ) →
       slice_index x.counts i + times (p ∷ ps) i ≡ slice_index ((after p x).counts) i + times ps i
   count_after x size t Rest a ps i = refl

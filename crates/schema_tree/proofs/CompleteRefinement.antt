@@ -1,7 +1,7 @@
 -- Refinement leaves a pair or an answer Unknown only where it reaches a pair whose Width is above the budget; every other
 -- answer is that of the complete typing.
 use Rattle.std.proofs.Common.{◌≡◌, ℕ, zero, suc, ◌<◌, ◌≤◌, ◌⊎◌, inl, inr, List, [], ◌∷◌, ◌++◌, refl, arith, sym, subst, Bool, true, false}
-use Rattle.std.proofs.lemmas.Bool.{cases_eq, cases_lt}
+use Rattle.std.proofs.lemmas.Bool.{cases_eq, cases_lt, and_parts}
 use Rattle.std.proofs.lemmas.List.Elements.{Contains-append_cases, Contains-append_left, Contains-append_right}
 use Rattle.std.proofs.lemmas.List.Sorted.{Contains-permutation, IsPermutation-sym}
 use Rattle.std.specs.Prelude.{◌↔◌, Contains, Option, Some, None}
@@ -26,24 +26,26 @@ use Rattle.schema_tree.specs.Entries.{entry, pair_of, shape_at}
 use Rattle.schema_tree.specs.Loaded.{IsLoaded}
 use Rattle.schema_tree.specs.Matches.{fits, near_end, other_end}
 use Rattle.schema_tree.specs.Needs.{HoldNeeds, HoldRoots, IsDecided, LeadsToNarrow, Needs, here, step}
-use Rattle.schema_tree.specs.Order.{neighbourhood}
+use Rattle.rdf_terms.specs.Order.{neighbourhood}
 use Rattle.schema_tree.specs.Places.{CanMatch, MayFail, MayHold, PairCanMatch}
 use Rattle.schema_tree.specs.Relevant.{is_forward, is_relevant, relevant_in_order}
 use Rattle.schema_tree.specs.Removal.{AreRefinedBelow, IsConfirmed, IsRefined, IsRefinedAt}
 use Rattle.schema_tree.specs.Satisfies.{Sat}
 use Rattle.schema_tree.specs.Sure.{IsSure, Known, PairIs, SureEntry, SureWithin}
 use Rattle.schema_tree.specs.Typings.{IsTheTyping, top_of}
-use Rattle.schema_tree.specs.Width.{width}
+use Rattle.schema_tree.specs.Width.{IsWithinWidth}
 use Rattle.schema_tree.proofs.Below.{level_top}
-use Rattle.schema_tree.proofs.Decide.{Decided, decide_member, decide_node, decide_sat, same_pairs}
+use Rattle.schema_tree.proofs.Decide.{decide_node, decide_sat, same_pairs}
+use Rattle.lists.proofs.Decided.{Decided, decide_member}
 use Rattle.schema_tree.proofs.DecideMatch.{decide_match}
 use Rattle.schema_tree.proofs.ExactViews.{exact_match, exact_within}
 use Rattle.schema_tree.proofs.Leans.{places_weaker, sure_sound}
 use Rattle.schema_tree.proofs.Truth.{all_true}
-use Rattle.schema_tree.proofs.Lists.{all_weaker, in_filter, some_weaker}
+use Rattle.lists.proofs.Quantifiers.{all_weaker, some_weaker}
+use Rattle.lists.proofs.Filters.{in_filter}
 use Rattle.schema_tree.proofs.Ordered.{ordered_same}
 use Rattle.schema_tree.proofs.RefinementExists.{Sifted, sift, sift_in, sift_none, sift_out}
-use Rattle.schema_tree.proofs.Tests.{both_true, same_is}
+use Rattle.rdf_terms.proofs.SameTerms.{same_is}
 use Rattle.schema_tree.proofs.ToPlaces.{forward_parts}
 
 -- a view a that knows more than b, and no more No pairs: what is sure under it is sure under b, where it is of pairs that b knows
@@ -100,7 +102,7 @@ edge_of s g p q need = record { shape = need.shape; is = need.is; occ = need.occ
 module _ (s : Schema) (terms : List Term) (nodes : NodesAreDecided) (g : List Triple) (loaded : IsLoaded s) (f : List ℕ) (strat : IsStratified s f)
     (pairs : List Pair) (budget : ℕ) where
   -- narrow pairs of which none needs any other
-  module _ (C : List Pair) (narrow : (p : Pair) → Contains C p → Contains pairs p × (width s g p ≤ budget))
+  module _ (C : List Pair) (narrow : (p : Pair) → Contains C p → Contains pairs p × IsWithinWidth s terms g budget p)
       (closed : (p q : Pair) → Contains C p → Needs s g p q → Contains C q) where
     -- each of them up to a stratum is known
     abbrev AreKnownBelow : ℕ → Known → Type 0
@@ -190,7 +192,7 @@ module _ (s : Schema) (terms : List Term) (nodes : NodesAreDecided) (g : List Tr
               parts = forward_parts (Sat s terms []) g sh p.node t o forward
 
               same : o.predicate ≡ t.p
-              same = same_is o.predicate t.p (both_true (same_id o.predicate t.p) (same_id (near_end o.inverse t) p.node) parts.1).0
+              same = same_is o.predicate t.p (and_parts (same_id o.predicate t.p) (same_id (near_end o.inverse t) p.node) parts.1).0
 
               in_extra : Contains sh.extra o.predicate
               in_extra = subst (λ u. Contains sh.extra u) (sym same) extra
@@ -251,10 +253,10 @@ module _ (s : Schema) (terms : List Term) (nodes : NodesAreDecided) (g : List Tr
 
   module _ (held : HoldNeeds s g pairs) (known : Known) (refined : IsRefined s terms g f pairs budget known) where
     -- a pair that reaches no wide pair has a verdict
-    pub narrow_known : (p : Pair) → Contains pairs p → LeadsToNarrow s g budget p → Contains known.yes p ⊎ Contains known.no p
+    pub narrow_known : (p : Pair) → Contains pairs p → LeadsToNarrow s terms g budget p → Contains known.yes p ⊎ Contains known.no p
     narrow_known p of narrow = go (decide_member same_pairs known.yes p) (decide_member same_pairs known.no p)
       where
-        listed : Sifted (LeadsToNarrow s g budget) pairs → Contains known.yes p ⊎ Contains known.no p
+        listed : Sifted (LeadsToNarrow s terms g budget) pairs → Contains known.yes p ⊎ Contains known.no p
         listed r =
             known_below r.items (λ q c. (let t = r.only q c in (t.0, t.1 q here)))
             (λ q u c need. (let t = r.only q c in r.whole u (held q u t.0 need) (λ x leads. t.1 x (step u need leads))))
@@ -263,11 +265,11 @@ module _ (s : Schema) (terms : List Term) (nodes : NodesAreDecided) (g : List Tr
         go : Decided (Contains known.yes p) → Decided (Contains known.no p) → Contains known.yes p ⊎ Contains known.no p
         go (inl y) rest = inl y
         go (inr none) (inl m) = inr m
-        go (inr none) (inr neither) = absurd (not_not_sifted (LeadsToNarrow s g budget) pairs (λ r. elim (listed r) [ inl y ↦ none y | inr m ↦ neither m ]))
+        go (inr none) (inr neither) = absurd (not_not_sifted (LeadsToNarrow s terms g budget) pairs (λ r. elim (listed r) [ inl y ↦ none y | inr m ↦ neither m ]))
 
     -- and a node with an expression that reaches none has a sure answer
     pub decided_sure :
-        (n : TermId) (e : ExprId) → HoldRoots s pairs n e → IsDecided s g budget n e →
+        (n : TermId) (e : ExprId) → HoldRoots s pairs n e → IsDecided s terms g budget n e →
         IsSure s terms known n e Yes ⊎ IsSure s terms known n e No
     decided_sure n e asked decided = elim (decide_sat s terms (decide_node nodes) (suc e.0) known.yes n e) [
       | inl h ↦ inl (exact.0 h)
@@ -290,7 +292,7 @@ module _ (s : Schema) (terms : List Term) (nodes : NodesAreDecided) (g : List Tr
     -- which is that of the complete typing
     pub decided_answer :
         (U : List TermId) → ((p : Pair) → Contains pairs p → Contains U p.node) → (T : List Pair) → IsTheTyping s terms g f U T →
-        (n : TermId) (e : ExprId) → HoldRoots s pairs n e → IsDecided s g budget n e →
+        (n : TermId) (e : ExprId) → HoldRoots s pairs n e → IsDecided s terms g budget n e →
         (IsSure s terms known n e Yes ↔ Sat s terms T n e) × (IsSure s terms known n e No ↔ (¬ Sat s terms T n e))
     decided_answer U nodes_in T complete n e asked decided = both (decided_sure n e asked decided)
       where

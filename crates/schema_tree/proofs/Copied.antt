@@ -19,7 +19,8 @@ use Rattle.schema_tree.specs.Copied.{AreDealt, ArePlaced, AreTaken}
 use Rattle.schema_tree.specs.Matches.{Takes}
 use Rattle.schema_tree.specs.Places.{add_place, times}
 use Rattle.schema_tree.proofs.Lifted.{lift}
-use Rattle.schema_tree.proofs.Lists.{all_both, all_permuted, all_weaker, flat}
+use Rattle.lists.proofs.Quantifiers.{all_both, all_permuted, all_weaker}
+use Rattle.lists.proofs.Joined.{flat}
 use Rattle.schema_tree.proofs.Parted.{parts_of}
 use Rattle.schema_tree.proofs.Placed.{Placed, count_of, many_placing, placing_of, triples}
 use Rattle.schema_tree.proofs.ToPlaces.{times_permuted}

@@ -15,8 +15,8 @@ use Rattle.schema_tree.specs.Matches.{Deals, Matches, Takes}
 use Rattle.schema_tree.specs.declared.schema.Shape.{Shape}
 use Rattle.schema_tree.specs.Shapes.{RestOk}
 use Rattle.schema_tree.specs.Samples.{both}
-use Rattle.schema_tree.proofs.Lists.{in_filter}
-use Rattle.schema_tree.proofs.Members.{in_one, not_in_none}
+use Rattle.lists.proofs.Filters.{in_filter}
+use Rattle.lists.proofs.Members.{in_one, not_in_none}
 
 -- what is matched is a triple of the graph
 pub from_matched : (g : List Triple) (n : TermId) (matched rest : List Triple) (t : Triple) → Deals (neigh g n) (matched ∷ rest ∷ []) → Contains matched t → Contains g t

@@ -1,15 +1,14 @@
 -- Whether a node has a Shape is decided, where each node constraint is.
-use Rattle.std.proofs.Common.{◌≡◌, ℕ, zero, suc, ◌<◌, ◌≤◌, ◌⊎◌, inl, inr, List, [], ◌∷◌, refl, arith, sym, subst, ap, Bool, true, false, cond, not, length, filter, true≢false}
-use Rattle.std.proofs.lemmas.Bool.{cases_lt, cases_eq, eq-eqb}
+use Rattle.std.proofs.Common.{◌≡◌, ℕ, zero, suc, ◌<◌, inl, inr, List, [], ◌∷◌, refl, arith, subst, ap, Bool, true, false, cond, not, length, filter, true≢false}
+use Rattle.std.proofs.lemmas.Bool.{cases_eq, eq-eqb}
 use Rattle.std.proofs.lemmas.Option.{slice_get_within}
-use Rattle.std.specs.Prelude.{Contains, Option, Some, None, slice_get}
-use Rattle.std.specs.List.{AllByRecursion, list_any}
+use Rattle.std.specs.Prelude.{Option, Some, None, slice_get}
+use Rattle.std.specs.List.{list_any}
 use Rattle.rdf_terms.specs.declared.terms.TermId.{TermId}
 use Rattle.rdf_terms.specs.declared.terms.Term.{Term}
 use Rattle.rdf_terms.specs.declared.terms.Triple.{Triple}
 use Rattle.rdf_terms.specs.Graphs.{neigh, outs, same_id}
-use Rattle.tally.specs.declared.Count.{Count}
-use Rattle.tally.specs.Plan.{Plan, plan_of}
+use Rattle.tally.specs.Plan.{Plan}
 use Rattle.tally.specs.Copies.{Copies}
 use Rattle.tally.specs.declared.Interval.{Interval}
 use Rattle.tally.specs.Span.{HasSpan, IsBelow, IsSound, span}
@@ -30,48 +29,13 @@ use Rattle.schema_tree.specs.Shapes.{ShapeOk, ShapeHolds}
 use Rattle.schema_tree.proofs.ToPlaces.{to_places}
 use Rattle.schema_tree.proofs.FromPlaces.{from_places}
 use Rattle.std.proofs.lemmas.List.Sorted.{IsPermutation-refl}
-use Rattle.schema_tree.specs.Satisfies.{Sat, SatWithin, SatEntry, SomeByRecursion}
+use Rattle.schema_tree.specs.Satisfies.{Sat, SatWithin, SatEntry}
 use Rattle.schema_tree.specs.Matches.{SatValue, fits, other_end}
 use Rattle.schema_tree.specs.Places.{HasPlaces, MayTake, MayStay, MayStayOut, AreAllowed, times, HaveCounts, IsShut}
-use Rattle.schema_tree.proofs.Members.{not_in_none, in_rest, is_first, is_later}
 use Rattle.schema_tree.specs.Relevant.{is_relevant, is_forward}
 use Rattle.schema_tree.proofs.Made.{IsWellMade}
 use Rattle.node_constraint.specs.Laws.{NodesAreDecided}
-
--- P holds or it does not
-abbrev pub Decided : Type 0 → Type 0
-Decided P = P ⊎ (¬ P)
-
-pub decide_not : {P : Type 0} → Decided P → Decided (¬ P)
-decide_not (inl p) = inr (λ h. h p)
-decide_not (inr h) = inl h
-
-pub decide_both : {P Q : Type 0} → Decided P → Decided Q → Decided (P × Q)
-decide_both (inl p) (inl q) = inl (p, q)
-decide_both (inl p) (inr h) = inr (λ t. h t.1)
-decide_both (inr h) q = inr (λ t. h t.0)
-
-pub decide_either : {P Q : Type 0} → Decided P → Decided Q → Decided (P ⊎ Q)
-decide_either (inl p) q = inl (inl p)
-decide_either (inr h) (inl q) = inl (inr q)
-decide_either (inr h) (inr k) = inr (elim [ inl p ↦ h p | inr q ↦ k q ])
-
-pub decide_all : {X : Type 0} (P : X → Type 0) → ((x : X) → Decided (P x)) → (xs : List X) → Decided (AllByRecursion P xs)
-decide_all P d [] = inl tt
-decide_all P d (x ∷ xs) = decide_both (d x) (decide_all P d xs)
-
-pub decide_some : {X : Type 0} (P : X → Type 0) → ((x : X) → Decided (P x)) → (xs : List X) → Decided (SomeByRecursion P xs)
-decide_some P d [] = inr (λ h. h)
-decide_some P d (x ∷ xs) = decide_either (d x) (decide_some P d xs)
-
-pub decide_member : {X : Type 0} → ((x y : X) → Decided (x ≡ y)) → (xs : List X) (y : X) → Decided (Contains xs y)
-decide_member same [] y = inr (not_in_none y)
-decide_member same (x ∷ xs) y = go (same x y) (decide_member same xs y)
-  where
-    go : Decided (x ≡ y) → Decided (Contains xs y) → Decided (Contains (x ∷ xs) y)
-    go (inl e) rest = inl (subst (λ z. Contains (z ∷ xs) y) (sym e) (is_first y xs))
-    go (inr ne) (inl c) = inl (is_later x xs y c)
-    go (inr ne) (inr h) = inr (λ c. elim (in_rest x xs y c) [ inl e ↦ ne e | inr later ↦ h later ])
+use Rattle.lists.proofs.Decided.{Decided, decide_not, decide_both, decide_all, decide_some, decide_member, decide_le, decide_true, decide_below}
 
 pub same_terms : (a b : TermId) → Decided (a ≡ b)
 same_terms a b = elim (cases_eq a.0 b.0) [
@@ -116,13 +80,6 @@ module _ (s : Schema) (terms : List Term) (node : (c : Constraint) (t : Option T
   decide_sat zero T n e = inr (λ h. h)
   decide_sat (suc k) T n e = decide_entry T n (SatWithin k s terms T n) (λ d. decide_sat k T n d) (entry s e)
 
-pub decide_le : (a b : ℕ) → Decided (a ≤ b)
-decide_le a b = elim (cases_lt b a) [ inl lt ↦ inr (λ h. absurd (omega arith)) | inr le ↦ inl le ]
-
-pub decide_true : (b : Bool) → Decided (b ≡ true)
-decide_true true = inl refl
-decide_true false = inr (λ e. true≢false (sym e))
-
 pub decide_span : (a : Option Interval) (k : ℕ) → Decided (HasSpan a k)
 decide_span None k = inr (λ h. h)
 decide_span (Some a) k = decide_both (decide_le a.lo k) (ends a.hi)
@@ -136,19 +93,6 @@ decide_copies p sound c k = elim (decide_span (span p c c) k) [
   | inl h ↦ inl (span_copies p c k sound h)
   | inr h ↦ inr (λ t. h (copies_span p c k t))
 ]
-
--- some number below the bound
-pub decide_below : (P : ℕ → Type 0) → ((i : ℕ) → Decided (P i)) → (k : ℕ) → Decided ((i : ℕ) × (i < k) × P i)
-decide_below P d zero = inr (λ h. let lt : h.0 < 0 = h.1 in absurd (omega arith))
-decide_below P d (suc k) = go (d k) (decide_below P d k)
-  where
-    go : Decided (P k) → Decided ((i : ℕ) × (i < k) × P i) → Decided ((i : ℕ) × (i < suc k) × P i)
-    go (inl p) rest = inl (k, omega arith, p)
-    go (inr h) (inl (i, lt, p)) = inl (i, omega arith, p)
-    go (inr h) (inr none) = inr (λ (i, lt, p). elim (cases_eq i k) [
-      | inl e ↦ h (subst P e p)
-      | inr ne ↦ none (i, omega arith, p)
-    ])
 
 module _ (hold fail : TermId → Option ExprId → Type 0) (sh : Shape) (n : TermId)
     (dh : (m : TermId) (v : Option ExprId) → Decided (hold m v)) (df : (m : TermId) (v : Option ExprId) → Decided (fail m v)) where
@@ -209,9 +153,9 @@ decide_idle (At j ∷ ps) = inr (λ h.
     absurd (omega arith))
 
 pub decide_counts :
-    (body : Option Count) → ((c : Count) → body ≡ Some c → IsSound (plan_of c)) → (ps : List Place) → Decided (HaveCounts body (times ps))
+    (body : Option Plan) → ((c : Plan) → body ≡ Some c → IsSound c) → (ps : List Place) → Decided (HaveCounts body (times ps))
 decide_counts None sound ps = decide_idle ps
-decide_counts (Some c) sound ps = decide_copies (plan_of c) (sound c refl) (times ps) 1
+decide_counts (Some c) sound ps = decide_copies c (sound c refl) (times ps) 1
 
 -- there are allowed places with matching counts, or there are not
 pub decide_places :

@@ -18,7 +18,8 @@ use Rattle.schema_tree.specs.Loaded.{IsLoaded}
 use Rattle.schema_tree.specs.Places.{CanMatch, MayFail, MayHold, PairCanMatch}
 use Rattle.schema_tree.specs.Relevant.{relevant_in_order}
 use Rattle.schema_tree.specs.Sure.{IsSure, Known}
-use Rattle.schema_tree.proofs.Decide.{Decided, decide_not, decide_places}
+use Rattle.schema_tree.proofs.Decide.{decide_places}
+use Rattle.lists.proofs.Decided.{Decided, decide_not}
 use Rattle.schema_tree.proofs.Made.{well_made}
 use Rattle.schema_tree.proofs.SureOnce.{decide_verdict, sure_some, within_apart}
 

@@ -25,16 +25,19 @@ use Rattle.schema_tree.specs.Entries.{entry, pair_of, shape_at}
 use Rattle.schema_tree.specs.Loaded.{IsLoaded}
 use Rattle.schema_tree.specs.Matches.{SatValue, fits, other_end}
 use Rattle.schema_tree.specs.Needs.{Needs}
-use Rattle.schema_tree.specs.Order.{neighbourhood}
+use Rattle.rdf_terms.specs.Order.{neighbourhood}
 use Rattle.schema_tree.specs.Places.{CanMatch, HasPlaces, MayFail, MayHold, PairCanMatch}
 use Rattle.schema_tree.specs.Relevant.{is_forward, is_relevant, relevant_in_order}
-use Rattle.schema_tree.specs.Satisfies.{Sat, SatEntry, SatWithin, SomeByRecursion}
+use Rattle.schema_tree.specs.Satisfies.{Sat, SatEntry, SatWithin}
+use Rattle.lists.specs.Quantifiers.{SomeByRecursion}
 use Rattle.schema_tree.specs.Shapes.{ShapeHolds, ShapeOk}
 use Rattle.schema_tree.specs.Sure.{IsSure, Known, PairIs, SureEntry, SureWithin}
-use Rattle.schema_tree.proofs.Decide.{Decided, decide_node, decide_sat}
+use Rattle.schema_tree.proofs.Decide.{decide_node, decide_sat}
+use Rattle.lists.proofs.Decided.{Decided}
 use Rattle.schema_tree.proofs.FromPlaces.{from_places}
 use Rattle.schema_tree.proofs.Leans.{places_weaker}
-use Rattle.schema_tree.proofs.Lists.{all_weaker, in_filter, some_weaker}
+use Rattle.lists.proofs.Quantifiers.{all_weaker, some_weaker}
+use Rattle.lists.proofs.Filters.{in_filter}
 use Rattle.schema_tree.proofs.Made.{well_made}
 use Rattle.schema_tree.proofs.Ordered.{ordered_same}
 use Rattle.schema_tree.proofs.SureOnce.{within_apart}

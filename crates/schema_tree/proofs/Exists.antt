@@ -12,7 +12,7 @@ use Rattle.schema_tree.specs.declared.schema.Schema.{Schema}
 use Rattle.schema_tree.specs.declared.schema.Pair.{Pair}
 use Rattle.schema_tree.specs.Shapes.{ShapeOk}
 use Rattle.schema_tree.specs.Edges.{level, IsStratified}
-use Rattle.schema_tree.proofs.Members.{not_in_none, in_rest, is_first, is_later}
+use Rattle.lists.proofs.Members.{not_in_none, in_rest, is_first, is_later}
 use Rattle.schema_tree.proofs.Monotone.{shape_mono}
 
 module _ (s : Schema) (terms : List Term) (g : List Triple) (f : List ℕ) (strat : IsStratified s f) (k : ℕ) (L : List Pair) (There : Pair → Type 0)

@@ -1,7 +1,6 @@
 -- The strata of schemas with few Shapes.
 use Rattle.std.proofs.Common.{◌≡◌, ℕ, zero, suc, Bool, false, true≢false, inl, inr, List, [], ◌∷◌, refl, arith, sym, subst, ap, length}
 use Rattle.std.specs.Prelude.{Contains, Some, None, ◌⊎◌, slice_get}
-use Rattle.tally.specs.declared.Count.{Count}
 use Rattle.schema_tree.specs.declared.schema.Expr.TheVariants as Exprs
 use Rattle.schema_tree.specs.declared.schema.ExprId.{ExprId}
 use Rattle.schema_tree.specs.declared.schema.Occurrence.{Occurrence}
@@ -11,7 +10,8 @@ use Rattle.schema_tree.specs.declared.schema.ShapeId.{ShapeId}
 use Rattle.schema_tree.specs.Edges.{Edge, IsNegative, IsStratum, IsStratumOf, Path, StandsIn, StandsInValue, stay, by_any, by_negative, itself, in_and, in_or, in_not, level}
 use Rattle.schema_tree.specs.Entries.{entry}
 use Rattle.schema_tree.specs.Samples.{shape_id, expr_id, open_shape, schema_of}
-use Rattle.schema_tree.proofs.Members.{not_in_none}
+use Rattle.lists.proofs.Members.{not_in_none}
+use Rattle.tally.specs.Plan.{Plan}
 
 -- in an entry that is a Shape stands that Shape alone, not negated
 pub in_shape : (s : Schema) (u t : ShapeId) (e : ExprId) (sign : Bool) → entry s e ≡ Some (Exprs.Shape u) → StandsIn s t e sign → (sign ≡ false) × (t ≡ u)
@@ -47,12 +47,12 @@ abbrev pub IsPlainValue : Occurrence → Type 0
 IsPlainValue o = (o.value ≡ None) ⊎ (o.value ≡ Some (expr_id 0))
 
 -- the schema of one Shape without EXTRA
-abbrev pub alone : Count → List Occurrence → Schema
+abbrev pub alone : Plan → List Occurrence → Schema
 alone c occs = schema_of (Exprs.Shape (shape_id 0) ∷ []) (open_shape [] c occs ∷ [])
 
 -- where its values are plain, its edges are not negative
 alone_not_negative :
-    (c : Count) (occs : List Occurrence) → ((o : Occurrence) → Contains occs o → IsPlainValue o) →
+    (c : Plan) (occs : List Occurrence) → ((o : Occurrence) → Contains occs o → IsPlainValue o) →
     (i t : ShapeId) (e : Edge (alone c occs) i t) → ¬ IsNegative e
 alone_not_negative c occs plain_values i t e (inl negated) =
     let same : open_shape [] c occs ≡ e.shape = only_shape _ e.shape i.0 e.is in
@@ -69,5 +69,5 @@ alone_not_negative c occs plain_values i t e (inr (out, extra)) =
     not_in_none e.occ.predicate (subst (λ sh. Contains sh.extra e.occ.predicate) (sym same) extra)
 
 -- and it is on stratum 0
-pub alone_on_0 : (c : Count) (occs : List Occurrence) → ((o : Occurrence) → Contains occs o → IsPlainValue o) → IsStratum (alone c occs) (0 ∷ [])
+pub alone_on_0 : (c : Plan) (occs : List Occurrence) → ((o : Occurrence) → Contains occs o → IsPlainValue o) → IsStratum (alone c occs) (0 ∷ [])
 alone_on_0 c occs plain_values = one_stratum (alone c occs) refl (alone_not_negative c occs plain_values)

@@ -1,6 +1,6 @@
 -- A node with a list of allowed places with matching counts has the Shape.
 use Rattle.std.proofs.Common.{◌≡◌, ℕ, suc, ◌<◌, inl, inr, List, [], ◌∷◌, ◌++◌, refl, arith, sym, subst, ap, ◌∙◌, Bool, true, false, cond, not, length, map, filter, true≢false, append-nil, append_assoc}
-use Rattle.std.proofs.lemmas.Bool.{eq-eqb}
+use Rattle.std.proofs.lemmas.Bool.{eq-eqb, not_from_false, and_from}
 use Rattle.std.proofs.lemmas.List.Elements.{Contains-append_cases}
 use Rattle.std.proofs.lemmas.Option.{slice_get_within}
 use Rattle.std.proofs.lemmas.List.Sorted.{IsPermutation-refl, IsPermutation-trans, IsPermutation-sym, IsPermutation-append, IsPermutation-cons, IsPermutation-middle, IsPermutation-filter_both, Contains-permutation}
@@ -10,8 +10,7 @@ use Rattle.std.specs.List.Sorted.{IsPermutation}
 use Rattle.rdf_terms.specs.declared.terms.TermId.{TermId}
 use Rattle.rdf_terms.specs.declared.terms.Triple.{Triple}
 use Rattle.rdf_terms.specs.Graphs.{neigh, outs, same_id}
-use Rattle.tally.specs.declared.Count.{Count}
-use Rattle.tally.specs.Plan.{plan_of}
+use Rattle.tally.specs.Plan.{Plan}
 use Rattle.tally.specs.Span.{IsSound}
 use Rattle.tally.specs.Symbols.{IsDistinct, has_symbol}
 use Rattle.tally.proofs.CopyLaws.{copies_agree}
@@ -23,12 +22,12 @@ use Rattle.schema_tree.specs.declared.verdicts.Place.TheVariants.{At, Rest}
 use Rattle.schema_tree.specs.Matches.{Takes, SatValue, fits, near_end, other_end}
 use Rattle.schema_tree.specs.Shapes.{ShapeHolds, RestOk, MatchesBody, IsMatchable, IsMentioned}
 use Rattle.schema_tree.specs.Places.{MayTake, MayStay, MayStayOut, AreAllowed, times, HaveCounts, IsShut, HasPlaces}
-use Rattle.schema_tree.proofs.Members.{not_in_none, in_rest, filter_has, all_at}
+use Rattle.lists.proofs.Members.{not_in_none, in_rest, any_true}
+use Rattle.lists.proofs.Filters.{filter_has, in_filter}
+use Rattle.lists.proofs.Quantifiers.{all_at}
 use Rattle.schema_tree.proofs.Placed.{Placed, triples, count_of, IsPlaced}
 use Rattle.schema_tree.proofs.Parted.{parts_of, Parts}
 use Rattle.schema_tree.proofs.ToPlaces.{Spot, holds, fails, IsGood, mentioned, mentioned_fits, same_true}
-use Rattle.schema_tree.proofs.Lists.{in_filter, any_true}
-use Rattle.schema_tree.proofs.Tests.{passes_not, and_both}
 use Rattle.schema_tree.specs.Relevant.{is_relevant, is_forward}
 use Rattle.schema_tree.proofs.Made.{IsWellMade}
 
@@ -140,7 +139,7 @@ module _ (sat : TermId → ExprId → Type 0) (g : List Triple) (sh : Shape) (n 
   rest_ok open_to left apart stays irrelevant = record {
     unmatched = λ t o held can of forward take. elim (Contains-append_cases left apart t held) [
       | inl l ↦ all_at (λ u. ¬ SatValue (sat t.o) u.value) (filter (is_forward n t) sh.occs) o (stays_mentioned t can (stays t l)).1
-          (filter_has (is_forward n t) sh.occs o of (and_both (not o.inverse) (fits o n t) (passes_not o.inverse forward) take.0)) (subst (λ b. SatValue (sat (other_end b t)) o.value) forward take.1)
+          (filter_has (is_forward n t) sh.occs o of (and_from (not o.inverse) (fits o n t) (not_from_false o.inverse forward) take.0)) (subst (λ b. SatValue (sat (other_end b t)) o.value) forward take.1)
       | inr a ↦ clash t (irrelevant t a).1 (any_true (λ u. fits u n t) sh.occs o of take.0)
     ];
     in_extra = λ t held can. elim (Contains-append_cases left apart t held) [
@@ -161,7 +160,7 @@ module _ (sat : TermId → ExprId → Type 0) (g : List Triple) (sh : Shape) (n 
       clash t a b = true≢false (sym a ∙ ap not b)
 
   -- the matched part of the placed triples
-  record Matched (body : Option Count) (ps : List Placed) : Type 0 where
+  record Matched (body : Option Plan) (ps : List Placed) : Type 0 where
     pub matched : List Triple
     pub deals : IsPermutation (triples ps) matched
     pub body_ok : MatchesBody sat sh.occs n body matched
@@ -177,16 +176,16 @@ module _ (sat : TermId → ExprId → Type 0) (g : List Triple) (sh : Shape) (n 
       go (p ∷ q ∷ ps) e d a = absurd (omega arith)
 
   matched_of :
-      (body : Option Count) →
-      ((c : Count) → body ≡ Some c → IsDistinct (plan_of c) × IsSound (plan_of c) × ((i : ℕ) → i < length sh.occs → has_symbol i (plan_of c) ≡ true)) →
+      (body : Option Plan) →
+      ((c : Plan) → body ≡ Some c → IsDistinct c × IsSound c × ((i : ℕ) → i < length sh.occs → has_symbol i c ≡ true)) →
       (xs : List Spot) → AllByRecursion good xs → HaveCounts body (times (map (λ x. x.1) xs)) → Matched body (placed_in xs)
   matched_of None loaded xs all counts =
       record { matched = []; deals = subst (λ ps. IsPermutation (triples ps) []) (sym (none_placed xs counts)) (IsPermutation-refl []); body_ok = refl }
   matched_of (Some c) loaded xs all counts =
       let (distinct, sound, stands) = loaded c refl in
       let taken = all_placed xs all in
-      let (part, deals, fit) = one_part _ _ (parts_of sat sh.occs n (plan_of c) distinct sound 1 (placed_in xs) taken (all_within (λ i. has_symbol i (plan_of c)) stands (placed_in xs) taken)
-      (copies_agree (plan_of c) (times (map (λ x. x.1) xs)) (count_of (placed_in xs)) 1 (λ i e. counted xs i) counts)) in
+      let (part, deals, fit) = one_part _ _ (parts_of sat sh.occs n c distinct sound 1 (placed_in xs) taken (all_within (λ i. has_symbol i c) stands (placed_in xs) taken)
+      (copies_agree c (times (map (λ x. x.1) xs)) (count_of (placed_in xs)) 1 (λ i e. counted xs i) counts)) in
       record { matched = part; deals = deals; body_ok = fit }
 
   -- allowed places with matching counts, in whatever order of the neighbourhood, give the Shape

@@ -12,10 +12,11 @@ use Rattle.schema_tree.specs.declared.verdicts.Verdict.{Verdict}
 use Rattle.schema_tree.specs.declared.verdicts.Verdict.TheVariants.{Yes, No, Unknown}
 use Rattle.schema_tree.specs.declared.schema.Pair.{Pair}
 use Rattle.schema_tree.specs.Entries.{entry, pair_of}
-use Rattle.schema_tree.specs.Satisfies.{Sat, SatWithin, SatEntry, SomeByRecursion}
+use Rattle.schema_tree.specs.Satisfies.{Sat, SatWithin, SatEntry}
+use Rattle.lists.specs.Quantifiers.{SomeByRecursion}
 use Rattle.schema_tree.specs.Sure.{Known, PairIs, SureWithin, SureEntry, IsSure}
 use Rattle.schema_tree.specs.Loaded.{IsLoaded, RefersBelow}
-use Rattle.schema_tree.proofs.Lists.{all_weaker, some_weaker}
+use Rattle.lists.proofs.Quantifiers.{all_weaker, some_weaker}
 
 pub entry_same :
     (s : Schema) (terms : List Term) (T : List Pair) (n : TermId) (i : ℕ) (a b : ExprId → Type 0) → ((d : ExprId) → d.0 < i → a d ↔ b d) →

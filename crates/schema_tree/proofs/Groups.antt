@@ -3,18 +3,17 @@ use Rattle.std.proofs.Common.{◌≡◌, ◌≤◌, List, [], ◌∷◌, ◌++�
 use Rattle.std.proofs.lemmas.List.Sorted.{IsPermutation-refl, IsPermutation-cons, IsPermutation-append_comm, length_permutation}
 use Rattle.rdf_terms.specs.declared.terms.TermId.{TermId}
 use Rattle.rdf_terms.specs.declared.terms.Triple.{Triple}
-use Rattle.tally.specs.declared.Count.{Count}
 use Rattle.tally.specs.declared.Bound.TheVariants.{Upto}
-use Rattle.tally.specs.Plan.{Plan, plan_of, sym as symbol, each, many, row}
+use Rattle.tally.specs.Plan.{Plan, sym as symbol, each, many, row}
 use Rattle.schema_tree.specs.declared.schema.ExprId.{ExprId}
 use Rattle.schema_tree.specs.declared.schema.Occurrence.{Occurrence}
 use Rattle.schema_tree.specs.declared.schema.Pair.{Pair}
 use Rattle.schema_tree.specs.Satisfies.{Sat}
 use Rattle.schema_tree.specs.Matches.{Matches}
-use Rattle.schema_tree.specs.Samples.{terms, ann, bob, knows, name, text_a, text_b, arc, shape_id, out_arc, in_arc, open_shape, either}
+use Rattle.schema_tree.specs.Samples.{terms, ann, bob, knows, name, text_a, text_b, arc, shape_id, out_arc, open_shape, either}
 use Rattle.schema_tree.specs.Shapes.{ShapeOk, RestOk}
-use Rattle.schema_tree.specs.WorkedShapes.{LoopServesInverse, GroupIsRepeated, GroupWantsEachCopy, OneOfTakesOne, closed_inverse, repeated, either_one}
-use Rattle.schema_tree.proofs.Members.{in_one, in_rest, is_first, is_later}
+use Rattle.schema_tree.specs.WorkedShapes.{LoopServesInverse, GroupIsRepeated, GroupWantsEachCopy, OneOfTakesOne, repeated, either_one}
+use Rattle.lists.proofs.Members.{in_one, in_rest, is_first, is_later}
 use Rattle.schema_tree.proofs.Dealt.{one_a_part, counted, from_remainder, nothing_left}
 
 abbrev loop : Triple
@@ -22,13 +21,13 @@ loop = arc ann knows ann
 
 pub loop_serves : LoopServesInverse
 unfolding Matches
-loop_serves c typing is = (
+loop_serves typing = (
   refl,
   (
     loop ∷ [],
     [],
     IsPermutation-refl (loop ∷ []),
-    subst (λ plan. Matches (Sat (closed_inverse c) terms typing) (in_arc knows None ∷ []) ann plan (loop ∷ [])) (sym is) (loop, refl, (refl, tt)),
+    (loop, refl, (refl, tt)),
     nothing_left _ _ ann,
   ),
 )
@@ -68,12 +67,12 @@ without sat = (
 
 pub group_repeated : GroupIsRepeated
 unfolding Matches
-group_repeated c typing is =
-    let sat : TermId → ExprId → Type 0 = Sat (repeated c) terms typing in (
+group_repeated typing =
+    let sat : TermId → ExprId → Type 0 = Sat repeated terms typing in (
       name_a ∷ name_b ∷ to_bob ∷ [],
       [],
       IsPermutation-refl (name_a ∷ name_b ∷ to_bob ∷ []),
-      subst (λ plan. Matches sat names_and_knows ann plan (name_a ∷ name_b ∷ to_bob ∷ [])) (sym is) (
+      (
         (name_a ∷ to_bob ∷ []) ∷ (name_b ∷ []) ∷ [],
         omega arith,
         omega arith,
@@ -97,10 +96,9 @@ one_at_least sat occs n ts (x ∷ y ∷ z ∷ more, dealt, h) = absurd h.1.1
 
 pub group_wants : GroupWantsEachCopy
 unfolding Matches
-group_wants c typing is (matched, rest, deals, body, ok) =
-    let sat : TermId → ExprId → Type 0 = Sat (repeated c) terms typing in
-    let M : Plan → Type 0 = λ plan. Matches sat names_and_knows ann plan matched in
-    let (parts, enough, most, dealt, all) = subst M is body in
+group_wants typing (matched, rest, deals, body, ok) =
+    let sat : TermId → ExprId → Type 0 = Sat repeated terms typing in
+    let (parts, enough, most, dealt, all) = body in
     let long : _ ≡ length matched = length_permutation _ _ dealt in
     omega (arith, enough, long, counted (name_a ∷ []) matched rest deals, one_a_part sat names_and_knows ann group (one_at_least sat names_and_knows ann) parts all)
 
@@ -112,21 +110,21 @@ one_alone sat occs n ts (inr (inl (a, e, t))) = ap (λ z. length z) e
 one_alone sat occs n ts (inr (inr h)) = absurd h
 
 -- a name alone is matched by the first member
-pub choice_met : (extra : List TermId) (c : Count) (typing : List Pair) → plan_of c ≡ either → ShapeOk (either_one extra c) terms (name_a ∷ []) typing ann (shape_id 0)
+pub choice_met : (extra : List TermId) (typing : List Pair) → ShapeOk (either_one extra) terms (name_a ∷ []) typing ann (shape_id 0)
 unfolding Matches
-choice_met extra c typing is = (
+choice_met extra typing = (
   name_a ∷ [],
   [],
   IsPermutation-refl (name_a ∷ []),
-  subst (λ plan. Matches (Sat (either_one extra c) terms typing) names_and_knows ann plan (name_a ∷ [])) (sym is) (inl (name_a, refl, (refl, tt))),
+  inl (name_a, refl, (refl, tt)),
   nothing_left _ _ ann,
 )
 
 -- neither of the two triples may be left over
 none_left :
-    (sat : TermId → ExprId → Type 0) (extra : List TermId) (c : Count) (rest : List Triple) → RestOk sat (open_shape extra c names_and_knows) ann rest →
+    (sat : TermId → ExprId → Type 0) (extra : List TermId) (rest : List Triple) → RestOk sat (open_shape extra either names_and_knows) ann rest →
     (u : Triple) → Contains rest u → Contains (name_a ∷ to_bob ∷ []) u → ⊥
-none_left sat extra c rest ok u held one =
+none_left sat extra rest ok u held one =
     let of_name : Contains names_and_knows (out_arc name None) = is_first (out_arc name None) (out_arc knows None ∷ []) in
     let of_knows : Contains names_and_knows (out_arc knows None) = is_later (out_arc name None) (out_arc knows None ∷ []) _ (is_first (out_arc knows None) []) in
     elim (in_rest name_a (to_bob ∷ []) u one) [
@@ -142,12 +140,11 @@ some_item [] h = absurd (omega (arith, h))
 some_item (u ∷ ts) h = (u, is_first u ts)
 
 pub choice_is_one : OneOfTakesOne
-choice_is_one extra c typing is = (
-  choice_met extra c typing is,
+choice_is_one extra typing = (
+  choice_met extra typing,
   λ (matched, rest, deals, body, ok).
-      let sat : TermId → ExprId → Type 0 = Sat (either_one extra c) terms typing in
-      let M : Plan → Type 0 = λ plan. Matches sat names_and_knows ann plan matched in
-      let single : length matched ≡ 1 = one_alone sat names_and_knows ann matched (subst M is body) in
+      let sat : TermId → ExprId → Type 0 = Sat (either_one extra) terms typing in
+      let single : length matched ≡ 1 = one_alone sat names_and_knows ann matched body in
       let (u, held) = some_item rest (omega (arith, single, counted (name_a ∷ to_bob ∷ []) matched rest deals)) in
-      none_left sat extra c rest ok u held (from_remainder (name_a ∷ to_bob ∷ []) matched rest u deals held),
+      none_left sat extra rest ok u held (from_remainder (name_a ∷ to_bob ∷ []) matched rest u deals held),
 )

@@ -17,12 +17,12 @@ use Rattle.schema_tree.specs.Shapes.{ShapeOk}
 use Rattle.schema_tree.specs.Satisfies.{Sat}
 use Rattle.schema_tree.specs.Edges.{level, IsStratified, Edge, IsNegative}
 use Rattle.schema_tree.specs.Typings.{IsOver, IsCorrectAt, IsGreatestAt, IsComplete, IsTheTyping, HaveSame, HoldsEnds, below, top_of}
-use Rattle.schema_tree.proofs.Members.{filter_has}
+use Rattle.lists.proofs.Filters.{filter_has, in_filter}
 use Rattle.schema_tree.proofs.Monotone.{shape_mono, sat_mono}
 use Rattle.schema_tree.proofs.Local.{shape_moves}
 use Rattle.schema_tree.specs.Entries.{pair_of}
-use Rattle.schema_tree.proofs.Lists.{in_filter, any_true}
-use Rattle.schema_tree.proofs.Tests.{same_is}
+use Rattle.lists.proofs.Members.{any_true}
+use Rattle.rdf_terms.proofs.SameTerms.{same_is}
 use Rattle.schema_tree.proofs.Below.{in_below, level_top, out_below}
 
 module _ (s : Schema) (terms : List Term) (g : List Triple) where

@@ -21,10 +21,10 @@ use Rattle.schema_tree.specs.declared.verdicts.Verdict.TheVariants.{Yes, No, Unk
 use Rattle.schema_tree.specs.Entries.{entry}
 use Rattle.schema_tree.specs.Joined.{AreKept, IsDecidedBy, opposite, same_expr}
 use Rattle.schema_tree.specs.Loaded.{IsLoaded}
-use Rattle.schema_tree.specs.Satisfies.{SomeByRecursion}
+use Rattle.lists.specs.Quantifiers.{SomeByRecursion}
 use Rattle.schema_tree.specs.Sure.{IsSure, Known, SureEntry}
-use Rattle.schema_tree.proofs.Lists.{all_append}
-use Rattle.schema_tree.proofs.Members.{in_rest, not_in_none}
+use Rattle.lists.proofs.Quantifiers.{all_append}
+use Rattle.lists.proofs.Members.{in_rest, not_in_none}
 use Rattle.schema_tree.proofs.SureOnce.{AreApart, sure_once, within_apart}
 use Rattle.schema_tree.proofs.Fuel.{sure_layer}
 

@@ -28,8 +28,9 @@ use Rattle.schema_tree.specs.Places.{MayHold, MayFail, MayTake, MayStay, MayStay
 use Rattle.schema_tree.proofs.ToPlaces.{to_places}
 use Rattle.schema_tree.proofs.FromPlaces.{from_places}
 use Rattle.schema_tree.proofs.Made.{IsWellMade}
-use Rattle.schema_tree.proofs.Lists.{all_weaker, got_in, in_filter, some_weaker, some_against}
-use Rattle.schema_tree.proofs.Members.{is_first, is_later}
+use Rattle.lists.proofs.Quantifiers.{all_weaker, some_weaker, some_against}
+use Rattle.lists.proofs.Members.{got_in, is_first, is_later}
+use Rattle.lists.proofs.Filters.{in_filter}
 use Rattle.schema_tree.specs.Relevant.{is_relevant, is_forward}
 
 module _ (s : Schema) (terms : List Term) (view : Known) (T : List Pair) (agrees : Agrees T view) (n : TermId) where

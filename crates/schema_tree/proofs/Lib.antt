@@ -2,11 +2,8 @@ pub mod Dealt
 pub mod FewEdges
 pub mod Groups
 pub mod Knowing
-pub mod Members
 pub mod Nameless
 pub mod SameLabels
-pub mod Lists
-pub mod Tests
 pub mod Below
 pub mod Monotone
 pub mod Unique
@@ -14,9 +11,9 @@ pub mod Fuel
 pub mod Local
 pub mod Independent
 pub mod Strata
+pub mod OneStrata
 pub mod SureOnce
 pub mod Joining
-pub mod Checked
 pub mod Lifted
 pub mod Ordered
 pub mod Made
@@ -32,7 +29,9 @@ pub mod Exists
 pub mod Whole
 pub mod ExactViews
 pub mod Closed
+pub mod Rising
 pub mod PlainWidth
+pub mod Widths
 pub mod OneRefinement
 pub mod DecideMatch
 pub mod RefinementExists

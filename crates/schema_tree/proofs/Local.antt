@@ -6,8 +6,7 @@ use Rattle.rdf_terms.specs.declared.terms.TermId.{TermId}
 use Rattle.rdf_terms.specs.declared.terms.Term.{Term}
 use Rattle.rdf_terms.specs.declared.terms.Triple.{Triple}
 use Rattle.rdf_terms.specs.Graphs.{neigh}
-use Rattle.tally.specs.declared.Count.{Count}
-use Rattle.tally.specs.Plan.{Plan, plan_of, sym as symbol, each, one, many, Plans, no_plans, more_plans}
+use Rattle.tally.specs.Plan.{Plan, sym as symbol, each, one, many, Plans, no_plans, more_plans}
 use Rattle.schema_tree.specs.declared.schema.Schema.{Schema}
 use Rattle.schema_tree.specs.declared.schema.Shape.{Shape}
 use Rattle.schema_tree.specs.declared.schema.Occurrence.{Occurrence}
@@ -19,10 +18,12 @@ use Rattle.schema_tree.specs.Satisfies.{Sat}
 use Rattle.schema_tree.specs.Matches.{Deals, Matches, MatchesEach, MatchesOne, Takes, SatValue, other_end}
 use Rattle.schema_tree.specs.Shapes.{ShapeOk, ShapeHolds, MatchesBody}
 use Rattle.schema_tree.specs.Edges.{StandsIn, StandsInValue, Edge, IsNegative}
-use Rattle.schema_tree.proofs.Members.{is_first, is_later}
+use Rattle.lists.proofs.Members.{is_first, is_later, got_in, in_flat_map}
 use Rattle.schema_tree.proofs.Monotone.{sat_mono}
-use Rattle.schema_tree.proofs.Lists.{all_weaker, got_in, in_filter, in_flat_map}
-use Rattle.schema_tree.proofs.Tests.{same_is, both_true}
+use Rattle.lists.proofs.Quantifiers.{all_weaker}
+use Rattle.lists.proofs.Filters.{in_filter}
+use Rattle.rdf_terms.proofs.SameTerms.{same_is}
+use Rattle.std.proofs.lemmas.Bool.{and_parts}
 
 -- what a part holds is among what was dealt
 pub deal_in :
@@ -105,12 +106,12 @@ module _ (s : Schema) (terms : List Term) (g : List Triple) (Near : TermId → T
       take_up sh is (Some o) t of c h = (h.0, value_up sh is o (of o refl) (other_end o.inverse t) (near_end o.inverse t c) o.value refl h.1)
 
       body_up :
-          (sh : Shape) → shape_at s i ≡ Some sh → (b : Option Count) (ts : List Triple) → ((t : Triple) → Contains ts t → Contains g t) →
+          (sh : Shape) → shape_at s i ≡ Some sh → (b : Option Plan) (ts : List Triple) → ((t : Triple) → Contains ts t → Contains g t) →
           MatchesBody (Sat s terms T) sh.occs n b ts → MatchesBody (Sat s terms W) sh.occs n b ts
       body_up sh is None ts inside h = h
       body_up sh is (Some c) ts inside h =
           matches_among (Sat s terms T) (Sat s terms W) sh.occs n (λ t. Contains g t)
-          (λ j t c h. take_up sh is (slice_get sh.occs j) t (λ o e. got_in sh.occs j o e) c h) (plan_of c) ts inside h
+          (λ j t c h. take_up sh is (slice_get sh.occs j) t (λ o e. got_in sh.occs j o e) c h) c ts inside h
 
       go : (x : Option Shape) → shape_at s i ≡ x → ShapeHolds (Sat s terms T) g n x → ShapeHolds (Sat s terms W) g n x
       go None is h = h
@@ -121,7 +122,7 @@ module _ (s : Schema) (terms : List Term) (g : List Triple) (Near : TermId → T
         body_up sh is sh.body matched (held matched rest deals matched (is_first matched (rest ∷ []))) body,
         record {
           unmatched = λ t o c can of forward takes.
-              let same : o.predicate ≡ t.p = same_is _ _ (both_true _ _ takes.0).0 in
+              let same : o.predicate ≡ t.p = same_is _ _ (and_parts _ _ takes.0).0 in
               let in_extra : Contains sh.extra o.predicate = subst (λ p. Contains sh.extra p) (sym same) (ok.in_extra t c can) in
               let in_graph : Contains g t = held matched rest deals rest (is_later matched (rest ∷ []) rest (is_first rest [])) t c in
               ok.unmatched t o c can of forward (takes.0, value_down sh is o of forward in_extra (other_end o.inverse t) (near_end o.inverse t in_graph) o.value refl takes.1);

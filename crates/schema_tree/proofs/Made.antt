@@ -1,8 +1,7 @@
 -- What loading promises of a Shape's expression, in the form that the proofs use.
 use Rattle.std.proofs.Common.{◌≡◌, ℕ, ◌<◌, subst, length, true}
 use Rattle.std.specs.Prelude.{Some}
-use Rattle.tally.specs.declared.Count.{Count}
-use Rattle.tally.specs.Plan.{plan_of}
+use Rattle.tally.specs.Plan.{Plan}
 use Rattle.tally.specs.Span.{IsSound}
 use Rattle.tally.specs.Symbols.{IsDistinct, has_symbol}
 use Rattle.schema_tree.specs.declared.schema.Schema.{Schema}
@@ -14,8 +13,8 @@ use Rattle.schema_tree.specs.Loaded.{BodyOk, IsLoaded}
 -- the expression, if there is one, has each symbol once, no minimum above its bound, and a symbol for each occurrence
 abbrev pub IsWellMade : Shape → Type 0
 IsWellMade sh =
-    (c : Count) → sh.body ≡ Some c →
-    IsDistinct (plan_of c) × IsSound (plan_of c) × ((i : ℕ) → i < length sh.occs → has_symbol i (plan_of c) ≡ true)
+    (c : Plan) → sh.body ≡ Some c →
+    IsDistinct c × IsSound c × ((i : ℕ) → i < length sh.occs → has_symbol i c ≡ true)
 
 -- each Shape of a loaded schema is so
 pub well_made : (s : Schema) → IsLoaded s → (i : ShapeId) (sh : Shape) → shape_at s i ≡ Some sh → IsWellMade sh

@@ -4,8 +4,7 @@ use Rattle.std.specs.Prelude.{Contains, Option, Some, None, slice_get}
 use Rattle.rdf_terms.specs.declared.terms.TermId.{TermId}
 use Rattle.rdf_terms.specs.declared.terms.Term.{Term}
 use Rattle.rdf_terms.specs.declared.terms.Triple.{Triple}
-use Rattle.tally.specs.declared.Count.{Count}
-use Rattle.tally.specs.Plan.{Plan, plan_of, sym as symbol, each, one, many, Plans, no_plans, more_plans}
+use Rattle.tally.specs.Plan.{Plan, sym as symbol, each, one, many, Plans, no_plans, more_plans}
 use Rattle.schema_tree.specs.declared.schema.Schema.{Schema}
 use Rattle.schema_tree.specs.declared.schema.Shape.{Shape}
 use Rattle.schema_tree.specs.declared.schema.Occurrence.{Occurrence}
@@ -19,8 +18,10 @@ use Rattle.schema_tree.specs.Satisfies.{Sat, SatWithin, SatEntry}
 use Rattle.schema_tree.specs.Matches.{Matches, MatchesEach, MatchesOne, Takes, SatValue, other_end}
 use Rattle.schema_tree.specs.Shapes.{ShapeOk, ShapeHolds, MatchesBody}
 use Rattle.schema_tree.specs.Edges.{StandsIn, itself, in_and, in_or, in_not, StandsInValue, Edge, IsStratified, level}
-use Rattle.schema_tree.proofs.Lists.{all_weaker, some_weaker, got_in}
-use Rattle.schema_tree.proofs.Tests.{same_is, both_true}
+use Rattle.lists.proofs.Quantifiers.{all_weaker, some_weaker}
+use Rattle.lists.proofs.Members.{got_in}
+use Rattle.rdf_terms.proofs.SameTerms.{same_is}
+use Rattle.std.proofs.lemmas.Bool.{and_parts}
 
 module _ (s : Schema) (terms : List Term) (n : TermId) where
   -- W has each pair of T with a Shape that stands in e
@@ -124,11 +125,11 @@ module _ (s : Schema) (terms : List Term) (g : List Triple) (f : List ℕ) (stra
       take_up sh is (Some o) t of h = (h.0, value_up i sh is at o (of o refl) (other_end o.inverse t) o.value refl h.1)
 
       body_up :
-          (sh : Shape) → shape_at s i ≡ Some sh → (b : Option Count) (ts : List Triple) → MatchesBody (Sat s terms T) sh.occs n b ts →
+          (sh : Shape) → shape_at s i ≡ Some sh → (b : Option Plan) (ts : List Triple) → MatchesBody (Sat s terms T) sh.occs n b ts →
           MatchesBody (Sat s terms W) sh.occs n b ts
       body_up sh is None ts h = h
       body_up sh is (Some c) ts h =
-          matches_mono (Sat s terms T) (Sat s terms W) sh.occs n (λ j t. take_up sh is (slice_get sh.occs j) t (λ o e. got_in sh.occs j o e)) (plan_of c) ts h
+          matches_mono (Sat s terms T) (Sat s terms W) sh.occs n (λ j t. take_up sh is (slice_get sh.occs j) t (λ o e. got_in sh.occs j o e)) c ts h
 
       go : (x : Option Shape) → shape_at s i ≡ x → ShapeHolds (Sat s terms T) g n x → ShapeHolds (Sat s terms W) g n x
       go None is h = h
@@ -139,7 +140,7 @@ module _ (s : Schema) (terms : List Term) (g : List Triple) (f : List ℕ) (stra
         body_up sh is sh.body matched body,
         record {
           unmatched = λ t o held can of forward takes.
-              let same : o.predicate ≡ t.p = same_is _ _ (both_true _ _ takes.0).0 in
+              let same : o.predicate ≡ t.p = same_is _ _ (and_parts _ _ takes.0).0 in
               let in_extra : Contains sh.extra o.predicate = subst (λ p. Contains sh.extra p) (sym same) (ok.in_extra t held can) in
               ok.unmatched t o held can of forward (takes.0, value_down i sh is at o of forward in_extra (other_end o.inverse t) o.value refl takes.1);
           in_extra = ok.in_extra;

@@ -1,8 +1,7 @@
 -- Triples match an expression exactly where places with the right counts can be given to them: from places to a match.
-use Rattle.std.proofs.Common.{◌≡◌, ℕ, zero, suc, ◌+◌, ◌-◌, ◌*◌, ◌≤◌, inl, inr, List, [], ◌∷◌, ◌++◌, refl, arith, sym, subst, ap, ◌∙◌, Bool, true, false, cond, not, length, map, max, take, drop, true≢false, length-append, length-drop, filter}
-use Rattle.std.proofs.lemmas.Bool.{eqb-true}
-use Rattle.std.proofs.Math.Nat.{mul-le-mul_right}
-use Rattle.std.proofs.lemmas.List.{map-append, length-map, take-append-drop, length-take-le}
+use Rattle.std.proofs.Common.{◌≡◌, ℕ, suc, ◌+◌, ◌≤◌, inl, inr, List, [], ◌∷◌, ◌++◌, refl, sym, subst, ap, ◌∙◌, Bool, true, false, cond, not, length, map, true≢false, length-append, filter}
+use Rattle.std.proofs.lemmas.Bool.{eqb-true, not_from_false}
+use Rattle.std.proofs.lemmas.List.{map-append, length-map}
 use Rattle.std.proofs.lemmas.List.Concat.{flat_map-append}
 use Rattle.std.proofs.lemmas.List.Sorted.{IsPermutation-refl, IsPermutation-trans, IsPermutation-append, IsPermutation-cons, IsPermutation-filter_both, IsPermutation-map}
 use Rattle.std.specs.Prelude.{slice_get, nat_eq, ◌||◌}
@@ -11,18 +10,21 @@ use Rattle.std.specs.List.Sorted.{IsPermutation}
 use Rattle.rdf_terms.specs.declared.terms.TermId.{TermId}
 use Rattle.rdf_terms.specs.declared.terms.Triple.{Triple}
 use Rattle.tally.specs.declared.Bound.{Bound}
-use Rattle.tally.specs.declared.Bound.TheVariants.{Upto, Free}
 use Rattle.tally.specs.Plan.{Plan, sym as symbol, each, one, many, Plans, no_plans, more_plans}
 use Rattle.tally.specs.Copies.{Copies, CopiesEach, CopiesOne, Fills}
-use Rattle.tally.specs.Span.{IsSound, AreSound, IsOrdered}
+use Rattle.tally.specs.Deals.{IsUpTo}
+use Rattle.tally.specs.Span.{IsSound, AreSound}
 use Rattle.tally.specs.Symbols.{has_symbol, some_has, IsDistinct, AreDistinct}
 use Rattle.tally.proofs.CopyLaws.{copies_agree, each_agree, one_agree}
+use Rattle.tally.proofs.Groupings.{Rows, group_in, no_rows, zip_rows}
 use Rattle.schema_tree.specs.declared.schema.Occurrence.{Occurrence}
 use Rattle.schema_tree.specs.declared.schema.ExprId.{ExprId}
-use Rattle.schema_tree.specs.Matches.{Matches, MatchesEach, MatchesOne, Takes, IsWithin}
+use Rattle.schema_tree.specs.Matches.{Matches, MatchesEach, MatchesOne, Takes}
 use Rattle.schema_tree.proofs.Placed.{Placed, triples, count_of, IsPlaced, other_absent}
-use Rattle.schema_tree.proofs.Lists.{all_weaker, all_append, flat, nothing_left, all_filter, all_passing, flat_of_maps, interleave, all_flat, all_map, all_both}
-use Rattle.schema_tree.proofs.Tests.{other_passes, passes_not}
+use Rattle.lists.proofs.Quantifiers.{all_weaker, all_append, all_map, all_both}
+use Rattle.lists.proofs.Joined.{flat, all_flat, flat_of_maps}
+use Rattle.lists.proofs.Filters.{all_filter, all_passing}
+use Rattle.lists.proofs.Tests.{other_passes}
 
 -- a filter by places keeps the counts of the places that it keeps
 pub count_filter : (keep : ℕ → Bool) (ps : List Placed) (i : ℕ) → keep i ≡ true → count_of (filter (λ q. keep q.1) ps) i ≡ count_of ps i
@@ -42,40 +44,6 @@ pub record Parts (fits : List Triple → Type 0) (k : ℕ) (ts : List Triple) : 
   pub many : length parts ≡ k
   pub deals : IsPermutation ts (flat parts)
   pub all : AllByRecursion fits parts
-
--- a list in k groups of sizes from low to the bound
-pub record Groups {X : Type 0} (low : ℕ) (bound : Bound) (k : ℕ) (xs : List X) : Type 0 where
-  pub groups : List (List X)
-  pub many : length groups ≡ k
-  pub is : flat groups ≡ xs
-  pub sizes : AllByRecursion (λ group. (low ≤ length group) × IsWithin (length group) bound) groups
-
--- a first group of so many items, and groups of what is left
-one_more :
-    {X : Type 0} (low : ℕ) (bound : Bound) (k : ℕ) (xs : List X) (size : ℕ) → size ≤ length xs → low ≤ size → IsWithin size bound →
-    Groups low bound k (drop size xs) → Groups low bound (suc k) xs
-one_more low bound k xs size short least most r = record {
-  groups = take size xs ∷ r.groups;
-  many = ap suc r.many;
-  is = rw r.is (take-append-drop size xs);
-  sizes = ((rw (length-take-le size xs short) least, rw (length-take-le size xs short) most), r.sizes);
-}
-
--- a list is put into k groups wherever its length allows k groups
-pub group_in :
-    {X : Type 0} (low : ℕ) (bound : Bound) → IsOrdered low bound → (k : ℕ) (xs : List X) → Fills low bound k (length xs) →
-    Groups low bound k xs
-group_in low Free ord zero xs h = record { groups = []; many = refl; is = sym (nothing_left xs (h.1 refl)); sizes = tt }
-group_in low (Upto m) ord zero xs h = record { groups = []; many = refl; is = sym (nothing_left xs (omega arith)); sizes = tt }
-group_in low Free ord (suc k) xs h =
-    let size : ℕ = length xs - low * k in
-    one_more low Free k xs size (omega arith) (omega arith) tt
-    (group_in low Free ord k (drop size xs) (omega (arith, length-drop size xs), λ e. rw (length-drop, e) (omega arith)))
-group_in low (Upto m) ord (suc k) xs h =
-    let size : ℕ = max low (length xs - m * k) in
-    let order : low * k ≤ m * k = mul-le-mul_right k ord in
-    one_more low (Upto m) k xs size (omega arith) (omega arith) (omega arith)
-    (group_in low (Upto m) ord k (drop size xs) (omega (arith, length-drop size xs), omega (arith, length-drop size xs)))
 
 module _ (sat : TermId → ExprId → Type 0) (occs : List Occurrence) (n : TermId) where
   singles :
@@ -117,51 +85,15 @@ module _ (sat : TermId → ExprId → Type 0) (occs : List Occurrence) (n : Term
     own_within = all_passing (λ q. has q.1 || others q.1 ≡ true) (λ q. has q.1 ≡ true) (λ q. has q.1) (λ q e o. e) ps w;
     rest_within = all_passing (λ q. has q.1 || others q.1 ≡ true) (λ q. others q.1 ≡ true) (λ q. not (has q.1)) (λ q e o. other_passes (has q.1) (others q.1) o e) ps w;
     own_count = λ i e. sym (count_filter has ps i e);
-    rest_count = λ i e. sym (count_filter (λ j. not (has j)) ps i (passes_not (has i) e));
+    rest_count = λ i e. sym (count_filter (λ j. not (has j)) ps i (not_from_false (has i) e));
   }
-
-  -- rows of parts, one part for each member
-  pub record Rows (ms : Plans) (k : ℕ) (ts : List Triple) : Type 0 where
-    pub rows : List (List (List Triple))
-    pub many : length rows ≡ k
-    pub deals : IsPermutation ts (flat (flat rows))
-    pub all : AllByRecursion (λ row. MatchesEach sat occs n ms row) rows
-
-  pub record Zipped (p : Plan) (ms : Plans) (k : ℕ) (parts : List (List Triple)) (rows : List (List (List Triple))) : Type 0 where
-    pub zipped : List (List (List Triple))
-    pub many : length zipped ≡ k
-    pub deals : IsPermutation (flat parts ++ flat (flat rows)) (flat (flat zipped))
-    pub all : AllByRecursion (λ row. MatchesEach sat occs n (more_plans p ms) row) zipped
-
-  zip_rows :
-      (p : Plan) (ms : Plans) (k : ℕ) (parts : List (List Triple)) (rows : List (List (List Triple))) → length parts ≡ k → length rows ≡ k →
-      AllByRecursion (λ part. Matches sat occs n p part) parts → AllByRecursion (λ row. MatchesEach sat occs n ms row) rows → Zipped p ms k parts rows
-  unfolding Matches
-  zip_rows p ms k [] [] a b h t = record { zipped = []; many = a; deals = IsPermutation-refl []; all = tt }
-  zip_rows p ms k [] (row ∷ rows) a b h t = absurd (omega arith)
-  zip_rows p ms k (part ∷ parts) [] a b h t = absurd (omega arith)
-  zip_rows p ms zero (part ∷ parts) (row ∷ rows) a b h t = absurd (omega arith)
-  zip_rows p ms (suc k) (part ∷ parts) (row ∷ rows) a b h t =
-      let r = zip_rows p ms k parts rows (omega arith) (omega arith) h.1 t.1 in
-      record {
-        zipped = (part ∷ row) ∷ r.zipped;
-        many = ap suc r.many;
-        deals = rw (flat_map-append (λ xs. xs) row (flat rows), flat_map-append (λ xs. xs) row (flat r.zipped))
-            (interleave part (flat parts) (flat row) (flat (flat rows)) (flat (flat r.zipped)) r.deals);
-        all = ((h.0, t.0), r.all);
-      }
-
-  no_rows : (k : ℕ) → Rows no_plans k []
-  unfolding Matches
-  no_rows zero = record { rows = []; many = refl; deals = IsPermutation-refl []; all = tt }
-  no_rows (suc k) = let r = no_rows k in record { rows = [] ∷ r.rows; many = ap suc r.many; deals = r.deals; all = (tt, r.all) }
 
   row_part : (ms : Plans) (row : List (List Triple)) → MatchesEach sat occs n ms row → Matches sat occs n (each ms) (flat row)
   unfolding Matches
   row_part ms row h = (row, IsPermutation-refl (flat row), h)
 
   group_part :
-      (low : ℕ) (bound : Bound) (p : Plan) (group : List (List Triple)) → low ≤ length group → IsWithin (length group) bound →
+      (low : ℕ) (bound : Bound) (p : Plan) (group : List (List Triple)) → low ≤ length group → IsUpTo (length group) bound →
       AllByRecursion (λ part. Matches sat occs n p part) group → Matches sat occs n (many low bound p) (flat group)
   unfolding Matches
   group_part low bound p group least most h = (group, least, most, IsPermutation-refl (flat group), h)
@@ -196,22 +128,22 @@ module _ (sat : TermId → ExprId → Type 0) (occs : List Occurrence) (n : Term
           parts = map flat gs.groups;
           many = length-map gs.groups flat ∙ gs.many;
           deals = rw (flat_of_maps gs.groups, gs.is) r.deals;
-          all = all_map (λ gr. ((low ≤ length gr) × IsWithin (length gr) bound) × AllByRecursion (Matches sat occs n p) gr) (Matches sat occs n (many low bound p)) flat
+          all = all_map (λ gr. ((low ≤ length gr) × IsUpTo (length gr) bound) × AllByRecursion (Matches sat occs n p) gr) (Matches sat occs n (many low bound p)) flat
               (λ gr m. group_part low bound p gr m.0.0 m.0.1 m.1) gs.groups (all_both _ _ gs.groups gs.sizes each_all);
         })
 
     pub rows_of :
         (ms : Plans) → AreDistinct ms → AreSound ms → (k : ℕ) (ps : List Placed) → IsPlaced sat occs n ps →
-        AllByRecursion (λ q. some_has q.1 ms ≡ true) ps → CopiesEach ms (count_of ps) k → Rows ms k (triples ps)
-    rows_of no_plans apart sound k ps h w c = rw (no_places ps w) (no_rows k)
+        AllByRecursion (λ q. some_has q.1 ms ≡ true) ps → CopiesEach ms (count_of ps) k → Rows (MatchesEach sat occs n ms) k (triples ps)
+    rows_of no_plans apart sound k ps h w c = rw (no_places ps w) (no_rows (MatchesEach sat occs n no_plans) tt k)
     rows_of (more_plans p ms) apart sound k ps h w c =
         (let d = divide (λ i. has_symbol i p) (λ i. some_has i ms) ps h w in
         let a = parts_of p apart.0 sound.0 k d.own d.own_taken d.own_within (copies_agree p (count_of ps) (count_of d.own) k d.own_count c.0) in
         let b = rows_of ms apart.1 sound.1 k d.rest d.rest_taken d.rest_within
         (each_agree ms (count_of ps) (count_of d.rest) k (λ i e. d.rest_count i (other_absent sat occs n p ms apart.2 i e)) c.1) in
-        let z = zip_rows p ms k a.parts b.rows a.many b.many a.all b.all in
+        let z = zip_rows (Matches sat occs n p) (MatchesEach sat occs n ms) (MatchesEach sat occs n (more_plans p ms)) (λ part row m ms. (m, ms)) k a.parts b.rows a.many b.many a.all b.all in
         record {
-          rows = z.zipped;
+          rows = z.rows;
           many = z.many;
           deals = IsPermutation-trans _ _ _ d.deals (IsPermutation-trans _ _ _ (IsPermutation-append _ _ _ _ a.deals b.deals) z.deals);
           all = z.all;

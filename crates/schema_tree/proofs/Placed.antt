@@ -14,10 +14,11 @@ use Rattle.tally.specs.Plan.{Plan, sym as symbol, each, one, many, Plans, no_pla
 use Rattle.tally.specs.Copies.{Copies, CopiesEach, CopiesOne, Fills}
 use Rattle.tally.specs.Symbols.{has_symbol, some_has, IsDistinct, AreDistinct}
 use Rattle.tally.proofs.CopyLaws.{or_left, or_right, copies_agree, each_agree, copies_zero, one_zero, copies_add}
+use Rattle.tally.specs.Deals.{IsUpTo}
 use Rattle.schema_tree.specs.declared.schema.Occurrence.{Occurrence}
 use Rattle.schema_tree.specs.declared.schema.ExprId.{ExprId}
-use Rattle.schema_tree.specs.Matches.{Matches, MatchesEach, MatchesOne, Takes, IsWithin}
-use Rattle.schema_tree.proofs.Lists.{all_weaker, all_append}
+use Rattle.schema_tree.specs.Matches.{Matches, MatchesEach, MatchesOne, Takes}
+use Rattle.lists.proofs.Quantifiers.{all_weaker, all_append}
 
 -- a triple with the occurrence that takes it
 abbrev pub Placed : Type 0
@@ -97,7 +98,7 @@ module _ (sat : TermId → ExprId → Type 0) (occs : List Occurrence) (n : Term
             (copies_agree p (λ i. count_of a.placed i + count_of b.placed i) (count_of (a.placed ++ b.placed)) (1 + length parts) (λ i e. sym (count_append a.placed b.placed i)) both);
       }
 
-  fills_one : (low : ℕ) (bound : Bound) (k : ℕ) → low ≤ k → IsWithin k bound → Fills low bound 1 k
+  fills_one : (low : ℕ) (bound : Bound) (k : ℕ) → low ≤ k → IsUpTo k bound → Fills low bound 1 k
   fills_one low (Upto m) k h t = (omega arith, omega arith)
   fills_one low Free k h t = (omega arith, λ e. absurd (omega arith))
 

@@ -1,4 +1,4 @@
--- The Width of a pair is 1 where its Shape has no inverse occurrence, no EXTRA and one occurrence for each predicate.
+-- The product over the classes of a pair by form is 1 where its Shape has no inverse occurrence, no EXTRA and one occurrence for each predicate.
 use Rattle.std.proofs.Common.{◌≡◌, ℕ, zero, suc, ◌+◌, ◌⊎◌, inl, inr, List, [], ◌∷◌, refl, arith, sym, subst, ap, ◌∙◌, Bool, true, false, cond, filter, map, not, true≢false}
 use Rattle.std.proofs.lemmas.Bool.Decides.{nat_tests}
 use Rattle.std.proofs.lemmas.List.Folds.{Any-from_list_any}
@@ -9,7 +9,7 @@ use Rattle.std.specs.List.{list_any}
 use Rattle.rdf_terms.specs.declared.terms.TermId.{TermId}
 use Rattle.rdf_terms.specs.declared.terms.Triple.{Triple}
 use Rattle.rdf_terms.specs.Graphs.{is_loop, neigh, same_id}
-use Rattle.rdf_terms.specs.Lists.{AreDistinct}
+use Rattle.lists.specs.Distinct.{AreDistinct}
 use Rattle.schema_tree.specs.declared.schema.Occurrence.{Occurrence}
 use Rattle.schema_tree.specs.declared.schema.Pair.{Pair}
 use Rattle.schema_tree.specs.declared.schema.Schema.{Schema}
@@ -17,10 +17,11 @@ use Rattle.schema_tree.specs.declared.schema.Shape.{Shape}
 use Rattle.schema_tree.specs.Entries.{shape_at}
 use Rattle.schema_tree.specs.Matches.{fits, near_end}
 use Rattle.schema_tree.specs.Relevant.{is_forward, is_relevant, relevant}
-use Rattle.schema_tree.specs.Width.{IsPlain, firsts, is_open, places_for, product, same_class, ways, width, width_of, width_over}
-use Rattle.schema_tree.proofs.Lists.{any_true, in_filter, in_map}
-use Rattle.schema_tree.proofs.Members.{in_rest, is_first, is_later}
-use Rattle.schema_tree.proofs.Tests.{both_true, same_is}
+use Rattle.schema_tree.specs.Width.{IsPlain, coarse, coarse_of, coarse_over, firsts, is_open, places_for, product, same_class, ways}
+use Rattle.lists.proofs.Members.{any_true, in_map, in_rest, is_first, is_later}
+use Rattle.lists.proofs.Filters.{in_filter}
+use Rattle.std.proofs.lemmas.Bool.{and_parts}
+use Rattle.rdf_terms.proofs.SameTerms.{same_is}
 
 -- one place takes things in one way
 ways_one : (d : ℕ) → ways d 1 ≡ 1
@@ -54,8 +55,8 @@ module _ (n : TermId) (t : Triple) where
       clash : fit o ≡ true → list_any fit os ≡ true → ⊥
       clash here there =
           let (u, held, fitting) = found_by fit os there in
-          let a : o.predicate ≡ t.p = same_is o.predicate t.p (both_true (same_id o.predicate t.p) (same_id (near_end o.inverse t) n) here).0 in
-          let b : u.predicate ≡ t.p = same_is u.predicate t.p (both_true (same_id u.predicate t.p) (same_id (near_end u.inverse t) n) fitting).0 in
+          let a : o.predicate ≡ t.p = same_is o.predicate t.p (and_parts (same_id o.predicate t.p) (same_id (near_end o.inverse t) n) here).0 in
+          let b : u.predicate ≡ t.p = same_is u.predicate t.p (and_parts (same_id u.predicate t.p) (same_id (near_end u.inverse t) n) fitting).0 in
           not_again o.predicate (map (λ v. v.predicate) os) distinct (subst (λ p. Contains (map (λ v. v.predicate) os) p) (b ∙ sym a) (in_map (λ v. v.predicate) os u held))
 
       go :
@@ -89,7 +90,7 @@ module _ (sh : Shape) (plain : IsPlain sh) (n : TermId) where
       from_here : same_id t.s n ≡ true
       from_here =
           subst (λ b. same_id (near_end b t) n ≡ true) (plain.forward found.0 found.1)
-          (both_true (same_id found.0.predicate t.p) (same_id (near_end found.0.inverse t) n) found.2).1
+          (and_parts (same_id found.0.predicate t.p) (same_id (near_end found.0.inverse t) n) found.2).1
 
       no_extra : list_any (λ p. same_id p t.p) sh.extra ≡ false
       no_extra = ap (λ ps. list_any (λ p. same_id p t.p) ps) plain.no_extra
@@ -123,12 +124,12 @@ module _ (sh : Shape) (plain : IsPlain sh) (n : TermId) where
       let b = all_ones f ts (λ u c. one u (is_later t ts u c)) in
       rw (a, b) refl
 
-  plain_over : (ts : List Triple) → ((t : Triple) → Contains ts t → is_relevant sh.occs n t ≡ true) → width_over sh n ts ≡ 1
+  plain_over : (ts : List Triple) → ((t : Triple) → Contains ts t → is_relevant sh.occs n t ≡ true) → coarse_over sh n ts ≡ 1
   plain_over ts rel =
       all_ones (λ t. ways (count_by (same_class n t) ts) (places_for sh n t)) (firsts (same_class n) ts)
       (λ t c. ap (ways (count_by (same_class n t) ts)) (one_place t (rel t (first_in ts t c))) ∙ ways_one (count_by (same_class n t) ts))
 
-pub plain_width : (s : Schema) (g : List Triple) (p : Pair) (sh : Shape) → shape_at s p.shape ≡ Some sh → IsPlain sh → width s g p ≡ 1
-plain_width s g p sh is plain =
-    ap (λ x. width_of x g p.node) is
+pub plain_coarse : (s : Schema) (g : List Triple) (p : Pair) (sh : Shape) → shape_at s p.shape ≡ Some sh → IsPlain sh → coarse s g p ≡ 1
+plain_coarse s g p sh is plain =
+    ap (λ x. coarse_of x g p.node) is
     ∙ plain_over sh plain p.node (relevant sh.occs g p.node) (λ t c. (in_filter (is_relevant sh.occs p.node) (neigh g p.node) t c).1)

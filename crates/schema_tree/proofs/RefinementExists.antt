@@ -13,7 +13,7 @@ use Rattle.node_constraint.specs.Laws.{NodesAreDecided}
 use Rattle.rdf_terms.specs.declared.terms.Term.{Term}
 use Rattle.rdf_terms.specs.declared.terms.TermId.{TermId}
 use Rattle.rdf_terms.specs.declared.terms.Triple.{Triple}
-use Rattle.rdf_terms.specs.Lists.{AreDistinct}
+use Rattle.lists.specs.Distinct.{AreDistinct}
 use Rattle.schema_tree.specs.declared.schema.Expr.{Expr}
 use Rattle.schema_tree.specs.declared.schema.Expr.TheVariants as Exprs
 use Rattle.schema_tree.specs.declared.schema.ExprId.{ExprId}
@@ -30,12 +30,13 @@ use Rattle.schema_tree.specs.Places.{CanMatch, MayFail, MayHold, PairCanMatch}
 use Rattle.schema_tree.specs.Removal.{AreRefinedBelow, CanGo, GoesNext, IsConfirmed, IsNarrow}
 use Rattle.schema_tree.specs.Sure.{Known, PairIs, SureEntry, SureWithin}
 use Rattle.schema_tree.specs.Typings.{IsPartOf}
-use Rattle.schema_tree.specs.Width.{width}
-use Rattle.schema_tree.proofs.Decide.{Decided, decide_le, decide_member, decide_not, same_pairs}
+use Rattle.schema_tree.proofs.Widths.{decide_within}
+use Rattle.schema_tree.proofs.Decide.{same_pairs}
+use Rattle.lists.proofs.Decided.{Decided, decide_member, decide_not}
 use Rattle.schema_tree.proofs.DecideMatch.{decide_match}
 use Rattle.schema_tree.proofs.Leans.{places_weaker}
-use Rattle.schema_tree.proofs.Lists.{all_weaker, some_weaker}
-use Rattle.schema_tree.proofs.Members.{in_rest, is_first, is_later, not_in_none}
+use Rattle.lists.proofs.Quantifiers.{all_weaker, some_weaker}
+use Rattle.lists.proofs.Members.{in_rest, is_first, is_later, not_in_none}
 
 decide_three : {P Q R : Type 0} → Decided P → Decided Q → Decided R → Decided (P × Q × R)
 decide_three (inl p) (inl q) (inl r) = inl (p, q, r)
@@ -162,7 +163,7 @@ module _ (s : Schema) (terms : List Term) (nodes : NodesAreDecided) (g : List Tr
     (distinct : AreDistinct pairs) where
   module _ (k : ℕ) (lower : Known) (low : (p : Pair) → Contains lower.no p → level f p.shape < k) where
     decide_narrow : (p : Pair) → Decided (IsNarrow s terms g f pairs budget k p)
-    decide_narrow p = decide_three (decide_member same_pairs pairs p) (decide_equal (level f p.shape) k) (decide_le (width s g p) budget)
+    decide_narrow p = decide_three (decide_member same_pairs pairs p) (decide_equal (level f p.shape) k) (decide_within s terms nodes g budget p)
 
     abbrev Goes : List Pair → Pair → Type 0
     Goes gone p = CanGo s terms g f pairs budget lower k gone p

@@ -1,18 +1,17 @@
 -- The stratum of each Shape is the least stratification, and there is one only without a cycle that has a negative edge.
 use Rattle.std.proofs.Common.{◌≡◌, ℕ, suc, ◌+◌, ◌<◌, ◌≤◌, ◌⊎◌, inl, inr, List, [], ◌∷◌, refl, arith, sym, subst, length, Bool, true, false, eqb}
-use Rattle.std.proofs.lemmas.Bool.{cases_lt}
+use Rattle.std.proofs.lemmas.Bool.{cases_lt, eqb-true}
 use Rattle.std.specs.Prelude.{Contains}
 use Rattle.std.specs.List.{IsDistinct}
 use Rattle.std.proofs.lemmas.Map.Steps.{length-le_from_distinct_below}
 use Rattle.std.proofs.lemmas.Map.Views.{Contains-from_any}
-use Rattle.std.proofs.lemmas.Bool.{eqb-true}
-use Rattle.schema_tree.proofs.Members.{not_in_none, in_rest}
+use Rattle.lists.proofs.Members.{not_in_none, in_rest}
 use Rattle.std.proofs.lemmas.Option.{slice_get_within}
 use Rattle.schema_tree.specs.declared.schema.Schema.{Schema}
 use Rattle.schema_tree.specs.declared.schema.ShapeId.{ShapeId}
 use Rattle.schema_tree.specs.Edges.{Edge, IsNegative, level, IsStratified, Path, stay, by_any, by_negative, IsStratum}
 use Rattle.schema_tree.specs.Cycles.{HasNegatedCycle, AreLinked, AreLinkedBadly, IsNegatedCycle}
-use Rattle.schema_tree.proofs.Lists.{all_of}
+use Rattle.lists.proofs.Quantifiers.{all_of}
 use Rattle.schema_tree.proofs.Below.{past_end}
 
 -- an edge leads from a Shape that is there

@@ -12,11 +12,12 @@ use Rattle.schema_tree.specs.declared.schema.Expr.TheVariants as Exprs
 use Rattle.schema_tree.specs.declared.verdicts.Verdict.{Verdict}
 use Rattle.schema_tree.specs.declared.verdicts.Verdict.TheVariants.{Yes, No, Unknown}
 use Rattle.schema_tree.specs.Entries.{entry, pair_of}
-use Rattle.schema_tree.specs.Satisfies.{SomeByRecursion}
+use Rattle.lists.specs.Quantifiers.{SomeByRecursion}
 use Rattle.schema_tree.specs.Sure.{Known, PairIs, SureWithin, SureEntry, IsSure}
-use Rattle.schema_tree.proofs.Lists.{some_against}
+use Rattle.lists.proofs.Quantifiers.{some_against}
 use Rattle.node_constraint.specs.Laws.{NodesAreDecided}
-use Rattle.schema_tree.proofs.Decide.{Decided, decide_member, decide_node, decide_some, same_pairs}
+use Rattle.schema_tree.proofs.Decide.{decide_node, same_pairs}
+use Rattle.lists.proofs.Decided.{Decided, decide_member, decide_some}
 
 -- no two verdicts hold together
 pub record AreApart (holds : Verdict → Type 0) : Type 0 where

@@ -1,6 +1,6 @@
 -- A node that has a Shape has a list of allowed places with matching counts.
 use Rattle.std.proofs.Common.{◌≡◌, ℕ, suc, ◌+◌, inl, inr, List, [], ◌∷◌, ◌++◌, refl, arith, sym, subst, ap, ◌∙◌, Bool, true, false, cond, not, map, filter, true≢false, append-nil}
-use Rattle.std.proofs.lemmas.Bool.{eq-eqb}
+use Rattle.std.proofs.lemmas.Bool.{eq-eqb, and_parts}
 use Rattle.std.proofs.lemmas.List.{map-append}
 use Rattle.std.proofs.lemmas.List.Elements.{Contains-append_cases}
 use Rattle.std.proofs.lemmas.List.Folds.{Any-from_list_any}
@@ -12,8 +12,7 @@ use Rattle.std.specs.List.Sorted.{IsPermutation}
 use Rattle.rdf_terms.specs.declared.terms.TermId.{TermId}
 use Rattle.rdf_terms.specs.declared.terms.Triple.{Triple}
 use Rattle.rdf_terms.specs.Graphs.{neigh, outs, same_id}
-use Rattle.tally.specs.declared.Count.{Count}
-use Rattle.tally.specs.Plan.{plan_of}
+use Rattle.tally.specs.Plan.{Plan}
 use Rattle.tally.specs.Symbols.{IsDistinct}
 use Rattle.tally.proofs.CopyLaws.{copies_agree, or_left}
 use Rattle.schema_tree.specs.declared.schema.Occurrence.{Occurrence}
@@ -24,11 +23,12 @@ use Rattle.schema_tree.specs.declared.verdicts.Place.TheVariants.{At, Rest}
 use Rattle.schema_tree.specs.Matches.{Takes, SatValue, fits, near_end, other_end}
 use Rattle.schema_tree.specs.Shapes.{ShapeHolds, RestOk, MatchesBody, IsMatchable, IsMentioned}
 use Rattle.schema_tree.specs.Places.{MayTake, MayStay, MayStayOut, IsAllowed, AreAllowed, times, add_place, HaveCounts, IsShut, HasPlaces}
-use Rattle.schema_tree.proofs.Members.{is_first, is_later, filter_has, from_map, all_at}
+use Rattle.lists.proofs.Members.{is_first, is_later, from_map, got_in, any_true}
+use Rattle.lists.proofs.Filters.{filter_has, in_filter, all_filter, all_passing, filter_images}
+use Rattle.lists.proofs.Quantifiers.{all_at, all_append, all_permuted, all_of}
 use Rattle.schema_tree.proofs.Placed.{Placed, triples, count_of, IsPlaced, placing_of}
 use Rattle.schema_tree.proofs.Lifted.{lift}
-use Rattle.schema_tree.proofs.Lists.{got_in, in_filter, all_append, all_filter, all_passing, all_permuted, all_of, any_true, filter_images}
-use Rattle.schema_tree.proofs.Tests.{same_is, both_true}
+use Rattle.rdf_terms.proofs.SameTerms.{same_is}
 use Rattle.schema_tree.specs.Relevant.{is_relevant, is_forward}
 
 -- a triple with its place
@@ -54,9 +54,9 @@ pub times_append : (ps qs : List Place) (i : ℕ) → times (ps ++ qs) i ≡ tim
 times_append ps qs i = rw (times_is (ps ++ qs) i, times_is ps i, times_is qs i) (sum_by-append (λ p. add_place i p 0) ps qs)
 
 -- counts that agree match the same
-pub counts_agree : (body : Option Count) (c d : ℕ → ℕ) → ((i : ℕ) → c i ≡ d i) → HaveCounts body c → HaveCounts body d
+pub counts_agree : (body : Option Plan) (c d : ℕ → ℕ) → ((i : ℕ) → c i ≡ d i) → HaveCounts body c → HaveCounts body d
 counts_agree None c d same h = λ i. sym (same i) ∙ h i
-counts_agree (Some e) c d same h = copies_agree (plan_of e) c d 1 (λ i has. same i) h
+counts_agree (Some e) c d same h = copies_agree e c d 1 (λ i has. same i) h
 
 module _ (sat : TermId → ExprId → Type 0) (g : List Triple) (sh : Shape) (n : TermId) where
   abbrev pub holds : TermId → Option ExprId → Type 0
@@ -87,7 +87,7 @@ module _ (sat : TermId → ExprId → Type 0) (g : List Triple) (sh : Shape) (n 
 
   -- a forward occurrence that fits mentions the predicate
   pub forward_parts : (t : Triple) (o : Occurrence) → is_forward n t o ≡ true → (o.inverse ≡ false) × (fits o n t ≡ true)
-  forward_parts t o e = let (a, b) = both_true (not o.inverse) (fits o n t) e in (flip o.inverse a, b)
+  forward_parts t o e = let (a, b) = and_parts (not o.inverse) (fits o n t) e in (flip o.inverse a, b)
     where
       flip : (b : Bool) → not b ≡ true → b ≡ false
       flip true e = absurd (true≢false (sym e))
@@ -97,7 +97,7 @@ module _ (sat : TermId → ExprId → Type 0) (g : List Triple) (sh : Shape) (n 
   mentioned t e =
       let (k, o, within, at, forward) = Any-from_list_any (is_forward n t) sh.occs e in
       let parts = forward_parts t o forward in
-      let match = both_true (same_id o.predicate t.p) (same_id (near_end o.inverse t) n) parts.1 in
+      let match = and_parts (same_id o.predicate t.p) (same_id (near_end o.inverse t) n) parts.1 in
       (o, (k, within, at), parts.0, same_is o.predicate t.p match.0)
 
   pub same_true : (a b : TermId) → a ≡ b → same_id a b ≡ true
@@ -161,18 +161,18 @@ module _ (sat : TermId → ExprId → Type 0) (g : List Triple) (sh : Shape) (n 
           none Rest must = rest
 
   -- what the matched part gives: its triples with places
-  pub record Taken (matched : List Triple) (body : Option Count) : Type 0 where
+  pub record Taken (matched : List Triple) (body : Option Plan) : Type 0 where
     pub placed : List Placed
     pub deals : IsPermutation matched (triples placed)
     pub taken : IsPlaced sat sh.occs n placed
     pub spelled : HaveCounts body (count_of placed)
 
   taken_of :
-      (matched : List Triple) (body : Option Count) → ((c : Count) → body ≡ Some c → IsDistinct (plan_of c)) →
+      (matched : List Triple) (body : Option Plan) → ((c : Plan) → body ≡ Some c → IsDistinct c) →
       MatchesBody sat sh.occs n body matched → Taken matched body
   taken_of matched None distinct h = record { placed = []; deals = subst (λ ts. IsPermutation ts []) (sym h) (IsPermutation-refl []); taken = tt; spelled = λ i. refl }
   taken_of matched (Some c) distinct h =
-      let r = placing_of sat sh.occs n (plan_of c) (distinct c refl) matched h in
+      let r = placing_of sat sh.occs n c (distinct c refl) matched h in
       record { placed = r.placed; deals = r.deals; taken = r.taken; spelled = r.spelled }
 
   spots_good : (ps : List Placed) → IsPlaced sat sh.occs n ps → AllByRecursion IsGood (spots_of ps)
@@ -224,7 +224,7 @@ module _ (sat : TermId → ExprId → Type 0) (g : List Triple) (sh : Shape) (n 
 
   -- a node that has the Shape has allowed places with matching counts, in whatever order its neighbourhood is read
   pub to_places :
-      ((c : Count) → sh.body ≡ Some c → IsDistinct (plan_of c)) → (order : List Triple) → IsPermutation (neigh g n) order →
+      ((c : Plan) → sh.body ≡ Some c → IsDistinct c) → (order : List Triple) → IsPermutation (neigh g n) order →
       ShapeHolds sat g n (Some sh) → HasPlaces holds fails g sh n (filter (is_relevant sh.occs n) order)
   to_places distinct order ordered (matched, rest, deals, body, ok) =
       let r = taken_of matched sh.body distinct body in

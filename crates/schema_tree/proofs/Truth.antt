@@ -1,7 +1,7 @@
 -- The pairs that refinement keeps are in the complete typing, and those that went are not: on a stratum, and on all.
 use Rattle.std.proofs.Common.{◌≡◌, ℕ, zero, suc, ◌<◌, ◌≤◌, inl, inr, List, [], ◌∷◌, ◌++◌, refl, arith, sym, subst, ap, ◌∙◌, length, take, get_or}
-use Rattle.std.proofs.Math.Seq.{take-suc}
-use Rattle.std.proofs.lemmas.Option.{slice_get-get_or}
+use Rattle.std.proofs.Math.Seq.{take-suc, take-length}
+use Rattle.std.proofs.lemmas.Option.{slice_get-get_or, slice_get_within}
 use Rattle.std.proofs.lemmas.List.Elements.{Contains-append_cases, Contains-append_left, Contains-append_right}
 use Rattle.std.specs.Prelude.{Contains, Option, Some, None, slice_get}
 use Rattle.rdf_terms.specs.declared.terms.TermId.{TermId}
@@ -17,18 +17,15 @@ use Rattle.schema_tree.specs.Satisfies.{Sat}
 use Rattle.schema_tree.specs.Edges.{level}
 use Rattle.schema_tree.specs.Typings.{IsComplete, IsGreatestAt, IsPartOf, IsRival, IsTheTyping, below, top_of}
 use Rattle.schema_tree.specs.Sure.{Known, Agrees}
-use Rattle.schema_tree.proofs.Members.{not_in_none, in_one}
+use Rattle.lists.proofs.Members.{not_in_none, in_one, got_in}
 use Rattle.schema_tree.proofs.Made.{well_made}
 use Rattle.schema_tree.proofs.Leans.{placed_true, never_true}
-use Rattle.schema_tree.proofs.Lists.{got_in}
 use Rattle.schema_tree.specs.Places.{CanMatch, PairCanMatch}
-use Rattle.std.proofs.lemmas.Option.{slice_get_within}
 use Rattle.schema_tree.specs.declared.verdicts.Lean.{Lean}
 use Rattle.schema_tree.specs.Loaded.{IsLoaded}
-use Rattle.schema_tree.specs.Order.{neighbourhood}
+use Rattle.rdf_terms.specs.Order.{neighbourhood}
 use Rattle.schema_tree.specs.Removal.{AreRefinedBelow, IsRefined, IsRefinedAt}
 use Rattle.schema_tree.proofs.Ordered.{ordered_same}
-use Rattle.std.proofs.Math.Seq.{take-length}
 use Rattle.schema_tree.proofs.Below.{in_below, out_below}
 
 module _ (s : Schema) (terms : List Term) (g : List Triple) (loaded : IsLoaded s) where

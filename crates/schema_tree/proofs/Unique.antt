@@ -9,7 +9,7 @@ use Rattle.schema_tree.specs.declared.schema.Schema.{Schema}
 use Rattle.schema_tree.specs.declared.schema.Pair.{Pair}
 use Rattle.schema_tree.specs.Edges.{level}
 use Rattle.schema_tree.specs.Typings.{IsComplete, IsPartOf, IsGreatestAt, HaveSame, below}
-use Rattle.schema_tree.proofs.Lists.{in_filter}
+use Rattle.lists.proofs.Filters.{in_filter}
 
 module _ (s : Schema) (terms : List Term) (g : List Triple) (f : List ℕ) (U : List TermId) where
   -- one that is greatest holds another that agrees below

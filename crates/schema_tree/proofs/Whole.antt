@@ -1,6 +1,6 @@
 -- A complete typing exists over every list of terms.
 use Rattle.std.proofs.Common.{◌≡◌, ℕ, zero, suc, ◌<◌, ◌≤◌, ◌⊎◌, inl, inr, List, [], ◌++◌, arith, sym, subst, length, filter, map, append-nil}
-use Rattle.std.proofs.lemmas.Bool.{cases_lt, eq-eqb, eqb-true}
+use Rattle.std.proofs.lemmas.Bool.{cases_lt, eq-eqb, eqb-true, lt-ltb, le-ltb}
 use Rattle.std.proofs.lemmas.List.Elements.{Contains-append_cases, Contains-append_left, Contains-append_right, filter-append}
 use Rattle.std.specs.Prelude.{Contains, nat_lt, nat_eq}
 use Rattle.std.specs.List.{flat_map}
@@ -12,10 +12,10 @@ use Rattle.schema_tree.specs.declared.schema.Pair.{Pair}
 use Rattle.schema_tree.specs.Shapes.{ShapeOk}
 use Rattle.schema_tree.specs.Edges.{level, IsStratified}
 use Rattle.schema_tree.specs.Typings.{IsGreatestAt, IsRival, IsComplete, IsTheTyping, below, top_of}
-use Rattle.schema_tree.proofs.Members.{not_in_none, filter_has, from_map}
+use Rattle.lists.proofs.Members.{not_in_none, from_map, in_map, in_flat_map, from_flat_map}
+use Rattle.lists.proofs.Filters.{filter_has, in_filter, filter_all, filter_none}
 use Rattle.schema_tree.proofs.Exists.{greatest, HoldsChoices, IsOn, AllOk}
-use Rattle.schema_tree.proofs.Lists.{in_filter, upto, in_upto, in_map, in_flat_map, from_upto, from_flat_map, filter_all, filter_none}
-use Rattle.schema_tree.proofs.Tests.{less_true, not_less}
+use Rattle.lists.proofs.Numbers.{upto, in_upto, from_upto}
 use Rattle.schema_tree.proofs.Below.{in_below, out_below}
 
 module _ (s : Schema) (terms : List Term) (g : List Triple) (f : List ℕ) (strat : IsStratified s f) (U : List TermId)
@@ -73,8 +73,8 @@ module _ (s : Schema) (terms : List Term) (g : List Triple) (f : List ℕ) (stra
     below_grown r =
         rw (
           filter-append (λ p. nat_lt (level f p.shape) k) L r.more,
-          filter_all (λ p. nat_lt (level f p.shape) k) L (λ p h. less_true (level f p.shape) k (low p h).1),
-          filter_none (λ p. nat_lt (level f p.shape) k) r.more (λ p h. not_less (level f p.shape) k (let e = (r.at p h).1 in omega arith)),
+          filter_all (λ p. nat_lt (level f p.shape) k) L (λ p h. lt-ltb (level f p.shape) k (low p h).1),
+          filter_none (λ p. nat_lt (level f p.shape) k) r.more (λ p h. le-ltb (level f p.shape) k (let e = (r.at p h).1 in omega arith)),
         )
         (append-nil L)
 

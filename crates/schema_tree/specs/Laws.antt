@@ -5,7 +5,7 @@ use Rattle.rdf_terms.specs.declared.terms.Term.{Term}
 use Rattle.rdf_terms.specs.declared.terms.TermId.{TermId}
 use Rattle.rdf_terms.specs.declared.terms.Triple.{Triple}
 use Rattle.rdf_terms.specs.Graphs.{neigh}
-use Rattle.rdf_terms.specs.Lists.{AreDistinct}
+use Rattle.lists.specs.Distinct.{AreDistinct}
 use Rattle.tally.specs.Plan.{Plan}
 use Rattle.tally.specs.Span.{IsSound}
 use Rattle.tally.specs.Symbols.{IsDistinct}
@@ -28,14 +28,14 @@ use Rattle.schema_tree.specs.Shapes.{ShapeOk}
 use Rattle.schema_tree.specs.Edges.{Edge, IsNegative, IsStratified, IsStratum, Path, StandsIn, level}
 use Rattle.schema_tree.specs.Typings.{HaveSame, HoldsEnds, IsGreatestAt, IsPartOf, IsTheTyping}
 use Rattle.schema_tree.specs.Loaded.{IsLoaded}
-use Rattle.schema_tree.specs.Order.{neighbourhood}
+use Rattle.rdf_terms.specs.Order.{neighbourhood}
 use Rattle.schema_tree.specs.Relevant.{is_relevant, relevant_in_order}
-use Rattle.schema_tree.specs.Width.{IsPlain, width}
+use Rattle.schema_tree.specs.Width.{HasWidth, IsPlain, coarse}
 use Rattle.schema_tree.specs.Sure.{Agrees, IsSure, Known, PairIs, SureEntry, SureWithin}
 use Rattle.schema_tree.specs.Places.{AreAllowed, CanMatch, HasPlaces, HaveCounts, MayFail, MayHold, PairCanMatch, times}
 use Rattle.schema_tree.specs.States.{AreClosed, IsCovered, opening}
 use Rattle.schema_tree.specs.Copied.{AreDealt, ArePlaced}
-use Rattle.schema_tree.specs.Needs.{HoldNeeds, HoldRoots, IsDecided, LeadsToNarrow, Needs}
+use Rattle.schema_tree.specs.Needs.{HoldNeeds, HoldRoots, IsDecided, IsDecidedByForm, LeadsToNarrow, Needs}
 use Rattle.schema_tree.specs.Removal.{IsRefined, IsRefinedAt}
 use Rattle.schema_tree.specs.Cycles.{HasNegatedCycle, IsNegatedCycle}
 
@@ -285,14 +285,14 @@ abbrev pub NarrowIsKnown : Type 0
 NarrowIsKnown =
     (s : Schema) (terms : List Term) (g : List Triple) (f : List ℕ) (pairs : List Pair) (budget : ℕ) (known : Known) →
     IsLoaded s → IsStratified s f → HoldNeeds s g pairs → IsRefined s terms g f pairs budget known →
-    (p : Pair) → Contains pairs p → LeadsToNarrow s g budget p → Contains known.yes p ⊎ Contains known.no p
+    (p : Pair) → Contains pairs p → LeadsToNarrow s terms g budget p → Contains known.yes p ⊎ Contains known.no p
 
 -- so it answers each node with an expression that reaches no such pair
 abbrev pub DecidedIsSure : Type 0
 DecidedIsSure =
     (s : Schema) (terms : List Term) (g : List Triple) (f : List ℕ) (pairs : List Pair) (budget : ℕ) (known : Known) →
     IsLoaded s → IsStratified s f → HoldNeeds s g pairs → IsRefined s terms g f pairs budget known →
-    (n : TermId) (e : ExprId) → HoldRoots s pairs n e → IsDecided s g budget n e →
+    (n : TermId) (e : ExprId) → HoldRoots s pairs n e → IsDecided s terms g budget n e →
     IsSure s terms known n e Yes ⊎ IsSure s terms known n e No
 
 -- and the answer is that of the complete typing
@@ -301,10 +301,26 @@ DecidedIsAnswered =
     (s : Schema) (terms : List Term) (g : List Triple) (f : List ℕ) (pairs : List Pair) (budget : ℕ) (known : Known) →
     IsLoaded s → IsStratified s f → HoldNeeds s g pairs → IsRefined s terms g f pairs budget known →
     (U : List TermId) → ((p : Pair) → Contains pairs p → Contains U p.node) → (T : List Pair) → IsTheTyping s terms g f U T →
-    (n : TermId) (e : ExprId) → HoldRoots s pairs n e → IsDecided s g budget n e →
+    (n : TermId) (e : ExprId) → HoldRoots s pairs n e → IsDecided s terms g budget n e →
     (IsSure s terms known n e Yes ↔ Sat s terms T n e) × (IsSure s terms known n e No ↔ (¬ Sat s terms T n e))
 
 -- the Width of a pair is 1 where its Shape has no inverse occurrence, no EXTRA and one occurrence for each predicate
 abbrev pub PlainShapesAreNarrow : Type 0
 PlainShapesAreNarrow =
-    (s : Schema) (g : List Triple) (p : Pair) (sh : Shape) → shape_at s p.shape ≡ Some sh → IsPlain sh → width s g p ≡ 1
+    (s : Schema) (terms : List Term) (g : List Triple) (p : Pair) (sh : Shape) → shape_at s p.shape ≡ Some sh → IsPlain sh → HasWidth s terms g p 1
+
+-- each pair has one Width
+abbrev pub WidthIsOne : Type 0
+WidthIsOne =
+    (s : Schema) (terms : List Term) (g : List Triple) (p : Pair) →
+    ((w : ℕ) × HasWidth s terms g p w) × ((v w : ℕ) → HasWidth s terms g p v → HasWidth s terms g p w → v ≡ w)
+
+-- it is at most the product over the classes by form alone
+abbrev pub WidthIsNarrower : Type 0
+WidthIsNarrower = (s : Schema) (terms : List Term) (g : List Triple) (p : Pair) (w : ℕ) → HasWidth s terms g p w → w ≤ coarse s g p
+
+-- so a node with an expression that is decided by form alone is decided
+abbrev pub DecidedByFormIsDecided : Type 0
+DecidedByFormIsDecided =
+    (s : Schema) (terms : List Term) (g : List Triple) (budget : ℕ) (n : TermId) (e : ExprId) →
+    IsDecidedByForm s g budget n e → IsDecided s terms g budget n e

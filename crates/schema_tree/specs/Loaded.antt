@@ -1,7 +1,6 @@
 -- What every loaded schema keeps (ShEx 2.1, section 5.7, schema requirements).
 use Rattle.std.specs.Prelude.{ℕ, true, List, ◌<◌, ◌≤◌, ◌≡◌, length, Option, Some, None, Contains, ⊤}
-use Rattle.tally.specs.declared.Count.{Count}
-use Rattle.tally.specs.Plan.{plan_of}
+use Rattle.tally.specs.Plan.{Plan}
 use Rattle.tally.specs.Symbols.{has_symbol, IsDistinct}
 use Rattle.tally.specs.Span.{IsSound}
 use Rattle.schema_tree.specs.declared.schema.Schema.{Schema}
@@ -11,7 +10,7 @@ use Rattle.schema_tree.specs.declared.schema.Occurrence.{Occurrence}
 use Rattle.schema_tree.specs.declared.schema.ExprId.{ExprId}
 use Rattle.schema_tree.specs.declared.schema.Expr.{Expr}
 use Rattle.schema_tree.specs.declared.schema.Expr.TheVariants.{And, Or, Not, Node, Shape as shape_of}
-use Rattle.rdf_terms.specs.Lists.{AreDistinct}
+use Rattle.lists.specs.Distinct.{AreDistinct}
 use Rattle.schema_tree.specs.Labels.{labels_of}
 use Rattle.schema_documents.specs.declared.label.Label.{Label}
 use Rattle.schema_tree.specs.declared.schema.Target.{Target}
@@ -36,11 +35,11 @@ RefersBelow s i (Node c) = ⊤
 RefersBelow s i (shape_of j) = j.0 < length s.shapes
 
 -- the body has each symbol once, no minimum above its bound, and exactly the numbers of the occurrences; without one there are none
-abbrev pub BodyOk : List Occurrence → Option Count → Type 0
+abbrev pub BodyOk : List Occurrence → Option Plan → Type 0
 BodyOk occs None = length occs ≡ 0
 BodyOk occs (Some c) =
-    IsDistinct (plan_of c) × IsSound (plan_of c)
-    × ((i : ℕ) → i < length occs → has_symbol i (plan_of c) ≡ true) × ((i : ℕ) → has_symbol i (plan_of c) ≡ true → i < length occs)
+    IsDistinct c × IsSound c
+    × ((i : ℕ) → i < length occs → has_symbol i c ≡ true) × ((i : ℕ) → has_symbol i c ≡ true → i < length occs)
 
 -- what a Shape of a loaded schema keeps; it has at most 256 occurrences
 pub record IsShapeLoaded (s : Schema) (sh : Shape) : Type 0 where

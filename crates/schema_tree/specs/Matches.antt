@@ -1,12 +1,11 @@
 -- When a set of triples matches a triple expression (ShEx 2.1, section 5.5.2, `matches`).
-use Rattle.std.specs.Prelude.{ℕ, Bool, true, false, List, [], ◌∷◌, slice_get, Option, Some, None, ◌≡◌, ◌⊎◌, ◌≤◌, length, ⊤, ◌&&◌}
+use Rattle.std.specs.Prelude.{Bool, true, false, List, [], ◌∷◌, slice_get, Option, Some, None, ◌≡◌, ◌⊎◌, ◌≤◌, length, ⊤, ◌&&◌}
 use Rattle.std.specs.List.{AllByRecursion, flat_map}
 use Rattle.std.specs.List.Sorted.{IsPermutation}
 use Rattle.rdf_terms.specs.declared.terms.TermId.{TermId}
 use Rattle.rdf_terms.specs.declared.terms.Triple.{Triple}
 use Rattle.rdf_terms.specs.Graphs.{same_id}
-use Rattle.tally.specs.declared.Bound.{Bound}
-use Rattle.tally.specs.declared.Bound.TheVariants.{Upto, Free}
+use Rattle.tally.specs.Deals.{IsUpTo}
 use Rattle.tally.specs.Plan.{Plan, sym, each, one, many, Plans, no_plans, more_plans}
 use Rattle.schema_tree.specs.declared.schema.Occurrence.{Occurrence}
 use Rattle.schema_tree.specs.declared.schema.ExprId.{ExprId}
@@ -14,11 +13,6 @@ use Rattle.schema_tree.specs.declared.schema.ExprId.{ExprId}
 -- each triple stands in exactly one of the parts, once, and the parts hold nothing else; parts may be empty
 abbrev pub Deals : List Triple → List (List Triple) → Type 0
 Deals ts parts = IsPermutation ts (flat_map (λ part. part) parts)
-
--- the number is at most the bound
-abbrev pub IsWithin : ℕ → Bound → Type 0
-IsWithin k (Upto n) = k ≤ n
-IsWithin k Free = ⊤
 
 -- the end of a triple where an occurrence stands: the subject, or the object where it is inverse
 abbrev pub near_end : Bool → Triple → TermId
@@ -54,7 +48,7 @@ module _ (sat : TermId → ExprId → Type 0) (occs : List Occurrence) (n : Term
     Matches (each members) ts = (parts : List (List Triple)) × Deals ts parts × MatchesEach members parts
     Matches (one members) ts = MatchesOne members ts
     Matches (many min bound c) ts =
-        (parts : List (List Triple)) × (min ≤ length parts) × IsWithin (length parts) bound × Deals ts parts × AllByRecursion (λ part. Matches c part) parts
+        (parts : List (List Triple)) × (min ≤ length parts) × IsUpTo (length parts) bound × Deals ts parts × AllByRecursion (λ part. Matches c part) parts
 
     -- each part matches its member
     pub MatchesEach : Plans → List (List Triple) → Type 0

@@ -1,6 +1,7 @@
 -- Which pairs an answer depends on (own).
 use Rattle.std.specs.Prelude.{ℕ, Bool, true, List, Some, ◌≡◌, ◌≤◌, Contains}
 use Rattle.rdf_terms.specs.declared.terms.TermId.{TermId}
+use Rattle.rdf_terms.specs.declared.terms.Term.{Term}
 use Rattle.rdf_terms.specs.declared.terms.Triple.{Triple}
 use Rattle.schema_tree.specs.declared.schema.Occurrence.{Occurrence}
 use Rattle.schema_tree.specs.declared.schema.Schema.{Schema}
@@ -11,7 +12,7 @@ use Rattle.schema_tree.specs.declared.schema.Pair.{Pair}
 use Rattle.schema_tree.specs.Entries.{pair_of, shape_at}
 use Rattle.schema_tree.specs.Matches.{fits, other_end}
 use Rattle.schema_tree.specs.Edges.{StandsIn, StandsInValue}
-use Rattle.schema_tree.specs.Width.{width}
+use Rattle.schema_tree.specs.Width.{IsWithinWidth, coarse}
 
 -- p needs q: an occurrence of p's Shape fits a triple of p's node, whose other end is q's node, and q's Shape stands in
 -- the occurrence's value
@@ -37,8 +38,12 @@ abbrev pub Reaches : Schema → List Triple → TermId → ExprId → Pair → T
 Reaches s g n e q = (i : ShapeId) × (sign : Bool) × StandsIn s i e sign × Leads s g (record { node = n; shape = i }) q
 
 -- no pair that the node with the expression reaches has a Width above the budget
-abbrev pub IsDecided : Schema → List Triple → ℕ → TermId → ExprId → Type 0
-IsDecided s g budget n e = (q : Pair) → Reaches s g n e q → width s g q ≤ budget
+abbrev pub IsDecided : Schema → List Term → List Triple → ℕ → TermId → ExprId → Type 0
+IsDecided s terms g budget n e = (q : Pair) → Reaches s g n e q → IsWithinWidth s terms g budget q
+
+-- for no pair that the node with the expression reaches is the product over the classes by form alone above the budget
+abbrev pub IsDecidedByForm : Schema → List Triple → ℕ → TermId → ExprId → Type 0
+IsDecidedByForm s g budget n e = (q : Pair) → Reaches s g n e q → coarse s g q ≤ budget
 
 -- the pairs have each pair that one of them needs
 abbrev pub HoldNeeds : Schema → List Triple → List Pair → Type 0
@@ -49,5 +54,5 @@ abbrev pub HoldRoots : Schema → List Pair → TermId → ExprId → Type 0
 HoldRoots s pairs n e = (i : ShapeId) (sign : Bool) → StandsIn s i e sign → Contains pairs (pair_of n i)
 
 -- no pair that needs lead to from the pair has a Width above the budget
-abbrev pub LeadsToNarrow : Schema → List Triple → ℕ → Pair → Type 0
-LeadsToNarrow s g budget p = (q : Pair) → Leads s g p q → width s g q ≤ budget
+abbrev pub LeadsToNarrow : Schema → List Term → List Triple → ℕ → Pair → Type 0
+LeadsToNarrow s terms g budget p = (q : Pair) → Leads s g p q → IsWithinWidth s terms g budget q

@@ -5,8 +5,7 @@ use Rattle.rdf_terms.specs.declared.terms.TermId.{TermId}
 use Rattle.rdf_terms.specs.declared.terms.Term.{Term}
 use Rattle.rdf_terms.specs.declared.terms.Triple.{Triple}
 use Rattle.rdf_terms.specs.Graphs.{outs, same_id}
-use Rattle.tally.specs.declared.Count.{Count}
-use Rattle.tally.specs.Plan.{plan_of}
+use Rattle.tally.specs.Plan.{Plan}
 use Rattle.tally.specs.Copies.{Copies}
 use Rattle.schema_tree.specs.declared.schema.Schema.{Schema}
 use Rattle.schema_tree.specs.declared.schema.Shape.{Shape}
@@ -75,9 +74,9 @@ times [] i = 0
 times (p ∷ ps) i = add_place i p (times ps i)
 
 -- the counts spell the expression once; where there is none, each is 0
-abbrev pub HaveCounts : Option Count → (ℕ → ℕ) → Type 0
+abbrev pub HaveCounts : Option Plan → (ℕ → ℕ) → Type 0
 HaveCounts None counts = (i : ℕ) → counts i ≡ 0
-HaveCounts (Some c) counts = Copies (plan_of c) counts 1
+HaveCounts (Some c) counts = Copies c counts 1
 
 -- the pair is shut: the Shape is closed, and the node has an arc out that no occurrence fits
 abbrev pub IsShut : List Triple → Shape → TermId → Type 0

@@ -9,7 +9,7 @@ use Rattle.rdf_terms.specs.Graphs.{neigh}
 use Rattle.schema_tree.specs.declared.schema.Occurrence.{Occurrence}
 use Rattle.schema_tree.specs.declared.schema.Shape.{Shape}
 use Rattle.schema_tree.specs.Matches.{fits}
-use Rattle.schema_tree.specs.Order.{neighbourhood}
+use Rattle.rdf_terms.specs.Order.{neighbourhood}
 
 -- the triple is relevant: some occurrence fits it
 abbrev pub is_relevant : List Occurrence → TermId → Triple → Bool

@@ -1,5 +1,5 @@
 -- The verdicts of refinement, as a condition on finished lists of the pairs that went on each stratum (own).
-use Rattle.std.specs.Prelude.{ℕ, zero, suc, List, [], ◌++◌, ◌≡◌, ◌<◌, ◌≤◌, take, slice_get, Some, Contains}
+use Rattle.std.specs.Prelude.{ℕ, zero, suc, List, [], ◌++◌, ◌≡◌, ◌<◌, take, slice_get, Some, Contains}
 use Rattle.rdf_terms.specs.declared.terms.Term.{Term}
 use Rattle.rdf_terms.specs.declared.terms.Triple.{Triple}
 use Rattle.schema_tree.specs.declared.schema.Schema.{Schema}
@@ -9,7 +9,7 @@ use Rattle.schema_tree.specs.Edges.{level}
 use Rattle.schema_tree.specs.Places.{PairCanMatch}
 use Rattle.schema_tree.specs.Sure.{Known}
 use Rattle.schema_tree.specs.Typings.{IsPartOf, top_of}
-use Rattle.schema_tree.specs.Width.{width}
+use Rattle.schema_tree.specs.Width.{IsWithinWidth}
 
 -- p comes before q in the list
 abbrev pub ComesBefore : List Pair → Pair → Pair → Type 0
@@ -19,7 +19,7 @@ ComesBefore pairs p q = (i j : ℕ) × (slice_get pairs i ≡ Some p) × (slice_
 module _ (s : Schema) (terms : List Term) (g : List Triple) (f : List ℕ) (pairs : List Pair) (budget : ℕ) where
   -- a pair of the stratum whose Width is within the budget
   abbrev pub IsNarrow : ℕ → Pair → Type 0
-  IsNarrow k p = Contains pairs p × (level f p.shape ≡ k) × (width s g p ≤ budget)
+  IsNarrow k p = Contains pairs p × (level f p.shape ≡ k) × IsWithinWidth s terms g budget p
 
   -- p can go once the pairs of gone went: it cannot match where these and the lower No pairs are No, and Unknown is possible
   abbrev pub CanGo : Known → ℕ → List Pair → Pair → Type 0

@@ -4,10 +4,9 @@ use Rattle.rdf_terms.specs.declared.terms.Term.{Term}
 use Rattle.rdf_terms.specs.declared.terms.Term.TheVariants.{Iri, Lit}
 use Rattle.rdf_terms.specs.declared.terms.TermId.{TermId}
 use Rattle.rdf_terms.specs.declared.terms.Triple.{Triple}
-use Rattle.rdf_terms.specs.Literals.{xsd_string}
+use Rattle.rdf_terms.specs.Vocabulary.{xsd_string}
 use Rattle.node_constraint.specs.Constraint.{of_kind}
 use Rattle.node_constraint.specs.declared.Kind4.TheVariants as Kinds
-use Rattle.tally.specs.declared.Count.{Count}
 use Rattle.tally.specs.Plan.{Plan, sym, each, one, row}
 use Rattle.schema_tree.specs.declared.schema.Expr.{Expr}
 use Rattle.schema_tree.specs.declared.schema.Expr.TheVariants as Exprs
@@ -82,11 +81,11 @@ abbrev pub in_arc : TermId → Option ExprId → Occurrence
 in_arc p value = record { inverse = true; predicate = p; value = value }
 
 -- a Shape that is not closed
-abbrev pub open_shape : List TermId → Count → List Occurrence → Shape
+abbrev pub open_shape : List TermId → Plan → List Occurrence → Shape
 open_shape extra body occs = record { closed = false; extra = extra; body = Some body; occs = occs }
 
 -- a closed Shape without EXTRA
-abbrev pub closed_shape : Count → List Occurrence → Shape
+abbrev pub closed_shape : Plan → List Occurrence → Shape
 closed_shape body occs = record { closed = true; extra = []; body = Some body; occs = occs }
 
 -- a schema without labels and start

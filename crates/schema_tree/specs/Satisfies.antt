@@ -1,5 +1,5 @@
 -- When a node satisfies a shape expression under a typing (ShEx 2.1, section 5.2, `satisfies`).
-use Rattle.std.specs.Prelude.{ℕ, suc, zero, List, [], ◌∷◌, slice_get, Option, Some, None, ◌⊎◌, Contains}
+use Rattle.std.specs.Prelude.{ℕ, suc, zero, List, slice_get, Option, Some, None, Contains}
 use Rattle.std.specs.List.{AllByRecursion}
 use Rattle.rdf_terms.specs.declared.terms.TermId.{TermId}
 use Rattle.rdf_terms.specs.declared.terms.Term.{Term}
@@ -9,11 +9,7 @@ use Rattle.schema_tree.specs.declared.schema.Expr.{Expr}
 use Rattle.schema_tree.specs.declared.schema.Expr.TheVariants.{And, Or, Not, Node, Shape}
 use Rattle.schema_tree.specs.declared.schema.Pair.{Pair}
 use Rattle.schema_tree.specs.Entries.{entry, SatNodeAt}
-
--- the fact holds of some item
-abbrev pub SomeByRecursion : {X : Type 0} → (X → Type 0) → List X → Type 0
-SomeByRecursion P [] = ⊥
-SomeByRecursion P (x ∷ xs) = P x ⊎ SomeByRecursion P xs
+use Rattle.lists.specs.Quantifiers.{SomeByRecursion}
 
 -- what an expression asks of the node n, given what its members ask: all, some, not the one, the node constraint, or
 -- that the typing T has n with the Shape (ShEx 2.1, sections 5.3 and 5.4)

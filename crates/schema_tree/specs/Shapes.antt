@@ -4,8 +4,7 @@ use Rattle.rdf_terms.specs.declared.terms.TermId.{TermId}
 use Rattle.rdf_terms.specs.declared.terms.Term.{Term}
 use Rattle.rdf_terms.specs.declared.terms.Triple.{Triple}
 use Rattle.rdf_terms.specs.Graphs.{neigh}
-use Rattle.tally.specs.declared.Count.{Count}
-use Rattle.tally.specs.Plan.{plan_of}
+use Rattle.tally.specs.Plan.{Plan}
 use Rattle.schema_tree.specs.declared.schema.Occurrence.{Occurrence}
 use Rattle.schema_tree.specs.declared.schema.Schema.{Schema}
 use Rattle.schema_tree.specs.declared.schema.Shape.{Shape}
@@ -25,9 +24,9 @@ abbrev pub IsMatchable : List Occurrence → TermId → Triple → Type 0
 IsMatchable occs n t = (t.s ≡ n) × IsMentioned occs t.p
 
 -- the matched part matches the expression, or is empty where there is none
-abbrev pub MatchesBody : (TermId → ExprId → Type 0) → List Occurrence → TermId → Option Count → List Triple → Type 0
+abbrev pub MatchesBody : (TermId → ExprId → Type 0) → List Occurrence → TermId → Option Plan → List Triple → Type 0
 MatchesBody sat occs n None ts = ts ≡ []
-MatchesBody sat occs n (Some c) ts = Matches sat occs n (plan_of c) ts
+MatchesBody sat occs n (Some c) ts = Matches sat occs n c ts
 
 -- what the remainder has to meet: no matchable in it matches an occurrence that is not inverse, the predicate of every
 -- matchable in it is in extra, and where the Shape is closed every arc out in it is a matchable

@@ -3,8 +3,7 @@
 use Rattle.std.specs.Prelude.{ℕ, suc, List, [], ◌∷◌, ◌+◌, ◌≡◌, ◌≤◌, ◌<◌, ◌⊎◌, length, map, slice_get, slice_index, slice_set, drop, Option, Some, None, Contains, if◌then◌else◌}
 use Rattle.rdf_terms.specs.declared.terms.TermId.{TermId}
 use Rattle.rdf_terms.specs.declared.terms.Triple.{Triple}
-use Rattle.tally.specs.declared.Count.{Count}
-use Rattle.tally.specs.Plan.{plan_of}
+use Rattle.tally.specs.Plan.{Plan}
 use Rattle.tally.specs.Span.{span, HasSpan}
 use Rattle.schema_tree.specs.declared.schema.Shape.{Shape}
 use Rattle.schema_tree.specs.declared.schema.ExprId.{ExprId}
@@ -14,6 +13,7 @@ use Rattle.schema_tree.specs.declared.verdicts.Place.TheVariants.{At, Rest}
 use Rattle.schema_tree.specs.declared.verdicts.State.{State}
 use Rattle.schema_tree.specs.Matches.{fits}
 use Rattle.schema_tree.specs.Places.{IsAllowed}
+use Rattle.schema_tree.specs.Rising.{IsLess}
 
 -- a count of 0 for each occurrence
 abbrev pub no_counts : List Occurrence → List ℕ
@@ -28,6 +28,10 @@ abbrev pub after : Place → State → State
 after Rest x = record { done = suc x.done; counts = x.counts }
 after (At i) x = record { done = suc x.done; counts = slice_set x.counts i (suc (slice_index x.counts i)) }
 
+-- by the number of triples that have their places, and then the counts
+abbrev pub IsStateBefore : State → State → Type 0
+IsStateBefore a b = (a.done < b.done) ⊎ ((a.done ≡ b.done) × IsLess a.counts b.counts)
+
 -- how many of the triples the occurrence fits
 abbrev pub count_fits : Occurrence → TermId → List Triple → ℕ
 count_fits o n [] = 0
@@ -39,10 +43,10 @@ fitting n ts None = 0
 fitting n ts (Some o) = count_fits o n ts
 
 -- 1 is not in the interval of the expression, low being the counts, and high the counts with the later triples that fit
-abbrev pub IsDeadBody : Shape → TermId → List Triple → (ℕ → ℕ) → Option Count → Type 0
+abbrev pub IsDeadBody : Shape → TermId → List Triple → (ℕ → ℕ) → Option Plan → Type 0
 IsDeadBody sh n later counts None = ⊥
 IsDeadBody sh n later counts (Some c) =
-    ¬ HasSpan (span (plan_of c) counts (λ i. counts i + fitting n later (slice_get sh.occs i))) 1
+    ¬ HasSpan (span c counts (λ i. counts i + fitting n later (slice_get sh.occs i))) 1
 
 -- the state is dead; ts are the relevant triples in order
 abbrev pub IsDead : Shape → TermId → List Triple → State → Type 0

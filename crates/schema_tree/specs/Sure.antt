@@ -11,7 +11,7 @@ use Rattle.schema_tree.specs.declared.verdicts.Verdict.{Verdict}
 use Rattle.schema_tree.specs.declared.verdicts.Verdict.TheVariants.{Yes, No, Unknown}
 use Rattle.schema_tree.specs.declared.schema.Pair.{Pair}
 use Rattle.schema_tree.specs.Entries.{entry, SatNodeAt}
-use Rattle.schema_tree.specs.Satisfies.{SomeByRecursion}
+use Rattle.lists.specs.Quantifiers.{SomeByRecursion}
 
 -- what is known: the pairs that are satisfied and those that are not
 pub record Known : Type 0 where

@@ -1,6 +1,6 @@
 //! The laws of satisfaction and typings. Each function claims some of them by its contract, and does nothing when called.
 
-ghost use Rattle.schema_tree.specs.Laws.{AnswersAlike, CopiesGiveParts, CyclesAreLists, DecidedIsAnswered, DecidedIsSure, MatchIsExact, MatchIsTrue, NarrowIsKnown, NoMatchIsTrue, OneRefinement, OneTyping, OneVerdict, OrderIsWhole, PartsSpellCopies, PathsAreShort, PlainShapesAreNarrow, RefinementExists, RefinementIsTrue, SatFollowsPairs, SatIsDecided, SatIsItsLayer, SatKnowsNoBound, ShapesAreDecided, ShapesArePlaces, ShapesFollowEdges, ShapesGrow, SomeVerdict, StatesLeadNowhere, StatesRefute, StrataAlike, StrataAreLeast, StrataAreStratified, StrataGiveOneTyping, StratifiedHasNoCycle, StratumIsTrue, SureFollowsAnswers, SureIsItsLayer, SureIsTrue, SureKnowsNoBound, TypingExists};
+ghost use Rattle.schema_tree.specs.Laws.{AnswersAlike, CopiesGiveParts, CyclesAreLists, DecidedByFormIsDecided, DecidedIsAnswered, DecidedIsSure, MatchIsExact, MatchIsTrue, NarrowIsKnown, NoMatchIsTrue, OneRefinement, OneTyping, OneVerdict, OrderIsWhole, PartsSpellCopies, PathsAreShort, PlainShapesAreNarrow, RefinementExists, RefinementIsTrue, SatFollowsPairs, SatIsDecided, SatIsItsLayer, SatKnowsNoBound, ShapesAreDecided, ShapesArePlaces, ShapesFollowEdges, ShapesGrow, SomeVerdict, StatesLeadNowhere, StatesRefute, StrataAlike, StrataAreLeast, StrataAreStratified, StrataGiveOneTyping, StratifiedHasNoCycle, StratumIsTrue, SureFollowsAnswers, SureIsItsLayer, SureIsTrue, SureKnowsNoBound, TypingExists, WidthIsNarrower, WidthIsOne};
 
 use node_constraint::laws::nodes_are_decided;
 
@@ -95,11 +95,17 @@ pub fn closed_states_refute()
     ensures refuted { StatesRefute }
 {}
 
-/// Claims that the Width of a pair is 1 where its Shape has no inverse occurrence, no EXTRA and one occurrence for each
-/// predicate.
-pub fn plain_shapes_are_narrow()
-    ensures { PlainShapesAreNarrow }
-{}
+/// Claims that each pair has one Width, which is at most the product over the classes by form alone, so that what is
+/// decided by form alone is decided; and that the Width is 1 where the Shape has no inverse occurrence, no EXTRA and one
+/// occurrence for each predicate.
+pub fn width_is_one()
+    ensures one { WidthIsOne }
+    ensures narrower { WidthIsNarrower }
+    ensures decided { DecidedByFormIsDecided }
+    ensures plain { PlainShapesAreNarrow }
+{
+    nodes_are_decided();
+}
 
 /// Claims that distinct pairs have a refinement, and that any two say the same.
 pub fn refinement_is_one()

@@ -1,6 +1,7 @@
 //! Schemas as they are loaded, and what it means that a node satisfies one (ShEx 2.1, sections 4 and 5).
 #![tactic(auto)]
 
+pub mod body;
 pub mod examples;
 pub mod labels;
 pub mod laws;

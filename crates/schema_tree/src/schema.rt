@@ -2,11 +2,12 @@
 
 ghost use Rattle.std.specs.Prelude.{◌≡◌, ◌↔◌, IfSome, IsNone};
 
+use crate::body::Body;
 use crate::labels::{Label, Labels};
 use node_constraint::NodeConstraint;
 use rdf_terms::items::Items;
 use rdf_terms::terms::{TermId, Triple};
-use tally::Count;
+use std::alloc::{AllocError, Global};
 
 /// The number of a shape expression: its place among the schema's expressions.
 #[derive(Clone, Copy, Debug, PartialEq, Eq, Hash)]
@@ -79,7 +80,7 @@ pub struct Shape {
     /// The predicates of which arcs may be left over.
     pub extra: Items<TermId>,
     /// The triple expression over the numbers of the occurrences, if there is one.
-    pub body: Option<Count>,
+    pub body: Option<Body>,
     /// The occurrences, numbered from 0 in reading order.
     pub occs: Items<Occurrence>,
 }
@@ -104,6 +105,32 @@ pub enum Target {
     Start,
     /// The expression of a label.
     Label(Label),
+}
+
+impl Target {
+    ghost use Rattle.std.specs.Prelude.{IfOk, string_bytes};
+    ghost use Rattle.schema_tree.specs.Targets.{IsTextTarget, target_text};
+
+    /// A copy of the target.
+    pub fn try_clone(&self, alloc: Global) -> Result<Target, AllocError>
+        ensures { IfOk result (λ t. t ≡ self.now) }
+    {
+        match self {
+            Target::Start => Ok(Target::Start),
+            Target::Label(label) => Ok(Target::Label(label.try_clone(alloc)?)),
+        }
+    }
+
+    /// Its text: that of its label, or `START` (ShapeMap Structure and Language, section 4).
+    pub fn text(&self, alloc: Global) -> Result<String, AllocError>
+        ensures written { IfOk result (λ s. string_bytes s ≡ target_text self.now) }
+        ensures scalars { IsTextTarget self.now }
+    {
+        match self {
+            Target::Start => String::from_str(alloc, "START"),
+            Target::Label(label) => label.text(alloc),
+        }
+    }
 }
 
 impl Schema {
@@ -139,63 +166,4 @@ pub struct Answer {
     pub target: Target,
     /// Whether the node satisfies it.
     pub holds: bool,
-}
-
-#[cfg(test)]
-mod tests {
-    use super::*;
-    use rdf_terms::text::Text;
-    use std::test::Fail;
-
-    #[test]
-    fn a_target_has_its_expression_where_it_is_declared(rt: HostRuntime) -> Result<(), Fail> {
-        let alloc = rt.alloc();
-        let iri = Target::Label(Label::Iri(Text::from_str(alloc, "x")?));
-        let blank = Target::Label(Label::Blank(Text::from_str(alloc, "x")?));
-        let other = Target::Label(Label::Iri(Text::from_str(alloc, "y")?));
-        let mut labels = Labels::new(alloc);
-        labels.declare(Label::Blank(Text::from_str(alloc, "x")?), ExprId(0))?;
-        labels.declare(Label::Iri(Text::from_str(alloc, "x")?), ExprId(1))?;
-        let full = Schema {
-            exprs: Items::of(Vec::new(alloc)),
-            shapes: Items::of(Vec::new(alloc)),
-            labels,
-            start: Some(ExprId(2)),
-        };
-        let empty = Schema {
-            exprs: Items::of(Vec::new(alloc)),
-            shapes: Items::of(Vec::new(alloc)),
-            labels: Labels::new(alloc),
-            start: None,
-        };
-        for (target, wanted) in [
-            (&Target::Start, Some(ExprId(2))),
-            (&iri, Some(ExprId(1))),
-            (&blank, Some(ExprId(0))),
-            (&other, None),
-        ] {
-            assert_eq!(rt; full.target(target), wanted, "{target:?}");
-            assert_eq!(rt; empty.target(target), None, "{target:?}");
-        }
-        Ok(())
-    }
-
-    #[test]
-    fn items_are_those_of_their_vector(rt: HostRuntime) -> Result<(), Fail> {
-        let alloc = rt.alloc();
-        let none: Items<ExprId> = Items::of(Vec::new(alloc));
-        assert!(rt; none.as_slice().is_empty());
-        let some = Items::of(vec![in alloc; ExprId(7), ExprId(7), ExprId(0)]?);
-        assert_eq!(rt;
-            some.as_slice(),
-            [ExprId(7), ExprId(7), ExprId(0)].as_slice()
-        );
-        let mut back = some.into_vec();
-        back.push(ExprId(1))?;
-        assert_eq!(rt;
-            back.as_slice(),
-            [ExprId(7), ExprId(7), ExprId(0), ExprId(1)].as_slice()
-        );
-        Ok(())
-    }
 }

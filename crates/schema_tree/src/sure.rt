@@ -42,7 +42,7 @@ fn negated(verdict: Verdict) -> Verdict
 }
 
 /// Whether the node is a term of the table that satisfies the constraint (ShEx 2.1, section 5.4).
-fn satisfies(
+pub fn satisfies(
     alloc: Global,
     terms: &TermTable,
     node: TermId,
@@ -232,6 +232,3 @@ pub fn may_fail<V: View>(
         Lean::Impossible => verdict == Verdict::No,
     })
 }
-
-#[cfg(test)]
-mod tests;

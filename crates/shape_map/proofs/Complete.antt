@@ -1,25 +1,28 @@
 -- What is spelled is read.
 use Rattle.std.proofs.Common.{◌≡◌, ℕ, Bool, true, false, cond, List, [], ◌∷◌, Option, Some, None, Result, Ok, Err, refl, ◌∙◌, inl, inr, ◌||◌}
-use Rattle.token_readers.specs.Ahead.{Ahead, finished, next_is}
-use Rattle.token_readers.specs.Phrases.{Is, Many}
-use Rattle.token_readers.proofs.Completeness.{one_read, loop_read}
+use Rattle.rdf_cursor.specs.Ahead.{Ahead, finished, next_is}
+use Rattle.rdf_cursor.specs.Phrases.{Is, Many}
+use Rattle.rdf_cursor.proofs.Completeness.{one_read, loop_read}
 use Rattle.rdf_lex.specs.Tokens.{Spelled}
-use Rattle.rdf_lex.specs.declared.kinds.Mode.TheVariants.{Map}
-use Rattle.rdf_cursor.specs.Meanings.{text_of}
+use Rattle.term_tokens.specs.Meanings.{text_of}
 use Rattle.rdf_terms.specs.declared.terms.Term.{Term}
 use Rattle.schema_tree.specs.declared.schema.Target as schema
-use Rattle.shape_map.specs.declared.faults.Fault.{Fault}
-use Rattle.shape_map.specs.declared.faults.Fault.TheVariants.{Syntax}
+use Rattle.rdf_cursor.specs.declared.stops.Fault.{Fault}
+use Rattle.rdf_cursor.specs.declared.stops.Fault.TheVariants.{Syntax}
 use Rattle.shape_map.specs.declared.items.TriplePattern.{TriplePattern}
 use Rattle.shape_map.specs.declared.items.Selector.{Selector}
 use Rattle.shape_map.specs.declared.items.Item.{Item}
-use Rattle.shape_map.specs.declared.symbols.Symbol.{Symbol}
-use Rattle.shape_map.specs.declared.symbols.Symbol.TheVariants as symbol
-use Rattle.shape_map.specs.Meanings.{Scope, name_in, iri_of, at_name_of, blank_of, blank_target_of, string_of, typed_of, tagged_of, shorthand_of, resolved, lexical}
-use Rattle.shape_map.specs.Reading.{mark, iri, datatyped, literal, resource, node, verb, or_any, of_subjects, of_objects, pattern, triples, selector, target, wish, asked, item, added, behind, items, all_items, shape_map}
-use Rattle.shape_map.specs.Symbols.{symbol_of, same_symbol, is_symbol, is_among, is_any, of_symbol, shorthands}
+use Rattle.rdf_cursor.specs.declared.symbols.Symbol.{Symbol}
+use Rattle.rdf_cursor.specs.declared.symbols.Symbol.TheVariants as symbol
+use Rattle.term_tokens.specs.Scopes.{Scope}
+use Rattle.term_tokens.specs.Terms.{name_in, iri_ref_of, iri_of, tagged_of, at_name_of, string_of, typed_of, shorthand_of, resolved, lexical, shorthands}
+use Rattle.shape_map.specs.Meanings.{node_tags, node_tagged_of, blank_of, blank_target_of}
+use Rattle.shape_map.specs.Reading.{iri, literal, resource, node, verb, or_any, of_subjects, of_objects, pattern, triples, selector, target, wish, asked, item, added, behind, items, all_items, shape_map}
+use Rattle.rdf_cursor.specs.Marks.{mark}
+use Rattle.rdf_cursor.specs.Symbols.{symbol_of, same_symbol, is_symbol, is_among, is_any, of_symbol}
 use Rattle.shape_map.specs.Grammar as g
-use Rattle.shape_map.proofs.Nexts.{Next, nexts, no_next, no_symbol, begins, first, single, guarded, guarded_one, any_next}
+use Rattle.term_tokens.proofs.Literals as any
+use Rattle.term_tokens.proofs.Nexts.{Next, nexts, no_next, no_symbol, begins, first, single, guarded, guarded_one, any_next}
 use Rattle.shape_map.proofs.Places.{consumes_behind}
 
 took : (a : Symbol) (w : Spelled) (ts r : Ahead Spelled) → Is (of_symbol a) w ts r → mark a ts ≡ Ok (w, r)
@@ -57,17 +60,9 @@ iri_bits false true c x y z e = refl
 iri_bits false false true x y z e = refl
 iri_bits false false false x y z e = absurd cc
 
-pub string_begins : (x : List ℕ) (ts r : Ahead Spelled) → Is string_of x ts r → Next (symbol.Str ∷ []) ts
-unfolding string_of
-string_begins x ts r h = guarded_one symbol.Str string_of (λ t. lexical (text_of Map t)) (λ t. refl) x ts r h
-
-pub tagged_begins : (lex : List ℕ) (x : Term) (ts r : Ahead Spelled) → Is (tagged_of lex) x ts r → Next (symbol.LangTag ∷ []) ts
-unfolding tagged_of
-tagged_begins lex x ts r h = guarded_one symbol.LangTag (tagged_of lex) _ (λ t. refl) x ts r h
-
-pub shorthand_begins : (x : Term) (ts r : Ahead Spelled) → Is shorthand_of x ts r → Next shorthands ts
-unfolding shorthand_of
-shorthand_begins x ts r h = guarded shorthands shorthand_of _ (λ t. refl) x ts r h
+pub tagged_begins : (lex : List ℕ) (x : Term) (ts r : Ahead Spelled) → Is (node_tagged_of lex) x ts r → Next node_tags ts
+unfolding node_tagged_of
+tagged_begins lex x ts r h = guarded node_tags (node_tagged_of lex) (tagged_of lex) (λ t. refl) x ts r h
 
 pub blank_begins : (x : Term) (ts r : Ahead Spelled) → Is blank_of x ts r → Next (symbol.BlankLabel ∷ []) ts
 unfolding blank_of
@@ -78,37 +73,27 @@ unfolding blank_target_of
 blank_target_begins x ts r h = guarded_one symbol.BlankLabel blank_target_of _ (λ t. refl) x ts r h
 
 module _ (v : Scope) where
-  pub at_name_begins : (x : List ℕ) (ts r : Ahead Spelled) → Is (at_name_of v) x ts r → Next (symbol.AtName ∷ []) ts
+  pub at_name_begins : (x : List ℕ) (ts r : Ahead Spelled) → Is (at_name_of false v) x ts r → Next (symbol.AtName ∷ []) ts
   unfolding at_name_of
-  at_name_begins x ts r h = guarded_one symbol.AtName (at_name_of v) (name_in v) (λ t. refl) x ts r h
+  at_name_begins x ts r h = guarded_one symbol.AtName (at_name_of false v) (name_in false v) (λ t. refl) x ts r h
 
-  iri_class : (x : List ℕ) (t : Spelled) → iri_of v t ≡ Ok x → is_among iris t ≡ true
-  unfolding iri_of is_among is_symbol
+  iri_class : (x : List ℕ) (t : Spelled) → iri_of false v t ≡ Ok x → is_among iris t ≡ true
+  unfolding iri_of iri_ref_of is_among is_symbol
   iri_class x t e =
       let s = symbol_of t.kind t.text in
-      iri_bits (same_symbol s symbol.PnameNs) (same_symbol s symbol.PnameLn) (same_symbol s symbol.IriRef) (name_in v t) (resolved v (text_of Map t)) x e
+      iri_bits (same_symbol s symbol.PnameNs) (same_symbol s symbol.PnameLn) (same_symbol s symbol.IriRef) (name_in false v t) (resolved false v (text_of t)) x e
 
-  pub iri_begins : (x : List ℕ) (ts r : Ahead Spelled) → Is (iri_of v) x ts r → Next iris ts
+  pub iri_begins : (x : List ℕ) (ts r : Ahead Spelled) → Is (iri_of false v) x ts r → Next iris ts
   iri_begins x ts r h = rw h.1 (iri_class x h.0 h.2)
 
-  iri_read : (x : List ℕ) (ts r : Ahead Spelled) → Is (iri_of v) x ts r → iri v ts ≡ Ok (x, r)
+  iri_read : (x : List ℕ) (ts r : Ahead Spelled) → Is (iri_of false v) x ts r → iri v ts ≡ Ok (x, r)
   unfolding iri
-  iri_read x ts r h = one_read Syntax (iri_of v) x ts r h
+  iri_read x ts r h = one_read Syntax (iri_of false v) x ts r h
 
   literal_read : (x : Term) (ts r : Ahead Spelled) → g.Literal v x ts r → Next after_node r → literal v ts ≡ Ok (x, r)
-  unfolding literal datatyped
-  literal_read x ts r (lex, (m, s, inl (e, n))) f =
-      rw (one_read Syntax string_of lex ts m s, n, no_symbol after_node symbol.LangTag r refl f, no_symbol after_node symbol.Carets r refl f, e) refl
-  literal_read x ts r (lex, (m, s, inr (inl h))) f =
-      rw (one_read Syntax string_of lex ts m s, single symbol.LangTag m ∙ tagged_begins lex x m r h, one_read Syntax (tagged_of lex) x m r h) refl
-  literal_read x ts r (lex, (m, s, inr (inr (n, (w, c), h)))) f =
-      rw (
-        one_read Syntax string_of lex ts m s,
-        no_symbol (symbol.Carets ∷ []) symbol.LangTag m refl (first symbol.Carets w m n c),
-        begins symbol.Carets w m n c,
-        took symbol.Carets w m n c,
-        one_read Syntax (typed_of v lex) x n r h,
-      ) refl
+  unfolding literal
+  literal_read x ts r h f =
+      any.literal_read node_tags (string_of false) node_tagged_of (typed_of false v) refl tagged_begins x ts r h (no_next after_node node_tags r refl f) (no_symbol after_node symbol.Carets r refl f)
 
   resource_read : (x : Term) (ts r : Ahead Spelled) → g.Resource v x ts r → resource v ts ≡ Ok (x, r)
   unfolding resource
@@ -121,15 +106,15 @@ module _ (v : Scope) where
 
   node_read : (x : Term) (ts r : Ahead Spelled) → g.Node v x ts r → Next after_node r → node v ts ≡ Ok (x, r)
   unfolding node
-  node_read x ts r (inl (lex, (m, s, h))) f = rw (single symbol.Str ts ∙ string_begins lex ts m s) (literal_read x ts r (lex, (m, s, h)) f)
+  node_read x ts r (inl (lex, (m, s, h))) f = rw (single symbol.Str ts ∙ any.string_begins false lex ts m s) (literal_read x ts r (lex, (m, s, h)) f)
   node_read x ts r (inr (inl h)) f =
-      let n = shorthand_begins x ts r h in rw (no_symbol shorthands symbol.Str ts refl n, n, one_read Syntax shorthand_of x ts r h) refl
+      let n = any.shorthand_begins false x ts r h in rw (no_symbol shorthands symbol.Str ts refl n, n, one_read Syntax (shorthand_of false) x ts r h) refl
   node_read x ts r (inr (inr h)) f =
       let n = resource_begins x ts r h in rw (no_symbol resources symbol.Str ts refl n, no_next resources shorthands ts refl n) (resource_read x ts r h)
 
   node_begins : (x : Term) (ts r : Ahead Spelled) → g.Node v x ts r → Next simples ts
-  node_begins x ts r (inl (lex, (m, s, h))) = nexts (symbol.Str ∷ []) simples ts refl (string_begins lex ts m s)
-  node_begins x ts r (inr (inl h)) = nexts shorthands simples ts refl (shorthand_begins x ts r h)
+  node_begins x ts r (inl (lex, (m, s, h))) = nexts (symbol.Str ∷ []) simples ts refl (any.string_begins false lex ts m s)
+  node_begins x ts r (inr (inl h)) = nexts shorthands simples ts refl (any.shorthand_begins false x ts r h)
   node_begins x ts r (inr (inr h)) = nexts resources simples ts refl (resource_begins x ts r h)
 
   verb_read : (p : Term) (ts r : Ahead Spelled) → g.Verb v p ts r → verb v ts ≡ Ok (p, r)
@@ -194,7 +179,7 @@ module _ (v : Scope) where
   asked_read t b ts r (inl (e, i, (w, h))) = (rw (begins symbol.AtStart w ts r h, took symbol.AtStart w ts r h, e, i) refl, nexts (symbol.AtStart ∷ []) aims ts refl (first symbol.AtStart w ts r h))
   asked_read t b ts r (inr (inl (i, e, j, h))) =
       let n = at_name_begins i ts r h in
-      (rw (no_symbol (symbol.AtName ∷ []) symbol.AtStart ts refl n, single symbol.AtName ts ∙ n, one_read Syntax (at_name_of v) i ts r h, e, j) refl, nexts (symbol.AtName ∷ []) aims ts refl n)
+      (rw (no_symbol (symbol.AtName ∷ []) symbol.AtStart ts refl n, single symbol.AtName ts ∙ n, one_read Syntax (at_name_of false v) i ts r h, e, j) refl, nexts (symbol.AtName ∷ []) aims ts refl n)
   asked_read t b ts r (inr (inr (m, (w, h), k))) =
       let n = first symbol.At w ts m h in
       (rw (no_symbol (symbol.At ∷ []) symbol.AtStart ts refl n, no_symbol (symbol.At ∷ []) symbol.AtName ts refl n, took symbol.At w ts m h, wish_read t b m r k) refl, nexts (symbol.At ∷ []) aims ts refl n)

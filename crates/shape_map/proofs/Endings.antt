@@ -1,32 +1,32 @@
 -- What the answer of the reader on lists says of the bytes.
 use Rattle.std.proofs.Common.{◌≡◌, ℕ, List, Ok, Err, sym, ap, subst, ◌∙◌}
 use Rattle.std.specs.Str.{IsUtf8}
-use Rattle.token_readers.specs.Ahead.{Ahead, finished, prepend}
-use Rattle.token_readers.specs.Readers.{Answer}
-use Rattle.token_readers.specs.Properties.{IsLocalAt}
-use Rattle.token_readers.proofs.Answers.{apart, ok_is}
-use Rattle.token_readers.proofs.Blocking.{blocked}
+use Rattle.rdf_cursor.specs.Ahead.{Ahead, finished, prepend}
+use Rattle.rdf_cursor.specs.Readers.{Answer}
+use Rattle.rdf_cursor.specs.Properties.{IsLocalAt}
+use Rattle.rdf_cursor.proofs.Answers.{apart, ok_is}
+use Rattle.rdf_cursor.proofs.Blocking.{blocked}
 use Rattle.rdf_lex.specs.declared.kinds.Mode.TheVariants.{Map}
 use Rattle.rdf_lex.specs.Tokens.{Spelled}
+use Rattle.rdf_cursor.specs.Cursors.{Source}
 use Rattle.rdf_cursor.specs.Lent.{Stands}
 use Rattle.rdf_cursor.specs.Places.{IsFaultPlace}
 use Rattle.rdf_cursor.specs.Streams.{stream_from}
 use Rattle.rdf_cursor.proofs.Places.{fault_place, first_at}
 use Rattle.rdf_cursor.proofs.Streams.{to_tokens, from_tokens}
 use Rattle.shape_map.specs.declared.error.MapError.{MapError}
-use Rattle.shape_map.specs.declared.faults.Fault.{Fault}
-use Rattle.shape_map.specs.declared.faults.Fault.TheVariants.{Syntax, Prefix}
-use Rattle.shape_map.specs.declared.faults.Stop.{Stop}
-use Rattle.shape_map.specs.declared.faults.Stop.TheVariants as stop
+use Rattle.rdf_cursor.specs.declared.stops.Fault.{Fault}
+use Rattle.rdf_cursor.specs.declared.stops.Fault.TheVariants.{Syntax, Prefix, Deep, Long, Full}
+use Rattle.rdf_cursor.specs.declared.stops.Stop.{Stop}
+use Rattle.rdf_cursor.specs.declared.stops.Stop.TheVariants as stop
 use Rattle.shape_map.specs.declared.items.Item.{Item}
-use Rattle.shape_map.specs.Gives.{StopsAs, error_of}
+use Rattle.rdf_cursor.specs.Stops.{StopsAs}
+use Rattle.shape_map.specs.Gives.{IsMapFault, IsMapStop, error_of}
 use Rattle.shape_map.specs.Grammar.{ShapeMap}
 use Rattle.shape_map.specs.Maps.{Spells, IsMap, IsUndeclaredAt, Explains, ReadsAs, MapsAreOne}
-use Rattle.shape_map.specs.Meanings.{Scope}
+use Rattle.term_tokens.specs.Scopes.{Scope}
 use Rattle.shape_map.specs.Reading.{shape_map}
-use Rattle.shape_map.specs.Copies.{HaveCopies}
 use Rattle.shape_map.proofs.Complete.{map_read}
-use Rattle.shape_map.proofs.Copying.{map_copies}
 use Rattle.shape_map.proofs.Passed.{map_on}
 use Rattle.shape_map.proofs.Places.{local_map}
 use Rattle.shape_map.proofs.Sound.{map_meets}
@@ -64,15 +64,33 @@ module _ (nodes labels : Scope) (source : List ℕ) (u : IsUtf8 source) where
   explains : (e : Stop) (at : ℕ) (rest : Ahead Spelled) → StopsAs {Y = List Item} e rest (shape_map nodes labels ahead) → Stands Map source rest at → Explains nodes labels (error_of e at) source
   explains stop.Memory at rest h s = tt
   explains (stop.Fault Syntax) at rest h s = place Syntax rest at h s
+  explains (stop.Fault Deep) at rest h s = place Deep rest at h s
+  explains (stop.Fault Long) at rest h s = place Long rest at h s
+  explains (stop.Fault Full) at rest h s = place Full rest at h s
   explains (stop.Fault Prefix) at rest h s = (place Prefix rest at h s, undeclared rest at h s)
 
   reads_err : (e : Stop) (at : ℕ) (rest : Ahead Spelled) (xs : List Item) → IsMap nodes labels source xs → StopsAs {Y = List Item} e rest (shape_map nodes labels ahead) → ReadsAs (Err (error_of e at)) xs
   reads_err stop.Memory at rest xs m h = tt
   reads_err (stop.Fault Syntax) at rest xs m h = apart (xs, finished) (Syntax, rest) (sym (is_read xs m) ∙ h)
+  reads_err (stop.Fault Deep) at rest xs m h = apart (xs, finished) (Deep, rest) (sym (is_read xs m) ∙ h)
+  reads_err (stop.Fault Long) at rest xs m h = apart (xs, finished) (Long, rest) (sym (is_read xs m) ∙ h)
+  reads_err (stop.Fault Full) at rest xs m h = apart (xs, finished) (Full, rest) (sym (is_read xs m) ∙ h)
   reads_err (stop.Fault Prefix) at rest xs m h = apart (xs, finished) (Prefix, rest) (sym (is_read xs m) ∙ h)
 
   same_items : (xs ys : List Item) (rest : Ahead Spelled) → IsMap nodes labels source ys → shape_map nodes labels ahead ≡ Ok (xs, rest) → xs ≡ ys
   same_items xs ys rest m h = ap (λ (v : List Item × Ahead Spelled). v.0) (ok_is (xs, rest) (ys, finished) (sym h ∙ is_read ys m))
+
+-- the reader meets no limit
+map_fault : (nodes labels : Scope) (ts rest : Ahead Spelled) (f : Fault) → shape_map nodes labels ts ≡ Err (f, rest) → IsMapFault f
+map_fault nodes labels ts rest Syntax e = tt
+map_fault nodes labels ts rest Prefix e = tt
+map_fault nodes labels ts rest Deep e = ((map_on nodes labels ts).bad (Deep, rest) e).2
+map_fault nodes labels ts rest Long e = ((map_on nodes labels ts).bad (Long, rest) e).2
+map_fault nodes labels ts rest Full e = ((map_on nodes labels ts).bad (Full, rest) e).2
+
+pub map_stop : (nodes labels : Scope) (ts rest : Ahead Spelled) (e : Stop) → StopsAs {Y = List Item} e rest (shape_map nodes labels ts) → IsMapStop e
+map_stop nodes labels ts rest stop.Memory h = tt
+map_stop nodes labels ts rest (stop.Fault f) h = map_fault nodes labels ts rest f h
 
 -- from what lies ahead of the tokens at first
 module _ (nodes labels : Scope) (source : List ℕ) (u : IsUtf8 source) (first : Ahead Spelled) (begins : first ≡ stream_from Map source 0) where
@@ -90,13 +108,11 @@ module _ (nodes labels : Scope) (source : List ℕ) (u : IsUtf8 source) (first :
   pub err_from : (e : Stop) (x : MapError) (at : ℕ) (rest : Ahead Spelled) (zs : List Item) → IsMap nodes labels source zs → StopsAs {Y = List Item} e rest (shape_map nodes labels first) → x ≡ error_of e at → ReadsAs (Err x) zs
   err_from e x at rest zs m h is = subst (λ (y : MapError). ReadsAs (Err y) zs) (sym is) (reads_err nodes labels source u e at rest zs m (moved e rest h))
 
-  pub cause_from : (e : Stop) (x : MapError) (at : ℕ) (rest : Ahead Spelled) (text : List ℕ) → StopsAs {Y = List Item} e rest (shape_map nodes labels first) → text ≡ source → Stands Map text rest at → x ≡ error_of e at
+  pub cause_from : (e : Stop) (x : MapError) (at : ℕ) (rest : Ahead Spelled) (text : Source) → StopsAs {Y = List Item} e rest (shape_map nodes labels first) → text ≡ record { mode = Map; text = source }
+      → Stands text.mode text.text rest at → x ≡ error_of e at
       → Explains nodes labels x source
   cause_from e x at rest text h same s is =
-      subst (λ (y : MapError). Explains nodes labels y source) (sym is) (explains nodes labels source u e at rest (moved e rest h) (subst (λ (y : List ℕ). Stands Map y rest at) same s))
-
-pub copies_from : (nodes labels : Scope) (first rest : Ahead Spelled) (xs : List Item) → shape_map nodes labels first ≡ Ok (xs, rest) → HaveCopies xs
-copies_from nodes labels first rest xs e = map_copies nodes labels xs first ((map_meets nodes labels first).holds (xs, rest) e)
+      subst (λ (y : MapError). Explains nodes labels y source) (sym is) (explains nodes labels source u e at rest (moved e rest h) (subst (λ (y : Source). Stands y.mode y.text rest at) same s))
 
 pub maps_one : MapsAreOne
 maps_one nodes labels source xs ys h k = same_items nodes labels source h.1 xs ys finished k (is_read nodes labels source h.1 xs h)

@@ -5,18 +5,18 @@ use Rattle.std.proofs.lemmas.List.Sorted.{Contains-permutation, IsPermutation-sy
 use Rattle.std.specs.Prelude.{◌↔◌, Contains, slice_get}
 use Rattle.std.specs.declared.cmp.Ordering.{Ordering}
 use Rattle.rdf_terms.specs.Graphs.{same_id}
-use Rattle.rdf_terms.specs.Lists.{AreDistinct}
-use Rattle.rdf_terms.specs.Order.{sorted_by}
+use Rattle.lists.specs.Distinct.{AreDistinct}
+use Rattle.lists.specs.Sorting.{sorted_by}
 use Rattle.rdf_terms.specs.declared.terms.Term.{Term}
 use Rattle.rdf_terms.specs.declared.terms.TermId.{TermId}
 use Rattle.rdf_terms.specs.declared.terms.Triple.{Triple}
-use Rattle.schema_tree.proofs.Lists.{got_in, in_filter, in_map}
-use Rattle.schema_tree.proofs.Members.{not_in_none, filter_has, from_map}
-use Rattle.schema_tree.proofs.Ordered.{sorted_same}
+use Rattle.lists.proofs.Members.{got_in, in_map, not_in_none, from_map}
+use Rattle.lists.proofs.Filters.{in_filter, filter_has}
+use Rattle.lists.proofs.Ordered.{sorted_same}
 use Rattle.shape_map.specs.declared.items.Focus.{Focus}
 use Rattle.shape_map.specs.declared.items.Focus.TheVariants.{Subject, Object}
 use Rattle.shape_map.specs.declared.items.TriplePattern.{TriplePattern}
-use Rattle.shape_map.specs.Selection.{at_focus, at_other, IsAsked, IsFocus}
+use Rattle.shape_map.specs.Selection.{at_focus, at_other, MayStandAt, IsFocus}
 use Rattle.shape_map.specs.Resolving.{AreAmong}
 
 -- the triples that pass two tests, in another order
@@ -61,8 +61,8 @@ module _ (terms : List Term) (g : List Triple) (x : TriplePattern) where
   with_predicate p ts = filter (λ t. same_id t.p p) ts
 
   from_triples : AreDistinct terms → (p : TermId) → slice_get terms p.0 ≡ Some x.predicate → (ts : List Triple)
-      → ((t : Triple) → Contains ts t → Contains g t × IsAsked terms x.other (at_other x.focus t))
-      → ((t : Triple) → Contains g t → IsAsked terms x.other (at_other x.focus t) → same_id t.p p ≡ true → Contains ts t)
+      → ((t : Triple) → Contains ts t → Contains g t × MayStandAt terms x.other (at_other x.focus t))
+      → ((t : Triple) → Contains g t → MayStandAt terms x.other (at_other x.focus t) → same_id t.p p ≡ true → Contains ts t)
       → (ns : List TermId) → ns ≡ map (at_focus x.focus) (filter (λ t. same_id t.p p) ts) → Found ns
   from_triples d p is ts only all ns e n = (there, back)
     where
@@ -91,21 +91,21 @@ module _ (terms : List Term) (g : List Triple) (x : TriplePattern) where
 
   -- any node may stand at the other end
   pub any_among : (p : TermId) → x.other ≡ None → AreAmong terms g x p g
-  any_among p none = record { only = λ t h. (h, subst (λ (o : Option Term). IsAsked terms o (at_other x.focus t)) (sym none) tt); whole = λ t h a q. h }
+  any_among p none = record { only = λ t h. (h, subst (λ (o : Option Term). MayStandAt terms o (at_other x.focus t)) (sym none) tt); whole = λ t h a q. h }
 
   -- one node is to stand there
   pub some_among : AreDistinct terms → (p : TermId) (y : Term) → x.other ≡ Some y → (o : TermId) → slice_get terms o.0 ≡ Some y → (ts : List Triple)
       → ((t : Triple) → Contains ts t ↔ (Contains g t × (same_id (at_other x.focus t) o ≡ true) × (same_id t.p p ≡ true))) → AreAmong terms g x p ts
   some_among d p y asked o at ts those = record {
-    only = λ t h. let (i, b, q) = (those t).0 h in (i, subst (λ (v : Option Term). IsAsked terms v (at_other x.focus t)) (sym asked) (read_at (at_other x.focus t) o y b at));
-    whole = λ t h a q. (those t).1 (h, one_number d (at_other x.focus t) o y (subst (λ (v : Option Term). IsAsked terms v (at_other x.focus t)) asked a) at, q);
+    only = λ t h. let (i, b, q) = (those t).0 h in (i, subst (λ (v : Option Term). MayStandAt terms v (at_other x.focus t)) (sym asked) (read_at (at_other x.focus t) o y b at));
+    whole = λ t h a q. (those t).1 (h, one_number d (at_other x.focus t) o y (subst (λ (v : Option Term). MayStandAt terms v (at_other x.focus t)) asked a) at, q);
   }
 
   -- a node that the table does not hold
   pub none_among : (p : TermId) (y : Term) → x.other ≡ Some y → (¬ Contains terms y) → (ts : List Triple) → ts ≡ [] → AreAmong terms g x p ts
   none_among p y asked never ts e = record {
     only = λ t h. absurd (not_in_none t (subst (λ (v : List Triple). Contains v t) e h));
-    whole = λ t h a q. absurd (never (got_in terms (at_other x.focus t).0 y (subst (λ (v : Option Term). IsAsked terms v (at_other x.focus t)) asked a)));
+    whole = λ t h a q. absurd (never (got_in terms (at_other x.focus t).0 y (subst (λ (v : Option Term). MayStandAt terms v (at_other x.focus t)) asked a)));
   }
 
   -- a predicate that the table does not hold

@@ -1,13 +1,12 @@
-pub mod Texts
-pub mod Nexts
 pub mod Places
-pub mod Failing
 pub mod Sound
 pub mod Complete
 pub mod Passed
 pub mod Endings
 pub mod Listed
-pub mod Ordered
 pub mod Focused
-pub mod Copying
 pub mod Chosen
+pub mod NodeLines
+pub mod ItemLines
+pub mod Ordered
+pub mod Resolved

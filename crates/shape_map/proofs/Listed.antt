@@ -1,30 +1,11 @@
 -- The text of a list of answers.
-use Rattle.std.proofs.Common.{◌≡◌, ◌<◌, ◌-◌, ◌∙◌, ap, sym, subst, refl, ℕ, zero, suc, List, [], ◌∷◌, ◌++◌, arith, length, take, drop, get_or, codes, append_assoc}
-use Rattle.std.specs.Prelude.{Contains, Some, None, slice_get}
+use Rattle.std.proofs.Common.{◌≡◌, ◌-◌, ◌∙◌, ap, sym, refl, ℕ, List, [], ◌∷◌, ◌++◌, length, take, drop, codes, append_assoc}
+use Rattle.std.specs.Prelude.{Some, None, slice_get}
 use Rattle.std.specs.List.{flat_map}
 use Rattle.rdf_terms.specs.declared.terms.Term.{Term}
 use Rattle.schema_tree.specs.declared.schema.Answer.{Answer}
-use Rattle.schema_tree.proofs.Members.{is_first, is_later}
 use Rattle.shape_map.specs.Results.{answer_text, result_text}
-
--- what is read at a place is in the list
-pub item_there : {X : Type 0} (xs : List X) (i : ℕ) (x : X) → i < length xs → x ≡ get_or xs i x → Contains xs x
-item_there [] i x l e = absurd (omega (arith, l))
-item_there (y ∷ ys) zero x l e = subst (λ z. Contains (y ∷ ys) z) (sym e) (is_first y ys)
-item_there (y ∷ ys) (suc i) x l e = is_later y ys x (item_there ys i x (omega (arith, l)) e)
-
-take_all : {X : Type 0} (ys : List X) → take (length ys) ys ≡ ys
-take_all [] = refl
-take_all (y ∷ ys) = ap (λ z. y ∷ z) (take_all ys)
-
--- all behind the first
-behind_is : {X : Type 0} (y : X) (ys : List X) → take (length (y ∷ ys) - 1) (drop 1 (y ∷ ys)) ≡ ys
-behind_is y ys = let n : length (y ∷ ys) - 1 ≡ length ys = omega arith in ap (λ k. take k ys) n ∙ take_all ys
-
--- what is behind the first is in the list
-pub behind_there : {X : Type 0} (xs : List X) (first x : X) → Some first ≡ slice_get xs 0 → Contains (take (length xs - 1) (drop 1 xs)) x → Contains xs x
-behind_there [] first x at h = cc
-behind_there (y ∷ ys) first x at h = is_later y ys x (subst (λ zs. Contains zs x) (behind_is y ys) h)
+use Rattle.lists.proofs.Members.{behind_is}
 
 pub no_answers : (terms : List Term) (xs : List Answer) → None ≡ slice_get xs 0 → [] ≡ result_text terms xs
 no_answers terms [] e = refl

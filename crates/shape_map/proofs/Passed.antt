@@ -2,25 +2,29 @@
 use Rattle.std.proofs.Common.{append_assoc, ◌≡◌, ℕ, zero, suc, Bool, true, false, cond, ◌||◌, List, [], ◌∷◌, ◌++◌, Option, Some, None, Result, Ok, Err, refl, sym, ap, subst, ◌∙◌}
 use Rattle.std.proofs.lemmas.List.{append-nil}
 use Rattle.rdf_terms.specs.declared.terms.Term.{Term}
-use Rattle.token_readers.specs.Ahead.{Ahead, finished, broken, token, prepend, count, next_is}
-use Rattle.token_readers.specs.Phrases.{Is}
-use Rattle.token_readers.specs.Readers.{Answer, and_then, ◌>>=◌, give, taken, one, either, loop_within, loop, finish}
-use Rattle.token_readers.proofs.Answers.{apart, err_is, ok_is}
-use Rattle.token_readers.proofs.Locality.{prepend-append}
+use Rattle.rdf_cursor.specs.Ahead.{Ahead, finished, broken, token, prepend, count, next_is}
+use Rattle.rdf_cursor.specs.Phrases.{Is}
+use Rattle.rdf_cursor.specs.Readers.{Answer, and_then, ◌>>=◌, give, taken, one, either, loop_within, loop, finish}
+use Rattle.rdf_cursor.proofs.Answers.{apart, err_is, ok_is}
+use Rattle.rdf_cursor.proofs.Locality.{prepend-append}
 use Rattle.rdf_lex.specs.declared.kinds.Mode.TheVariants.{Map}
 use Rattle.rdf_lex.specs.Tokens.{Spelled}
-use Rattle.rdf_cursor.specs.Meanings.{text_of}
-use Rattle.shape_map.specs.declared.faults.Fault.{Fault}
-use Rattle.shape_map.specs.declared.faults.Fault.TheVariants.{Syntax, Prefix}
+use Rattle.term_tokens.specs.Meanings.{text_of}
+use Rattle.rdf_cursor.specs.declared.stops.Fault.{Fault}
+use Rattle.rdf_cursor.specs.declared.stops.Fault.TheVariants.{Syntax, Prefix, Deep, Long, Full}
 use Rattle.shape_map.specs.declared.items.Item.{Item}
-use Rattle.shape_map.specs.declared.symbols.Symbol.{Symbol}
-use Rattle.shape_map.specs.declared.symbols.Symbol.TheVariants as symbol
+use Rattle.rdf_cursor.specs.declared.symbols.Symbol.{Symbol}
+use Rattle.rdf_cursor.specs.declared.symbols.Symbol.TheVariants as symbol
 use Rattle.shape_map.specs.Maps.{ends_in_mark, scope_at}
-use Rattle.shape_map.specs.Meanings.{Scope, prefix_of, name_in, joined, resolved, lexical, typed_by, iri_of, at_name_of, blank_of, blank_target_of, string_of, typed_of, tagged_of, shorthand_of}
-use Rattle.shape_map.specs.Reading.{R, mark, iri, datatyped, literal, resource, node, verb, or_any, of_subjects, of_objects, pattern, triples, selector, target, wish, asked, item, added, behind, items, all_items, shape_map}
-use Rattle.shape_map.specs.Symbols.{symbol_of, is_symbol, is_among, names, prefixed, shorthands, target_marks}
-use Rattle.shape_map.proofs.Complete.{iris, string_begins, tagged_begins, shorthand_begins, blank_begins, iri_begins}
-use Rattle.shape_map.proofs.Nexts.{Next, no_next, first, within, outside, widen, single}
+use Rattle.term_tokens.specs.Scopes.{Scope}
+use Rattle.term_tokens.specs.Terms.{prefix_of, name_in, iri_ref_of, tags, tagged_of, joined, resolved, lexical, typed_by, iri_of, at_name_of, string_of, typed_of, shorthand_of, names, shorthands}
+use Rattle.shape_map.specs.Meanings.{node_tags, node_tagged_of, blank_of, blank_target_of, prefixed, target_marks}
+use Rattle.shape_map.specs.Reading.{R, iri, literal, resource, node, verb, or_any, of_subjects, of_objects, pattern, triples, selector, target, wish, asked, item, added, behind, items, all_items, shape_map}
+use Rattle.rdf_cursor.specs.Marks.{mark}
+use Rattle.rdf_cursor.specs.Symbols.{symbol_of, is_symbol, is_among}
+use Rattle.term_tokens.proofs.Literals as any
+use Rattle.shape_map.proofs.Complete.{iris, tagged_begins, blank_begins, iri_begins}
+use Rattle.term_tokens.proofs.Nexts.{Next, no_next, first, within, outside, widen, single}
 
 -- what was passed, and what was passed before a fault
 pub record Passes {A : Type 0} (p : R A) (G : List Spelled → Type 0) (P : List Spelled → Fault → Ahead Spelled → Type 0) (ts : Ahead Spelled) : Type 0 where
@@ -167,6 +171,9 @@ IsUnknown ks v rest = (t : Spelled) × (more : Ahead Spelled) × (rest ≡ token
 abbrev Cause : List Symbol → Scope → Fault → Ahead Spelled → Type 0
 Cause ks v Syntax rest = Unit {0}
 Cause ks v Prefix rest = IsUnknown ks v rest
+Cause ks v Deep rest = ⊥
+Cause ks v Long rest = ⊥
+Cause ks v Full rest = ⊥
 
 err_of : {A : Type 0} (a b : Fault) → Path (Result A Fault) (Err a) (Err b) → a ≡ b
 err_of a b e = cc
@@ -178,50 +185,54 @@ syntax_only : {A : Type 0} (ks : List Symbol) (v : Scope) (rest : Ahead Spelled)
 syntax_only ks v rest f e = subst (λ (g : Fault). Cause ks v g rest) (err_of Syntax f e) tt
 
 module _ (ks : List Symbol) (v : Scope) (t : Spelled) (rest : Ahead Spelled) (f : Fault) where
-  joined_bad : (local found : Option (List ℕ)) → is_among ks t ≡ true → v.prefixes (prefix_of t) ≡ found → joined local found ≡ Err f → Cause ks v f (token t rest)
+  joined_bad : (local found : Option (List ℕ)) → is_among ks t ≡ true → v.prefixes (prefix_of t) ≡ found → joined false local found ≡ Err f → Cause ks v f (token t rest)
   joined_bad None found n e is = syntax_only ks v (token t rest) f is
   joined_bad (Some local) None n e is = subst (λ (g : Fault). Cause ks v g (token t rest)) (err_of Prefix f is) (t, rest, refl, n, e)
   joined_bad (Some local) (Some found) n e is = absurd (no_err (found ++ _) f is)
 
-  resolved_bad : (text : Option (List ℕ)) → resolved v text ≡ Err f → Cause ks v f (token t rest)
+  resolved_bad : (text : Option (List ℕ)) → resolved false v text ≡ Err f → Cause ks v f (token t rest)
   resolved_bad None is = syntax_only ks v (token t rest) f is
   resolved_bad (Some text) is = absurd (no_err _ f is)
 
-iri_bad : (v : Scope) (t : Spelled) (rest : Ahead Spelled) (f : Fault) → iri_of v t ≡ Err f → Cause names v f (token t rest)
-unfolding iri_of
+iri_bad : (v : Scope) (t : Spelled) (rest : Ahead Spelled) (f : Fault) → iri_of false v t ≡ Err f → Cause names v f (token t rest)
+unfolding iri_of iri_ref_of
 iri_bad v t rest f is = by (is_among names t) (is_symbol symbol.IriRef t) refl is
   where
-    by : (a b : Bool) → is_among names t ≡ a → cond a (name_in v t) (cond b (resolved v (text_of Map t)) (Err Syntax)) ≡ Err f → Cause names v f (token t rest)
-    by true b e is = joined_bad names v t rest f (text_of Map t) (v.prefixes (prefix_of t)) e refl is
-    by false true e is = resolved_bad names v t rest f (text_of Map t) is
+    by : (a b : Bool) → is_among names t ≡ a → cond a (name_in false v t) (cond b (resolved false v (text_of t)) (Err Syntax)) ≡ Err f → Cause names v f (token t rest)
+    by true b e is = joined_bad names v t rest f (text_of t) (v.prefixes (prefix_of t)) e refl is
+    by false true e is = resolved_bad names v t rest f (text_of t) is
     by false false e is = syntax_only names v (token t rest) f is
 
-at_name_bad : (v : Scope) (t : Spelled) (rest : Ahead Spelled) (f : Fault) → at_name_of v t ≡ Err f → Cause (symbol.AtName ∷ []) v f (token t rest)
+at_name_bad : (v : Scope) (t : Spelled) (rest : Ahead Spelled) (f : Fault) → at_name_of false v t ≡ Err f → Cause (symbol.AtName ∷ []) v f (token t rest)
 unfolding at_name_of
 at_name_bad v t rest f is = by (is_symbol symbol.AtName t) refl is
   where
-    by : (a : Bool) → is_symbol symbol.AtName t ≡ a → cond a (name_in v t) (Err Syntax) ≡ Err f → Cause (symbol.AtName ∷ []) v f (token t rest)
-    by true e is = joined_bad (symbol.AtName ∷ []) v t rest f (text_of Map t) (v.prefixes (prefix_of t)) (sym (single symbol.AtName (token t finished)) ∙ e) refl is
+    by : (a : Bool) → is_symbol symbol.AtName t ≡ a → cond a (name_in false v t) (Err Syntax) ≡ Err f → Cause (symbol.AtName ∷ []) v f (token t rest)
+    by true e is = joined_bad (symbol.AtName ∷ []) v t rest f (text_of t) (v.prefixes (prefix_of t)) (sym (single symbol.AtName (token t finished)) ∙ e) refl is
     by false e is = syntax_only (symbol.AtName ∷ []) v (token t rest) f is
 
 guard_bad : {A : Type 0} (ks : List Symbol) (v : Scope) (rest : Ahead Spelled) (f : Fault) (b : Bool) (x : A) → cond b (Ok x) (Err Syntax) ≡ Err f → Cause ks v f rest
 guard_bad ks v rest f true x is = absurd (no_err x f is)
 guard_bad ks v rest f false x is = syntax_only ks v rest f is
 
-string_bad : (ks : List Symbol) (v : Scope) (t : Spelled) (rest : Ahead Spelled) (f : Fault) → string_of t ≡ Err f → Cause ks v f (token t rest)
+string_bad : (ks : List Symbol) (v : Scope) (t : Spelled) (rest : Ahead Spelled) (f : Fault) → string_of false t ≡ Err f → Cause ks v f (token t rest)
 unfolding string_of
-string_bad ks v t rest f is = by (is_symbol symbol.Str t) (text_of Map t) is
+string_bad ks v t rest f is = by (is_symbol symbol.Str t) (text_of t) is
   where
-    by : (b : Bool) (o : Option (List ℕ)) → cond b (lexical o) (Err Syntax) ≡ Err f → Cause ks v f (token t rest)
+    by : (b : Bool) (o : Option (List ℕ)) → cond b (lexical false o) (Err Syntax) ≡ Err f → Cause ks v f (token t rest)
     by true None is = syntax_only ks v (token t rest) f is
     by true (Some x) is = absurd (no_err x f is)
     by false o is = syntax_only ks v (token t rest) f is
 
-tagged_bad : (ks : List Symbol) (v : Scope) (lex : List ℕ) (t : Spelled) (rest : Ahead Spelled) (f : Fault) → tagged_of lex t ≡ Err f → Cause ks v f (token t rest)
-unfolding tagged_of
-tagged_bad ks v lex t rest f is = guard_bad ks v (token t rest) f (is_symbol symbol.LangTag t) _ is
+tagged_bad : (ks : List Symbol) (v : Scope) (lex : List ℕ) (t : Spelled) (rest : Ahead Spelled) (f : Fault) → node_tagged_of lex t ≡ Err f → Cause ks v f (token t rest)
+unfolding node_tagged_of tagged_of
+tagged_bad ks v lex t rest f is = by (is_among node_tags t) (is_among tags t) _ is
+  where
+    by : (b c : Bool) (x : Term) → cond b (cond c (Ok x) (Err Syntax)) (Err Syntax) ≡ Err f → Cause ks v f (token t rest)
+    by true c x is = guard_bad ks v (token t rest) f c x is
+    by false c x is = syntax_only ks v (token t rest) f is
 
-shorthand_bad : (ks : List Symbol) (v : Scope) (t : Spelled) (rest : Ahead Spelled) (f : Fault) → shorthand_of t ≡ Err f → Cause ks v f (token t rest)
+shorthand_bad : (ks : List Symbol) (v : Scope) (t : Spelled) (rest : Ahead Spelled) (f : Fault) → shorthand_of false t ≡ Err f → Cause ks v f (token t rest)
 unfolding shorthand_of
 shorthand_bad ks v t rest f is = guard_bad ks v (token t rest) f (is_among shorthands t) _ is
 
@@ -233,23 +244,23 @@ blank_target_bad : (ks : List Symbol) (v : Scope) (t : Spelled) (rest : Ahead Sp
 unfolding blank_target_of
 blank_target_bad ks v t rest f is = guard_bad ks v (token t rest) f (is_symbol symbol.BlankLabel t) _ is
 
-typed_bad : (v : Scope) (lex : List ℕ) (t : Spelled) (rest : Ahead Spelled) (f : Fault) → typed_of v lex t ≡ Err f → Cause names v f (token t rest)
+typed_bad : (v : Scope) (lex : List ℕ) (t : Spelled) (rest : Ahead Spelled) (f : Fault) → typed_of false v lex t ≡ Err f → Cause names v f (token t rest)
 unfolding typed_of
-typed_bad v lex t rest f is = by (iri_of v t) refl is
+typed_bad v lex t rest f is = by (iri_of false v t) refl is
   where
     lang : (b : Bool) (x : Term) → cond b (Err Syntax) (Ok x) ≡ Err f → Cause names v f (token t rest)
     lang true x is = syntax_only names v (token t rest) f is
     lang false x is = absurd (no_err x f is)
 
-    by : (i : Result (List ℕ) Fault) → iri_of v t ≡ i → typed_by lex i ≡ Err f → Cause names v f (token t rest)
+    by : (i : Result (List ℕ) Fault) → iri_of false v t ≡ i → typed_by lex i ≡ Err f → Cause names v f (token t rest)
     by (Ok i) e is = lang _ _ is
     by (Err d) e is = iri_bad v t rest f (e ∙ ap (λ (g : Fault). Err g) (err_of d f is))
 
-typed_begins : (v : Scope) (lex : List ℕ) (x : Term) (ts r : Ahead Spelled) → Is (typed_of v lex) x ts r → Next iris ts
+typed_begins : (v : Scope) (lex : List ℕ) (x : Term) (ts r : Ahead Spelled) → Is (typed_of false v lex) x ts r → Next iris ts
 unfolding typed_of
-typed_begins v lex x ts r (t, is, e) = by (iri_of v t) refl e
+typed_begins v lex x ts r (t, is, e) = by (iri_of false v t) refl e
   where
-    by : (i : Result (List ℕ) Fault) → iri_of v t ≡ i → typed_by lex i ≡ Ok x → Next iris ts
+    by : (i : Result (List ℕ) Fault) → iri_of false v t ≡ i → typed_by lex i ≡ Ok x → Next iris ts
     by (Ok i) k e = iri_begins v i ts r (t, is, k)
     by (Err d) k e = absurd cc
 
@@ -279,8 +290,8 @@ module _ (v : Scope) where
   iri_plain ts = class_plain iris refl (iri_begins v) (iri_bad v)
 
   literal_plain : (ts : Ahead Spelled) → Passes (literal v) IsPlain At ts
-  unfolding literal datatyped
-  literal_plain ts = plain_bind (class_plain (symbol.Str ∷ []) refl string_begins (string_bad names v)) (λ lex m. passes_either (class_plain (symbol.LangTag ∷ []) refl (tagged_begins lex) (tagged_bad names v lex))
+  unfolding literal
+  literal_plain ts = plain_bind (class_plain (symbol.Str ∷ []) refl (any.string_begins false) (string_bad names v)) (λ lex m. passes_either (class_plain node_tags refl (tagged_begins lex) (tagged_bad names v lex))
       (passes_either (plain_bind (mark_plain symbol.Carets refl) (λ _ n. class_plain iris refl (typed_begins v lex) (typed_bad v lex))) plain_give))
 
   resource_plain : (ts : Ahead Spelled) → Passes (resource v) IsPlain At ts
@@ -289,7 +300,7 @@ module _ (v : Scope) where
 
   node_plain : (ts : Ahead Spelled) → Passes (node v) IsPlain At ts
   unfolding node
-  node_plain ts = passes_either (literal_plain ts) (passes_either (class_plain shorthands refl shorthand_begins (shorthand_bad names v)) (resource_plain ts))
+  node_plain ts = passes_either (literal_plain ts) (passes_either (class_plain shorthands refl (any.shorthand_begins false) (shorthand_bad names v)) (resource_plain ts))
 
   verb_plain : (ts : Ahead Spelled) → Passes (verb v) IsPlain At ts
   unfolding verb
@@ -324,6 +335,9 @@ among ks js t w h = widen ks js (symbol_of t.kind t.text) w h
 module _ (nodes labels : Scope) where
   abbrev pub Behind : List Spelled → Fault → Ahead Spelled → Type 0
   Behind front Syntax rest = Unit {0}
+  Behind front Deep rest = ⊥
+  Behind front Long rest = ⊥
+  Behind front Full rest = ⊥
   Behind front Prefix rest = (t : Spelled) × (more : Ahead Spelled) × (rest ≡ token t more) × (is_among prefixed t ≡ true) × ((scope_at nodes labels front t).prefixes (prefix_of t) ≡ None)
 
   no_at : (t : Spelled) → is_among names t ≡ true → is_symbol symbol.AtName t ≡ false
@@ -341,17 +355,26 @@ module _ (nodes labels : Scope) where
 
   of_node : (b front : List Spelled) (f : Fault) (rest : Ahead Spelled) → ends_in_mark b ≡ false → At nodes front f rest → Behind (b ++ front) f rest
   of_node b front Syntax rest e h = tt
+  of_node b front Deep rest e h = h.1
+  of_node b front Long rest e h = h.1
+  of_node b front Full rest e h = h.1
   of_node b front Prefix rest e (p, (t, more, is, n, none)) =
       (t, more, is, among names prefixed t refl n, ap (λ (v : Scope). v.prefixes (prefix_of t)) (node_scope (b ++ front) t (plain_end b front e p) n) ∙ none)
 
   -- one token behind a mark
   of_label : (b : List Spelled) (f : Fault) (rest : Ahead Spelled) → ends_in_mark b ≡ true → Cause names labels f rest → Behind b f rest
   of_label b Syntax rest e h = tt
+  of_label b Deep rest e h = h
+  of_label b Long rest e h = h
+  of_label b Full rest e h = h
   of_label b Prefix rest e (t, more, is, n, none) =
       (t, more, is, among names prefixed t refl n, ap (λ (v : Scope). v.prefixes (prefix_of t)) (label_scope b t (or_true (is_symbol symbol.AtName t) (ends_in_mark b) e)) ∙ none)
 
   of_at_name : (b : List Spelled) (f : Fault) (rest : Ahead Spelled) → Cause (symbol.AtName ∷ []) labels f rest → Behind b f rest
   of_at_name b Syntax rest h = tt
+  of_at_name b Deep rest h = h
+  of_at_name b Long rest h = h
+  of_at_name b Full rest h = h
   of_at_name b Prefix rest (t, more, is, n, none) =
       let a : is_symbol symbol.AtName t ≡ true = single symbol.AtName (token t finished) ∙ n in
       (t, more, is, among (symbol.AtName ∷ []) prefixed t refl n, ap (λ (v : Scope). v.prefixes (prefix_of t)) (label_scope b t (rw a refl)) ∙ none)
@@ -439,7 +462,7 @@ module _ (nodes labels : Scope) where
   finish_on b xs broken = record { good = λ y e. absurd (apart y (Syntax, broken) (sym e)); bad = λ e is. at_end b broken e is }
   finish_on b xs (token t ts) = record { good = λ y e. absurd (apart y (Syntax, token t ts) (sym e)); bad = λ e is. at_end b (token t ts) e is }
 
-  -- a fault of the reader stands behind some tokens
+  -- a fault of the reader stands behind some tokens, and comes from no limit
   pub map_on : (ts : Ahead Spelled) → Passes (shape_map nodes labels) All (On []) ts
   unfolding shape_map all_items
   map_on ts = behind_bind [] (passes_either (items_on ts) (on_give [])) (λ xs m front k. finish_on front xs m)

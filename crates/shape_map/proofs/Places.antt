@@ -1,30 +1,29 @@
 -- Each rule looks no further than the next token, and takes one where it has to.
-use Rattle.std.proofs.Common.{ℕ, List, []}
-use Rattle.token_readers.specs.Properties.{IsLocal, Consumes}
-use Rattle.token_readers.proofs.Consuming.{consumes_one, consumes_bind}
-use Rattle.token_readers.proofs.Locality.{local_give, local_one, local_bind, local_either, local_finish}
-use Rattle.token_readers.proofs.Loops.{local_loop}
+use Rattle.std.proofs.Common.{ℕ, false, List, []}
+use Rattle.rdf_cursor.specs.Properties.{IsLocal, Consumes}
+use Rattle.rdf_cursor.proofs.Consuming.{consumes_one, consumes_bind}
+use Rattle.rdf_cursor.proofs.Locality.{local_give, local_one, local_bind, local_either, local_finish}
+use Rattle.rdf_cursor.proofs.Loops.{local_loop}
 use Rattle.rdf_terms.specs.declared.terms.Term.{Term}
 use Rattle.shape_map.specs.declared.items.Item.{Item}
-use Rattle.shape_map.specs.Meanings.{Scope}
-use Rattle.shape_map.specs.Reading.{R, iri, datatyped, literal, resource, node, verb, or_any, of_subjects, of_objects, pattern, triples, selector, target, wish, asked, item, added, behind, items, all_items, shape_map}
+use Rattle.term_tokens.specs.Scopes.{Scope}
+use Rattle.term_tokens.specs.Terms.{iri_of}
+use Rattle.term_tokens.proofs.Literals as any
+use Rattle.shape_map.specs.Meanings.{blank_of}
+use Rattle.shape_map.specs.Reading.{R, iri, literal, resource, node, verb, or_any, of_subjects, of_objects, pattern, triples, selector, target, wish, asked, item, added, behind, items, all_items, shape_map}
 
 module _ (v : Scope) where
   local_iri : IsLocal (iri v)
   unfolding iri
   local_iri = local_one _ _
 
-  local_datatyped : (lex : List ℕ) → IsLocal (datatyped v lex)
-  unfolding datatyped
-  local_datatyped lex = local_bind _ _ (local_one _ _) (λ _. local_one _ _)
-
   local_literal : IsLocal (literal v)
   unfolding literal
-  local_literal = local_bind _ _ (local_one _ _) (λ lex. local_either _ _ _ (local_one _ _) (local_either _ _ _ (local_datatyped lex) (local_give _)))
+  local_literal = any.local_literal _ _ _ _
 
   local_resource : IsLocal (resource v)
   unfolding resource
-  local_resource = local_either _ _ _ (local_one _ _) (local_bind _ _ local_iri (λ i. local_give _))
+  local_resource = any.local_resource (iri v) (iri_of false v) blank_of local_iri
 
   local_node : IsLocal (node v)
   unfolding node

@@ -1,29 +1,31 @@
 -- What is read is spelled so.
-use Rattle.std.proofs.Common.{ℕ, List, [], refl, subst, inl, inr}
-use Rattle.token_readers.specs.Ahead.{Ahead}
-use Rattle.token_readers.specs.Phrases.{Phrase, Is, ◌⨾◌, Many}
-use Rattle.token_readers.proofs.Soundness.{Meets, meets_give, meets_one, meets_bind, meets_either, meets_finish, meets_rule, meets_loop}
+use Rattle.std.proofs.Common.{ℕ, false, List, [], refl, subst, inl, inr}
+use Rattle.rdf_cursor.specs.Ahead.{Ahead}
+use Rattle.rdf_cursor.specs.Phrases.{Phrase, Is, ◌⨾◌, Many}
+use Rattle.rdf_cursor.proofs.Soundness.{Meets, meets_give, meets_one, meets_bind, meets_either, meets_finish, meets_rule, meets_loop}
 use Rattle.rdf_lex.specs.Tokens.{Spelled}
 use Rattle.rdf_terms.specs.declared.terms.Term.{Term}
 use Rattle.shape_map.specs.declared.items.Item.{Item}
-use Rattle.shape_map.specs.Meanings.{Scope, iri_of}
-use Rattle.shape_map.specs.Reading.{R, iri, datatyped, literal, resource, node, verb, or_any, of_subjects, of_objects, pattern, triples, selector, target, wish, asked, item, added, behind, items, all_items, shape_map}
+use Rattle.term_tokens.specs.Scopes.{Scope}
+use Rattle.term_tokens.specs.Terms.{iri_of, string_of, typed_of}
+use Rattle.term_tokens.proofs.Literals as any
+use Rattle.shape_map.specs.Meanings.{node_tags, node_tagged_of, blank_of}
+use Rattle.shape_map.specs.Reading.{R, iri, literal, resource, node, verb, or_any, of_subjects, of_objects, pattern, triples, selector, target, wish, asked, item, added, behind, items, all_items, shape_map}
 use Rattle.shape_map.specs.Grammar as g
 use Rattle.shape_map.proofs.Places.{consumes_behind}
 
 module _ (v : Scope) where
-  iri_meets : (P : List ℕ → Ahead Spelled → Type 0) (ts : Ahead Spelled) → ((i : List ℕ) (r : Ahead Spelled) → Is (iri_of v) i ts r → P i r) → Meets (iri v) P ts
+  iri_meets : (P : List ℕ → Ahead Spelled → Type 0) (ts : Ahead Spelled) → ((i : List ℕ) (r : Ahead Spelled) → Is (iri_of false v) i ts r → P i r) → Meets (iri v) P ts
   unfolding iri
   iri_meets P ts h = meets_one h
 
   literal_meets : (ts : Ahead Spelled) → Meets (literal v) (λ x r. g.Literal v x ts r) ts
-  unfolding literal datatyped
-  literal_meets ts = meets_bind (meets_one (λ lex m s. meets_either (meets_one (λ x r h. (lex, (m, s, inr (inl h)))))
-      (meets_either (meets_bind (meets_one (λ w n c. meets_one (λ x r h. (lex, (m, s, inr (inr (n, (w, c), h)))))))) (meets_give (lex, (m, s, inl (refl, refl)))))))
+  unfolding literal
+  literal_meets ts = any.literal_meets node_tags (string_of false) node_tagged_of (typed_of false v) ts
 
   resource_meets : (ts : Ahead Spelled) → Meets (resource v) (λ x r. g.Resource v x ts r) ts
   unfolding resource
-  resource_meets ts = meets_either (meets_one (λ x r h. inr h)) (meets_bind (iri_meets _ ts (λ i r h. meets_give (inl (i, refl, h)))))
+  resource_meets ts = any.resource_meets (iri v) (iri_of false v) blank_of ts (iri_meets _ ts (λ i r h. h))
 
   node_meets : (ts : Ahead Spelled) → Meets (node v) (λ x r. g.Node v x ts r) ts
   unfolding node

@@ -1,9 +1,10 @@
 -- The grammar of shape maps (ShapeMap Structure and Language, section 3.1) with what each rule stands for. A rule relates what lies ahead before and behind
 -- its tokens. The numbers in brackets are those of the rules of RDF 1.1 Turtle, section 6.5.
 use Rattle.std.specs.Prelude.{◌≡◌, ℕ, Bool, true, false, List, [], ◌∷◌, ◌++◌, ◌⊎◌, Option, Some, None}
-use Rattle.token_readers.specs.Ahead.{Ahead, finished}
-use Rattle.token_readers.specs.Phrases.{Phrase, Is, ◌⨾◌, Many}
-use Rattle.rdf_terms.specs.Literals.{xsd_string}
+use Rattle.rdf_cursor.specs.Ahead.{Ahead, finished}
+use Rattle.rdf_cursor.specs.Phrases.{Phrase, Is, Nothing, ◌⨾◌, Many}
+use Rattle.rdf_cursor.specs.Marks.{Mark}
+use Rattle.rdf_terms.specs.Vocabulary.{xsd_string, rdf_type}
 use Rattle.rdf_terms.specs.declared.terms.Term.{Term}
 use Rattle.rdf_lex.specs.Tokens.{Spelled}
 use Rattle.schema_tree.specs.declared.schema.Target as goal
@@ -13,37 +14,31 @@ use Rattle.shape_map.specs.declared.items.TriplePattern.{TriplePattern}
 use Rattle.shape_map.specs.declared.items.Selector as kind
 use Rattle.shape_map.specs.declared.items.Selector.TheVariants as selector
 use Rattle.shape_map.specs.declared.items.Item as whole
-use Rattle.shape_map.specs.declared.symbols.Symbol.{Symbol}
-use Rattle.shape_map.specs.declared.symbols.Symbol.TheVariants as symbol
-use Rattle.shape_map.specs.Meanings.{Scope, iri_of, at_name_of, blank_of, blank_target_of, iri_target, iri_term, string_of, typed, typed_of, tagged_of, shorthand_of}
-use Rattle.shape_map.specs.Symbols.{of_symbol}
-use Rattle.shape_map.specs.Vocabulary.{rdf_type}
-
--- a token that is this symbol
-abbrev pub Mark : Symbol → Phrase Spelled
-Mark a ts r = (t : Spelled) × Is (of_symbol a) t ts r
-
--- no token
-abbrev pub Nothing : Phrase Spelled
-Nothing ts r = ts ≡ r
+use Rattle.rdf_cursor.specs.declared.symbols.Symbol.{Symbol}
+use Rattle.rdf_cursor.specs.declared.symbols.Symbol.TheVariants as symbol
+use Rattle.term_tokens.specs.Scopes.{Scope}
+use Rattle.term_tokens.specs.Literals as any
+use Rattle.term_tokens.specs.Terms.{iri_of, at_name_of, iri_term, string_of, typed, typed_of, shorthand_of}
+use Rattle.shape_map.specs.Meanings.{node_tagged_of, blank_of, blank_target_of, iri_target}
+use Rattle.rdf_cursor.specs.Symbols.{of_symbol}
 
 -- nodes, by the base and the prefixes of the data
 module _ (v : Scope) where
-  -- RDFLiteral [128s]: a string, alone, with a language tag, or with a datatype
+  -- RDFLiteral [128s]
   abbrev pub Literal : Term → Phrase Spelled
-  Literal x ts r = (lex : List ℕ) × (Is string_of lex ⨾ (λ m q. ((typed lex xsd_string ≡ x) × Nothing m q) ⊎ (Is (tagged_of lex) x m q ⊎ (Mark symbol.Carets ⨾ Is (typed_of v lex) x) m q))) ts r
+  Literal x ts r = any.Literal (string_of false) node_tagged_of (typed_of false v) x ts r
 
   -- iri [135s] or BLANK_NODE_LABEL [141s]
   abbrev pub Resource : Term → Phrase Spelled
-  Resource x ts r = ((i : List ℕ) × (iri_term i ≡ x) × Is (iri_of v) i ts r) ⊎ Is blank_of x ts r
+  Resource x ts r = any.Resource (iri_of false v) blank_of x ts r
 
   -- a node: a literal [13], or an IRI or a blank node
   abbrev pub Node : Term → Phrase Spelled
-  Node x ts r = Literal x ts r ⊎ (Is shorthand_of x ts r ⊎ Resource x ts r)
+  Node x ts r = Literal x ts r ⊎ (Is (shorthand_of false) x ts r ⊎ Resource x ts r)
 
   -- verb [9]: `a` or an IRI
   abbrev pub Verb : Term → Phrase Spelled
-  Verb p ts r = ((iri_term rdf_type ≡ p) × Mark symbol.A ts r) ⊎ ((i : List ℕ) × (iri_term i ≡ p) × Is (iri_of v) i ts r)
+  Verb p ts r = ((iri_term rdf_type ≡ p) × Mark symbol.A ts r) ⊎ ((i : List ℕ) × (iri_term i ≡ p) × Is (iri_of false v) i ts r)
 
   -- `_` for any node, or the one that is asked for
   abbrev pub OrAny : (Term → Phrase Spelled) → Option Term → Phrase Spelled
@@ -69,7 +64,7 @@ module _ (v : Scope) where
 module _ (v : Scope) where
   -- a label: an IRI or that of a blank node; or the start
   abbrev pub Target : goal.Target → Phrase Spelled
-  Target t ts r = ((target.Start ≡ t) × Mark symbol.Start ts r) ⊎ (Is blank_target_of t ts r ⊎ ((i : List ℕ) × (iri_target i ≡ t) × Is (iri_of v) i ts r))
+  Target t ts r = ((target.Start ≡ t) × Mark symbol.Start ts r) ⊎ (Is blank_target_of t ts r ⊎ ((i : List ℕ) × (iri_target i ≡ t) × Is (iri_of false v) i ts r))
 
   -- what is asked for: a target, and whether the node is to have it
   abbrev pub Wish : goal.Target → Bool → Phrase Spelled
@@ -79,7 +74,7 @@ module _ (v : Scope) where
   abbrev pub Asked : goal.Target → Bool → Phrase Spelled
   Asked t b ts r =
       ((target.Start ≡ t) × (true ≡ b) × Mark symbol.AtStart ts r)
-      ⊎ (((i : List ℕ) × (iri_target i ≡ t) × (true ≡ b) × Is (at_name_of v) i ts r) ⊎ (Mark symbol.At ⨾ Wish t b) ts r)
+      ⊎ (((i : List ℕ) × (iri_target i ≡ t) × (true ≡ b) × Is (at_name_of false v) i ts r) ⊎ (Mark symbol.At ⨾ Wish t b) ts r)
 
 module _ (nodes labels : Scope) where
   -- an association: a selector, and what is asked for

@@ -1,11 +1,10 @@
-pub mod Symbols
-pub mod Vocabulary
 pub mod Meanings
 pub mod Grammar
 pub mod Reading
 pub mod Gives
 pub mod Maps
 pub mod Results
-pub mod Copies
 pub mod Selection
 pub mod Resolving
+pub mod Answers
+pub mod Messages

@@ -1,17 +1,24 @@
 -- What the bytes of a shape map spell, and what the answers of the reader say of them.
-use Rattle.std.specs.Prelude.{◌≡◌, ℕ, Bool, true, false, ◌||◌, if◌then◌else◌, List, [], ◌∷◌, None, Result, Ok, Err}
+use Rattle.std.specs.Prelude.{◌≡◌, ℕ, Bool, true, false, ◌||◌, if◌then◌else◌, List, [], ◌∷◌, None, Contains, Result, Ok, Err}
 use Rattle.std.specs.Str.{IsUtf8}
-use Rattle.token_readers.specs.Ahead.{finished, prepend}
+use Rattle.rdf_cursor.specs.Ahead.{finished, prepend}
+use Rattle.rdf_terms.specs.OneLine.{HasOneLine}
+use Rattle.rdf_terms.specs.declared.terms.Term.{Term}
 use Rattle.rdf_lex.specs.declared.kinds.Mode.TheVariants.{Map}
+use Rattle.rdf_lex.specs.Prefixes.{AreOneLine}
 use Rattle.rdf_lex.specs.Tokens.{Spelled, Between, IsFirst, Tokens}
 use Rattle.rdf_cursor.specs.Places.{IsFaultPlace}
+use Rattle.schema_tree.specs.Targets.{target_text}
 use Rattle.shape_map.specs.declared.error.MapError.{MapError}
 use Rattle.shape_map.specs.declared.error.MapError.TheVariants as error
 use Rattle.shape_map.specs.declared.items.Item.{Item}
-use Rattle.shape_map.specs.declared.symbols.Symbol.TheVariants as symbol
+use Rattle.rdf_cursor.specs.declared.symbols.Symbol.TheVariants as symbol
 use Rattle.shape_map.specs.Grammar.{ShapeMap}
-use Rattle.shape_map.specs.Meanings.{Scope, prefix_of}
-use Rattle.shape_map.specs.Symbols.{is_symbol, is_among, prefixed, target_marks}
+use Rattle.term_tokens.specs.Scopes.{Scope}
+use Rattle.term_tokens.specs.Terms.{prefix_of}
+use Rattle.rdf_cursor.specs.Symbols.{is_symbol, is_among}
+use Rattle.shape_map.specs.Meanings.{prefixed, target_marks}
+use Rattle.shape_map.specs.Selection.{written}
 
 -- the tokens are a map of these items: nodes have the base and the prefixes of the data, targets those of the schema
 abbrev pub Spells : Scope → Scope → List Item → List Spelled → Type 0
@@ -67,3 +74,9 @@ ReadsAs (Err error.Full) xs = ⊥
 -- the bytes are a map of one list of items at most
 abbrev pub MapsAreOne : Type 0
 MapsAreOne = (nodes labels : Scope) (source : List ℕ) (xs ys : List Item) → IsMap nodes labels source xs → IsMap nodes labels source ys → xs ≡ ys
+
+-- under bases and prefixes on one line each node that is written in a shape map can stand on one line, and no target has a line feed in its text
+-- (ShapeMap Structure and Language, section 3.1; RDF 1.1 Concepts, section 3.3)
+abbrev pub MapHasLines : Type 0
+MapHasLines = (nodes labels : Scope) (bytes : List ℕ) (items : List Item) → AreOneLine nodes.base nodes.prefixes → AreOneLine labels.base labels.prefixes
+    → IsMap nodes labels bytes items → (i : Item) → Contains items i → ((t : Term) → Contains (written i.selector) t → HasOneLine t) × ¬ Contains (target_text i.target) 10

@@ -1,47 +1,43 @@
 -- What is read from the front of a list of tokens: one small definition for each rule of the grammar.
 use Rattle.std.specs.Prelude.{Bool, true, false, ℕ, List, [], ◌∷◌, ◌++◌, Option, Some, None}
-use Rattle.token_readers.specs.Readers.{Reader, ◌>>=◌, give, one, either, loop, finish}
-use Rattle.rdf_terms.specs.Literals.{xsd_string}
+use Rattle.rdf_cursor.specs.Marks.{mark}
+use Rattle.rdf_cursor.specs.Readers.{Reader, ◌>>=◌, give, one, either, loop, finish}
+use Rattle.rdf_terms.specs.Vocabulary.{xsd_string, rdf_type}
 use Rattle.rdf_terms.specs.declared.terms.Term.{Term}
 use Rattle.rdf_lex.specs.Tokens.{Spelled}
 use Rattle.schema_tree.specs.declared.schema.Target.{Target}
 use Rattle.schema_tree.specs.declared.schema.Target.TheVariants as targets
-use Rattle.shape_map.specs.declared.faults.Fault.{Fault}
-use Rattle.shape_map.specs.declared.faults.Fault.TheVariants.{Syntax}
+use Rattle.rdf_cursor.specs.declared.stops.Fault.{Fault}
+use Rattle.rdf_cursor.specs.declared.stops.Fault.TheVariants.{Syntax}
 use Rattle.shape_map.specs.declared.items.Focus.TheVariants as focus
 use Rattle.shape_map.specs.declared.items.TriplePattern.{TriplePattern}
 use Rattle.shape_map.specs.declared.items.Selector.{Selector}
 use Rattle.shape_map.specs.declared.items.Selector.TheVariants as selectors
 use Rattle.shape_map.specs.declared.items.Item.{Item}
-use Rattle.shape_map.specs.declared.symbols.Symbol.{Symbol}
-use Rattle.shape_map.specs.declared.symbols.Symbol.TheVariants as symbol
-use Rattle.shape_map.specs.Meanings.{Scope, iri_of, at_name_of, blank_of, blank_target_of, iri_target, iri_term, string_of, typed, typed_of, tagged_of, shorthand_of}
-use Rattle.shape_map.specs.Symbols.{of_symbol, is_symbol, is_among, is_any, shorthands}
-use Rattle.shape_map.specs.Vocabulary.{rdf_type}
+use Rattle.rdf_cursor.specs.declared.symbols.Symbol.{Symbol}
+use Rattle.rdf_cursor.specs.declared.symbols.Symbol.TheVariants as symbol
+use Rattle.term_tokens.specs.Scopes.{Scope}
+use Rattle.term_tokens.specs.Literals.{literal_by, resource_by}
+use Rattle.term_tokens.specs.Terms.{iri_of, at_name_of, iri_term, string_of, typed, typed_of, shorthand_of, shorthands}
+use Rattle.shape_map.specs.Meanings.{node_tags, node_tagged_of, blank_of, blank_target_of, iri_target}
+use Rattle.rdf_cursor.specs.Symbols.{of_symbol, is_symbol, is_among, is_any}
 
 abbrev pub R : Type 0 → Type 0
 R A = Reader Spelled Fault A
 
-abbrev pub mark : Symbol → R Spelled
-mark a = one Syntax (of_symbol a)
-
 -- nodes, by the base and the prefixes of the data
 module _ (v : Scope) where
   unfoldable pub iri : R (List ℕ)
-  iri = one Syntax (iri_of v)
-
-  unfoldable pub datatyped : List ℕ → R Term
-  datatyped lex = mark symbol.Carets >>= λ _. one Syntax (typed_of v lex)
+  iri = one Syntax (iri_of false v)
 
   unfoldable pub literal : R Term
-  literal = one Syntax string_of >>= λ lex.
-      either (is_symbol symbol.LangTag) (one Syntax (tagged_of lex)) (either (is_symbol symbol.Carets) (datatyped lex) (give (typed lex xsd_string)))
+  literal = literal_by node_tags (string_of false) node_tagged_of (typed_of false v)
 
   unfoldable pub resource : R Term
-  resource = either (is_symbol symbol.BlankLabel) (one Syntax blank_of) (iri >>= λ i. give (iri_term i))
+  resource = resource_by iri blank_of
 
   unfoldable pub node : R Term
-  node = either (is_symbol symbol.Str) literal (either (is_among shorthands) (one Syntax shorthand_of) resource)
+  node = either (is_symbol symbol.Str) literal (either (is_among shorthands) (one Syntax (shorthand_of false)) resource)
 
   unfoldable pub verb : R Term
   verb = either (is_symbol symbol.A) (mark symbol.A >>= λ _. give (iri_term rdf_type)) (iri >>= λ i. give (iri_term i))
@@ -86,7 +82,7 @@ module _ (v : Scope) where
 
   unfoldable pub asked : R (Target × Bool)
   asked = either (is_symbol symbol.AtStart) (mark symbol.AtStart >>= λ _. give (targets.Start, true))
-      (either (is_symbol symbol.AtName) (one Syntax (at_name_of v) >>= λ i. give (iri_target i, true)) (mark symbol.At >>= λ _. wish))
+      (either (is_symbol symbol.AtName) (one Syntax (at_name_of false v) >>= λ i. give (iri_target i, true)) (mark symbol.At >>= λ _. wish))
 
 module _ (nodes labels : Scope) where
   unfoldable pub item : R Item

@@ -1,18 +1,9 @@
 -- The text of answers: a result shape map (ShapeMap Structure and Language, section 4).
-use Rattle.std.specs.Prelude.{ℕ, Bool, List, [], ◌∷◌, ◌++◌, codes, encode_utf8_all, if◌then◌else◌}
+use Rattle.std.specs.Prelude.{ℕ, Bool, List, [], ◌∷◌, ◌++◌, codes, if◌then◌else◌}
 use Rattle.rdf_terms.specs.declared.terms.Term.{Term}
 use Rattle.rdf_terms.specs.Order.{text_at}
-use Rattle.rdf_terms.specs.Written.{iri_text}
-use Rattle.schema_documents.specs.declared.label.Label.TheVariants as label
 use Rattle.schema_tree.specs.declared.schema.Answer.{Answer}
-use Rattle.schema_tree.specs.declared.schema.Target.{Target}
-use Rattle.schema_tree.specs.declared.schema.Target.TheVariants as target
-
--- a target: an IRI in angle brackets, a blank node's label, or the start
-abbrev pub target_text : Target → List ℕ
-target_text target.Start = codes "START"
-target_text (target.Label (label.Iri iri)) = iri_text iri
-target_text (target.Label (label.Blank name)) = codes "_:" ++ encode_utf8_all name
+use Rattle.schema_tree.specs.Targets.{target_text}
 
 -- the mark of an answer that does not hold
 abbrev pub mark : Bool → List ℕ

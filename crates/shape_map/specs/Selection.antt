@@ -1,12 +1,17 @@
 -- The associations that a shape map selects (ShapeMap Structure and Language, section 4).
-use Rattle.std.specs.Prelude.{◌≡◌, ◌↔◌, ◌≤◌, ◌<◌, ℕ, List, [], ◌∷◌, ◌++◌, map, length, Option, Some, None, slice_get, Contains, ⊤}
+use Rattle.std.specs.Prelude.{◌≡◌, ◌↔◌, ◌≤◌, ◌<◌, ◌⊎◌, ℕ, List, [], ◌∷◌, ◌++◌, map, length, Option, Some, None, slice_get, Contains, ⊤}
+use Rattle.std.specs.Cmp.Lexicographic.{slice_cmp}
+use Rattle.std.specs.List.{flat_map}
 use Rattle.std.specs.List.Sorted.{IsStrictlySortedBy}
+use Rattle.std.specs.Ordering.{nat_cmp}
+use Rattle.std.specs.declared.cmp.Ordering.{Ordering}
 use Rattle.rdf_terms.specs.Order.{compare_at}
 use Rattle.rdf_terms.specs.Tables.{max_terms}
+use Rattle.rdf_terms.specs.Written.{term_text}
 use Rattle.rdf_terms.specs.declared.terms.Term.{Term}
 use Rattle.rdf_terms.specs.declared.terms.TermId.{TermId}
 use Rattle.rdf_terms.specs.declared.terms.Triple.{Triple}
-use Rattle.graph_loading.specs.Loading.{AddsAll}
+use Rattle.lists.specs.Additions.{AddsAll}
 use Rattle.schema_tree.specs.Loaded.{IsTarget, HasTarget}
 use Rattle.schema_tree.specs.declared.schema.ExprId.{ExprId}
 use Rattle.schema_tree.specs.declared.schema.Schema.{Schema}
@@ -35,10 +40,10 @@ abbrev pub at_other : Focus → Triple → TermId
 at_other Subject t = t.o
 at_other Object t = t.s
 
--- the term of a number is the one that is asked for, if one is
-abbrev pub IsAsked : List Term → Option Term → TermId → Type 0
-IsAsked terms None n = ⊤
-IsAsked terms (Some x) n = slice_get terms n.0 ≡ Some x
+-- a node may stand at an end of a pattern: it is the one that is written there, or any where `_` is
+abbrev pub MayStandAt : List Term → Option Term → TermId → Type 0
+MayStandAt terms None n = ⊤
+MayStandAt terms (Some x) n = slice_get terms n.0 ≡ Some x
 
 -- the node is at the focus of a triple that the pattern matches
 pub record IsFocus (terms : List Term) (graph : List Triple) (x : TriplePattern) (n : TermId) : Type 0 where
@@ -46,7 +51,7 @@ pub record IsFocus (terms : List Term) (graph : List Triple) (x : TriplePattern)
   pub held : Contains graph triple
   pub focus : at_focus x.focus triple ≡ n
   pub predicate : slice_get terms triple.p.0 ≡ Some x.predicate
-  pub other : IsAsked terms x.other (at_other x.focus triple)
+  pub other : MayStandAt terms x.other (at_other x.focus triple)
 
 -- the nodes of a selector: the one that is written; or those at the focus, each once, in the order of their texts
 abbrev pub AreNodes : List Term → List Triple → Selector → List TermId → Type 0
@@ -58,18 +63,39 @@ abbrev pub written : Selector → List Term
 written (Node t) = t ∷ []
 written (Triples x) = []
 
+-- the nodes that are written in the selectors of a map
+abbrev pub written_nodes : List Item → List Term
+written_nodes items = flat_map (λ i. written i.selector) items
+
+-- terms by the bytes of their texts, a proper prefix first
+abbrev pub compare_terms : Term → Term → Ordering
+compare_terms a b = slice_cmp nat_cmp (term_text a) (term_text b)
+
+-- the terms, each once, in the order of their texts
+pub record AreInOrder (terms ordered : List Term) : Type 0 where
+  pub rising : IsStrictlySortedBy compare_terms ordered
+  pub same : (t : Term) → Contains ordered t ↔ Contains terms t
+
+-- the table takes up the nodes that are written in the map, in the order of their texts
+pub record TakesNodes (old : List Term) (items : List Item) (terms : List Term) : Type 0 where
+  pub nodes : List Term
+  pub ordered : AreInOrder (written_nodes items) nodes
+  pub taken : AddsAll old nodes terms
+
+-- no table takes up the nodes of the map within its limit
+abbrev pub AreAbove : List Term → List Item → Type 0
+AreAbove old items = (terms : List Term) → TakesNodes old items terms → max_terms < length terms
+
 -- what an item asks of a node
 abbrev pub association : Item → ExprId → TermId → Association
 association i e n = record { node = n; target = i.target; expr = e; want = i.want }
 
--- The associations of an item: its target is declared, the node that is written goes last in the table where it is new, and then each node of its
--- selector gives one.
-pub record Selects (s : Schema) (graph : List Triple) (old : List Term) (i : Item) (xs : List Association) (new : List Term) : Type 0 where
+-- the associations of an item in the numbers of a table: its target is declared, and each node of its selector gives one
+pub record Selects (s : Schema) (graph : List Triple) (terms : List Term) (i : Item) (xs : List Association) : Type 0 where
   pub expr : ExprId
   pub nodes : List TermId
   pub declared : IsTarget s i.target expr
-  pub taken : AddsAll old (written i.selector) new
-  pub found : AreNodes new graph i.selector nodes
+  pub found : AreNodes terms graph i.selector nodes
   pub made : xs ≡ map (association i expr) nodes
 
 -- the refusal of a target that is not declared
@@ -80,24 +106,16 @@ refusal_of (target.Label l) = error.Label l
 abbrev pub IsUndeclared : Schema → Target → MapError → Type 0
 IsUndeclared s t e = (¬ HasTarget s t) × (e ≡ refusal_of t)
 
--- a term is new to a table that is full
-abbrev pub IsLeftOut : List Term → Term → MapError → Type 0
-IsLeftOut terms t e = (¬ Contains terms t) × (length terms ≡ max_terms) × (e ≡ error.Full)
-
--- the one that is written finds no room
-abbrev pub FindsNone : List Term → Selector → MapError → Type 0
-FindsNone terms x e = (t : Term) × (x ≡ Node t) × IsLeftOut terms t e
-
--- an item behind so many associations is refused: its target is not declared; or it is, and its node finds no room; or it does, and there are too many
+-- an item behind so many associations is refused: its target is not declared; or it is, and there are too many
 abbrev pub Refuses : Schema → List Triple → List Term → List Association → Item → MapError → Type 0
 Refuses s graph terms so i error.NotUtf8 = ⊥
 Refuses s graph terms so i (error.Syntax at) = ⊥
 Refuses s graph terms so i (error.Prefix at) = ⊥
 Refuses s graph terms so i (error.Label l) = IsUndeclared s i.target (error.Label l)
 Refuses s graph terms so i error.NoStart = IsUndeclared s i.target error.NoStart
-Refuses s graph terms so i error.Full = HasTarget s i.target × FindsNone terms i.selector error.Full
-Refuses s graph terms so i error.Many = (xs : List Association) × (new : List Term) × Selects s graph terms i xs new × (length new ≤ max_terms) × (max_associations < length (so ++ xs))
+Refuses s graph terms so i error.Many = (xs : List Association) × Selects s graph terms i xs × (max_associations < length (so ++ xs))
 Refuses s graph terms so i error.Memory = ⊥
+Refuses s graph terms so i error.Full = ⊥
 
 -- this holds, unless memory ran out
 abbrev pub UnlessMemory : MapError → Type 0 → Type 0
@@ -110,14 +128,26 @@ UnlessMemory error.NoStart P = P
 UnlessMemory error.Many P = P
 UnlessMemory error.Full P = P
 
--- how a map ends: with its associations and the table behind them, or at the first item that is refused
+-- how a map ends: with its associations and the table in whose numbers they are, or refused
 pub data Outcome : Type 0 where
   selected : List Association → List Term → Outcome
   refused : MapError → Outcome
 
--- one item after the other, from a table and some associations on
-pub data Ends (s : Schema) (graph : List Triple) : List Term → List Association → List Item → Outcome → Type 0 where
-  all : {terms : List Term} {so : List Association} → Ends s graph terms so [] (selected so terms)
-  more : {old mid : List Term} {so : List Association} {i : Item} {is : List Item} {o : Outcome} (xs : List Association) → Selects s graph old i xs mid → length mid ≤ max_terms
-      → length (so ++ xs) ≤ max_associations → Ends s graph mid (so ++ xs) is o → Ends s graph old so (i ∷ is) o
-  stops : {terms : List Term} {so : List Association} {i : Item} {is : List Item} {e : MapError} → Refuses s graph terms so i e → Ends s graph terms so (i ∷ is) (refused e)
+-- one item after the other, behind some associations, in the numbers of a table; the first that is refused ends the map
+pub data Ends (s : Schema) (graph : List Triple) (terms : List Term) : List Association → List Item → Outcome → Type 0 where
+  all : {so : List Association} → Ends s graph terms so [] (selected so terms)
+  more : {so : List Association} {i : Item} {is : List Item} {o : Outcome} (xs : List Association) → Selects s graph terms i xs → length (so ++ xs) ≤ max_associations
+      → Ends s graph terms (so ++ xs) is o → Ends s graph terms so (i ∷ is) o
+  stops : {so : List Association} {i : Item} {is : List Item} {e : MapError} → Refuses s graph terms so i e → Ends s graph terms so (i ∷ is) (refused e)
+
+-- the table takes up the nodes that are written in the map, within its limit, and in its numbers the items end so
+pub record EndsAs (s : Schema) (graph : List Triple) (old : List Term) (items : List Item) (terms : List Term) (o : Outcome) : Type 0 where
+  pub takes : TakesNodes old items terms
+  pub few : length terms ≤ max_terms
+  pub ends : Ends s graph terms [] items o
+
+-- how a map is resolved from a table on (ShapeMap, section 4): it is refused as `Full` where the table cannot take up its
+-- nodes, and else it ends as its items
+abbrev pub Resolves : Schema → List Triple → List Term → List Item → Outcome → Type 0
+Resolves s graph old items (selected xs terms) = EndsAs s graph old items terms (selected xs terms)
+Resolves s graph old items (refused e) = ((terms : List Term) × EndsAs s graph old items terms (refused e)) ⊎ (AreAbove old items × (e ≡ error.Full))

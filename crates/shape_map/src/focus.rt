@@ -3,7 +3,7 @@
 ghost use Rattle.std.specs.Prelude.{◌≡◌, ◌↔◌, ◌≤◌, true, length, slice_get, Some, filter, map, Contains, IfOk};
 ghost use Rattle.std.specs.List.Sorted.{IsStrictlySortedBy};
 ghost use Rattle.rdf_terms.specs.Graphs.{same_id};
-ghost use Rattle.rdf_terms.specs.Lists.{AreDistinct};
+ghost use Rattle.lists.specs.Distinct.{AreDistinct};
 ghost use Rattle.rdf_terms.specs.Order.{compare_at};
 ghost use Rattle.rdf_terms.specs.Tables.{max_terms};
 ghost use Rattle.rdf_terms.specs.declared.terms.TermId.{TermId as Id};
@@ -12,8 +12,8 @@ ghost use Rattle.shape_map.specs.Selection.{at_focus, at_other, IsFocus};
 ghost use Rattle.shape_map.specs.Resolving.{AreAmong, IsSealedOnce};
 
 use crate::items::{Focus, TriplePattern};
-use crate::order::put_in_order;
 use graph_index::graph::Graph;
+use rdf_terms::order::put_in_order;
 use rdf_terms::table::TermTable;
 use rdf_terms::terms::{TermId, Triple};
 use std::alloc::{AllocError, Global};

@@ -2,158 +2,108 @@
 //! 1.1 Turtle, section 6.5.
 
 ghost use Rattle.std.specs.Prelude.{◌≡◌, string_bytes};
-ghost use Rattle.token_readers.specs.Ahead.{next_is};
-ghost use Rattle.token_readers.specs.Readers.{one, loop};
-ghost use Rattle.shape_map.specs.declared.faults.Fault.TheVariants.{Syntax};
-ghost use Rattle.shape_map.specs.declared.symbols.Symbol.TheVariants.{Comma};
-ghost use Rattle.shape_map.specs.Gives.{Gives, ahead, source_in, scope_in};
-ghost use Rattle.shape_map.specs.Meanings.{at_name_of, blank_of, blank_target_of, string_of, tagged_of, shorthand_of};
-ghost use Rattle.shape_map.specs.Reading.{iri, datatyped, literal, resource, node, verb, or_any, of_subjects, of_objects, pattern, triples, selector, target, wish, asked, item, added, behind, all_items, shape_map};
-ghost use Rattle.shape_map.specs.Symbols.{is_symbol, is_among, shorthands};
+ghost use Rattle.rdf_cursor.specs.Ahead.{next_is};
+ghost use Rattle.rdf_cursor.specs.Readers.{one, loop};
+ghost use Rattle.rdf_cursor.specs.declared.stops.Fault.TheVariants.{Syntax};
+ghost use Rattle.rdf_cursor.specs.declared.symbols.Symbol.TheVariants.{Comma};
+ghost use Rattle.rdf_cursor.specs.Stops.{Gives};
+ghost use Rattle.rdf_cursor.specs.Cursors.{ahead, source_in};
+ghost use Rattle.rdf_cursor.specs.Lent.{spelled};
+ghost use Rattle.term_tokens.specs.Scopes.{scope_in};
+ghost use Rattle.shape_map.specs.Meanings.{node_tags, node_tagged_of, blank_of, blank_target_of};
+ghost use Rattle.shape_map.specs.Reading.{iri, literal, resource, node, verb, or_any, of_subjects, of_objects, pattern, triples, selector, target, wish, asked, item, added, behind, all_items, shape_map};
+ghost use Rattle.rdf_cursor.specs.Symbols.{is_symbol, is_among};
 
-use crate::faults::{Fault, Stop};
 use crate::items::{Focus, Item, Selector, TriplePattern};
-use crate::names::Names;
-use crate::symbols::Symbol;
-use crate::terms;
-use crate::tokens::Tokens;
+use rdf_cursor::{Cursor, Fault, Stop, Symbol};
+use rdf_lex::Token;
 use rdf_terms::terms::{Literal, Term};
 use rdf_terms::text::Text;
+use rdf_terms::vocabulary::RDF_TYPE;
+use rdf_terms::written::name_from;
 use schema_tree::labels::Label;
 use schema_tree::schema::Target;
 use std::alloc::Global;
-
-const RDF_TYPE: &str = "http://www.w3.org/1999/02/22-rdf-syntax-ns#type";
+use term_tokens::{Names, reading, terms};
 
 /// An IRI [135s].
 #[tactic(auto, unfolding(crate::specs::Reading::iri))]
-fn iri(c: &mut Tokens<'_>, names: &Names<'_>) -> Result<String, Stop>
+fn iri(c: &mut Cursor<'_>, names: &Names<'_>) -> Result<String, Stop>
     ensures gives { Gives string_bytes result (ahead c.new) (iri (scope_in names.now) (ahead c.old)) }
     ensures source { source_in c.new ≡ source_in c.old }
 {
-    let Some(token) = c.peek() else {
-        return Err(Stop::Fault(Fault::Syntax));
-    };
-    let value = terms::iri(names, token)?;
-    c.advance();
-    Ok(value)
-}
-
-/// A prefixed name with an `@` in front of it.
-fn at_name(c: &mut Tokens<'_>, names: &Names<'_>) -> Result<String, Stop>
-    ensures gives { Gives string_bytes result (ahead c.new) (one Syntax (at_name_of (scope_in names.now)) (ahead c.old)) }
-    ensures source { source_in c.new ≡ source_in c.old }
-{
-    let Some(token) = c.peek() else {
-        return Err(Stop::Fault(Fault::Syntax));
-    };
-    let value = terms::at_name(names, token)?;
-    c.advance();
-    Ok(value)
+    reading::iri(c, names, false)
 }
 
 /// A blank node by its printed name [141s].
-fn blank(c: &mut Tokens<'_>, alloc: Global) -> Result<Term, Stop>
+#[tactic(auto, unfolding(crate::specs::Meanings::blank_of))]
+fn blank(c: &mut Cursor<'_>, alloc: Global) -> Result<Term, Stop>
     ensures gives { Gives (λ x. x) result (ahead c.new) (one Syntax blank_of (ahead c.old)) }
     ensures source { source_in c.new ≡ source_in c.old }
 {
-    let Some(token) = c.peek() else {
-        return Err(Stop::Fault(Fault::Syntax));
-    };
-    let value = terms::blank(alloc, token)?;
-    c.advance();
-    Ok(value)
+    let label = reading::label(c, alloc, false)?;
+    let name = name_from(alloc, label.as_str())?;
+    Ok(Term::Blank(name))
 }
 
 /// A target that is the label of a blank node.
-fn blank_target(c: &mut Tokens<'_>, alloc: Global) -> Result<Target, Stop>
+#[tactic(auto, unfolding(crate::specs::Meanings::blank_target_of))]
+fn blank_target(c: &mut Cursor<'_>, alloc: Global) -> Result<Target, Stop>
     ensures gives { Gives (λ x. x) result (ahead c.new) (one Syntax blank_target_of (ahead c.old)) }
     ensures source { source_in c.new ≡ source_in c.old }
 {
-    let Some(token) = c.peek() else {
-        return Err(Stop::Fault(Fault::Syntax));
-    };
-    let value = terms::blank_target(alloc, token)?;
-    c.advance();
-    Ok(value)
+    let label = reading::label(c, alloc, false)?;
+    Ok(Target::Label(Label::Blank(label)))
 }
 
-/// The lexical form of a string [17].
-fn string(c: &mut Tokens<'_>, alloc: Global) -> Result<Text, Stop>
-    ensures gives { Gives (λ x. x) result (ahead c.new) (one Syntax string_of (ahead c.old)) }
-    ensures source { source_in c.new ≡ source_in c.old }
+/// Whether a token is a language tag: `@START` is a target and none.
+#[tactic(auto, unfolding(rdf_cursor::specs::Symbols::is_among))]
+fn is_node_tag(token: Token<'_>) -> bool
+    ensures { result ≡ is_among node_tags (spelled token.entry) }
 {
-    let Some(token) = c.peek() else {
-        return Err(Stop::Fault(Fault::Syntax));
-    };
-    let value = terms::string(alloc, token)?;
-    c.advance();
-    Ok(value)
+    let symbol = Symbol::of(token);
+    matches!(symbol, Symbol::LangTag | Symbol::AtPrefix | Symbol::AtBase)
+}
+
+/// Whether a language tag is next.
+#[tactic(auto, unfolding(rdf_cursor::specs::Symbols::is_among))]
+fn at_node_tag(c: &Cursor<'_>) -> bool
+    ensures { result ≡ next_is (is_among node_tags) (ahead c.now) }
+{
+    match c.peek() {
+        Some(token) => is_node_tag(token),
+        None => false,
+    }
 }
 
 /// A language tag behind a lexical form.
-fn tagged(c: &mut Tokens<'_>, alloc: Global, lex: Text) -> Result<Term, Stop>
-    ensures gives { Gives (λ x. x) result (ahead c.new) (one Syntax (tagged_of lex) (ahead c.old)) }
+#[tactic(auto, unfolding(crate::specs::Meanings::node_tagged_of))]
+fn tagged(c: &mut Cursor<'_>, alloc: Global, lex: Text) -> Result<Term, Stop>
+    ensures gives { Gives (λ x. x) result (ahead c.new) (one Syntax (node_tagged_of lex) (ahead c.old)) }
     ensures source { source_in c.new ≡ source_in c.old }
 {
     let Some(token) = c.peek() else {
         return Err(Stop::Fault(Fault::Syntax));
     };
+    if !is_node_tag(token) {
+        return Err(Stop::Fault(Fault::Syntax));
+    }
     let value = terms::tagged(alloc, lex, token)?;
     c.advance();
     Ok(value)
 }
 
-/// A number or a truth value.
-fn shorthand(c: &mut Tokens<'_>, alloc: Global) -> Result<Term, Stop>
-    ensures gives { Gives (λ x. x) result (ahead c.new) (one Syntax shorthand_of (ahead c.old)) }
-    ensures source { source_in c.new ≡ source_in c.old }
-{
-    let Some(token) = c.peek() else {
-        return Err(Stop::Fault(Fault::Syntax));
-    };
-    let value = terms::shorthand(alloc, token)?;
-    c.advance();
-    Ok(value)
-}
-
-/// `^^` and a datatype behind a lexical form.
-#[tactic(auto, unfolding(crate::specs::Reading::datatyped))]
-fn datatyped(c: &mut Tokens<'_>, names: &Names<'_>, lex: Text) -> Result<Term, Stop>
-    ensures gives { Gives (λ x. x) result (ahead c.new) (datatyped (scope_in names.now) lex (ahead c.old)) }
-    ensures source { source_in c.new ≡ source_in c.old }
-{
-    c.take(Symbol::Carets)?;
-    let Some(token) = c.peek() else {
-        return Err(Stop::Fault(Fault::Syntax));
-    };
-    let value = terms::typed(names, lex, token)?;
-    c.advance();
-    Ok(value)
-}
-
-/// Whether a number or a truth value is next.
-#[tactic(auto, unfolding(crate::specs::Symbols::is_among))]
-fn at_shorthand(c: &Tokens<'_>) -> bool
-    ensures { result ≡ next_is (is_among shorthands) (ahead c.now) }
-{
-    match c.peek() {
-        Some(token) => terms::is_shorthand(token),
-        None => false,
-    }
-}
-
 /// A literal that begins with a string [128s].
 #[tactic(auto, unfolding(crate::specs::Reading::literal))]
-fn literal(c: &mut Tokens<'_>, names: &Names<'_>) -> Result<Term, Stop>
+fn literal(c: &mut Cursor<'_>, names: &Names<'_>) -> Result<Term, Stop>
     ensures gives { Gives (λ x. x) result (ahead c.new) (literal (scope_in names.now) (ahead c.old)) }
     ensures source { source_in c.new ≡ source_in c.old }
 {
-    let lex = string(c, names.alloc)?;
-    if c.is_at(Symbol::LangTag) {
+    let lex = reading::string(c, names.alloc, false)?;
+    if at_node_tag(c) {
         tagged(c, names.alloc, lex)
     } else if c.is_at(Symbol::Carets) {
-        datatyped(c, names, lex)
+        reading::datatyped(c, names, lex, false)
     } else {
         Ok(Term::Lit(Literal::plain(names.alloc, lex)?))
     }
@@ -161,7 +111,7 @@ fn literal(c: &mut Tokens<'_>, names: &Names<'_>) -> Result<Term, Stop>
 
 /// An IRI or a blank node.
 #[tactic(auto, unfolding(crate::specs::Reading::resource))]
-fn resource(c: &mut Tokens<'_>, names: &Names<'_>) -> Result<Term, Stop>
+fn resource(c: &mut Cursor<'_>, names: &Names<'_>) -> Result<Term, Stop>
     ensures gives { Gives (λ x. x) result (ahead c.new) (resource (scope_in names.now) (ahead c.old)) }
     ensures source { source_in c.new ≡ source_in c.old }
 {
@@ -175,14 +125,14 @@ fn resource(c: &mut Tokens<'_>, names: &Names<'_>) -> Result<Term, Stop>
 
 /// A node: a literal, an IRI or a blank node.
 #[tactic(auto, unfolding(crate::specs::Reading::node))]
-fn node(c: &mut Tokens<'_>, names: &Names<'_>) -> Result<Term, Stop>
+fn node(c: &mut Cursor<'_>, names: &Names<'_>) -> Result<Term, Stop>
     ensures gives { Gives (λ x. x) result (ahead c.new) (node (scope_in names.now) (ahead c.old)) }
     ensures source { source_in c.new ≡ source_in c.old }
 {
     if c.is_at(Symbol::Str) {
         literal(c, names)
-    } else if at_shorthand(c) {
-        shorthand(c, names.alloc)
+    } else if reading::at_shorthand(c) {
+        reading::shorthand(c, names.alloc, false)
     } else {
         resource(c, names)
     }
@@ -190,7 +140,7 @@ fn node(c: &mut Tokens<'_>, names: &Names<'_>) -> Result<Term, Stop>
 
 /// A verb [9].
 #[tactic(auto, unfolding(crate::specs::Reading::verb))]
-fn verb(c: &mut Tokens<'_>, names: &Names<'_>) -> Result<Term, Stop>
+fn verb(c: &mut Cursor<'_>, names: &Names<'_>) -> Result<Term, Stop>
     ensures gives { Gives (λ x. x) result (ahead c.new) (verb (scope_in names.now) (ahead c.old)) }
     ensures source { source_in c.new ≡ source_in c.old }
 {
@@ -205,7 +155,7 @@ fn verb(c: &mut Tokens<'_>, names: &Names<'_>) -> Result<Term, Stop>
 
 /// The object of a triple pattern, `None` where any is meant.
 #[tactic(auto, unfolding(crate::specs::Reading::or_any))]
-fn object(c: &mut Tokens<'_>, names: &Names<'_>) -> Result<Option<Term>, Stop>
+fn object(c: &mut Cursor<'_>, names: &Names<'_>) -> Result<Option<Term>, Stop>
     ensures gives { Gives (λ x. x) result (ahead c.new) (or_any (scope_in names.now) (node (scope_in names.now)) (ahead c.old)) }
     ensures source { source_in c.new ≡ source_in c.old }
 {
@@ -220,7 +170,7 @@ fn object(c: &mut Tokens<'_>, names: &Names<'_>) -> Result<Option<Term>, Stop>
 
 /// The subject of a triple pattern, `None` where any is meant.
 #[tactic(auto, unfolding(crate::specs::Reading::or_any))]
-fn subject(c: &mut Tokens<'_>, names: &Names<'_>) -> Result<Option<Term>, Stop>
+fn subject(c: &mut Cursor<'_>, names: &Names<'_>) -> Result<Option<Term>, Stop>
     ensures gives { Gives (λ x. x) result (ahead c.new) (or_any (scope_in names.now) (resource (scope_in names.now)) (ahead c.old)) }
     ensures source { source_in c.new ≡ source_in c.old }
 {
@@ -235,7 +185,7 @@ fn subject(c: &mut Tokens<'_>, names: &Names<'_>) -> Result<Option<Term>, Stop>
 
 /// A triple pattern whose focus is the subject, without its braces.
 #[tactic(auto, unfolding(crate::specs::Reading::of_subjects))]
-fn of_subjects(c: &mut Tokens<'_>, names: &Names<'_>) -> Result<TriplePattern, Stop>
+fn of_subjects(c: &mut Cursor<'_>, names: &Names<'_>) -> Result<TriplePattern, Stop>
     ensures gives { Gives (λ x. x) result (ahead c.new) (of_subjects (scope_in names.now) (ahead c.old)) }
     ensures source { source_in c.new ≡ source_in c.old }
 {
@@ -251,7 +201,7 @@ fn of_subjects(c: &mut Tokens<'_>, names: &Names<'_>) -> Result<TriplePattern, S
 
 /// A triple pattern whose focus is the object, without its braces.
 #[tactic(auto, unfolding(crate::specs::Reading::of_objects))]
-fn of_objects(c: &mut Tokens<'_>, names: &Names<'_>) -> Result<TriplePattern, Stop>
+fn of_objects(c: &mut Cursor<'_>, names: &Names<'_>) -> Result<TriplePattern, Stop>
     ensures gives { Gives (λ x. x) result (ahead c.new) (of_objects (scope_in names.now) (ahead c.old)) }
     ensures source { source_in c.new ≡ source_in c.old }
 {
@@ -267,7 +217,7 @@ fn of_objects(c: &mut Tokens<'_>, names: &Names<'_>) -> Result<TriplePattern, St
 
 /// A triple pattern without its braces.
 #[tactic(auto, unfolding(crate::specs::Reading::pattern))]
-fn pattern(c: &mut Tokens<'_>, names: &Names<'_>) -> Result<TriplePattern, Stop>
+fn pattern(c: &mut Cursor<'_>, names: &Names<'_>) -> Result<TriplePattern, Stop>
     ensures gives { Gives (λ x. x) result (ahead c.new) (pattern (scope_in names.now) (ahead c.old)) }
     ensures source { source_in c.new ≡ source_in c.old }
 {
@@ -280,7 +230,7 @@ fn pattern(c: &mut Tokens<'_>, names: &Names<'_>) -> Result<TriplePattern, Stop>
 
 /// A triple pattern in its braces.
 #[tactic(auto, unfolding(crate::specs::Reading::triples))]
-fn triples(c: &mut Tokens<'_>, names: &Names<'_>) -> Result<TriplePattern, Stop>
+fn triples(c: &mut Cursor<'_>, names: &Names<'_>) -> Result<TriplePattern, Stop>
     ensures gives { Gives (λ x. x) result (ahead c.new) (triples (scope_in names.now) (ahead c.old)) }
     ensures source { source_in c.new ≡ source_in c.old }
 {
@@ -292,7 +242,7 @@ fn triples(c: &mut Tokens<'_>, names: &Names<'_>) -> Result<TriplePattern, Stop>
 
 /// What selects nodes.
 #[tactic(auto, unfolding(crate::specs::Reading::selector))]
-fn selector(c: &mut Tokens<'_>, names: &Names<'_>) -> Result<Selector, Stop>
+fn selector(c: &mut Cursor<'_>, names: &Names<'_>) -> Result<Selector, Stop>
     ensures gives { Gives (λ x. x) result (ahead c.new) (selector (scope_in names.now) (ahead c.old)) }
     ensures source { source_in c.new ≡ source_in c.old }
 {
@@ -307,7 +257,7 @@ fn selector(c: &mut Tokens<'_>, names: &Names<'_>) -> Result<Selector, Stop>
 
 /// A target: the start, or a label.
 #[tactic(auto, unfolding(crate::specs::Reading::target))]
-fn target(c: &mut Tokens<'_>, names: &Names<'_>) -> Result<Target, Stop>
+fn target(c: &mut Cursor<'_>, names: &Names<'_>) -> Result<Target, Stop>
     ensures gives { Gives (λ x. x) result (ahead c.new) (target (scope_in names.now) (ahead c.old)) }
     ensures source { source_in c.new ≡ source_in c.old }
 {
@@ -324,7 +274,7 @@ fn target(c: &mut Tokens<'_>, names: &Names<'_>) -> Result<Target, Stop>
 
 /// A target, and whether nodes are to satisfy it.
 #[tactic(auto, unfolding(crate::specs::Reading::wish))]
-fn wish(c: &mut Tokens<'_>, names: &Names<'_>) -> Result<(Target, bool), Stop>
+fn wish(c: &mut Cursor<'_>, names: &Names<'_>) -> Result<(Target, bool), Stop>
     ensures gives { Gives (λ x. x) result (ahead c.new) (wish (scope_in names.now) (ahead c.old)) }
     ensures source { source_in c.new ≡ source_in c.old }
 {
@@ -340,7 +290,7 @@ fn wish(c: &mut Tokens<'_>, names: &Names<'_>) -> Result<(Target, bool), Stop>
 
 /// What is asked of nodes, behind its `@`, which may stand in the token of the target.
 #[tactic(auto, unfolding(crate::specs::Reading::asked))]
-fn asked(c: &mut Tokens<'_>, names: &Names<'_>) -> Result<(Target, bool), Stop>
+fn asked(c: &mut Cursor<'_>, names: &Names<'_>) -> Result<(Target, bool), Stop>
     ensures gives { Gives (λ x. x) result (ahead c.new) (asked (scope_in names.now) (ahead c.old)) }
     ensures source { source_in c.new ≡ source_in c.old }
 {
@@ -348,7 +298,7 @@ fn asked(c: &mut Tokens<'_>, names: &Names<'_>) -> Result<(Target, bool), Stop>
         c.take(Symbol::AtStart)?;
         Ok((Target::Start, true))
     } else if c.is_at(Symbol::AtName) {
-        let iri = at_name(c, names)?;
+        let iri = reading::at_name(c, names, false)?;
         Ok((Target::Label(Label::Iri(Text::from_string(iri))), true))
     } else {
         c.take(Symbol::At)?;
@@ -358,7 +308,7 @@ fn asked(c: &mut Tokens<'_>, names: &Names<'_>) -> Result<(Target, bool), Stop>
 
 /// An item: a selector, and what is asked of its nodes.
 #[tactic(auto, unfolding(crate::specs::Reading::item))]
-fn item(c: &mut Tokens<'_>, nodes: &Names<'_>, labels: &Names<'_>) -> Result<Item, Stop>
+fn item(c: &mut Cursor<'_>, nodes: &Names<'_>, labels: &Names<'_>) -> Result<Item, Stop>
     ensures gives { Gives (λ x. x) result (ahead c.new) (item (scope_in nodes.now) (scope_in labels.now) (ahead c.old)) }
     ensures source { source_in c.new ≡ source_in c.old }
 {
@@ -374,7 +324,7 @@ fn item(c: &mut Tokens<'_>, nodes: &Names<'_>, labels: &Names<'_>) -> Result<Ite
 /// An item that goes behind others.
 #[tactic(auto, unfolding(crate::specs::Reading::added))]
 fn added(
-    c: &mut Tokens<'_>,
+    c: &mut Cursor<'_>,
     nodes: &Names<'_>,
     labels: &Names<'_>,
     items: &mut Vec<Item>,
@@ -390,7 +340,7 @@ fn added(
 /// A further item, behind its comma.
 #[tactic(auto, unfolding(crate::specs::Reading::behind))]
 fn behind(
-    c: &mut Tokens<'_>,
+    c: &mut Cursor<'_>,
     nodes: &Names<'_>,
     labels: &Names<'_>,
     items: &mut Vec<Item>,
@@ -404,7 +354,7 @@ fn behind(
 
 /// All further items.
 fn further(
-    c: &mut Tokens<'_>,
+    c: &mut Cursor<'_>,
     nodes: &Names<'_>,
     labels: &Names<'_>,
     items: &mut Vec<Item>,
@@ -421,7 +371,7 @@ fn further(
 /// All items.
 #[tactic(auto, unfolding(crate::specs::Reading::items, crate::specs::Reading::all_items))]
 fn all_items(
-    c: &mut Tokens<'_>,
+    c: &mut Cursor<'_>,
     nodes: &Names<'_>,
     labels: &Names<'_>,
     items: &mut Vec<Item>,
@@ -439,7 +389,7 @@ fn all_items(
 /// The items of a whole map.
 #[tactic(auto, unfolding(crate::specs::Reading::shape_map))]
 pub fn shape_map(
-    c: &mut Tokens<'_>,
+    c: &mut Cursor<'_>,
     alloc: Global,
     nodes: &Names<'_>,
     labels: &Names<'_>,

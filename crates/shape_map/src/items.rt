@@ -55,21 +55,15 @@ pub struct ShapeMap {
 impl Model for ShapeMap {
     ghost use Rattle.std.specs.Prelude.{List};
     ghost use Rattle.shape_map.specs.declared.items.Item.{Item};
-    ghost use Rattle.shape_map.specs.Copies.{HaveCopies};
 
     ghost Value = { List Item };
 
     ghost view = { λ m. m.items.items };
-
-    ghost invariant = { λ m. HaveCopies m.items.items };
 }
 
 impl ShapeMap {
-    ghost use Rattle.shape_map.specs.Copies.{HaveCopies};
-
-    /// The map of these items, whose literals are ones, without taking memory.
+    /// The map of these items, without taking memory.
     pub(crate) fn of(items: Vec<Item>) -> ShapeMap
-        requires { HaveCopies items.items }
         ensures { result ≡ items.items }
     {
         ShapeMap { items }
@@ -78,7 +72,6 @@ impl ShapeMap {
     /// The items in reading order.
     pub fn items(&self) -> &[Item]
         ensures items { result.now ≡ self.now }
-        ensures copied { HaveCopies self.now }
     {
         self.items.as_slice()
     }

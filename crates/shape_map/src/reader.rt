@@ -5,27 +5,28 @@ ghost use Rattle.std.specs.Str.{IsUtf8};
 ghost use Rattle.iri_resolve.specs.Reference.{scheme_of};
 ghost use Rattle.rdf_lex.specs.Prefixes.{base_of};
 ghost use Rattle.shape_map.specs.declared.items.Item.{Item};
-ghost use Rattle.shape_map.specs.Gives.{error_of};
+ghost use Rattle.shape_map.specs.Gives.{IsMapStop, error_of};
 ghost use Rattle.shape_map.specs.Maps.{IsMap, ReadsAs, Explains};
-ghost use Rattle.shape_map.specs.Meanings.{scope_of};
+ghost use Rattle.term_tokens.specs.Scopes.{scope_of};
 
 use crate::error::MapError;
-use crate::faults::{Fault, Stop};
 use crate::grammar::shape_map;
 use crate::items::ShapeMap;
-use crate::names::Names;
-use crate::tokens::Tokens;
-use rdf_lex::Prefixes;
+use rdf_cursor::{Cursor, Fault, Stop};
+use rdf_lex::{Mode, Prefixes};
 use std::alloc::Global;
+use term_tokens::Names;
 
 /// The answer for a stop at a place.
 fn error(stop: Stop, at: u64) -> MapError
+    requires { IsMapStop stop }
     ensures { result ≡ error_of stop at }
 {
     match stop {
         Stop::Memory => MapError::Memory,
-        Stop::Fault(Fault::Syntax) => MapError::Syntax(at),
         Stop::Fault(Fault::Prefix) => MapError::Prefix(at),
+        Stop::Fault(Fault::Syntax) => MapError::Syntax(at),
+        Stop::Fault(Fault::Deep | Fault::Long | Fault::Full) => unreachable!(),
     }
 }
 
@@ -50,7 +51,7 @@ fn read_text(
         alloc,
         prefixes: labels,
     };
-    let mut c = Tokens::new(text);
+    let mut c = Cursor::new(text, Mode::Map);
     match shape_map(&mut c, alloc, &nodes, &labels) {
         Ok(items) => Ok(ShapeMap::of(items)),
         Err(stop) => Err(error(stop, c.place())),

@@ -2,44 +2,13 @@
 
 ghost use Rattle.std.specs.Prelude.{◌≡◌, ◌++◌, ◌<◌, length, codes, encode_utf8_all, Contains, IfOk, OnOk, OnErr};
 ghost use Rattle.std.specs.List.{flat_map};
-ghost use Rattle.rdf_terms.specs.Written.{iri_text};
 ghost use Rattle.schema_tree.specs.declared.schema.Answer.{Answer as Given};
-ghost use Rattle.shape_map.specs.Results.{answer_text, mark, result_text, target_text};
+ghost use Rattle.shape_map.specs.Results.{answer_text, mark, result_text};
 
 use rdf_terms::table::TermTable;
-use rdf_terms::text::Text;
 use rdf_terms::written::write_term;
-use schema_tree::labels::Label;
-use schema_tree::schema::{Answer, Target};
+use schema_tree::schema::Answer;
 use std::alloc::{AllocError, Global};
-
-/// Appends an IRI in angle brackets.
-fn push_iri(iri: &Text, out: &mut Vec<u8>) -> Result<(), AllocError>
-    ensures { OnOk result (out.new.items ≡ out.old.items ++ iri_text iri.now) }
-{
-    out.extend_from_slice(b"<")?;
-    out.extend_from_slice(iri.as_str().as_bytes())?;
-    out.extend_from_slice(b">")
-}
-
-/// Appends `_:` and the label of a blank node.
-fn push_blank(label: &Text, out: &mut Vec<u8>) -> Result<(), AllocError>
-    ensures { OnOk result (out.new.items ≡ out.old.items ++ (codes "_:" ++ encode_utf8_all label.now)) }
-{
-    out.extend_from_slice(b"_:")?;
-    out.extend_from_slice(label.as_str().as_bytes())
-}
-
-/// Appends a target.
-fn push_target(target: &Target, out: &mut Vec<u8>) -> Result<(), AllocError>
-    ensures { OnOk result (out.new.items ≡ out.old.items ++ target_text target.now) }
-{
-    match target {
-        Target::Start => out.extend_from_slice(b"START"),
-        Target::Label(Label::Iri(iri)) => push_iri(iri, out),
-        Target::Label(Label::Blank(label)) => push_blank(label, out),
-    }
-}
 
 /// What stands before the target of an answer.
 fn mark(holds: bool) -> &'static [u8]
@@ -60,7 +29,8 @@ fn push_answer(
 {
     write_term(alloc, terms.get(answer.node), out)?;
     out.extend_from_slice(mark(answer.holds))?;
-    push_target(&answer.target, out)
+    let target = answer.target.text(alloc)?;
+    out.extend_from_slice(target.as_bytes())
 }
 
 /// Appends the answers, a comma and a line feed before each.
@@ -111,6 +81,3 @@ pub fn write_result(
     let text = result_map(alloc, terms, items)?;
     out.extend_from_slice(text.as_slice())
 }
-
-#[cfg(test)]
-mod tests;

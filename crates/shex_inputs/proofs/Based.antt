@@ -1,31 +1,29 @@
 -- What is read into one table in turn is a base, and there is one base for a document and triples.
-use Rattle.std.proofs.Common.{◌≡◌, ◌∙◌, ap, sym, subst, refl, ℕ, zero, suc, ◌≤◌, ◌+◌, ◌*◌, List, [], ◌∷◌, ◌++◌, arith, length, inl, inr}
+use Rattle.std.proofs.Common.{◌≡◌, ◌∙◌, ap, sym, subst, refl, ℕ, zero, suc, ◌≤◌, ◌+◌, ◌*◌, List, [], ◌∷◌, ◌++◌, arith, length}
 use Rattle.std.specs.Prelude.{Bool, Option, Some, None, slice_get}
 use Rattle.std.specs.List.{flat_map}
-use Rattle.std.proofs.lemmas.List.{append-nil, length-append}
+use Rattle.std.proofs.lemmas.List.{append-nil}
 use Rattle.rdf_terms.specs.declared.terms.Term.{Term}
 use Rattle.rdf_terms.specs.declared.terms.Term.TheVariants as Terms
 use Rattle.rdf_terms.specs.declared.terms.Triple.{Triple}
-use Rattle.rdf_terms.specs.Lists.{AreDistinct, Adds}
+use Rattle.lists.specs.Distinct.{AreDistinct}
+use Rattle.lists.specs.Additions.{AddsAll}
 use Rattle.node_constraint.specs.Constraint.{Constraint}
 use Rattle.schema_documents.specs.Tree.{Declaration, Document, MaybeShapeExpr, MaybeTripleExpr, ShapeExpr, TripleExpr, arc as constraint, conj, disj, each, include, neg, no_expr, no_triple, node, one as one_of, one_expr, one_triple, refer, shape, triple}
 use Rattle.graph_index.specs.declared.read_error.ReadError.{ReadError}
-use Rattle.graph_loading.specs.declared.triples.TermTriple.{TermTriple}
-use Rattle.graph_loading.specs.Loading.{AddsAll, IsWithin, Loads, more as further, none as all_added}
-use Rattle.graph_loading.proofs.Loading.{all_distinct, all_one, loads_grow, loads_one}
+use Rattle.graph_index.specs.declared.loading.TermTriple.{TermTriple}
+use Rattle.graph_index.specs.Loading.{IsWithin, Loads}
+use Rattle.graph_index.proofs.Loaded.{loads_grow, loads_one}
+use Rattle.lists.proofs.Additions.{all_distinct, all_one, all_few}
 use Rattle.data_reader.specs.declared.format.Format.{Format}
 use Rattle.data_reader.specs.Documents.{Context}
 use Rattle.schema_tree.specs.declared.schema.Schema.{Schema}
-use Rattle.shex_inputs.specs.declared.error.InputError.{InputError}
-use Rattle.shex_inputs.specs.declared.error.InputError.TheVariants.{Refused, Failed, Memory}
-use Rattle.shex_inputs.specs.declared.error.Source.TheVariants as Sources
 use Rattle.shex_inputs.specs.declared.load.Arc.{Arc}
 use Rattle.shex_inputs.specs.declared.load.Declared.{Declared}
 use Rattle.shex_inputs.specs.declared.load.Declared.TheVariants as Numbers
-use Rattle.shex_inputs.specs.Held.{HasRoom, Held, IsBase, StandsFor}
+use Rattle.shex_inputs.specs.Held.{HasRoom, Held, IsHolding, StandsFor}
 use Rattle.shex_inputs.specs.Loading.{IsArcIn, IsArcOf, IsDeclaredAs, IsLoadable, IsLoadableExpr, IsValueIn, predicates_in, predicates_of, schema_of}
-use Rattle.shex_inputs.specs.Refusals.{IsDataCause, read_error}
-use Rattle.shex_inputs.specs.Stops.{IsCauseFor, LoadingStops, ReadingStops}
+use Rattle.shex_inputs.specs.Stops.{LoadingStops, ReadingStops}
 use Rattle.shex_inputs.proofs.Standing.{stands}
 
 empty_distinct : {X : Type 0} → AreDistinct {X = X} []
@@ -98,7 +96,7 @@ module _ (doc : Document) (d : Declaration) (declares : doc.decls ≡ d ∷ []) 
   -- what is read is a base
   pub based : IsLoadable doc → (triples : List TermTriple) (names : Context) (n : Declared) (s : Schema) (g : List Triple) (empty first last : List Term) →
       empty ≡ [] → AddsAll empty (predicates_in d.expr) first → IsDeclaredAs first d.expr n → s ≡ schema_of d.label n →
-      AreDistinct last → Loads first [] triples last g → IsWithin last g → IsBase doc triples (record { schema = s; terms = last; graph = g; names = names })
+      AreDistinct last → Loads first [] triples last g → IsWithin last g → IsHolding doc triples (record { schema = s; terms = last; graph = g; names = names })
   based is triples names n s g empty first last nothing takes numbers made distinct loads within =
       let numbered : IsDeclaredAs last d.expr n = declared_kept first last (loads_keep first last [] g triples loads) d.expr n numbers in
       record {
@@ -110,14 +108,6 @@ module _ (doc : Document) (d : Declaration) (declares : doc.decls ≡ d ∷ []) 
         graph = loads;
         within = within;
       }
-
-add_few : {X : Type 0} (old new : List X) (x : X) → Adds old x new → length new ≤ length old + 1
-add_few old new x (inl (held, e)) = let n = ap length e in omega (arith, n)
-add_few old new x (inr (fresh, e)) = let n = ap length e in let m = length-append old (x ∷ []) in omega (arith, n, m)
-
-all_few : {X : Type 0} (old new xs : List X) → AddsAll old xs new → length new ≤ length old + length xs
-all_few old new xs all_added = omega arith
-all_few old new xs (further {mid = mid} {xs = ys} {x = x} a others) = let n = add_few old mid x a in let m = all_few mid new ys others in omega (arith, n, m)
 
 -- an expression has one predicate at most
 few_in : (x : ShapeExpr) → length (predicates_in x) ≤ 1
@@ -191,8 +181,8 @@ declared_one terms (disj es) (Numbers.Shape a) b distinct h k = absurd h
 declared_one terms (neg e) (Numbers.Shape a) b distinct h k = absurd h
 declared_one terms (refer target) (Numbers.Shape a) b distinct h k = absurd h
 
-pub one_base : (doc : Document) (triples : List TermTriple) (a b : Held) → IsBase doc triples a → IsBase doc triples b → a.names ≡ b.names → a ≡ b
-one_base doc triples a b h k names =
+pub one_holding : (doc : Document) (triples : List TermTriple) (a b : Held) → IsHolding doc triples a → IsHolding doc triples b → a.names ≡ b.names → a ≡ b
+one_holding doc triples a b h k names =
     let firsts : h.first ≡ k.first = all_one [] h.first k.first (predicates_of doc) h.predicates k.predicates in
     let (terms, graph) = loads_one k.first a.terms b.terms [] a.graph b.graph triples (first_distinct doc k.first k.predicates) (subst (λ z. Loads z [] triples a.terms a.graph) firsts h.graph) k.graph in
     let decls : h.built.decl ≡ k.built.decl = same_only h.built.decl k.built.decl (sym h.built.declares ∙ k.built.declares) in
@@ -205,18 +195,10 @@ one_base doc triples a b h k names =
 
 -- what is not read into the table of the predicates is not read
 module _ (format : Format) (base : List ℕ) (doc : Document) (first : List Term) (bytes : List ℕ) (takes : AddsAll [] (predicates_of doc) first) where
-  caused : (e : Option ReadError) → IsCauseFor format base first bytes e → IsDataCause format base doc bytes e
-  caused None h = h
-  caused (Some e) h = (first, takes, h)
-
-  pub loading_stops : (e : InputError) → ReadingStops format base first bytes e → LoadingStops format base doc bytes e
-  loading_stops (Refused Sources.Schema refusal) h = h
-  loading_stops (Refused Sources.Data refusal) (cause, never) = (
-    caused (read_error refusal) cause,
+  pub loading_stops : (e : ReadError) → ReadingStops format base first bytes e → LoadingStops format base doc bytes e
+  loading_stops e stops = λ apart. (
+    (first, takes, (stops apart).0),
     λ last triples spelled h is.
         let same : is.first ≡ first = all_one [] is.first first (predicates_of doc) is.predicates takes in
-        never last triples spelled h.terms h.graph (subst (λ ts. Loads ts [] triples h.terms h.graph) same is.graph) is.within,
+        (stops apart).1 last triples spelled h.terms h.graph (subst (λ ts. Loads ts [] triples h.terms h.graph) same is.graph) is.within,
   )
-  loading_stops (Refused Sources.Map refusal) h = h
-  loading_stops (Failed source) h = h
-  loading_stops Memory h = h

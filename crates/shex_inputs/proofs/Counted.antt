@@ -1,40 +1,21 @@
 -- Triples that are loaded into an empty graph bring three terms each at most.
-use Rattle.std.proofs.Common.{◌≡◌, ◌∙◌, ap, sym, subst, refl, ℕ, zero, suc, ◌+◌, ◌*◌, ◌≤◌, ◌<◌, List, [], ◌∷◌, ◌++◌, length, arith, Some, inl, inr, ◌⊎◌}
+use Rattle.std.proofs.Common.{◌≡◌, ◌∙◌, ap, sym, subst, ℕ, zero, suc, ◌+◌, ◌*◌, ◌≤◌, ◌<◌, List, [], ◌∷◌, ◌++◌, length, arith, Some, inl, inr, ◌⊎◌}
 use Rattle.std.specs.Prelude.{All, Contains, slice_get}
 use Rattle.std.proofs.lemmas.List.{length-append}
 use Rattle.std.proofs.lemmas.List.Elements.{All-contains_itself, Contains-push_cases}
 use Rattle.std.proofs.lemmas.Option.{slice_get_within}
-use Rattle.rdf_terms.specs.Lists.{Adds}
 use Rattle.rdf_terms.specs.declared.terms.Term.{Term}
 use Rattle.rdf_terms.specs.declared.terms.Triple.{Triple}
 use Rattle.graph_index.specs.Laws.{IsOfTable}
-use Rattle.graph_loading.specs.declared.triples.TermTriple.{TermTriple}
-use Rattle.graph_loading.specs.Loading.{AddsAll, IsNumbered, Loads, more, none, nothing, terms_of, triple}
-use Rattle.graph_loading.proofs.Loading.{all_grow}
-use Rattle.schema_tree.proofs.Lists.{got_in}
-use Rattle.schema_tree.proofs.Members.{not_in_none}
+use Rattle.graph_index.specs.declared.loading.TermTriple.{TermTriple}
+use Rattle.graph_index.specs.Loading.{IsNumbered, Loads, nothing, terms_of, triple}
+use Rattle.lists.specs.Additions.{AddsAll}
+use Rattle.lists.proofs.Additions.{all_grow, held_stays, all_few}
+use Rattle.lists.proofs.Members.{got_in, not_in_none}
 
 -- the numbers of each triple of the graph are those of terms of the table
 abbrev AreBelow : List Term → List Triple → Type 0
 AreBelow terms graph = (n : Triple) → Contains graph n → IsOfTable terms n
-
--- each item of the second list is in the first
-abbrev pub AreHeld : {X : Type 0} → List X → List X → Type 0
-AreHeld old [] = Unit {0}
-AreHeld old (x ∷ xs) = Contains old x × AreHeld old xs
-
-pub held_stays : {X : Type 0} (old new xs : List X) → AreHeld old xs → AddsAll old xs new → new ≡ old
-held_stays old new xs held none = refl
-held_stays old new xs held (more {mid = mid} {xs = ys} {x = x} (inl (h, e)) rest) = held_stays mid new ys (subst (λ z. AreHeld z ys) (sym e) held.1) rest ∙ e
-held_stays old new xs held (more {mid = mid} {xs = ys} {x = x} (inr (fresh, e)) rest) = absurd (fresh held.0)
-
-add_few : {X : Type 0} (old new : List X) (x : X) → Adds old x new → length new ≤ length old + 1
-add_few old new x (inl (held, e)) = let n = ap length e in omega (arith, n)
-add_few old new x (inr (fresh, e)) = let n = ap length e in let m = length-append old (x ∷ []) in omega (arith, n, m)
-
-all_few : {X : Type 0} (old new xs : List X) → AddsAll old xs new → length new ≤ length old + length xs
-all_few old new xs none = omega arith
-all_few old new xs (more {mid = mid} {xs = ys} {x = x} a others) = let n = add_few old mid x a in let m = all_few mid new ys others in omega (arith, n, m)
 
 -- what is read within the front is of the front
 front_get : {X : Type 0} (old behind : List X) (i : ℕ) (x : X) → i < length old → slice_get (old ++ behind) i ≡ Some x → slice_get old i ≡ Some x

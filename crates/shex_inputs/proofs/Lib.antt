@@ -3,8 +3,6 @@ pub mod Based
 pub mod Counted
 pub mod Exclusive
 pub mod Fetched
-pub mod Ordered
 pub mod Reading
 pub mod Standing
-pub mod OwnTexts
 pub mod Trees

@@ -1,9 +1,9 @@
 -- What is refused is not read, and what is fetched in vain is said so.
-use Rattle.std.proofs.Common.{◌≡◌, ◌≢◌, sym, subst, refl, ℕ, List, [], inl, inr, true, false}
+use Rattle.std.proofs.Common.{◌≡◌, ◌≢◌, ◌∙◌, ap, sym, subst, ℕ, List, [], inl, inr, true, false}
 use Rattle.rdf_terms.specs.declared.terms.Term.{Term}
 use Rattle.rdf_terms.specs.declared.terms.Triple.{Triple}
-use Rattle.graph_loading.specs.declared.triples.TermTriple.{TermTriple}
-use Rattle.graph_loading.specs.Loading.{IsWithin, Loads}
+use Rattle.graph_index.specs.declared.loading.TermTriple.{TermTriple}
+use Rattle.graph_index.specs.Loading.{IsWithin, Loads}
 use Rattle.graph_index.specs.declared.read_error.ReadError.{ReadError}
 use Rattle.graph_index.specs.declared.read_error.ReadError.TheVariants as Errors
 use Rattle.data_reader.specs.declared.format.Format.{Format}
@@ -13,6 +13,7 @@ use Rattle.shex_io.specs.Files.{Told}
 use Rattle.shex_io.specs.declared.files.Act.{Act}
 use Rattle.command_words.specs.Asked.{Command}
 use Rattle.shex_inputs.specs.declared.error.InputError.{InputError}
+use Rattle.shex_inputs.specs.declared.error.Refusal.{Refusal}
 use Rattle.shex_inputs.specs.declared.error.Refusal.TheVariants as Refusals
 use Rattle.shex_inputs.specs.declared.error.InputError.TheVariants.{Refused, Failed, Memory}
 use Rattle.shex_inputs.specs.declared.error.Source.{Source}
@@ -25,21 +26,25 @@ use Rattle.serde_json.specs.Data.{Data}
 use Rattle.shexj_reader.specs.Bytes.{IsCause, IsDocumentText}
 use Rattle.shexj_reader.specs.Documents.{SpellsDeclared, SpellsExpression, SpellsTripleExpr, SpellsValueExpr, SpellsValueNode}
 use Rattle.shexj_reader.specs.Laws.{RefusedAreNone}
+use Rattle.shape_map.specs.declared.error.MapError.{MapError}
+use Rattle.shape_map.specs.declared.error.MapError.TheVariants as MapErrors
 use Rattle.shape_map.specs.declared.items.Item.{Item}
-use Rattle.shape_map.specs.Meanings.{Scope, scope_of}
+use Rattle.shape_map.specs.Selection.{UnlessMemory, refused}
+use Rattle.term_tokens.specs.Scopes.{scope_of}
 use Rattle.std.proofs.lemmas.Bool.{and_parts}
 use Rattle.std.specs.Prelude.{IsSome, Option, Some, None}
 use Rattle.iri_resolve.specs.Reference.{scheme_of}
 use Rattle.rdf_lex.specs.declared.prefixes.Prefixes.{Prefixes}
 use Rattle.rdf_lex.specs.Prefixes.{base_of, iri_under}
 use Rattle.command_words.specs.Checks.{is_base}
-use Rattle.shex_inputs.specs.Asked.{HoldsMap, base_alone, label_names, node_names}
-use Rattle.shex_inputs.specs.Held.{Held, HoldsSchema, IsBase, IsTaken}
+use Rattle.shex_inputs.specs.Asked.{EndsAs, HoldsMap, base_alone, label_names, node_names}
+use Rattle.shex_inputs.specs.Held.{Held, HoldsSchema, IsHolding, IsTaken}
 use Rattle.shex_inputs.specs.Loading.{IsLoadable, IsLoadableExpr, IsLoadableExpression, IsLoadableTriple, IsLoadableValue}
-use Rattle.shex_inputs.specs.Named.{IsFile, is_compact, map_name, source_name}
-use Rattle.shex_inputs.specs.Outcomes.{Explains, FaultsAs}
-use Rattle.shex_inputs.specs.Refusals.{IsRefused, IsSchemaCause, Reaches}
-use Rattle.shex_inputs.specs.Stops.{AreUnreadable, FetchStops, LoadingStops, MapStops, ReadingStops, ResolvingStops, SchemaStops, data_error, schema_error}
+use Rattle.shex_inputs.specs.Named.{IsFile, is_compact, map_name, source_name, source_of}
+use Rattle.shex_inputs.specs.Outcomes.{Explains, FaultsAs, IsBeforeMap, IsRefusalOf}
+use Rattle.shex_inputs.specs.Refusals.{AreUnread, IsRefused, Reaches}
+use Rattle.shex_inputs.specs.Stops.{AreUnreadable, FetchStops, LoadingStops, MapStops, ReadingStops, SchemaStops}
+use Rattle.shex_inputs.proofs.Asking.{unless_memory}
 
 module _ (format : Format) (base : List ℕ) (first : List Term) (old : List Triple) (bytes : List ℕ) (nothing_held : old ≡ []) where
   -- only want of memory refuses what the bytes are
@@ -52,42 +57,33 @@ module _ (format : Format) (base : List ℕ) (first : List Term) (old : List Tri
   caused : (e : ReadError) → DataExplains format base e bytes first old → DataExplains format base e bytes first []
   caused e h = subst (λ g. DataExplains format base e bytes first g) nothing_held h
 
-  pub reading_stops : (e : ReadError) → DataExplains format base e bytes first old → IsComplete e → ReadingStops format base first bytes (data_error e)
-  reading_stops Errors.NotUtf8 h complete = (caused Errors.NotUtf8 h, unread Errors.NotUtf8 complete (λ e. cc))
-  reading_stops (Errors.Syntax at) h complete = (caused (Errors.Syntax at) h, unread (Errors.Syntax at) complete (λ e. cc))
-  reading_stops (Errors.Prefix at) h complete = (caused (Errors.Prefix at) h, unread (Errors.Prefix at) complete (λ e. cc))
-  reading_stops Errors.Deep h complete = (caused Errors.Deep h, unread Errors.Deep complete (λ e. cc))
-  reading_stops (Errors.Long at) h complete = (caused (Errors.Long at) h, unread (Errors.Long at) complete (λ e. cc))
-  reading_stops Errors.Full h complete = (caused Errors.Full h, unread Errors.Full complete (λ e. cc))
-  reading_stops Errors.Memory h complete = tt
+  pub reading_stops : (e : ReadError) → DataExplains format base e bytes first old → IsComplete e → ReadingStops format base first bytes e
+  reading_stops e h complete = λ apart. (caused e h, unread e complete apart)
+
+-- what holds of want of memory and of the refusal holds of the stop
+pub by_refusal : {E : Type 0} (memory : E) (refusal : E → Refusal) (e : E) (stop : InputError) (P : InputError → Type 0) → IsRefusalOf memory refusal e stop → P Memory → (e ≢ memory → P (Refused (refusal e))) → P stop
+by_refusal memory refusal e stop P (inl (is, made)) wanting to = subst P (sym made) wanting
+by_refusal memory refusal e stop P (inr (apart, made)) wanting to = subst P (sym made) (to apart)
 
 -- a fetch that stops
 pub fetch_explains : (told : Told) (c : Command) (source : Source) (before after : ℕ) (blame : List ℕ) (act : Act) (e : InputError) → Reaches told c source → FetchStops told (source_name c source) source before after blame act e → Explains told c e
-fetch_explains told c source before after blame act (Refused other refusal) reached (same, size, long, stay) = subst (λ s. IsRefused told c s refusal) (sym same) (inl (size, (reached, long)))
+fetch_explains told c source before after blame act (Refused refusal) reached (size, long, stay) = subst (λ r. IsRefused told c r) (sym size) (reached, long)
 fetch_explains told c source before after blame act (Failed other) reached (same, faults) = subst (λ s. Reaches told c s) (sym same) reached
 fetch_explains told c source before after blame act Memory reached stay = tt
 
 pub fetch_faults : (told : Told) (c : Command) (source : Source) (before after : ℕ) (blame : List ℕ) (act : Act) (e : InputError) → FetchStops told (source_name c source) source before after blame act e → FaultsAs c before after blame act e
-fetch_faults told c source before after blame act (Refused other refusal) (same, size, long, stay) = stay
+fetch_faults told c source before after blame act (Refused refusal) (size, long, stay) = stay
 fetch_faults told c source before after blame act (Failed other) (same, faults) = subst (λ s. FaultsAs c before after blame act (Failed s)) (sym same) faults
 fetch_faults told c source before after blame act Memory stay = stay
 
--- the refusals of the reader of schemas
-module _ (law : RefusedAreNone) (bytes : List ℕ) where
-  refused_for : (e : SchemaError) → e ≢ SchemaErrors.Memory → IsCause bytes e → SchemaStops bytes (Refused Sources.Schema (Refusals.Schema e))
-  refused_for e apart h = (apart, (h, λ doc. law bytes e doc apart h))
+pub fetch_before_map : (told : Told) (name : List ℕ) (source : Source) (before after : ℕ) (blame : List ℕ) (act : Act) (e : InputError) → source ≢ Sources.Map → FetchStops told name source before after blame act e → IsBeforeMap e
+fetch_before_map told name source before after blame act (Refused refusal) other (size, long, stay) = λ is. other (ap source_of (sym size) ∙ is)
+fetch_before_map told name source before after blame act (Failed failed) other (same, faults) = λ is. other (sym same ∙ is)
+fetch_before_map told name source before after blame act Memory other stay = tt
 
-  pub schema_stops : (e : SchemaError) → IsCause bytes e → SchemaStops bytes (schema_error e)
-  schema_stops SchemaErrors.NotUtf8 h = refused_for SchemaErrors.NotUtf8 (λ e. cc) h
-  schema_stops SchemaErrors.Json h = refused_for SchemaErrors.Json (λ e. cc) h
-  schema_stops (SchemaErrors.Key name) h = refused_for (SchemaErrors.Key name) (λ e. cc) h
-  schema_stops (SchemaErrors.Form name) h = refused_for (SchemaErrors.Form name) (λ e. cc) h
-  schema_stops SchemaErrors.Action h = refused_for SchemaErrors.Action (λ e. cc) h
-  schema_stops SchemaErrors.FloatFacet h = refused_for SchemaErrors.FloatFacet (λ e. cc) h
-  schema_stops SchemaErrors.FacetNumber h = refused_for SchemaErrors.FacetNumber (λ e. cc) h
-  schema_stops (SchemaErrors.Pattern p) h = refused_for (SchemaErrors.Pattern p) (λ e. cc) h
-  schema_stops (SchemaErrors.NotBuilt name) h = refused_for (SchemaErrors.NotBuilt name) (λ e. cc) h
-  schema_stops SchemaErrors.Memory h = tt
+-- the refusals of the reader of schemas
+pub schema_stops : RefusedAreNone → (bytes : List ℕ) (e : SchemaError) → IsCause bytes e → SchemaStops bytes e
+schema_stops law bytes e h = λ apart. (h, λ doc. law bytes e doc apart h)
 
 -- a document that is read is loadable
 node_loadable : (e : ShapeExpr) (d : Data) → SpellsValueNode e d → IsLoadableValue (one_expr e)
@@ -133,80 +129,64 @@ loadable doc bytes h = record {
   expr = expr_loadable h.spelled.decl.expr h.spelled.only h.spelled.declared.has_expr;
 }
 
--- a schema that is not read
-pub schema_explains : (told : Told) (c : Command) (bytes text : List ℕ) (e : InputError) → IsFile told c.schema bytes → is_compact c.schema ≡ false → text ≡ bytes → SchemaStops text e → Explains told c e
-schema_explains told c bytes text (Refused Sources.Schema refusal) file json same h = inr (record { bytes = bytes; file = file; why = inr (json, subst (λ bs. IsSchemaCause bs refusal) same h) })
-schema_explains told c bytes text (Refused Sources.Data refusal) file json same h = absurd h
-schema_explains told c bytes text (Refused Sources.Map refusal) file json same h = absurd h
-schema_explains told c bytes text (Failed other) file json same h = absurd h
-schema_explains told c bytes text Memory file json same h = tt
+-- a stop that is no fault of the files
+pub refused_faults : {E : Type 0} (memory : E) (refusal : E → Refusal) (e : E) (stop : InputError) (c : Command) (before after : ℕ) (blame : List ℕ) (act : Act) → IsRefusalOf memory refusal e stop → after ≡ before → FaultsAs c before after blame act stop
+refused_faults memory refusal e stop c before after blame act made stay = by_refusal memory refusal e stop (λ z. FaultsAs c before after blame act z) made stay (λ apart. stay)
 
-pub schema_faults : (c : Command) (before after : ℕ) (blame : List ℕ) (act : Act) (bytes : List ℕ) (e : InputError) → after ≡ before → SchemaStops bytes e → FaultsAs c before after blame act e
-schema_faults c before after blame act bytes (Refused other refusal) stay h = stay
-schema_faults c before after blame act bytes (Failed other) stay h = absurd h
-schema_faults c before after blame act bytes Memory stay h = stay
+pub refused_before_map : {E : Type 0} (memory : E) (refusal : E → Refusal) (e : E) (stop : InputError) → IsRefusalOf memory refusal e stop → source_of (refusal e) ≢ Sources.Map → IsBeforeMap stop
+refused_before_map memory refusal e stop made other = by_refusal memory refusal e stop IsBeforeMap made tt (λ apart. other)
+
+-- a schema that is not read
+pub schema_explains : (told : Told) (c : Command) (bytes text : List ℕ) (e : SchemaError) (stop : InputError) → IsFile told c.schema bytes → is_compact c.schema ≡ false → text ≡ bytes → SchemaStops text e →
+    IsRefusalOf SchemaErrors.Memory (λ x. Refusals.Schema x) e stop → Explains told c stop
+schema_explains told c bytes text e stop file json same stops made =
+    by_refusal SchemaErrors.Memory (λ x. Refusals.Schema x) e stop (λ z. Explains told c z) made tt (λ apart. record {
+      bytes = text;
+      file = subst (IsFile told c.schema) (sym same) file;
+      in_json = json;
+      apart = apart;
+      cause = (stops apart).0;
+      none = (stops apart).1;
+    })
 
 -- data that are not read
-explained : (told : Told) (c : Command) (doc : Document) (bytes text : List ℕ) (e : InputError) → HoldsSchema told c doc → IsFile told c.data_file bytes → text ≡ bytes → LoadingStops (format_of c.data_file) c.data_base doc text e → Explains told c e
-explained told c doc bytes text (Refused Sources.Schema refusal) holds file same h = absurd h
-explained told c doc bytes text (Refused Sources.Data refusal) holds file same (cause, none) = inr (record {
+explained : (told : Told) (c : Command) (doc : Document) (bytes text : List ℕ) (e : ReadError) → HoldsSchema told c doc → IsFile told c.data_file bytes → text ≡ bytes → LoadingStops (format_of c.data_file) c.data_base doc text e → e ≢ Errors.Memory → AreUnread told c e
+explained told c doc bytes text e holds file same stops apart = record {
   doc = doc;
   holds_schema = holds;
   bytes = text;
   file = subst (IsFile told c.data_file) (sym same) file;
-  cause = cause;
-  none = none;
-})
-explained told c doc bytes text (Refused Sources.Map refusal) holds file same h = absurd h
-explained told c doc bytes text (Failed other) holds file same h = absurd h
-explained told c doc bytes text Memory holds file same h = tt
+  apart = apart;
+  cause = (stops apart).0;
+  none = (stops apart).1;
+}
 
-pub data_explains : (told : Told) (c : Command) (format : Format) (doc : Document) (bytes text : List ℕ) (e : InputError) → HoldsSchema told c doc → IsFile told c.data_file bytes → format ≡ format_of c.data_file → text ≡ bytes → LoadingStops format c.data_base doc text e → Explains told c e
-data_explains told c format doc bytes text e holds file is same h = explained told c doc bytes text e holds file same (subst (λ f. LoadingStops f c.data_base doc text e) is h)
-
-pub data_faults : (c : Command) (before after : ℕ) (blame : List ℕ) (act : Act) (format : Format) (base : List ℕ) (doc : Document) (bytes : List ℕ) (e : InputError) → after ≡ before → LoadingStops format base doc bytes e → FaultsAs c before after blame act e
-data_faults c before after blame act format base doc bytes (Refused other refusal) stay h = stay
-data_faults c before after blame act format base doc bytes (Failed other) stay h = absurd h
-data_faults c before after blame act format base doc bytes Memory stay h = stay
+pub data_explains : (told : Told) (c : Command) (format : Format) (doc : Document) (bytes text : List ℕ) (e : ReadError) (stop : InputError) → HoldsSchema told c doc → IsFile told c.data_file bytes → format ≡ format_of c.data_file → text ≡ bytes → LoadingStops format c.data_base doc text e →
+    IsRefusalOf Errors.Memory (λ x. Refusals.Data x) e stop → Explains told c stop
+data_explains told c format doc bytes text e stop holds file is same stops made =
+    by_refusal Errors.Memory (λ x. Refusals.Data x) e stop (λ z. Explains told c z) made tt
+    (explained told c doc bytes text e holds file same (subst (λ f. LoadingStops f c.data_base doc text e) is stops))
 
 -- a map that is not read
-pub map_explains : (told : Told) (c : Command) (h : Held) (bytes text : List ℕ) (e : InputError) → IsTaken told c h → IsFile told (map_name c.task) bytes → text ≡ bytes → MapStops (node_names h.names) (label_names c) text e → Explains told c e
-map_explains told c h bytes text (Refused Sources.Schema refusal) taken file same k = absurd k
-map_explains told c h bytes text (Refused Sources.Data refusal) taken file same k = absurd k
-map_explains told c h bytes text (Refused Sources.Map refusal) taken file same (cause, none) = inr (inl (record {
-  held = h;
-  taken = taken;
-  bytes = text;
-  file = subst (IsFile told (map_name c.task)) (sym same) file;
-  cause = cause;
-  none = none;
-}))
-map_explains told c h bytes text (Failed other) taken file same k = absurd k
-map_explains told c h bytes text Memory taken file same k = tt
-
-pub map_faults : (c : Command) (before after : ℕ) (blame : List ℕ) (act : Act) (e : InputError) → after ≡ before → ((other : Source) → e ≡ Failed other → ⊥) → FaultsAs c before after blame act e
-map_faults c before after blame act (Refused other refusal) stay h = stay
-map_faults c before after blame act (Failed other) stay h = absurd (h other refl)
-map_faults c before after blame act Memory stay h = stay
-
-pub reads_failed : (nodes labels : Scope) (bytes : List ℕ) (e : InputError) → MapStops nodes labels bytes e → (other : Source) → e ≡ Failed other → ⊥
-reads_failed nodes labels bytes (Refused source refusal) h other is = absurd cc
-reads_failed nodes labels bytes (Failed source) h other is = h
-reads_failed nodes labels bytes Memory h other is = absurd cc
-
-pub resolves_failed : (h : Held) (items : List Item) (e : InputError) → ResolvingStops h items e → (other : Source) → e ≡ Failed other → ⊥
-resolves_failed h items (Refused source refusal) k other is = absurd cc
-resolves_failed h items (Failed source) k other is = k
-resolves_failed h items Memory k other is = absurd cc
+pub map_explains : (told : Told) (c : Command) (h : Held) (bytes text : List ℕ) (e : MapError) (stop : InputError) → IsTaken told c h → IsFile told (map_name c.task) bytes → text ≡ bytes → MapStops (node_names h.names) (label_names c) text e →
+    IsRefusalOf MapErrors.Memory (λ x. Refusals.Map x) e stop → Explains told c stop
+map_explains told c h bytes text e stop taken file same stops made =
+    by_refusal MapErrors.Memory (λ x. Refusals.Map x) e stop (λ z. Explains told c z) made tt (λ apart. inl (record {
+      held = h;
+      taken = taken;
+      bytes = text;
+      file = subst (IsFile told (map_name c.task)) (sym same) file;
+      apart = apart;
+      cause = (stops apart).0;
+      none = (stops apart).1;
+    }))
 
 -- a map whose associations are refused
-pub asking_explains : (told : Told) (c : Command) (h : Held) (items : List Item) (e : InputError) → IsTaken told c h → HoldsMap told c h.names (map_name c.task) items → ResolvingStops h items e → Explains told c e
-asking_explains told c h items (Refused Sources.Schema refusal) taken holds k = absurd k
-asking_explains told c h items (Refused Sources.Data refusal) taken holds k = absurd k
-asking_explains told c h items (Refused Sources.Map refusal) taken holds (inl cause) = inr (inr (inl (record { held = h; taken = taken; items = items; holds_map = holds; cause = cause })))
-asking_explains told c h items (Refused Sources.Map refusal) taken holds (inr (full, above)) = inr (inr (inr (record { is_full = full; held = h; taken = taken; items = items; holds_map = holds; above = above })))
-asking_explains told c h items (Failed other) taken holds k = absurd k
-asking_explains told c h items Memory taken holds k = tt
+pub asking_explains : (told : Told) (c : Command) (h : Held) (items : List Item) (e : MapError) (stop : InputError) → IsTaken told c h → HoldsMap told c h.names (map_name c.task) items → UnlessMemory e (EndsAs h items (refused e)) →
+    IsRefusalOf MapErrors.Memory (λ x. Refusals.Map x) e stop → Explains told c stop
+asking_explains told c h items e stop taken holds ends made =
+    by_refusal MapErrors.Memory (λ x. Refusals.Map x) e stop (λ z. Explains told c z) made tt
+    (λ apart. inr (record { held = h; taken = taken; items = items; holds_map = holds; ends = unless_memory e (EndsAs h items (refused e)) apart ends }))
 
 -- a base that passed its check has a scheme
 pub base_scheme : (text : List ℕ) → is_base text ≡ true → IsSome (scheme_of text)
@@ -215,13 +195,13 @@ base_scheme text h = (and_parts _ _ h).0
 
 -- what is read is taken
 pub are_taken : (told : Told) (c : Command) (h : Held) (format : Format) (doc : Document) (bytes text : List ℕ) (triples : List TermTriple) → HoldsSchema told c doc → IsFile told c.data_file bytes → format ≡ format_of c.data_file → text ≡ bytes
-    → IsData format c.data_base (h.names, triples) text → IsBase doc triples h → IsTaken told c h
-are_taken told c h format doc bytes text triples holds file is same spelled base = record {
+    → IsData format c.data_base (h.names, triples) text → IsHolding doc triples h → IsTaken told c h
+are_taken told c h format doc bytes text triples holds file is same spelled holding = record {
   doc = doc;
   holds_schema = holds;
   triples = triples;
   holds_data = record { bytes = bytes; file = file; spelled = subst (λ bs. IsData (format_of c.data_file) c.data_base (h.names, triples) bs) same (subst (λ f. IsData f c.data_base (h.names, triples) text) is spelled) };
-  base = base;
+  holding = holding;
 }
 
 -- a base alone

@@ -3,10 +3,8 @@ use Rattle.std.proofs.Common.{◌≡◌, ℕ, zero, suc, ◌<◌, ◌≤◌, Lis
 use Rattle.std.specs.Prelude.{Contains, Option, Some, None, slice_get}
 use Rattle.std.proofs.lemmas.Bool.{eqb-true, eq-eqb}
 use Rattle.rdf_terms.specs.declared.terms.Term.{Term}
-use Rattle.rdf_terms.specs.Lists.{AreDistinct}
-use Rattle.tally.specs.declared.Count.{Count, Sym}
-use Rattle.tally.specs.Plan.{Plan, plan_of, sym as symbol}
-use Rattle.tally.proofs.Plans.{is_sym}
+use Rattle.lists.specs.Distinct.{AreDistinct}
+use Rattle.tally.specs.Plan.{Plan, sym as symbol}
 use Rattle.tally.specs.Symbols.{IsDistinct, has_symbol}
 use Rattle.tally.specs.Span.{IsSound}
 use Rattle.node_constraint.specs.Constraint.{Constraint}
@@ -20,7 +18,7 @@ use Rattle.schema_tree.specs.declared.schema.Schema.{Schema}
 use Rattle.schema_tree.specs.declared.schema.Shape.{Shape}
 use Rattle.schema_tree.specs.Entries.{entry}
 use Rattle.schema_tree.specs.Loaded.{BodyOk, IsEntryIfAny, IsLoaded, IsShapeLoaded, RefersBelow}
-use Rattle.schema_tree.proofs.Members.{in_one, not_in_none}
+use Rattle.lists.proofs.Members.{in_one, not_in_none}
 use Rattle.shex_inputs.specs.declared.load.Arc.{Arc}
 use Rattle.shex_inputs.specs.declared.load.Declared.{Declared}
 use Rattle.shex_inputs.specs.declared.load.Declared.TheVariants as Numbers
@@ -68,9 +66,9 @@ module _ (l : Label) (c : Constraint) where
 -- ---- a Shape
 
 -- the body and the occurrences of an arc, if there is one
-abbrev IsArcBody : Option Arc → Option Count → List Occurrence → Type 0
+abbrev IsArcBody : Option Arc → Option Plan → List Occurrence → Type 0
 IsArcBody None None occs = occs ≡ []
-IsArcBody (Some arc) (Some body) occs = (plan_of body ≡ symbol 0) × (occs ≡ occurrence_of arc ∷ [])
+IsArcBody (Some arc) (Some body) occs = (body ≡ symbol 0) × (occs ≡ occurrence_of arc ∷ [])
 IsArcBody _ _ occs = ⊥
 
 -- the open Shape of an arc, if there is one
@@ -81,7 +79,7 @@ record IsArcShape (arc : Option Arc) (sh : Shape) : Type 0 where
 
 shape_is : (arc : Option Arc) → IsArcShape arc (shape_of arc)
 shape_is None = record { closed = refl; extra = refl; body = refl }
-shape_is (Some arc) = record { closed = refl; extra = refl; body = (is_sym (Sym 0) 0 refl, refl) }
+shape_is (Some arc) = record { closed = refl; extra = refl; body = (refl, refl) }
 
 module _ (l : Label) (arc : Option Arc) where
   abbrev sh : Shape
@@ -128,7 +126,7 @@ module _ (l : Label) (arc : Option Arc) where
       go None e = tt
       go (Some k) e = let l : length (entries_of (value_in arc)) ≡ 2 = ap (λ x. length (entries_of x)) e in omega (arith, l)
 
-  body_ok : (a : Option Arc) (b : Option Count) (occs : List Occurrence) → IsArcBody a b occs → BodyOk occs b
+  body_ok : (a : Option Arc) (b : Option Plan) (occs : List Occurrence) → IsArcBody a b occs → BodyOk occs b
   unfolding IsDistinct IsSound
   body_ok None None occs none = ap length none
   body_ok (Some a) (Some c) occs (plan, one) =
@@ -146,7 +144,7 @@ module _ (l : Label) (arc : Option Arc) where
     few = few arc sh.body sh.occs made.body;
   }
     where
-      values : (a : Option Arc) → arc ≡ a → (b : Option Count) (occs : List Occurrence) → IsArcBody a b occs → (o : Occurrence) → Contains occs o → IsEntryIfAny schema o.value
+      values : (a : Option Arc) → arc ≡ a → (b : Option Plan) (occs : List Occurrence) → IsArcBody a b occs → (o : Occurrence) → Contains occs o → IsEntryIfAny schema o.value
       values None e None occs none o held = absurd (not_in_none o (subst (λ os. Contains os o) none held))
       values (Some a) e (Some c) occs (plan, one) o held =
           let own : occurrence_of a ≡ o = in_one (occurrence_of a) o (subst (λ os. Contains os o) one held) in
@@ -154,7 +152,7 @@ module _ (l : Label) (arc : Option Arc) where
       values None e (Some c) occs h o held = absurd h
       values (Some a) e None occs h o held = absurd h
 
-      few : (a : Option Arc) (b : Option Count) (occs : List Occurrence) → IsArcBody a b occs → length occs ≤ 256
+      few : (a : Option Arc) (b : Option Plan) (occs : List Occurrence) → IsArcBody a b occs → length occs ≤ 256
       few None None occs none = let l : length occs ≡ 0 = ap length none in omega (arith, l)
       few (Some a) (Some c) occs (plan, one) = let l : length occs ≡ 1 = ap length one in omega (arith, l)
       few None (Some c) occs h = absurd h
@@ -183,7 +181,7 @@ module _ (l : Label) (arc : Option Arc) where
       let there : slice_get (entries_of (value_in arc)) 0 ≡ Some (Exprs.Node k) = ap (λ v. slice_get (entries_of v) 0) e in
       subst (λ y. IsNodeOf schema y (record { 0 = 0 })) (sym h) there
 
-  bodied : (terms : List Term) (a : Option Arc) → arc ≡ a → (x : MaybeTripleExpr) (b : Option Count) (occs : List Occurrence) → IsLoadableExpression x → IsArcIn terms x a → IsArcBody a b occs → IsBodyOf terms schema x b occs
+  bodied : (terms : List Term) (a : Option Arc) → arc ≡ a → (x : MaybeTripleExpr) (b : Option Plan) (occs : List Occurrence) → IsLoadableExpression x → IsArcIn terms x a → IsArcBody a b occs → IsBodyOf terms schema x b occs
   bodied terms None e no_triple None occs load h none = none
   bodied terms (Some a) e (one_triple (triple name least most (constraint false predicate value))) (Some body) occs (least_once, (most_once, load)) (number, is) (plan, one) = (
     least_once,

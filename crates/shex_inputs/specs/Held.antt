@@ -1,17 +1,17 @@
 -- What the schema file and the data file hold, in the numbers of one table of terms.
 use Rattle.std.specs.Prelude.{ℕ, ⊤, false, List, [], ◌∷◌, ◌≡◌, ◌<◌, ◌^◌, Option, Some, None, length, slice_get}
 use Rattle.shex_io.specs.Files.{Told}
-use Rattle.rdf_terms.specs.Lists.{AreDistinct}
+use Rattle.lists.specs.Distinct.{AreDistinct}
 use Rattle.rdf_terms.specs.Tables.{max_terms}
 use Rattle.rdf_terms.specs.declared.terms.Term.{Term}
 use Rattle.rdf_terms.specs.declared.terms.Term.TheVariants as Terms
 use Rattle.rdf_terms.specs.declared.terms.Triple.{Triple}
-use Rattle.tally.specs.declared.Count.{Count}
-use Rattle.tally.specs.Plan.{plan_of, sym}
+use Rattle.tally.specs.Plan.{Plan, sym}
 use Rattle.tally.specs.declared.Bound.TheVariants.{Upto}
 use Rattle.node_constraint.specs.Constraint.{Constraint}
-use Rattle.graph_loading.specs.declared.triples.TermTriple.{TermTriple}
-use Rattle.graph_loading.specs.Loading.{AddsAll, IsWithin, Loads}
+use Rattle.graph_index.specs.declared.loading.TermTriple.{TermTriple}
+use Rattle.graph_index.specs.Loading.{IsWithin, Loads}
+use Rattle.lists.specs.Additions.{AddsAll}
 use Rattle.data_reader.specs.Documents.{Context, IsData, context_of}
 use Rattle.data_reader.specs.Formats.{format_of}
 use Rattle.schema_tree.specs.declared.schema.Schema.{Schema}
@@ -24,7 +24,7 @@ use Rattle.schema_tree.specs.Entries.{entry}
 use Rattle.schema_tree.specs.Loaded.{IsLoaded}
 use Rattle.shexj_reader.specs.Bytes.{IsDocumentText}
 use Rattle.command_words.specs.Asked.{Command}
-use Rattle.shex_inputs.specs.declared.base.Base.{Base}
+use Rattle.shex_inputs.specs.declared.holding.Holding.{Holding}
 use Rattle.shex_inputs.specs.Loading.{IsBuilt, predicates_of}
 use Rattle.shex_inputs.specs.Named.{IsFile, is_compact}
 
@@ -36,7 +36,7 @@ pub record Held : Type 0 where
   pub names : Context
 
 -- what the code holds
-abbrev pub held_by : Base → Held
+abbrev pub held_by : Holding → Held
 held_by b = record { schema = b.schema; terms = b.terms; graph = b.graph.triples; names = context_of b.names }
 
 -- the schema file, whose name is none of ShExC, holds the text of this document
@@ -72,13 +72,13 @@ pub record IsOccurrenceOf (terms : List Term) (s : Schema) (predicate : List ℕ
   pub valued : IsValueOf s value o.value
 
 -- the body and the occurrences are those of a TripleConstraint that comes once and takes arcs out: its one occurrence, once
-abbrev pub IsTripleOf : List Term → Schema → TripleExpr → Count → List Occurrence → Type 0
+abbrev pub IsTripleOf : List Term → Schema → TripleExpr → Plan → List Occurrence → Type 0
 IsTripleOf terms s (triple name least most (arc false predicate value)) body occs =
-    (least ≡ 1) × (most ≡ Upto 1) × (plan_of body ≡ sym 0) × (o : Occurrence) × (occs ≡ o ∷ []) × IsOccurrenceOf terms s predicate value o
+    (least ≡ 1) × (most ≡ Upto 1) × (body ≡ sym 0) × (o : Occurrence) × (occs ≡ o ∷ []) × IsOccurrenceOf terms s predicate value o
 IsTripleOf terms s (triple name least most _) body occs = ⊥
 
 -- the body and the occurrences are those of the triple expression; without one there are none
-abbrev pub IsBodyOf : List Term → Schema → MaybeTripleExpr → Option Count → List Occurrence → Type 0
+abbrev pub IsBodyOf : List Term → Schema → MaybeTripleExpr → Option Plan → List Occurrence → Type 0
 IsBodyOf terms s no_triple None occs = occs ≡ []
 IsBodyOf terms s no_triple (Some body) occs = ⊥
 IsBodyOf terms s (one_triple t) None occs = ⊥
@@ -119,7 +119,7 @@ pub record StandsFor (terms : List Term) (doc : Document) (s : Schema) : Type 0 
 
 -- a schema and a graph in the numbers of one table of terms are those of the document and the triples. The table has each
 -- term once: first the document's predicates, then the terms of the triples in their order
-pub record IsBase (doc : Document) (triples : List TermTriple) (h : Held) : Type 0 where
+pub record IsHolding (doc : Document) (triples : List TermTriple) (h : Held) : Type 0 where
   pub stands : StandsFor h.terms doc h.schema
   pub built : IsBuilt h.terms doc h.schema
   pub distinct : AreDistinct h.terms
@@ -139,4 +139,4 @@ pub record IsTaken (told : Told) (c : Command) (h : Held) : Type 0 where
   pub holds_schema : HoldsSchema told c doc
   pub triples : List TermTriple
   pub holds_data : HoldsData told c h.names triples
-  pub base : IsBase doc triples h
+  pub holding : IsHolding doc triples h

@@ -7,7 +7,7 @@ use Rattle.shex_inputs.specs.declared.error.Source.{Source}
 use Rattle.shex_inputs.specs.declared.error.Source.TheVariants.{Map}
 use Rattle.shex_inputs.specs.Asked.{IsAskedOf, Question}
 use Rattle.shex_inputs.specs.Held.{Held, IsTaken}
-use Rattle.shex_inputs.specs.Named.{map_name}
+use Rattle.shex_inputs.specs.Named.{map_name, source_of}
 use Rattle.shex_inputs.specs.Outcomes.{IsAbsent}
 use Rattle.shex_inputs.specs.Refusals.{IsRefused}
 
@@ -24,19 +24,19 @@ module _ (contents : List ℕ → Option (List ℕ)) (c : Command) where
   abbrev pub TakenIsNotLeft : Type 0
   TakenIsNotLeft =
       (h : Held) (source : Source) → IsTaken (Some contents) c h → source ≢ Map →
-      ((refusal : Refusal) → ¬ IsRefused (Some contents) c source refusal) × (¬ IsAbsent (Some contents) c source)
+      ((refusal : Refusal) → source_of refusal ≡ source → ¬ IsRefused (Some contents) c refusal) × (¬ IsAbsent (Some contents) c source)
 
   -- where a map asks something, no file is refused or absent
   abbrev pub AskedIsNotLeft : Type 0
   AskedIsNotLeft =
-      (q : Question) (source : Source) → IsAskedOf (Some contents) c (map_name c.task) q →
-      ((refusal : Refusal) → ¬ IsRefused (Some contents) c source refusal) × (¬ IsAbsent (Some contents) c source)
+      (q : Question) → IsAskedOf (Some contents) c (map_name c.task) q →
+      ((refusal : Refusal) → ¬ IsRefused (Some contents) c refusal) × ((source : Source) → ¬ IsAbsent (Some contents) c source)
 
-  -- a file that is refused or absent is the only one
+  -- a file that is refused is the only one, and none is absent
   abbrev pub LeftIsOne : Type 0
   LeftIsOne =
-      (a b : Source) (refusal : Refusal) → IsRefused (Some contents) c a refusal →
-      ((other : Refusal) → IsRefused (Some contents) c b other → a ≡ b) × (¬ IsAbsent (Some contents) c b)
+      (refusal : Refusal) → IsRefused (Some contents) c refusal →
+      ((other : Refusal) → IsRefused (Some contents) c other → source_of refusal ≡ source_of other) × ((source : Source) → ¬ IsAbsent (Some contents) c source)
 
 -- all of these
 abbrev pub InputsAreOne : Type 0

@@ -4,6 +4,6 @@ pub mod Loading
 pub mod Asked
 pub mod Refusals
 pub mod Outcomes
-pub mod Nodes
 pub mod Stops
 pub mod Laws
+pub mod Lines

@@ -4,7 +4,7 @@ use Rattle.std.specs.List.{flat_map}
 use Rattle.rdf_terms.specs.declared.terms.Term.{Term}
 use Rattle.rdf_terms.specs.declared.terms.Term.TheVariants as Terms
 use Rattle.tally.specs.declared.Bound.TheVariants.{Upto}
-use Rattle.tally.specs.declared.Count.{Sym}
+use Rattle.tally.specs.Plan.{sym}
 use Rattle.node_constraint.specs.Constraint.{Constraint}
 use Rattle.schema_documents.specs.declared.label.Label.{Label}
 use Rattle.schema_documents.specs.Tree.{Declaration, Document, MaybeShapeExpr, MaybeTripleExpr, ShapeExpr, TripleBody, TripleExpr, arc, no_expr, no_triple, node, one_expr, one_triple, shape, triple}
@@ -104,7 +104,7 @@ occurrence_of a = record { inverse = false; predicate = a.predicate; value = val
 -- the open Shape of an arc, if there is one
 abbrev pub shape_of : Option Arc → Shape
 shape_of None = record { closed = false; extra = []; body = None; occs = [] }
-shape_of (Some a) = record { closed = false; extra = []; body = Some (Sym 0); occs = occurrence_of a ∷ [] }
+shape_of (Some a) = record { closed = false; extra = []; body = Some (sym 0); occs = occurrence_of a ∷ [] }
 
 -- the schema of these expressions and Shapes, where the label has the expression of this number
 abbrev pub labelled : Label → List Expr → List Shape → ℕ → Schema

@@ -5,6 +5,8 @@ use Rattle.clap.specs.Words.{Text}
 use Rattle.shex_io.specs.Files.{Told, Holds}
 use Rattle.command_words.specs.Asked.{Command}
 use Rattle.command_words.specs.Requests.{Task, checking, validation}
+use Rattle.shex_inputs.specs.declared.error.Refusal.{Refusal}
+use Rattle.shex_inputs.specs.declared.error.Refusal.TheVariants as Refusals
 use Rattle.shex_inputs.specs.declared.error.Source.{Source}
 use Rattle.shex_inputs.specs.declared.error.Source.TheVariants.{Schema, Data, Map}
 
@@ -22,6 +24,14 @@ abbrev pub source_name : Command → Source → List ℕ
 source_name c Schema = c.schema
 source_name c Data = c.data_file
 source_name c Map = map_name c.task
+
+-- the file that is refused
+abbrev pub source_of : Refusal → Source
+source_of (Refusals.Size source) = source
+source_of Refusals.NotBuilt = Schema
+source_of (Refusals.Schema error) = Schema
+source_of (Refusals.Data error) = Data
+source_of (Refusals.Map error) = Map
 
 -- the name is that of a schema in ShExC
 abbrev pub is_compact : List ℕ → Bool

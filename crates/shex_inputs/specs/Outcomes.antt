@@ -1,5 +1,5 @@
 -- How the reading of the inputs can stop.
-use Rattle.std.specs.Prelude.{ℕ, List, ◌≡◌, ◌≤◌, ⊤}
+use Rattle.std.specs.Prelude.{ℕ, List, ◌≡◌, ◌≢◌, ◌≤◌, ◌⊎◌, ⊤}
 use Rattle.shex_io.specs.Faults.{Rose}
 use Rattle.shex_io.specs.Files.{Lacks, Told}
 use Rattle.shex_io.specs.declared.files.Act.{Act}
@@ -7,18 +7,23 @@ use Rattle.shex_io.specs.declared.files.Act.TheVariants.{Fetch}
 use Rattle.command_words.specs.Asked.{Command}
 use Rattle.shex_inputs.specs.declared.error.InputError.{InputError}
 use Rattle.shex_inputs.specs.declared.error.InputError.TheVariants.{Refused, Failed, Memory}
+use Rattle.shex_inputs.specs.declared.error.Refusal.{Refusal}
 use Rattle.shex_inputs.specs.declared.error.Source.{Source}
-use Rattle.shex_inputs.specs.declared.error.Source.TheVariants.{Schema, Data, Map}
-use Rattle.shex_inputs.specs.Named.{source_name}
+use Rattle.shex_inputs.specs.declared.error.Source.TheVariants.{Map}
+use Rattle.shex_inputs.specs.Named.{source_name, source_of}
 use Rattle.shex_inputs.specs.Refusals.{IsRefused, Reaches}
 
 -- the next file to be fetched is told to be absent
 abbrev pub IsAbsent : Told → Command → Source → Type 0
 IsAbsent told c source = Reaches told c source × Lacks told (source_name c source)
 
+-- a file is refused for the cause of an error, unless the error is want of memory
+abbrev pub IsRefusalOf : {E : Type 0} → E → (E → Refusal) → E → InputError → Type 0
+IsRefusalOf memory refusal e stop = ((e ≡ memory) × (stop ≡ Memory)) ⊎ ((e ≢ memory) × (stop ≡ Refused (refusal e)))
+
 -- why the inputs are not taken: a file is refused, or the steps came to one that was not fetched, or memory ran out
 abbrev pub Explains : Told → Command → InputError → Type 0
-Explains told c (Refused source refusal) = IsRefused told c source refusal
+Explains told c (Refused refusal) = IsRefused told c refusal
 Explains told c (Failed source) = Reaches told c source
 Explains told c Memory = ⊤
 
@@ -26,15 +31,11 @@ Explains told c Memory = ⊤
 -- stays
 abbrev pub FaultsAs : Command → ℕ → ℕ → List ℕ → Act → InputError → Type 0
 FaultsAs c before after blame act (Failed source) = Rose before after × (before ≤ after) × (blame ≡ source_name c source) × (act ≡ Fetch)
-FaultsAs c before after blame act (Refused source refusal) = after ≡ before
+FaultsAs c before after blame act (Refused refusal) = after ≡ before
 FaultsAs c before after blame act Memory = after ≡ before
 
 -- the stop is not about the map, to which the reading of schema and data does not come
-abbrev pub IsOfBase : InputError → Type 0
-IsOfBase (Refused Schema refusal) = ⊤
-IsOfBase (Refused Data refusal) = ⊤
-IsOfBase (Refused Map refusal) = ⊥
-IsOfBase (Failed Schema) = ⊤
-IsOfBase (Failed Data) = ⊤
-IsOfBase (Failed Map) = ⊥
-IsOfBase Memory = ⊤
+abbrev pub IsBeforeMap : InputError → Type 0
+IsBeforeMap (Refused refusal) = source_of refusal ≢ Map
+IsBeforeMap (Failed source) = source ≢ Map
+IsBeforeMap Memory = ⊤

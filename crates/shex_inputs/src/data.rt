@@ -3,18 +3,17 @@
 ghost use Rattle.std.specs.Prelude.{◌≡◌, ◌≤◌, ◌+◌, ◌*◌, All, IfErr, IfOk, IsSome, List, OnOk, [], length};
 ghost use Rattle.iri_resolve.specs.Reference.{scheme_of};
 ghost use Rattle.rdf_lex.specs.Prefixes.{base_of};
-ghost use Rattle.rdf_terms.specs.Lists.{AreDistinct};
+ghost use Rattle.lists.specs.Distinct.{AreDistinct};
 ghost use Rattle.graph_index.specs.Laws.{IsOfTable};
-ghost use Rattle.graph_loading.specs.declared.triples.TermTriple.{TermTriple};
-ghost use Rattle.graph_loading.specs.Loading.{IsWithin, Loads};
+ghost use Rattle.graph_index.specs.declared.loading.TermTriple.{TermTriple};
+ghost use Rattle.graph_index.specs.Loading.{IsWithin, Loads};
 ghost use Rattle.data_reader.specs.Documents.{IsData, context_of};
 ghost use Rattle.schema_documents.specs.Tree.{document_of};
-ghost use Rattle.shex_inputs.specs.Held.{HasRoom, IsBase, held_by};
+ghost use Rattle.shex_inputs.specs.Held.{HasRoom, IsHolding, held_by};
 ghost use Rattle.shex_inputs.specs.Loading.{IsLoadable};
-ghost use Rattle.shex_inputs.specs.Stops.{LoadingStops, ReadingStops, data_error};
+ghost use Rattle.shex_inputs.specs.Stops.{LoadingStops, ReadingStops};
 
-use crate::base::Base;
-use crate::error::{InputError, Refusal, Source};
+use crate::holding::Holding;
 use crate::load::{in_numbers, make_schema, only_declaration};
 use data_reader::Format;
 use graph_index::graph::Graph;
@@ -24,22 +23,6 @@ use rdf_terms::table::TermTable;
 use schema_documents::{Decl, Doc};
 use std::alloc::Global;
 
-/// Why there are no inputs where data are not read.
-fn data_error(error: ReadError) -> InputError
-    ensures { result ≡ data_error error }
-{
-    let refusal = match error {
-        ReadError::NotUtf8 => Refusal::NotUtf8,
-        ReadError::Syntax(at) => Refusal::Syntax(at),
-        ReadError::Prefix(at) => Refusal::Prefix(at),
-        ReadError::Deep => Refusal::Deep,
-        ReadError::Long(at) => Refusal::Long(at),
-        ReadError::Full => Refusal::Full,
-        ReadError::Memory => return InputError::Memory,
-    };
-    InputError::Refused(Source::Data, refusal)
-}
-
 /// The graph of a source in a format, whose terms the table takes up, and the base and the prefixes at its end.
 fn read_data(
     alloc: Global,
@@ -47,7 +30,7 @@ fn read_data(
     base: &str,
     source: &[u8],
     terms: &mut TermTable,
-) -> Result<(Graph, Prefixes), InputError>
+) -> Result<(Graph, Prefixes), ReadError>
     requires { IsSome (scheme_of base.now) }
     ensures read { IfOk result (λ r. (triples : List TermTriple) × IsData format base.now (context_of r.1, triples) source.now × Loads terms.old [] triples terms.new r.0.triples) }
     ensures few { IfOk result (λ r. length terms.new ≤ length terms.old + 3 * length r.0.triples) }
@@ -63,7 +46,7 @@ fn read_data(
     let _triples = graph.len();
     match read {
         Ok(names) => Ok((graph, names)),
-        Err(error) => Err(data_error(error)),
+        Err(error) => Err(error),
     }
 }
 
@@ -74,10 +57,10 @@ pub fn load(
     format: Format,
     base: &str,
     source: &[u8],
-) -> Result<Base, InputError>
+) -> Result<Holding, ReadError>
     requires scheme { IsSome (scheme_of base.now) }
     requires loadable { IsLoadable (document_of doc) }
-    ensures read { IfOk result (λ b. (triples : List TermTriple) × IsData format base.now (context_of b.names, triples) source.now × IsBase (document_of doc) triples (held_by b)) }
+    ensures read { IfOk result (λ b. (triples : List TermTriple) × IsData format base.now (context_of b.names, triples) source.now × IsHolding (document_of doc) triples (held_by b)) }
     ensures room { IfOk result (λ b. HasRoom (held_by b)) }
     ensures scheme { IfOk result (λ b. IsSome (scheme_of (base_of b.names))) }
     ensures of_table { IfOk result (λ b. All (IsOfTable b.terms) b.graph.triples) }
@@ -85,10 +68,14 @@ pub fn load(
 {
     let Decl { label, expr } = only_declaration(doc);
     let mut terms = TermTable::new(alloc);
-    let declared = in_numbers(expr, &mut terms)?;
-    let schema = make_schema(alloc, label, declared)?;
+    let Ok(declared) = in_numbers(expr, &mut terms) else {
+        return Err(ReadError::Memory);
+    };
+    let Ok(schema) = make_schema(alloc, label, declared) else {
+        return Err(ReadError::Memory);
+    };
     let (graph, names) = read_data(alloc, format, base, source, &mut terms)?;
-    Ok(Base {
+    Ok(Holding {
         terms,
         schema,
         graph,

@@ -1,7 +1,10 @@
 //! Why inputs are not taken.
 
+ghost use Rattle.shex_inputs.specs.Outcomes.{IsRefusalOf};
+
+use graph_index::read_error::ReadError;
 use schema_documents::SchemaError;
-use schema_tree::labels::Label;
+use shape_map::MapError;
 use std::alloc::AllocError;
 
 /// A file of the inputs.
@@ -15,53 +18,76 @@ pub enum Source {
     Map,
 }
 
-/// Why a file is refused. A place is counted in bytes from 0.
+/// Why a file is refused. Want of memory is never the cause.
 #[derive(Debug, Drop, PartialEq, Eq)]
 pub enum Refusal {
-    /// It has more than 67,108,864 bytes.
-    Size,
+    /// This file has more than 67,108,864 bytes.
+    Size(Source),
     /// The schema is in ShExC, by the name of its file, which is not read yet.
     NotBuilt,
-    /// The bytes spell no schema document that is read, for this cause, which is never want of memory.
+    /// The bytes of the schema file spell no schema document that is read.
     Schema(SchemaError),
-    /// The bytes are not UTF-8.
-    NotUtf8,
-    /// They are of no form from this place on.
-    Syntax(u64),
-    /// The prefix that stands at this place is not declared.
-    Prefix(u64),
-    /// Brackets nest too deep.
-    Deep,
-    /// The text of the term that begins at this place is too long.
-    Long(u64),
-    /// There are too many triples or terms.
-    Full,
-    /// The target that has this label is not declared.
-    Label(Label),
-    /// The schema has no start.
-    NoStart,
-    /// There are more than 1,000,000 associations.
-    Many,
+    /// The bytes of the data file are no data that are read.
+    Data(ReadError),
+    /// The bytes of the map file are no shape map, or its associations are refused.
+    Map(MapError),
+}
+
+impl Refusal {
+    ghost use Rattle.std.specs.Prelude.{◌≡◌};
+    ghost use Rattle.shex_inputs.specs.Named.{source_of};
+
+    /// The file that is refused.
+    pub fn source(&self) -> Source
+        ensures { result ≡ source_of self.now }
+    {
+        match self {
+            Refusal::Size(source) => *source,
+            Refusal::NotBuilt => Source::Schema,
+            Refusal::Schema(_) => Source::Schema,
+            Refusal::Data(_) => Source::Data,
+            Refusal::Map(_) => Source::Map,
+        }
+    }
 }
 
 /// Why the inputs are not taken.
 #[derive(Debug, Drop, PartialEq, Eq)]
 pub enum InputError {
-    /// The file is refused.
-    Refused(Source, Refusal),
+    /// A file is refused.
+    Refused(Refusal),
     /// The file was not fetched.
     Failed(Source),
     /// Memory ran out.
     Memory,
 }
 
-impl From<AllocError> for InputError {
-    ghost use Rattle.std.specs.Prelude.{◌≡◌};
-    ghost use Rattle.shex_inputs.specs.declared.error.InputError.TheVariants.{Memory};
+/// Why there are no inputs where the schema is not read.
+pub(crate) fn schema_error(error: SchemaError) -> InputError
+    ensures { IsRefusalOf SchemaError.Memory (λ e. Refusal.Schema e) error result }
+{
+    match error {
+        SchemaError::Memory => InputError::Memory,
+        error => InputError::Refused(Refusal::Schema(error)),
+    }
+}
 
-    ghost from_gives = { λ _ e. e ≡ Memory };
+/// Why there are no inputs where the data are not read.
+pub(crate) fn data_error(error: ReadError) -> InputError
+    ensures { IsRefusalOf ReadError.Memory (λ e. Refusal.Data e) error result }
+{
+    match error {
+        ReadError::Memory => InputError::Memory,
+        error => InputError::Refused(Refusal::Data(error)),
+    }
+}
 
-    fn from(_error: AllocError) -> InputError {
-        InputError::Memory
+/// Why there are no inputs where the map is not read, or its associations are refused.
+pub(crate) fn map_error(error: MapError) -> InputError
+    ensures { IsRefusalOf MapError.Memory (λ e. Refusal.Map e) error result }
+{
+    match error {
+        MapError::Memory => InputError::Memory,
+        error => InputError::Refused(Refusal::Map(error)),
     }
 }

@@ -26,7 +26,7 @@ pub fn fetch<F: Files>(
     match files.fetch(alloc, name, MAX_FILE) {
         Ok(bytes) => Ok(bytes),
         Err(FetchError::Failed) => Err(InputError::Failed(source)),
-        Err(FetchError::Long) => Err(InputError::Refused(source, Refusal::Size)),
+        Err(FetchError::Long) => Err(InputError::Refused(Refusal::Size(source))),
         Err(FetchError::Memory) => Err(InputError::Memory),
     }
 }

@@ -1,19 +1,18 @@
 //! The inputs of a command: what the schema file, the data file and the shape map hold, in the numbers of one table of terms.
 #![tactic(auto)]
 
-mod base;
 mod data;
 mod error;
 mod fetch;
+mod holding;
 mod laws;
+mod lines;
 mod load;
 mod map;
-mod nodes;
-#[cfg(test)]
-mod tests;
 
-pub use base::{Base, read_base};
 pub use error::{InputError, Refusal, Source};
 pub use fetch::MAX_FILE;
+pub use holding::{Holding, read_holding};
 pub use laws::inputs_are_one;
+pub use lines::{error_line, refusal_text};
 pub use map::read_map;

@@ -3,10 +3,10 @@
 ghost use Rattle.std.specs.Prelude.{[], ◌∷◌, ◌≡◌, ◌<◌, false, None, Some, IfOk, OnOk, length, map, option_map, slice_get};
 ghost use Rattle.rdf_terms.specs.Tables.{max_terms};
 ghost use Rattle.rdf_terms.specs.declared.terms.Term.TheVariants as Terms;
-ghost use Rattle.rdf_terms.specs.Lists.{Adds, AreDistinct};
-ghost use Rattle.tally.specs.declared.Count.{Sym};
+ghost use Rattle.lists.specs.Additions.{Adds, AddsAll};
+ghost use Rattle.lists.specs.Distinct.{AreDistinct};
+ghost use Rattle.tally.specs.Plan.{sym};
 ghost use Rattle.schema_documents.specs.Tree.{decl_of, document_of, expr_of, maybe_expr, maybe_triple, triple_of};
-ghost use Rattle.graph_loading.specs.Loading.{AddsAll};
 ghost use Rattle.shex_inputs.specs.Loading.{IsArcIn, IsArcOf, IsDeclaredAs, IsLoadable, IsLoadableExpr, IsLoadableExpression, IsLoadableTriple, IsLoadableValue, IsValueIn, labelled, predicates_in, predicates_in_expression, predicates_in_triple, schema_of, shape_of, value_of};
 
 use node_constraint::NodeConstraint;
@@ -15,10 +15,10 @@ use rdf_terms::table::{PutError, TermTable};
 use rdf_terms::terms::{Term, TermId};
 use rdf_terms::text::Text;
 use schema_documents::{Decl, Doc, DocArc, DocBody, DocExpr, DocShape, DocTriple};
+use schema_tree::body::Body;
 use schema_tree::labels::{Label, Labels};
 use schema_tree::schema::{Expr, ExprId, Occurrence, Schema, Shape, ShapeId};
 use std::alloc::{AllocError, Global};
-use tally::Count;
 
 /// A TripleConstraint that takes one arc out, in numbers.
 #[derive(Drop)]
@@ -166,7 +166,7 @@ fn labelled(
 
 /// The open Shape of an occurrence with this predicate and value.
 fn arc_shape(alloc: Global, predicate: TermId, value: Option<ExprId>) -> Result<Shape, AllocError>
-    ensures { IfOk result (λ sh. sh ≡ record { closed = false; extra = []; body = Some (Sym 0); occs = record { inverse = false; predicate = predicate; value = value } ∷ [] }) }
+    ensures { IfOk result (λ sh. sh ≡ record { closed = false; extra = []; body = Some (sym 0); occs = record { inverse = false; predicate = predicate; value = value } ∷ [] }) }
 {
     let occs = vec![in alloc;
         Occurrence {
@@ -178,7 +178,7 @@ fn arc_shape(alloc: Global, predicate: TermId, value: Option<ExprId>) -> Result<
     Ok(Shape {
         closed: false,
         extra: Items::of(Vec::new(alloc)),
-        body: Some(Count::Sym(0)),
+        body: Some(Body::once(0)),
         occs: Items::of(occs),
     })
 }

@@ -15,6 +15,3 @@ pub use host::{DiskFiles, StdSink};
 pub use memory::{MemFiles, MemSink};
 pub use sinks::{Sink, SinkError, put_all};
 pub use sure::{SureFiles, SureSink};
-
-#[cfg(test)]
-mod tests;

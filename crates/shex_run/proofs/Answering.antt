@@ -1,5 +1,5 @@
 -- What answers a command, and what stops it.
-use Rattle.std.proofs.Common.{◌≡◌, ◌∙◌, ap, sym, subst, refl, List, ℕ, inl, inr, []}
+use Rattle.std.proofs.Common.{◌≡◌, ◌≢◌, ◌∙◌, ap, sym, subst, refl, List, ℕ, inl, inr, []}
 use Rattle.std.specs.Prelude.{Option, Some, None, unwrap_or}
 use Rattle.clap.specs.Words.{Text}
 use Rattle.shex_io.specs.Files.{Holds, HoldsPart, KeepsOthers, Told}
@@ -11,18 +11,20 @@ use Rattle.command_words.specs.Asked.{Command}
 use Rattle.command_words.specs.Requests.{Task, checking, proof_of, validation}
 use Rattle.shex_inputs.specs.declared.error.InputError.{InputError}
 use Rattle.shex_inputs.specs.declared.error.InputError.TheVariants as Errors
+use Rattle.shex_inputs.specs.declared.error.Source.{Source}
 use Rattle.shex_inputs.specs.declared.error.Source.TheVariants as Sources
 use Rattle.shex_inputs.specs.Asked.{Question}
 use Rattle.shex_inputs.specs.Held.{Held, IsTaken}
-use Rattle.shex_inputs.specs.Outcomes.{IsOfBase, Explains as ExplainsInput, FaultsAs as FaultsAsInput}
+use Rattle.shex_inputs.specs.Named.{source_of}
+use Rattle.shex_inputs.specs.Outcomes.{IsBeforeMap, Explains as ExplainsInput, FaultsAs as FaultsAsInput}
 use Rattle.shex_run.specs.declared.stop.File.{File}
 use Rattle.shex_run.specs.declared.stop.File.TheVariants as Files
 use Rattle.shex_run.specs.declared.stop.Stop.{Stop}
 use Rattle.shex_run.specs.declared.stop.Stop.TheVariants as Stops
 use Rattle.shex_run.specs.Checking.{ConfirmStops, Confirms, IsGiven}
 use Rattle.shex_run.specs.Endings.{IsResponse}
-use Rattle.shex_run.specs.Outcomes.{IsRefused, Reaches, ReachesProof}
-use Rattle.shex_run.specs.Proofs.{AreAnswers, IsCutStore, IsDueProof, IsProofOf, Stores}
+use Rattle.shex_run.specs.Outcomes.{Reaches, ReachesProof}
+use Rattle.shex_run.specs.Proofs.{AreAnswers, IsCutStore, IsDueProof, IsStoredProofOf, Stores}
 use Rattle.shex_run.specs.Statuses.{status_of}
 use Rattle.shex_run.specs.Stopping.{Explains, FaultsAs, LeavesStored, ProofStops, stop_of}
 use Rattle.shex_run.specs.Tasks.{IsInputOf, IsToCheck, IsToValidate, act_of, name_of}
@@ -37,30 +39,31 @@ pub record Stopped (told after : Told) (c : Command) (before later : ℕ) (blame
 
 -- the stop is about a file of the task
 abbrev pub IsOfTask : Task → InputError → Type 0
-IsOfTask t (Errors.Refused source refusal) = IsInputOf t source
+IsOfTask t (Errors.Refused refusal) = IsInputOf t (source_of refusal)
 IsOfTask t (Errors.Failed source) = IsInputOf t source
 IsOfTask t Errors.Memory = Unit {0}
 
 -- any stop is about a file of `validate`
 pub wish_of_task : (m : Text) (p : Option Text) (n : ℕ) (e : InputError) → IsOfTask (validation m p n) e
-wish_of_task m p n (Errors.Refused source refusal) = tt
+wish_of_task m p n (Errors.Refused refusal) = tt
 wish_of_task m p n (Errors.Failed source) = tt
 wish_of_task m p n Errors.Memory = tt
 
 -- a stop of schema or data is about a file of every task
-pub base_of_task : (t : Task) (e : InputError) → IsOfBase e → IsOfTask t e
-base_of_task (validation m p n) e of = wish_of_task m p n e
-base_of_task (checking name) (Errors.Refused Sources.Schema refusal) of = tt
-base_of_task (checking name) (Errors.Refused Sources.Data refusal) of = tt
-base_of_task (checking name) (Errors.Refused Sources.Map refusal) of = of
-base_of_task (checking name) (Errors.Failed Sources.Schema) of = tt
-base_of_task (checking name) (Errors.Failed Sources.Data) of = tt
-base_of_task (checking name) (Errors.Failed Sources.Map) of = of
-base_of_task (checking name) Errors.Memory of = tt
+no_map_of : (name : Text) (source : Source) → source ≢ Sources.Map → IsInputOf (checking name) source
+no_map_of name Sources.Schema other = tt
+no_map_of name Sources.Data other = tt
+no_map_of name Sources.Map other = other refl
+
+pub base_of_task : (t : Task) (e : InputError) → IsBeforeMap e → IsOfTask t e
+base_of_task (validation m p n) e before = wish_of_task m p n e
+base_of_task (checking name) (Errors.Refused refusal) before = no_map_of name (source_of refusal) before
+base_of_task (checking name) (Errors.Failed source) before = no_map_of name source before
+base_of_task (checking name) Errors.Memory before = tt
 
 pub input_stopped : (told after : Told) (c : Command) (before later : ℕ) (blame : List ℕ) (act : Act) (e : InputError) → IsOfTask c.task e → ExplainsInput told c e → FaultsAsInput c before later blame act e → after ≡ told →
     Stopped told after c before later blame act (stop_of e)
-input_stopped told after c before later blame act (Errors.Refused source refusal) of cause still same = record { cause = (of, cause); faults = still; stored = same }
+input_stopped told after c before later blame act (Errors.Refused refusal) of cause still same = record { cause = (of, cause); faults = still; stored = same }
 input_stopped told after c before later blame act (Errors.Failed source) of cause rose same = record { cause = (of, cause); faults = rose; stored = inl same }
 input_stopped told after c before later blame act Errors.Memory of cause still same = record { cause = tt; faults = still; stored = inl same }
 
@@ -77,12 +80,12 @@ module _ (told : Told) (c : Command) (map_name : Text) (proof_name : Option Text
     question = q;
     answers = answers;
     are_answers = are;
-    stored = subst (λ p. Stores told after p (IsProofOf q answers)) (sym nothing) same;
+    stored = subst (λ p. Stores told after p (IsStoredProofOf q answers)) (sym nothing) same;
     status_is = status_is;
     text_is = text_is;
   })
 
-  module _ (name bytes : List ℕ) (named : proof_name ≡ Some name) (proof : IsProofOf q answers bytes) where
+  module _ (name bytes : List ℕ) (named : proof_name ≡ Some name) (proof : IsStoredProofOf q answers bytes) where
     due : IsDueProof told c name bytes
     due = record { map_name = map_name; task = subst (λ p. IsToValidate c map_name p) named task; question = q; answers = answers; are_answers = are; proof = proof }
 
@@ -94,7 +97,7 @@ module _ (told : Told) (c : Command) (map_name : Text) (proof_name : Option Text
       question = q;
       answers = answers;
       are_answers = are;
-      stored = subst (λ p. Stores told after p (IsProofOf q answers)) (sym named) (bytes, proof, held, others);
+      stored = subst (λ p. Stores told after p (IsStoredProofOf q answers)) (sym named) (bytes, proof, held, others);
       status_is = status_is;
       text_is = text_is;
     })
@@ -108,7 +111,8 @@ module _ (told : Told) (c : Command) (map_name : Text) (proof_name : Option Text
         (subst (λ t. ReachesProof told c t) (sym task.task) (name, (bytes, due)))
 
     pub store_stopped : (after : Told) (before later : ℕ) (blame : List ℕ) (act : Act) (stop : Stop) → ProofStops name Acts.Store before later blame act stop → HoldsPart told after name bytes → KeepsOthers told after name → Stopped told after c before later blame act stop
-    store_stopped after before later blame act (Stops.Refused file refusal) h part others = absurd h
+    store_stopped after before later blame act (Stops.Refused refusal) h part others = absurd h
+    store_stopped after before later blame act Stops.Full h part others = absurd h
     store_stopped after before later blame act (Stops.Rejected rejection) h part others = absurd h
     store_stopped after before later blame act (Stops.Failed file) (e, (rose, up, blamed, acted)) part others = record {
       cause = reached file e;
@@ -127,7 +131,8 @@ module _ (told : Told) (c : Command) (map_name : Text) (proof_name : Option Text
 
 module _ (told : Told) (c : Command) (b : Held) (taken : IsTaken told c b) (name : List ℕ) (is : IsToCheck c name) where
   pub fetch_stopped : (after : Told) → after ≡ told → (before later : ℕ) (blame : List ℕ) (act : Act) (stop : Stop) → ProofStops name Acts.Fetch before later blame act stop → Stopped told after c before later blame act stop
-  fetch_stopped after same before later blame act (Stops.Refused file refusal) h = absurd h
+  fetch_stopped after same before later blame act (Stops.Refused refusal) h = absurd h
+  fetch_stopped after same before later blame act Stops.Full h = absurd h
   fetch_stopped after same before later blame act (Stops.Rejected rejection) h = absurd h
   fetch_stopped after same before later blame act (Stops.Failed file) (e, (rose, up, blamed, acted)) = record {
     cause = subst (λ f. Reaches told c f) (sym e) (subst (λ t. ReachesProof told c t) (sym is) (b, taken));
@@ -150,8 +155,8 @@ module _ (told : Told) (c : Command) (b : Held) (taken : IsTaken told c b) (name
     confirmed after same text k = inr (record { checked = record { held = b; bytes = bytes; given = given; confirmed = k }; unstored = same; status_is = refl })
 
     pub confirm_stopped : (after : Told) → after ≡ told → (before later : ℕ) (blame : List ℕ) (act : Act) → later ≡ before → (stop : Stop) → ConfirmStops b bytes stop → Stopped told after c before later blame act stop
-    confirm_stopped after same before later blame act still (Stops.Refused file refusal) (proof, is_full, full) =
-        record { cause = subst (λ f. IsRefused told c f refusal) (sym proof) (is_full, (b, bytes, given, full)); faults = still; stored = same }
+    confirm_stopped after same before later blame act still Stops.Full full = record { cause = (b, bytes, given, full); faults = still; stored = same }
+    confirm_stopped after same before later blame act still (Stops.Refused refusal) h = absurd h
     confirm_stopped after same before later blame act still (Stops.Rejected rejection) h = record { cause = (b, bytes, given, h); faults = still; stored = same }
     confirm_stopped after same before later blame act still (Stops.Failed file) h = absurd h
     confirm_stopped after same before later blame act still Stops.Memory h = record { cause = tt; faults = still; stored = inl same }

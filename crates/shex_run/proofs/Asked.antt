@@ -6,24 +6,23 @@ use Rattle.std.proofs.lemmas.Option.{slice_get_within}
 use Rattle.std.specs.Str.{IsUtf8}
 use Rattle.clap.specs.Words.{Text}
 use Rattle.shex_io.specs.Files.{Told}
-use Rattle.rdf_terms.specs.Lists.{AreDistinct}
-use Rattle.rdf_terms.specs.Order.{text_if_any}
+use Rattle.lists.specs.Distinct.{AreDistinct}
 use Rattle.rdf_terms.specs.Tables.{max_terms}
 use Rattle.rdf_terms.specs.declared.terms.Term.{Term}
 use Rattle.rdf_terms.specs.declared.terms.TermId.{TermId}
 use Rattle.rdf_terms.specs.declared.terms.Triple.{Triple}
 use Rattle.graph_index.specs.Laws.{IsOfTable}
-use Rattle.graph_loading.specs.declared.triples.TermTriple.{TermTriple}
-use Rattle.graph_loading.specs.Loading.{IsNumbered}
-use Rattle.graph_loading.proofs.Loading.{all_distinct, loads_hold}
+use Rattle.graph_index.specs.declared.loading.TermTriple.{TermTriple}
+use Rattle.graph_index.specs.Loading.{HaveOneLine, IsNumbered}
+use Rattle.graph_index.proofs.Loaded.{loads_hold}
+use Rattle.lists.proofs.Additions.{all_distinct}
 use Rattle.data_reader.specs.Formats.{format_of}
 use Rattle.schema_tree.specs.declared.schema.Answer.{Answer}
 use Rattle.schema_tree.specs.declared.schema.Schema.{Schema}
-use Rattle.schema_tree.proofs.Lists.{from_flat_map, in_map}
-use Rattle.schema_tree.proofs.Members.{from_map, in_rest, is_first, is_later, not_in_none}
-use Rattle.term_reader.specs.Values.{IsWhole}
+use Rattle.lists.proofs.Members.{from_flat_map, in_map, from_map, in_rest, is_first, is_later, not_in_none}
 use Rattle.proof_file.specs.declared.Proof.{Proof}
-use Rattle.proof_file.specs.Text.{ProofText, target_text}
+use Rattle.schema_tree.specs.Targets.{target_text}
+use Rattle.proof_file.specs.Text.{ProofText}
 use Rattle.shape_map.specs.declared.items.Focus.{Focus}
 use Rattle.shape_map.specs.declared.items.Focus.TheVariants.{Subject, Object}
 use Rattle.shape_map.specs.declared.items.Item.{Item}
@@ -31,20 +30,24 @@ use Rattle.shape_map.specs.declared.items.Selector.{Selector}
 use Rattle.shape_map.specs.declared.items.Selector.TheVariants.{Node, Triples}
 use Rattle.shape_map.specs.declared.resolve.Association.{Association}
 use Rattle.shape_map.specs.Selection.{at_focus, max_associations, written}
-use Rattle.line_terms.specs.Laws.{BasesAreLines, DataHaveLines, MapHasLines}
-use Rattle.line_terms.specs.Lines.{AreLines, HasLine, HaveLines}
+use Rattle.data_reader.specs.Documents.{DataHaveLines}
+use Rattle.shape_map.specs.Maps.{MapHasLines}
+use Rattle.command_words.specs.Laws.{BasesAreLines}
+use Rattle.rdf_lex.specs.Prefixes.{AreOneLine}
+use Rattle.rdf_terms.specs.OneLine.{HasOneLine}
 use Rattle.command_words.specs.Asked.{Command}
 use Rattle.shex_inputs.specs.Asked.{IsAskedOf, Question, label_names, node_names}
 use Rattle.shex_inputs.specs.Loading.{predicates_of}
-use Rattle.simple_typing.specs.Answers.{AreAnswersTo, HasLines, IsAsked, IsProofOf as Proves, flat}
-use Rattle.shex_run.specs.Proofs.{IsProofOf}
+use Rattle.shape_map.specs.Answers.{AreAnswersTo, IsAsked}
+use Rattle.simple_typing.specs.Answers.{HasLines, IsFlatProofOf as Proves, flat}
+use Rattle.shex_run.specs.Proofs.{IsStoredProofOf}
 use Rattle.shex_run.specs.Stopping.{HasBases}
 use Rattle.shex_run.proofs.Risen.{taken_up}
 use Rattle.shex_run.proofs.Selected.{From, Gives, IsNodeOf, Known, comes_from, known}
 use Rattle.shex_run.proofs.Settled.{numbered_held}
 use Rattle.shex_run.proofs.Simplicity.{simple_schema}
 use Rattle.shex_run.proofs.Tables.{all_keep}
-use Rattle.shex_run.proofs.Truths.{flat_stratum}
+use Rattle.simple_typing.proofs.Flat.{flat_stratum}
 
 -- what is so of each member is so of all
 pub all_members : {X : Type 0} (P : X → Type 0) (xs : List X) → ((x : X) → Contains xs x → P x) → All P xs
@@ -89,11 +92,11 @@ module _ (told : Told) (c : Command) (name : Text) (q : Question) (is : IsAskedO
   abbrev g : List Triple
   g = q.held.graph
 
-  facts : Known s g q.terms [] is.items q.associations q.terms
-  facts = known s g q.terms is.items q.associations q.terms is.ends.ends
+  facts : Known s g q.terms [] is.items q.associations
+  facts = known s g q.terms is.items q.associations is.ends.ends
 
   from : (a : Association) → Contains q.associations a → From s g q.terms is.items a
-  from a h = comes_from s g q.terms is.items q.associations q.terms facts a h
+  from a h = comes_from s g q.terms is.items q.associations facts a h
 
   pub few : length q.associations ≤ max_associations
   few = facts.few (omega arith)
@@ -113,26 +116,26 @@ module _ (told : Told) (c : Command) (name : Text) (q : Question) (is : IsAskedO
   asked all = all_members (IsAsked s q.terms) q.associations (λ a h. (let f = from a h in record { node = node_within all f.item.selector a.node f.node; is_target = f.declared }))
 
   module _ (bases : HasBases c) (one : IsUtf8 c.schema_base) (other : IsUtf8 c.data_base) (data_law : DataHaveLines) (map_law : MapHasLines) (base_law : BasesAreLines) where
-    data_lines : AreLines q.held.names.base q.held.names.prefixes × ((t : TermTriple) → Contains is.taken.triples t → HaveLines t)
+    data_lines : AreOneLine q.held.names.base q.held.names.prefixes × ((t : TermTriple) → Contains is.taken.triples t → HaveOneLine t)
     data_lines = data_law (format_of c.data_file) c.data_base is.taken.holds_data.bytes q.held.names is.taken.triples (base_law c.data_base other bases.data_file) is.taken.holds_data.spelled
 
-    item_lines : (i : Item) → Contains is.items i → ((t : Term) → Contains (written i.selector) t → HasLine t) × (¬ Contains (target_text i.target) 10)
+    item_lines : (i : Item) → Contains is.items i → ((t : Term) → Contains (written i.selector) t → HasOneLine t) × (¬ Contains (target_text i.target) 10)
     item_lines = map_law (node_names q.held.names) (label_names c) is.holds_map.bytes is.items data_lines.0 (record { base = base_law c.schema_base one bases.schema; prefixes = λ prefix iri h. absurd cc }) is.holds_map.spelled
 
-    -- the term of an end of a triple of the graph can stand in a line
-    first_distinct : AreDistinct is.taken.base.first
-    first_distinct = all_distinct [] is.taken.base.first (predicates_of is.taken.doc) empty_distinct is.taken.base.predicates
+    -- the term of an end of a triple of the graph can stand on one line
+    first_distinct : AreDistinct is.taken.holding.first
+    first_distinct = all_distinct [] is.taken.holding.first (predicates_of is.taken.doc) empty_distinct is.taken.holding.predicates
 
     record LineNode (n : TermId) : Type 0 where
       term : Term
       is_term : slice_get q.terms n.0 ≡ Some term
-      line : HasLine term
+      line : HasOneLine term
 
-    grown : (n : TermId) (t : Term) → slice_get q.held.terms n.0 ≡ Some t → HasLine t → LineNode n
+    grown : (n : TermId) (t : Term) → slice_get q.held.terms n.0 ≡ Some t → HasOneLine t → LineNode n
     grown n t at line = record { term = t; is_term = all_keep q.held.terms is.ends.takes.nodes q.terms is.ends.takes.taken n.0 t at; line = line }
 
     end_line : (t : Triple) → Contains g t → (f : Focus) → LineNode (at_focus f t)
-    end_line t held f = go f ((loads_hold is.taken.base.first q.held.terms [] g is.taken.triples first_distinct is.taken.base.graph t).0 held)
+    end_line t held f = go f ((loads_hold is.taken.holding.first q.held.terms [] g is.taken.triples first_distinct is.taken.holding.graph t).0 held)
       where
         go : (f : Focus) → (Contains [] t ⊎ ((x : TermTriple) × Contains is.taken.triples x × IsNumbered q.held.terms x t)) → LineNode (at_focus f t)
         go f (inl h) = absurd (not_in_none t h)
@@ -151,8 +154,7 @@ module _ (told : Told) (c : Command) (name : Text) (q : Question) (is : IsAskedO
         let f = from a h in
         let l = node_line f.item f.listed a.node f.item.selector refl f.node in
         record {
-          whole = λ t at. subst (λ z. IsWhole z) (same_term l.term t (sym l.is_term ∙ at)) l.line.0;
-          node = subst (λ z. ¬ Contains (text_if_any z) 10) (sym l.is_term) l.line.1;
+          node = λ t at. subst (λ z. HasOneLine z) (same_term l.term t (sym l.is_term ∙ at)) l.line;
           target = subst (λ z. ¬ Contains (target_text z) 10) (sym f.target) (item_lines f.item f.listed).1;
         }
         ))
@@ -166,17 +168,17 @@ module _ (told : Told) (c : Command) (name : Text) (q : Question) (is : IsAskedO
         let (i, listed, own) = from_flat_map (λ (z : Item). written z.selector) is.items t ((is.ends.takes.ordered.same t).0 h) in
         let k : Gives s g q.terms q.associations t = facts.gives i listed t own in
         let (x, answered, same) = answer_of s q.terms g q.associations answers are k.association k.listed in
-        let held : Contains proof.nodes k.association.node = (proof.exactly k.association.node).1 (x, answered, same) in
+        let held : Contains proof.nodes k.association.node = (proof.lean.exactly k.association.node).1 (x, answered, same) in
         let there : Contains (map (λ (z : TermId). slice_get q.terms z.0) proof.nodes) (Some t) =
         subst (λ z. Contains (map (λ (z : TermId). slice_get q.terms z.0) proof.nodes) z) k.node (in_map (λ (z : TermId). slice_get q.terms z.0) proof.nodes k.association.node held) in
         let (u, lined, e) = from_map (λ z. Some z) p.nodes (Some t) (subst (λ zs. Contains zs (Some t)) proof.numbers there) in
         subst (λ z. Contains p.nodes z) (let same_term : u ≡ t = cc in same_term) lined
 
-    pub proved : (bytes : List ℕ) → ProofText p bytes → length q.terms ≤ max_terms → IsProofOf q answers bytes
+    pub proved : (bytes : List ℕ) → ProofText p bytes → length q.terms ≤ max_terms → IsStoredProofOf q answers bytes
     proved bytes text few_terms = record {
       accepted = record {
         strata = flat s;
-        are_strata = flat_stratum s (simple_schema q.held.terms is.taken.doc s is.taken.base.stands is.taken.base.built);
+        are_strata = flat_stratum s (simple_schema q.held.terms is.taken.doc s is.taken.holding.stands is.taken.holding.built);
         found = record {
           proof = p;
           nodes = proof.nodes;
@@ -190,5 +192,5 @@ module _ (told : Told) (c : Command) (name : Text) (q : Question) (is : IsAskedO
         };
         few = few_terms;
       };
-      lean = record { exactly = proof.exactly; recorded = proof.recorded; filled = proof.filled };
+      lean = proof.lean;
     }

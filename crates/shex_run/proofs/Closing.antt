@@ -1,8 +1,8 @@
 -- What the ways to end say of the status.
-use Rattle.std.proofs.Common.{◌≡◌, ◌∙◌, sym, subst, refl, List, ℕ, [], ◌⊎◌, inl, inr, ◌<◌, arith, append-nil}
+use Rattle.std.proofs.Common.{◌≡◌, ◌∙◌, ap, sym, subst, refl, List, ℕ, [], ◌⊎◌, inl, inr, ◌<◌, arith, append-nil}
 use Rattle.std.specs.Prelude.{Option, Some, None}
 use Rattle.clap.specs.Words.{Text}
-use Rattle.rdf_terms.specs.Lists.{AreDistinct}
+use Rattle.lists.specs.Distinct.{AreDistinct}
 use Rattle.rdf_terms.specs.declared.terms.Term.{Term}
 use Rattle.schema_tree.specs.declared.schema.Answer.{Answer}
 use Rattle.shex_io.specs.Faults.{Rose}
@@ -12,19 +12,20 @@ use Rattle.proof_checker.specs.Checks.{IsFullFor}
 use Rattle.command_words.specs.Asked.{Command, IsAsked, IsFirstFault}
 use Rattle.command_words.specs.Checks.{Fault}
 use Rattle.command_words.specs.Laws.{AnswersAreOne}
-use Rattle.command_words.specs.Requests.{Task, checking, validation}
+use Rattle.command_words.specs.Requests.{Task, checking, proof_of, validation}
 use Rattle.shex_inputs.specs.declared.error.Refusal.{Refusal}
+use Rattle.shex_inputs.specs.Asked.{IsAskedOf, Question}
 use Rattle.shex_inputs.specs.Held.{Held}
 use Rattle.shex_run.specs.declared.stop.File.{File}
 use Rattle.shex_run.specs.declared.stop.File.TheVariants as Files
 use Rattle.shex_run.specs.declared.stop.Rejection.{Rejection}
 use Rattle.shex_run.specs.Checking.{IsFull, IsGiven, IsRejected, Rejects}
-use Rattle.shex_run.specs.Endings.{Ends, FilesSeen, IsAnswered, IsPartlyStored, IsPrintedInPart, IsRefusedBy, IsRejectedBy, IsRespondedTo, IsResponse, IsWordsLine, KeepsTold, PrintsTo, SinkSeen, answer_in_part, answered, failed, faulty, line_in_part, not_at_all, refused, rejected, wanting}
+use Rattle.shex_run.specs.Endings.{Ends, FilesSeen, IsAnswered, IsPartlyStored, IsPrintedInPart, IsRefusalLine, IsRefusedBy, IsRejectedBy, IsRespondedTo, IsResponse, IsUnprinted, IsWhollyStored, IsWordsLine, KeepsTold, MayPrintInPart, PrintsTo, SinkSeen, answer_in_part, answered, failed, faulty, line_in_part, refused, rejected, wanting}
 use Rattle.shex_run.specs.Outcomes.{AreTaken, IsAbsent, IsRefused, TakesFor}
-use Rattle.shex_run.specs.Proofs.{Accepted, IsProofOf, Stores}
+use Rattle.shex_run.specs.Proofs.{Accepted, IsStoredProofOf, Stores}
 use Rattle.shex_run.specs.Statuses.{Concludes, IsInterrupted}
 use Rattle.shex_run.specs.Tasks.{IsToValidate}
-use Rattle.shex_run.proofs.Exclusive.{AreOne, asked_not_absent, asked_not_refused, check_not_refused, given_not_absent, no_both, one_given, refused_not_absent}
+use Rattle.shex_run.proofs.Exclusive.{AreOne, asked_not_absent, asked_not_refused, check_not_refused, full_not_absent, full_not_wish, given_not_absent, no_both, one_given, refused_not_absent}
 use Rattle.shex_run.proofs.Settled.{accepted_not_full, accepted_not_rejected, rejected_not_full}
 
 -- what is printed has the status that is wanted, or printing was interrupted
@@ -52,8 +53,15 @@ module _ (words : List Text) (c : Command) (is_asked : IsAsked words c) (law : A
   responded : (told after : Told) (status : ℕ) (text : List ℕ) → IsRespondedTo told after words status text → IsResponse told after c status text
   responded told after status text r = subst (λ a. IsResponse told after a status text) (law.commands words r.command c r.is_asked is_asked) r.response
 
-  refusal_of : (told : Told) (line : List ℕ) (by : IsRefusedBy told words line) → IsRefused told c by.file by.refusal
-  refusal_of told line by = subst (λ a. IsRefused told a by.file by.refusal) (law.commands words by.command c by.is_asked is_asked) by.refused
+  -- a file of the inputs is refused, or the table is full
+  abbrev IsLeft : Told → Type 0
+  IsLeft told = ((refusal : Refusal) × IsRefused told c refusal) ⊎ IsFull told c
+
+  refusal_of : (told : Told) (line : List ℕ) → IsRefusedBy told words line → IsLeft told
+  refusal_of told line by = elim (subst (λ a. IsRefusalLine told a line) (law.commands words by.command c by.is_asked is_asked) by.refused) [
+    | inl r ↦ inl (r.0, r.1)
+    | inr full ↦ inr full.0
+  ]
 
   rejection_of : (told : Told) (line : List ℕ) (by : IsRejectedBy told words line) → IsRejected told c by.rejection
   rejection_of told line by = subst (λ a. IsRejected told a by.rejection) (law.commands words by.command c by.is_asked is_asked) by.rejected
@@ -69,21 +77,58 @@ module _ (words : List Text) (c : Command) (is_asked : IsAsked words c) (law : A
       | inl a ↦ or_interrupted (Concludes c.task status) wanted status (λ h. subst (λ t. Concludes t status) (sym a.task.task) (zero_or_one status wanted low h)) (wanted_or out text wanted status prints)
       | inr k ↦ or_interrupted (Concludes c.task status) wanted status (λ h. subst (λ t. Concludes t status) (sym k.checked.given.task) (inl (h ∙ k.status_is))) (wanted_or out text wanted status prints)
     ]
-    taken_ends taken (refused line by left quiet prints) = or_interrupted (Concludes c.task status) 3 status (λ h. go by.file by.refusal (refusal_of files.told line by) c.task refl taken h) (wanted_or err line 3 status prints)
+    taken_ends taken (refused line by left quiet prints) = or_interrupted (Concludes c.task status) 3 status (λ h. go (refusal_of files.told line by) c.task refl taken h) (wanted_or err line 3 status prints)
       where
-        go : (file : File) (refusal : Refusal) → IsRefused files.told c file refusal → (t : Task) → c.task ≡ t → TakesFor files.told c t → status ≡ 3 → Concludes c.task status
-        go (Files.Input source) refusal cause (validation m p n) is (q, asked) h = absurd (asked_not_refused files.told contents told c one m p (record { steps = n; task = is }) q asked source refusal cause)
-        go (Files.Input source) refusal cause (checking name) is (k, held) h = absurd (check_not_refused files.told contents told c one k name held is source refusal cause)
-        go Files.Proof refusal (is_full, (k, bytes, given, full)) t is taken h = subst (λ x. Concludes x status) (sym given.task) (inr (inl h))
+        go : IsLeft files.told → (t : Task) → c.task ≡ t → TakesFor files.told c t → status ≡ 3 → Concludes c.task status
+        go (inl (refusal, cause)) (validation m p n) is (q, asked) h = absurd (asked_not_refused files.told contents told c one m p (record { steps = n; task = is }) q asked refusal cause)
+        go (inl (refusal, cause)) (checking name) is (k, held) h = absurd (check_not_refused files.told contents told c one k name held is refusal cause)
+        go (inr (k, bytes, given, full)) t is taken h = subst (λ x. Concludes x status) (sym given.task) (inr (inl h))
     taken_ends taken (rejected line by left quiet prints) =
         let (k, bytes, given, rejects) = rejection_of files.told line by in
         or_interrupted (Concludes c.task status) 6 status (λ h. subst (λ x. Concludes x status) (sym given.task) (inr (inr h))) (wanted_or err line 6 status prints)
     taken_ends taken (failed line by have quiet prints) = inr (five_interrupts status (wanted_or err line 5 status prints))
     taken_ends taken (wanting stored same quiet also h) = inr (inr (inr h))
 
+    -- the proof that is asked for, under this name
+    module _ (map name : Text) (to : IsToValidate c map (Some name)) where
+      same_proof : (m : Text) (p : Option Text) (n : ℕ) → validation m p n ≡ validation map (Some name) to.steps → p ≡ Some name
+      same_proof m p n h = ap proof_of h
+
+      whole : (text : List ℕ) (wanted : ℕ) → IsResponse files.told files.told_after c wanted text → IsWhollyStored files.told files.told_after c name
+      whole text wanted (inl a) = go a.proof_name (same_proof a.map_name a.proof_name a.task.steps (sym a.task.task ∙ to.task)) a.task a.stored
+        where
+          go : (p : Option Text) → p ≡ Some name → IsToValidate c a.map_name p → Stores files.told files.told_after p (IsStoredProofOf a.question a.answers) → IsWhollyStored files.told files.told_after c name
+          go None e task stored = absurd cc
+          go (Some other) e task (x, proof, held, others) =
+              let same : other ≡ name = cc in (
+                x,
+                record { map_name = a.map_name; task = subst (λ z. IsToValidate c a.map_name (Some z)) same task; question = a.question; answers = a.answers; are_answers = a.are_answers; proof = proof },
+                subst (λ z. Holds files.told_after z (Some x)) same held,
+                subst (λ z. KeepsOthers files.told files.told_after z) same others,
+              )
+      whole text wanted (inr k) = absurd (no_both map (Some name) to.steps k.checked.given.name (sym to.task ∙ k.checked.given.task))
+
+      taken : AreTaken files.told c → (q : Question) × IsAskedOf files.told c map q
+      taken h = subst (λ t. TakesFor files.told c t) to.task h
+
+      -- where its inputs are taken and a sink alone failed, it is stored whole
+      pub whole_ends : AreTaken files.told c → Ends words files out err status → status ≡ 7 → ¬ Rose files.faults files.faults_after → IsWhollyStored files.told files.told_after c name
+      whole_ends h (faulty line by left quiet prints) at still = absurd (not_faulty line by)
+      whole_ends h (answered text wanted low r same prints quiet) at still = whole text wanted (responded files.told files.told_after wanted text r)
+      whole_ends h (refused line by left quiet prints) at still = go (refusal_of files.told line by)
+        where
+          go : IsLeft files.told → IsWhollyStored files.told files.told_after c name
+          go (inl (refusal, cause)) = let (q, asked) = taken h in absurd (asked_not_refused files.told contents told c one map (Some name) to q asked refusal cause)
+          go (inr full) = absurd (full_not_wish files.told contents told c one map (Some name) to full)
+      whole_ends h (rejected line by left quiet prints) at still =
+          let (k, x, given, rejects) = rejection_of files.told line by in
+          absurd (no_both map (Some name) to.steps given.name (sym to.task ∙ given.task))
+      whole_ends h (failed line by have quiet prints) at still = absurd (still by.rose)
+      whole_ends h (wanting stored same quiet also e) at still = absurd (omega (arith, e, at))
+
     module _ (b : Held) (bytes : List ℕ) (given : IsGiven files.told c b bytes) where
       distinct : AreDistinct b.terms
-      distinct = given.taken.base.distinct
+      distinct = given.taken.holding.distinct
 
       -- what is given elsewhere is the same
       same_accepted : (k : Held) (x : List ℕ) (terms : List Term) (answers : List Answer) → IsGiven files.told c k x → Accepted k x terms answers → Accepted b bytes terms answers
@@ -102,9 +147,9 @@ module _ (words : List Text) (c : Command) (is_asked : IsAsked words c) (law : A
           (subst (λ z. IsFullFor z.terms x) (one.held k b also.taken given.taken) h)
 
       -- what is refused is the proof
-      refused_full : (file : File) (refusal : Refusal) → IsRefused files.told c file refusal → IsFullFor b.terms bytes
-      refused_full (Files.Input source) refusal cause = absurd (check_not_refused files.told contents told c one b given.name given.taken given.task source refusal cause)
-      refused_full Files.Proof refusal (is, full) = same_full full
+      refused_full : IsLeft files.told → IsFullFor b.terms bytes
+      refused_full (inl (refusal, cause)) = absurd (check_not_refused files.told contents told c one b given.name given.taken given.task refusal cause)
+      refused_full (inr full) = same_full full
 
       no_wish : (text : List ℕ) (wanted : ℕ) → IsAnswered files.told files.told_after c wanted text → ⊥
       no_wish text wanted a = no_both a.map_name a.proof_name a.task.steps given.name (sym a.task.task ∙ given.task)
@@ -117,7 +162,7 @@ module _ (words : List Text) (c : Command) (is_asked : IsAsked words c) (law : A
         | inr k ↦ or_interrupted (status ≡ 0) wanted status (λ h. h ∙ k.status_is) (wanted_or out text wanted status prints)
       ]
       accepted_ends terms answers a (refused line by left quiet prints) =
-          absurd (accepted_not_full b distinct bytes terms answers a (refused_full by.file by.refusal (refusal_of files.told line by)))
+          absurd (accepted_not_full b distinct bytes terms answers a (refused_full (refusal_of files.told line by)))
       accepted_ends terms answers a (rejected line by left quiet prints) =
           let (k, x, also, rejects) = rejection_of files.told line by in
           absurd (accepted_not_rejected b distinct bytes terms answers by.rejection a (same_rejects k x by.rejection also rejects))
@@ -133,7 +178,7 @@ module _ (words : List Text) (c : Command) (is_asked : IsAsked words c) (law : A
             (same_accepted k.checked.held k.checked.bytes k.checked.confirmed.terms k.checked.confirmed.answers k.checked.given k.checked.confirmed.accepted) is)
       ]
       rejected_ends_so rejection is (refused line by left quiet prints) =
-          absurd (rejected_not_full b distinct bytes rejection is (refused_full by.file by.refusal (refusal_of files.told line by)))
+          absurd (rejected_not_full b distinct bytes rejection is (refused_full (refusal_of files.told line by)))
       rejected_ends_so rejection is (rejected line by left quiet prints) = wanted_or err line 6 status prints
       rejected_ends_so rejection is (failed line by have quiet prints) = inr (five_interrupts status (wanted_or err line 5 status prints))
       rejected_ends_so rejection is (wanting stored same quiet also h) = inr (inr (inr h))
@@ -157,19 +202,21 @@ module _ (words : List Text) (c : Command) (is_asked : IsAsked words c) (law : A
     rejected_ends rejection (b, bytes, given, is) ends = rejected_ends_so b bytes given rejection is ends
 
     -- where a file is refused, the refusal is said
-    pub refused_ends : (file : File) (refusal : Refusal) → IsRefused files.told c file refusal → Ends words files out err status → (status ≡ 3) ⊎ IsInterrupted status
-    refused_ends Files.Proof refusal (is, (b, bytes, given, full)) ends = full_ends b bytes given full ends
-    refused_ends (Files.Input source) refusal cause (faulty line by left quiet prints) = absurd (not_faulty line by)
-    refused_ends (Files.Input source) refusal cause (answered text wanted low r same prints quiet) = elim (responded files.told files.told_after wanted text r) [
-      | inl x ↦ absurd (asked_not_refused files.told contents told c one x.map_name x.proof_name x.task x.question x.are_answers.asked source refusal cause)
-      | inr k ↦ absurd (check_not_refused files.told contents told c one k.checked.held k.checked.given.name k.checked.given.taken k.checked.given.task source refusal cause)
+    pub filled_ends : IsFull files.told c → Ends words files out err status → (status ≡ 3) ⊎ IsInterrupted status
+    filled_ends (b, bytes, given, full) ends = full_ends b bytes given full ends
+
+    pub refused_ends : (refusal : Refusal) → IsRefused files.told c refusal → Ends words files out err status → (status ≡ 3) ⊎ IsInterrupted status
+    refused_ends refusal cause (faulty line by left quiet prints) = absurd (not_faulty line by)
+    refused_ends refusal cause (answered text wanted low r same prints quiet) = elim (responded files.told files.told_after wanted text r) [
+      | inl x ↦ absurd (asked_not_refused files.told contents told c one x.map_name x.proof_name x.task x.question x.are_answers.asked refusal cause)
+      | inr k ↦ absurd (check_not_refused files.told contents told c one k.checked.held k.checked.given.name k.checked.given.taken k.checked.given.task refusal cause)
     ]
-    refused_ends (Files.Input source) refusal cause (refused line by left quiet prints) = wanted_or err line 3 status prints
-    refused_ends (Files.Input source) refusal cause (rejected line by left quiet prints) =
+    refused_ends refusal cause (refused line by left quiet prints) = wanted_or err line 3 status prints
+    refused_ends refusal cause (rejected line by left quiet prints) =
         let (b, x, given, rejects) = rejection_of files.told line by in
-        absurd (check_not_refused files.told contents told c one b given.name given.taken given.task source refusal cause)
-    refused_ends (Files.Input source) refusal cause (failed line by have quiet prints) = inr (five_interrupts status (wanted_or err line 5 status prints))
-    refused_ends (Files.Input source) refusal cause (wanting stored same quiet also h) = inr (inr (inr h))
+        absurd (check_not_refused files.told contents told c one b given.name given.taken given.task refusal cause)
+    refused_ends refusal cause (failed line by have quiet prints) = inr (five_interrupts status (wanted_or err line 5 status prints))
+    refused_ends refusal cause (wanting stored same quiet also h) = inr (inr (inr h))
 
     -- where a file is absent, the call is interrupted
     pub absent_ends : (file : File) → IsAbsent files.told c file → Ends words files out err status → IsInterrupted status
@@ -178,7 +225,11 @@ module _ (words : List Text) (c : Command) (is_asked : IsAsked words c) (law : A
       | inl x ↦ absurd (asked_not_absent files.told contents told c one x.map_name x.proof_name x.task x.question x.are_answers.asked file absent)
       | inr k ↦ absurd (given_not_absent files.told contents told c one k.checked.held k.checked.bytes file k.checked.given absent)
     ]
-    absent_ends file absent (refused line by left quiet prints) = absurd (refused_not_absent files.told contents told c one by.file by.refusal file (refusal_of files.told line by) absent)
+    absent_ends file absent (refused line by left quiet prints) = go (refusal_of files.told line by)
+      where
+        go : IsLeft files.told → IsInterrupted status
+        go (inl (refusal, cause)) = absurd (refused_not_absent files.told contents told c one refusal file cause absent)
+        go (inr full) = absurd (full_not_absent files.told contents told c one file full absent)
     absent_ends file absent (rejected line by left quiet prints) =
         let (b, x, given, rejects) = rejection_of files.told line by in
         absurd (given_not_absent files.told contents told c one b x file given absent)
@@ -204,17 +255,31 @@ low_wanted : (wanted : ℕ) → (wanted ≡ 0) ⊎ (wanted ≡ 1) → wanted < 2
 low_wanted wanted (inl e) = omega (arith, e)
 low_wanted wanted (inr e) = omega (arith, e)
 
--- what is printed where a call is interrupted
-pub in_part : (words : List Text) (files : FilesSeen) (out err : SinkSeen) (status : ℕ) → Ends words files out err status → (status ≡ 7) ⊎ (status ≡ 8) →
-    IsPrintedInPart files.told files.told_after words files.blame files.act out.got out.got_after err.got err.got_after
-in_part words files out err status (faulty line by left quiet prints) at = line_in_part line (inl by) quiet.got_same (prefix_of err line 2 status (omega arith) prints at)
-in_part words files out err status (answered text wanted low r same prints quiet) at =
+-- what is printed where a call is interrupted by a sink or by want of memory
+partly_printed : (words : List Text) (files : FilesSeen) (out err : SinkSeen) (status : ℕ) → Ends words files out err status → (status ≡ 7) ⊎ (status ≡ 8) →
+    IsPrintedInPart words files out err ⊎ ((status ≡ 8) × IsUnprinted words files out err)
+partly_printed words files out err status (faulty line by left quiet prints) at = inl (line_in_part line (inl (inl by, left)) quiet (prefix_of err line 2 status (omega arith) prints at))
+partly_printed words files out err status (answered text wanted low r same prints quiet) at =
     let under = low_wanted wanted low in
-    answer_in_part text wanted r (prefix_of out text wanted status (omega (arith, under)) prints at) quiet.got_same
-in_part words files out err status (refused line by left quiet prints) at = line_in_part line (inr (inl by)) quiet.got_same (prefix_of err line 3 status (omega arith) prints at)
-in_part words files out err status (rejected line by left quiet prints) at = line_in_part line (inr (inr (inl by))) quiet.got_same (prefix_of err line 6 status (omega arith) prints at)
-in_part words files out err status (failed line by have quiet prints) at = line_in_part line (inr (inr (inr by))) quiet.got_same (prefix_of err line 5 status (omega arith) prints at)
-in_part words files out err status (wanting stored same quiet also h) at = not_at_all quiet.got_same also.got_same
+    inl (answer_in_part text wanted r same (prefix_of out text wanted status (omega (arith, under)) prints at) quiet)
+partly_printed words files out err status (refused line by left quiet prints) at = inl (line_in_part line (inl (inr (inl by), left)) quiet (prefix_of err line 3 status (omega arith) prints at))
+partly_printed words files out err status (rejected line by left quiet prints) at = inl (line_in_part line (inl (inr (inr by), left)) quiet (prefix_of err line 6 status (omega arith) prints at))
+partly_printed words files out err status (failed line by have quiet prints) at = inl (line_in_part line (inr (by, have)) quiet (prefix_of err line 5 status (omega arith) prints at))
+partly_printed words files out err status (wanting stored same quiet also h) at = inr (h, record { stored = stored; faults_same = same; out_quiet = quiet; err_quiet = also })
+
+-- by a sink
+pub in_part : (words : List Text) (files : FilesSeen) (out err : SinkSeen) (status : ℕ) → Ends words files out err status → status ≡ 7 → IsPrintedInPart words files out err
+in_part words files out err status ends at = elim (partly_printed words files out err status ends (inl at)) [
+  | inl p ↦ p
+  | inr u ↦ absurd (let e : status ≡ 8 = u.0 in omega (arith, e, at))
+]
+
+-- by want of memory
+pub unprinted : (words : List Text) (files : FilesSeen) (out err : SinkSeen) (status : ℕ) → Ends words files out err status → status ≡ 8 → MayPrintInPart words files out err
+unprinted words files out err status ends at = elim (partly_printed words files out err status ends (inr at)) [
+  | inl p ↦ inl p
+  | inr u ↦ inr u.1
+]
 
 -- a status that is not wanted is 7 or 8
 other_status : (sink : SinkSeen) (text : List ℕ) (wanted status other : ℕ) → ¬ (wanted ≡ other) → other < 7 → PrintsTo sink text wanted status → status ≡ other → ⊥
@@ -230,7 +295,7 @@ five_rose words files out err status (answered text wanted low r same prints qui
     absurd (other_status out text wanted status 5 (λ e. absurd (omega (arith, e, under))) (omega arith) prints at)
 five_rose words files out err status (refused line by left quiet prints) at = absurd (other_status err line 3 status 5 (λ e. absurd (omega (arith, e))) (omega arith) prints at)
 five_rose words files out err status (rejected line by left quiet prints) at = absurd (other_status err line 6 status 5 (λ e. absurd (omega (arith, e))) (omega arith) prints at)
-five_rose words files out err status (failed line by have quiet prints) at = have.rose
+five_rose words files out err status (failed line by have quiet prints) at = by.rose
 five_rose words files out err status (wanting stored same quiet also h) at = absurd (omega (arith, h, at))
 
 -- 7 comes only where a fault of a sink rose
@@ -259,7 +324,7 @@ held_part (Some old) None name bytes held others = others
 held_part (Some old) (Some new) name bytes held others = inr (bytes, ([], sym (append-nil bytes)), held)
 
 module _ (told after : Told) (words : List Text) where
-  stored_partly : (status : ℕ) (text : List ℕ) (c : Command) → IsAsked words c → (a : IsAnswered told after c status text) → (name : Option Text) → a.proof_name ≡ name → Stores told after name (IsProofOf a.question a.answers) → IsPartlyStored told after words
+  stored_partly : (status : ℕ) (text : List ℕ) (c : Command) → IsAsked words c → (a : IsAnswered told after c status text) → (name : Option Text) → a.proof_name ≡ name → Stores told after name (IsStoredProofOf a.question a.answers) → IsPartlyStored told after words
   stored_partly status text c is_asked a None is same = inl same
   stored_partly status text c is_asked a (Some name) is (bytes, proof, held, others) = inr (
     c,

@@ -11,7 +11,8 @@ use Rattle.shex_inputs.specs.Held.{Held}
 use Rattle.simple_typing.specs.Simple.{IsSimpleSchema}
 use Rattle.shex_run.specs.Checking.{IsTrueOf}
 use Rattle.shex_run.specs.Proofs.{Accepted}
-use Rattle.shex_run.proofs.Truths.{has_typing, strata_one}
+use Rattle.schema_tree.proofs.OneStrata.{strata_one}
+use Rattle.simple_typing.proofs.Flat.{has_typing}
 
 pub is_true : (h : Held) → IsLoaded h.schema → IsSimpleSchema h.schema → TypingExists → Soundness → (bytes : List ℕ) (terms : List Term) (answers : List Answer) (a : Accepted h bytes terms answers) →
     IsTrueOf h terms a.found.nodes a.found.proof

@@ -14,7 +14,7 @@ use Rattle.shex_run.specs.Printing.{Prints, RefusesWords}
 use Rattle.shex_run.specs.Proofs.{MayStore}
 use Rattle.shex_run.specs.Stopping.{Explains, FaultsAs, LeavesStored}
 use Rattle.shex_run.specs.Tasks.{name_of}
-use Rattle.shex_run.specs.Texts.{failed_line, refusal_line, rejection_line, words_line}
+use Rattle.shex_run.specs.Texts.{failed_line, full_line, refusal_line, rejection_line, words_line}
 
 module _ (words : List Text) (c : Command) (is_asked : IsAsked words c) (files : FilesSeen) (out err : SinkSeen) (status : ℕ) where
   -- what a call may have stored, in the words
@@ -27,18 +27,22 @@ module _ (words : List Text) (c : Command) (is_asked : IsAsked words c) (files :
 
   -- what is printed where a call stops
   abbrev pub StopPrints : Stop → Type 0
-  StopPrints (Stops.Refused file refusal) = PrintsTo err (refusal_line c file refusal) 3 status
+  StopPrints (Stops.Refused refusal) = PrintsTo err (refusal_line c refusal) 3 status
+  StopPrints Stops.Full = PrintsTo err (full_line c) 3 status
   StopPrints (Stops.Rejected rejection) = PrintsTo err (rejection_line c rejection) 6 status
   StopPrints (Stops.Failed file) = PrintsTo err (failed_line (name_of c file)) 5 status
   StopPrints Stops.Memory = IsQuiet err × (status ≡ 8)
 
   pub with_stop : (stop : Stop) → Explains files.told c stop → FaultsAs c files.faults files.faults_after files.blame files.act stop → LeavesStored files.told files.told_after c stop → IsQuiet out →
       StopPrints stop → Ends words files out err status
-  with_stop (Stops.Refused file refusal) cause still left quiet prints =
-      refused (refusal_line c file refusal) (record { command = c; is_asked = is_asked; file = file; refusal = refusal; refused = cause; line_is = refl }) (record { told_same = left; faults_same = still }) quiet prints
+  with_stop (Stops.Refused refusal) cause still left quiet prints =
+      refused (refusal_line c refusal) (record { command = c; is_asked = is_asked; refused = inl (refusal, cause, refl) }) (record { told_same = left; faults_same = still }) quiet prints
+  with_stop Stops.Full cause still left quiet prints =
+      refused (full_line c) (record { command = c; is_asked = is_asked; refused = inr (cause, refl) }) (record { told_same = left; faults_same = still }) quiet prints
   with_stop (Stops.Rejected rejection) cause still left quiet prints =
       rejected (rejection_line c rejection) (record { command = c; is_asked = is_asked; rejection = rejection; rejected = cause; line_is = refl }) (record { told_same = left; faults_same = still }) quiet prints
   with_stop (Stops.Failed file) cause (rose, later, named, act) left quiet prints = failed (failed_line (name_of c file)) (record {
+    rose = rose;
     command = c;
     is_asked = is_asked;
     file = file;
@@ -46,7 +50,7 @@ module _ (words : List Text) (c : Command) (is_asked : IsAsked words c) (files :
     name_is = named;
     act_is = act;
     line_is = ap failed_line (sym named);
-  }) (record { rose = rose; later = later; stored = partly left }) quiet prints
+  }) (record { later = later; stored = partly left }) quiet prints
   with_stop Stops.Memory cause still left quiet (silent, at) = wanting (partly left) still quiet silent at
 
 -- the line of the words' fault is printed, unless memory ran out

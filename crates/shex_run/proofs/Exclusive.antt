@@ -11,7 +11,7 @@ use Rattle.shex_inputs.specs.declared.error.Source.TheVariants as Sources
 use Rattle.shex_inputs.specs.Asked.{IsAskedOf, Question}
 use Rattle.shex_inputs.specs.Held.{Held, IsTaken}
 use Rattle.shex_inputs.specs.Laws.{InputsAreOne}
-use Rattle.shex_inputs.specs.Named.{map_name}
+use Rattle.shex_inputs.specs.Named.{map_name, source_of}
 use Rattle.shex_inputs.specs.Outcomes.{IsAbsent as IsInputAbsent}
 use Rattle.shex_inputs.specs.Refusals.{IsRefused as IsInputRefused}
 use Rattle.shex_run.specs.declared.stop.File.{File}
@@ -47,14 +47,14 @@ no_map name Sources.Map h = absurd h
 
 pub record AreOne (told : Told) (c : Command) : Type 0 where
   pub held : (h k : Held) → IsTaken told c h → IsTaken told c k → h ≡ k
-  pub taken : (h : Held) (source : Source) → IsTaken told c h → source ≢ Sources.Map → ((refusal : Refusal) → ¬ IsInputRefused told c source refusal) × (¬ IsInputAbsent told c source)
-  pub asked : (q : Question) (source : Source) → IsAskedOf told c (map_name c.task) q → ((refusal : Refusal) → ¬ IsInputRefused told c source refusal) × (¬ IsInputAbsent told c source)
-  pub left : (a b : Source) (refusal : Refusal) → IsInputRefused told c a refusal → ¬ IsInputAbsent told c b
+  pub taken : (h : Held) (source : Source) → IsTaken told c h → source ≢ Sources.Map → ((refusal : Refusal) → source_of refusal ≡ source → ¬ IsInputRefused told c refusal) × (¬ IsInputAbsent told c source)
+  pub asked : (q : Question) → IsAskedOf told c (map_name c.task) q → ((refusal : Refusal) → ¬ IsInputRefused told c refusal) × ((source : Source) → ¬ IsInputAbsent told c source)
+  pub left : (refusal : Refusal) → IsInputRefused told c refusal → (source : Source) → ¬ IsInputAbsent told c source
 
 pub are_one : InputsAreOne → (contents : List ℕ → Option (List ℕ)) (told : Told) → told ≡ Some contents → (c : Command) → AreOne told c
 are_one law contents told e c =
     let (held, (one, (taken, (asked, left)))) = law contents c in
-    subst (λ t. AreOne t c) (sym e) (record { held = held; taken = taken; asked = asked; left = λ a b refusal refused. (left a b refusal refused).1 })
+    subst (λ t. AreOne t c) (sym e) (record { held = held; taken = taken; asked = asked; left = λ refusal refused. (left refusal refused).1 })
 
 module _ (told : Told) (contents : List ℕ → Option (List ℕ)) (e : told ≡ Some contents) (c : Command) (one : AreOne told c) where
   -- the proof's file holds one text
@@ -67,9 +67,9 @@ module _ (told : Told) (contents : List ℕ → Option (List ℕ)) (e : told ≡
       name_one m n h = ap (λ t. unwrap_or (proof_of t) []) h
 
   -- for a check whose schema and data are taken, no input is refused or absent
-  pub check_not_refused : (h : Held) (name : Text) → IsTaken told c h → IsToCheck c name → (source : Source) (refusal : Refusal) → IsRefused told c (Files.Input source) refusal → ⊥
-  check_not_refused h name taken is source refusal (of, refused) =
-      (one.taken h source taken (no_map name source (subst (λ t. IsInputOf t source) is of))).0 refusal refused
+  pub check_not_refused : (h : Held) (name : Text) → IsTaken told c h → IsToCheck c name → (refusal : Refusal) → IsRefused told c refusal → ⊥
+  check_not_refused h name taken is refusal (of, refused) =
+      (one.taken h (source_of refusal) taken (no_map name (source_of refusal) (subst (λ t. IsInputOf t (source_of refusal)) is of))).0 refusal refl refused
 
   check_not_absent : (h : Held) (name : Text) → IsTaken told c h → IsToCheck c name → (source : Source) → IsAbsent told c (Files.Input source) → ⊥
   check_not_absent h name taken is source (fetched, ((of, reached), lacks)) =
@@ -79,12 +79,12 @@ module _ (told : Told) (contents : List ℕ → Option (List ℕ)) (e : told ≡
   named : (map : Text) (proof : Option Text) → IsToValidate c map proof → (q : Question) → IsAskedOf told c map q → IsAskedOf told c (map_name c.task) q
   named map proof is q asked = subst (λ n. IsAskedOf told c n q) (sym (ap map_name is.task)) asked
 
-  pub asked_not_refused : (map : Text) (proof : Option Text) → IsToValidate c map proof → (q : Question) → IsAskedOf told c map q → (source : Source) (refusal : Refusal) → IsRefused told c (Files.Input source) refusal → ⊥
-  asked_not_refused map proof is q asked source refusal (of, refused) = (one.asked q source (named map proof is q asked)).0 refusal refused
+  pub asked_not_refused : (map : Text) (proof : Option Text) → IsToValidate c map proof → (q : Question) → IsAskedOf told c map q → (refusal : Refusal) → IsRefused told c refusal → ⊥
+  asked_not_refused map proof is q asked refusal (of, refused) = (one.asked q (named map proof is q asked)).0 refusal refused
 
   -- and no file is absent
   pub asked_not_absent : (map : Text) (proof : Option Text) → IsToValidate c map proof → (q : Question) → IsAskedOf told c map q → (file : File) → IsAbsent told c file → ⊥
-  asked_not_absent map proof is q asked (Files.Input source) (fetched, ((of, reached), lacks)) = (one.asked q source (named map proof is q asked)).1 (reached, lacks)
+  asked_not_absent map proof is q asked (Files.Input source) (fetched, ((of, reached), lacks)) = (one.asked q (named map proof is q asked)).1 source (reached, lacks)
   asked_not_absent map proof is q asked Files.Proof (fetched, (reached, lacks)) = subst (λ t. IsFetched t Files.Proof) is.task fetched
 
   -- a proof is full only for a check
@@ -97,12 +97,15 @@ module _ (told : Told) (contents : List ℕ → Option (List ℕ)) (e : told ≡
   given_not_absent h bytes Files.Proof given (fetched, (reached, lacks)) =
       held_not_lacking told given.name bytes given.held (subst (λ t. Lacks told (unwrap_or (proof_of t) [])) given.task lacks)
 
-  -- what is refused is not absent
-  pub refused_not_absent : (file : File) (refusal : Refusal) (other : File) → IsRefused told c file refusal → IsAbsent told c other → ⊥
-  refused_not_absent (Files.Input a) refusal (Files.Input b) (of, refused) (fetched, ((also, reached), lacks)) = one.left a b refusal refused (reached, lacks)
-  refused_not_absent (Files.Input a) refusal Files.Proof refused (fetched, (reached, lacks)) = go c.task refl fetched reached
+  -- where a file is refused, none is absent
+  pub refused_not_absent : (refusal : Refusal) (other : File) → IsRefused told c refusal → IsAbsent told c other → ⊥
+  refused_not_absent refusal (Files.Input b) (of, refused) (fetched, ((also, reached), lacks)) = one.left refusal refused b (reached, lacks)
+  refused_not_absent refusal Files.Proof refused (fetched, (reached, lacks)) = go c.task refl fetched reached
     where
       go : (t : Task) → c.task ≡ t → IsFetched t Files.Proof → ReachesProof told c t → ⊥
       go (validation m p n) is fetched reached = absurd fetched
-      go (checking name) is fetched (h, taken) = check_not_refused h name taken is a refusal refused
-  refused_not_absent Files.Proof refusal other (is, (h, bytes, given, full)) absent = given_not_absent h bytes other given absent
+      go (checking name) is fetched (h, taken) = check_not_refused h name taken is refusal refused
+
+  -- nor is one where the table is full
+  pub full_not_absent : (other : File) → IsFull told c → IsAbsent told c other → ⊥
+  full_not_absent other (h, bytes, given, full) absent = given_not_absent h bytes other given absent

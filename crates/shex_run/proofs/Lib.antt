@@ -10,4 +10,3 @@ pub mod Selected
 pub mod Settled
 pub mod Simplicity
 pub mod Tables
-pub mod Truths

@@ -1,6 +1,6 @@
 -- The answers to what a map asks, as they are decided over what the code holds.
 use Rattle.std.proofs.Common.{◌≡◌, ◌≤◌, ap, sym, subst, List, length, ◌∙◌}
-use Rattle.std.specs.Prelude.{All}
+use Rattle.std.specs.Prelude.{All, Bool, IfSome, Option, Some, None}
 use Rattle.std.specs.Str.{IsUtf8}
 use Rattle.clap.specs.Words.{Text}
 use Rattle.shex_io.specs.Files.{Told}
@@ -8,23 +8,32 @@ use Rattle.rdf_terms.specs.Tables.{max_terms}
 use Rattle.graph_index.specs.Contents.{IsSealedWith}
 use Rattle.graph_index.specs.Laws.{IsOfTable}
 use Rattle.schema_tree.specs.Loaded.{IsLoaded}
+use Rattle.proof_file.specs.declared.Proof.{Proof}
 use Rattle.shape_map.specs.declared.resolve.Association.{Association}
 use Rattle.shape_map.specs.Results.{result_text}
 use Rattle.shape_map.specs.Selection.{max_associations}
-use Rattle.line_terms.specs.Laws.{BasesAreLines, DataHaveLines, MapHasLines}
+use Rattle.data_reader.specs.Documents.{DataHaveLines}
+use Rattle.shape_map.specs.Maps.{MapHasLines}
+use Rattle.command_words.specs.Laws.{BasesAreLines}
 use Rattle.command_words.specs.Asked.{Command}
-use Rattle.shex_inputs.specs.declared.base.Base.{Base}
+use Rattle.shex_inputs.specs.declared.holding.Holding.{Holding}
 use Rattle.shex_inputs.specs.Asked.{IsAskedOf, Question}
-use Rattle.simple_typing.specs.Answers.{AreAnswersTo, HasLines, IsAsked, IsProofOf as Proves}
+use Rattle.shape_map.specs.Answers.{AreAnswersTo, IsAsked}
+use Rattle.simple_typing.specs.Answers.{HasLines, IsFlatProofOf as Proves}
 use Rattle.simple_typing.specs.Simple.{IsSimpleSchema}
 use Rattle.shex_run.specs.declared.deciding.Decided.{Decided}
-use Rattle.shex_run.specs.Ready.{IsDecided, IsReady, IsReply}
+use Rattle.shex_run.specs.Ready.{IsDecided, IsReady, IsReply, IsReplyProof}
 use Rattle.shex_run.specs.Statuses.{status_of}
 use Rattle.shex_run.specs.Stopping.{HasBases}
 use Rattle.shex_run.proofs.Asked.{asked, few, lines, proved}
 use Rattle.shex_run.proofs.Simplicity.{simple_schema}
 
-module _ (told : Told) (c : Command) (name : Text) (q : Question) (is : IsAskedOf told c name q) (b : Base) (schema : b.schema ≡ q.held.schema) (terms : b.terms ≡ q.terms) (graph : b.graph.triples ≡ q.held.graph)
+-- what follows of what is there
+some_weaker : {X : Type 0} (P Q : X → Type 0) → ((x : X) → P x → Q x) → (o : Option X) → IfSome o P → IfSome o Q
+some_weaker P Q f (Some x) h = f x h
+some_weaker P Q f None h = h
+
+module _ (told : Told) (c : Command) (name : Text) (q : Question) (is : IsAskedOf told c name q) (b : Holding) (schema : b.schema ≡ q.held.schema) (terms : b.terms ≡ q.terms) (graph : b.graph.triples ≡ q.held.graph)
     (xs : List Association) (same : xs ≡ q.associations) where
   -- what is so of the question is so of what the code holds
   ready_by : All (IsOfTable b.terms) b.graph.triples → All (IsOfTable q.terms) q.held.graph
@@ -32,8 +41,8 @@ module _ (told : Told) (c : Command) (name : Text) (q : Question) (is : IsAskedO
 
   pub ready : IsSealedWith b.terms b.graph → All (IsOfTable b.terms) b.graph.triples → HasBases c → IsUtf8 c.schema_base → IsUtf8 c.data_base → DataHaveLines → MapHasLines → BasesAreLines → IsReady b xs
   ready sealed all bases one other data_law map_law base_law = record {
-    loaded = subst (λ s. IsLoaded s) (sym schema) is.taken.base.stands.loaded;
-    simple = subst (λ s. IsSimpleSchema s) (sym schema) (simple_schema q.held.terms is.taken.doc q.held.schema is.taken.base.stands is.taken.base.built);
+    loaded = subst (λ s. IsLoaded s) (sym schema) is.taken.holding.stands.loaded;
+    simple = subst (λ s. IsSimpleSchema s) (sym schema) (simple_schema q.held.terms is.taken.doc q.held.schema is.taken.holding.stands is.taken.holding.built);
     sealed = sealed;
     of_table = all;
     asked = subst (λ s. All (IsAsked s b.terms) xs) (sym schema) (subst (λ ts. All (IsAsked q.held.schema ts) xs) (sym terms) (subst (λ ys. All (IsAsked q.held.schema q.terms) ys) (sym same) (asked told c name q is (ready_by all))));
@@ -41,7 +50,7 @@ module _ (told : Told) (c : Command) (name : Text) (q : Question) (is : IsAskedO
     lines = subst (λ ts. All (HasLines ts) xs) (sym terms) (subst (λ ys. All (HasLines q.terms) ys) (sym same) (lines told c name q is bases one other data_law map_law base_law));
   }
 
-  module _ (d : Decided) (decided : IsDecided b xs d) where
+  module _ (with_proof : Bool) (d : Decided) (decided : IsDecided b xs with_proof d) where
     truth : AreAnswersTo q.held.schema q.terms q.held.graph q.associations decided.answers
     truth =
         subst (λ ys. AreAnswersTo q.held.schema q.terms q.held.graph ys decided.answers) same
@@ -49,13 +58,20 @@ module _ (told : Told) (c : Command) (name : Text) (q : Question) (is : IsAskedO
         (subst (λ ts. AreAnswersTo q.held.schema ts b.graph.triples xs decided.answers) terms
         (subst (λ s. AreAnswersTo s b.terms b.graph.triples xs decided.answers) schema decided.truth)))
 
-    proof : Proves q.held.schema q.terms q.held.graph decided.answers d.proof
-    proof =
-        subst (λ g. Proves q.held.schema q.terms g decided.answers d.proof) graph
-        (subst (λ ts. Proves q.held.schema ts b.graph.triples decided.answers d.proof) terms
-        (subst (λ s. Proves s b.terms b.graph.triples decided.answers d.proof) schema decided.proof))
+    proof : (p : Proof) → Proves b.schema b.terms b.graph.triples decided.answers p → Proves q.held.schema q.terms q.held.graph decided.answers p
+    proof p proves =
+        subst (λ g. Proves q.held.schema q.terms g decided.answers p) graph
+        (subst (λ ts. Proves q.held.schema ts b.graph.triples decided.answers p) terms
+        (subst (λ s. Proves s b.terms b.graph.triples decided.answers p) schema proves))
 
-    pub reply : length b.terms ≤ max_terms → IsReply told c name d
+    reply_proof : length b.terms ≤ max_terms → (p : Proof) → Proves b.schema b.terms b.graph.triples decided.answers p → IsReplyProof q decided.answers p
+    reply_proof within p proves = record {
+      keeps = proves.keeps;
+      no_feeds = proves.no_feeds;
+      proves = λ bytes text. proved told c name q is decided.answers truth p (proof p proves) bytes text (subst (λ ts. length ts ≤ max_terms) terms within);
+    }
+
+    pub reply : length b.terms ≤ max_terms → IsReply told c name with_proof d
     reply within = record {
       question = q;
       answers = decided.answers;
@@ -63,7 +79,6 @@ module _ (told : Told) (c : Command) (name : Text) (q : Question) (is : IsAskedO
       low = decided.low;
       status_is = decided.status_is ∙ ap (λ ys. status_of ys decided.answers) same;
       text_is = decided.text_is ∙ ap (λ ts. result_text ts decided.answers) terms;
-      keeps = decided.proof.keeps;
-      no_feeds = decided.proof.no_feeds;
-      proves = λ bytes text. proved told c name q is decided.answers truth d.proof proof bytes text (subst (λ ts. length ts ≤ max_terms) terms within);
+      proof = some_weaker (Proves b.schema b.terms b.graph.triples decided.answers) (IsReplyProof q decided.answers) (reply_proof within) d.proof decided.proof;
+      wanted = decided.wanted;
     }

@@ -8,12 +8,13 @@ use Rattle.std.specs.Ordering.{nat_cmp}
 use Rattle.std.specs.declared.cmp.Ordering.{Ordering}
 use Rattle.std.specs.declared.cmp.Ordering.TheVariants.{Less, Equal}
 use Rattle.std.proofs.lemmas.List.Elements.{Contains-push_cases}
-use Rattle.rdf_terms.specs.Lists.{Adds}
+use Rattle.lists.specs.Additions.{Adds, AddsAll, none, more}
 use Rattle.rdf_terms.specs.Written.{term_text}
 use Rattle.rdf_terms.specs.declared.terms.Term.{Term}
-use Rattle.graph_loading.specs.Loading.{AddsAll, none, more}
-use Rattle.schema_tree.proofs.Members.{all_at, in_rest, is_first, is_later, not_in_none}
-use Rattle.proof_file.specs.Text.{IsTermBefore, Rises, RisesFrom}
+use Rattle.lists.proofs.Quantifiers.{all_at}
+use Rattle.lists.proofs.Members.{in_rest, is_first, is_later, not_in_none}
+use Rattle.schema_tree.specs.Rising.{Rises, RisesFrom}
+use Rattle.proof_file.specs.Text.{IsTermBefore}
 use Rattle.proof_checker.specs.Checks.{TakesUp}
 
 abbrev order : Term → Term → Ordering

@@ -1,36 +1,28 @@
 -- The bytes of a proof are accepted, rejected in one way, or too many for the table, and not two of these.
-use Rattle.std.proofs.Common.{◌≡◌, ◌≤◌, ◌<◌, ◌∙◌, ap, sym, subst, refl, ℕ, List, [], ◌∷◌, arith, length, map, inl, inr}
+use Rattle.std.proofs.Common.{◌≡◌, ◌≤◌, ◌<◌, ◌∙◌, ap, sym, subst, refl, ℕ, List, [], ◌∷◌, arith, length, map}
 use Rattle.std.specs.Prelude.{Option, Some, None, Contains, slice_get, option_map}
 use Rattle.std.proofs.lemmas.Option.{slice_get_within}
-use Rattle.rdf_terms.specs.Lists.{AreDistinct}
+use Rattle.lists.specs.Distinct.{AreDistinct}
 use Rattle.rdf_terms.specs.Tables.{max_terms}
 use Rattle.rdf_terms.specs.declared.terms.Term.{Term}
 use Rattle.rdf_terms.specs.declared.terms.TermId.{TermId}
-use Rattle.graph_loading.proofs.Loading.{adds_distinct}
+use Rattle.lists.proofs.Additions.{adds_distinct, adds_one}
 use Rattle.schema_tree.specs.declared.schema.Answer.{Answer}
-use Rattle.schema_tree.proofs.Lists.{got_in}
-use Rattle.schema_tree.proofs.Members.{from_map, in_rest, is_first, is_later, not_in_none}
+use Rattle.lists.proofs.Members.{got_in, from_map, in_map}
 use Rattle.proof_file.specs.declared.Claim.{Claim}
 use Rattle.proof_file.specs.declared.Proof.{Proof}
-use Rattle.proof_file.specs.Accepts.{AreAccepted, AreNumbers}
+use Rattle.proof_file.specs.Accepts.{AreAccepted, AreNumbers, setting_of}
 use Rattle.proof_file.proofs.Apart.{proofs_same}
 use Rattle.proof_file.proofs.Rejected.{not_both}
-use Rattle.proof_checker.specs.Checks.{AreAnswers, IsFullFor, IsReadAs, KeepsTerms, TakesUp, answer_with, setting_of}
+use Rattle.proof_file.specs.Answers.{AreClaimed, answer_with}
+use Rattle.proof_checker.specs.Checks.{IsFullFor, IsReadAs, KeepsTerms, TakesUp}
 use Rattle.shex_inputs.specs.Held.{Held}
 use Rattle.shex_run.specs.declared.stop.Rejection.{Rejection}
 use Rattle.shex_run.specs.declared.stop.Rejection.TheVariants as Rejections
 use Rattle.shex_run.specs.Checking.{Rejects}
 use Rattle.shex_run.specs.Proofs.{Accepted}
-use Rattle.shex_run.proofs.Tables.{add_keeps, adds_one}
-use Rattle.shex_run.proofs.Truths.{strata_one}
-
--- what is mapped is in the mapped list
-pub in_map : {A B : Type 0} (f : A → B) (xs : List A) (x : A) → Contains xs x → Contains (map f xs) (f x)
-in_map f [] x h = absurd (not_in_none x h)
-in_map f (y ∷ ys) x h = elim (in_rest y ys x h) [
-  | inl e ↦ subst (λ z. Contains (map f (y ∷ ys)) (f z)) e (is_first (f y) (map f ys))
-  | inr later ↦ is_later (f y) (map f ys) (f x) (in_map f ys x later)
-]
+use Rattle.shex_run.proofs.Tables.{add_keeps}
+use Rattle.schema_tree.proofs.OneStrata.{strata_one}
 
 -- ---- tables
 
@@ -82,7 +74,7 @@ answered_at nodes c a (Some m) h =
     let e : answer_with c m ≡ a = cc in
     ap (λ x. Some x) (ap (λ x. x.node) e)
 
-pub answers_there : (terms lines : List Term) (nodes : List TermId) (claims : List Claim) (answers : List Answer) → AreNumbers terms lines nodes → AreAnswers nodes claims answers → (a : Answer) → Contains answers a → a.node.0 < length terms
+pub answers_there : (terms lines : List Term) (nodes : List TermId) (claims : List Claim) (answers : List Answer) → AreNumbers terms lines nodes → AreClaimed nodes claims answers → (a : Answer) → Contains answers a → a.node.0 < length terms
 answers_there terms lines nodes claims answers numbers are a h =
     let there : Contains (map (λ c. option_map (answer_with c) (slice_get nodes c.node)) claims) (Some a) = subst (λ xs. Contains xs (Some a)) (sym are) (in_map (λ x. Some x) answers a h) in
     let (c, held, at) = from_map (λ c. option_map (answer_with c) (slice_get nodes c.node)) claims (Some a) there in

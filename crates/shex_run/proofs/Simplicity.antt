@@ -2,7 +2,6 @@
 use Rattle.std.proofs.Common.{◌≡◌, ◌∙◌, ap, sym, subst, List, ℕ, zero, suc, [], ◌∷◌, true, false}
 use Rattle.std.specs.Prelude.{Option, Some, None, slice_get}
 use Rattle.rdf_terms.specs.declared.terms.Term.{Term}
-use Rattle.tally.specs.declared.Count.{Count}
 use Rattle.node_constraint.specs.Constraint.{Constraint}
 use Rattle.schema_documents.specs.declared.label.Label.{Label}
 use Rattle.schema_documents.specs.Tree.{Document, MaybeShapeExpr, MaybeTripleExpr, ShapeExpr, TripleExpr, arc, conj, disj, each, include, neg, no_expr, no_triple, node, one, one_expr, one_triple, refer, shape, triple}
@@ -19,6 +18,7 @@ use Rattle.shex_inputs.specs.declared.load.Declared.TheVariants as Numbers
 use Rattle.shex_inputs.specs.Held.{IsBodyOf, IsExprOf, IsTripleOf, IsValueOf, StandsFor}
 use Rattle.shex_inputs.specs.Loading.{IsBuilt, entries_of, schema_of, value_in}
 use Rattle.simple_typing.specs.Simple.{IsNodeValue, IsPlain, IsSimple, IsSimpleBody, IsSimpleSchema}
+use Rattle.tally.specs.Plan.{Plan}
 
 -- ---- the Shapes
 
@@ -33,14 +33,14 @@ simple_value s (one_expr (neg x)) (Some e) h = absurd h
 simple_value s (one_expr (shape closed extra expression)) (Some e) h = absurd h
 simple_value s (one_expr (refer l)) (Some e) h = absurd h
 
-simple_triple : (terms : List Term) (s : Schema) (t : TripleExpr) (body : Count) (occs : List Occurrence) → IsTripleOf terms s t body occs → IsSimpleBody s (Some body) occs
+simple_triple : (terms : List Term) (s : Schema) (t : TripleExpr) (body : Plan) (occs : List Occurrence) → IsTripleOf terms s t body occs → IsSimpleBody s (Some body) occs
 simple_triple terms s (triple name least most (arc false predicate value)) body occs (once, at_most, plan, o, alone, made) = (plan, (o, alone, made.forward, simple_value s value o.value made.valued))
 simple_triple terms s (triple name least most (arc true predicate value)) body occs h = absurd h
 simple_triple terms s (triple name least most (each ts)) body occs h = absurd h
 simple_triple terms s (triple name least most (one ts)) body occs h = absurd h
 simple_triple terms s (triple name least most (include l)) body occs h = absurd h
 
-simple_body : (terms : List Term) (s : Schema) (expression : MaybeTripleExpr) (body : Option Count) (occs : List Occurrence) → IsBodyOf terms s expression body occs → IsSimpleBody s body occs
+simple_body : (terms : List Term) (s : Schema) (expression : MaybeTripleExpr) (body : Option Plan) (occs : List Occurrence) → IsBodyOf terms s expression body occs → IsSimpleBody s body occs
 simple_body terms s no_triple None occs none = none
 simple_body terms s no_triple (Some body) occs h = absurd h
 simple_body terms s (one_triple t) None occs h = absurd h

@@ -1,9 +1,8 @@
 -- Tables that take up terms.
-use Rattle.std.proofs.Common.{◌≡◌, ◌∙◌, ap, sym, ℕ, zero, suc, List, [], ◌∷◌, ◌++◌, inl, inr}
+use Rattle.std.proofs.Common.{◌≡◌, ◌∙◌, ap, ℕ, zero, suc, List, [], ◌∷◌, ◌++◌, inl, inr}
 use Rattle.std.specs.Prelude.{Some, slice_get}
-use Rattle.rdf_terms.specs.Lists.{Adds}
+use Rattle.lists.specs.Additions.{Adds, AddsAll, none, more}
 use Rattle.rdf_terms.specs.declared.terms.Term.{Term}
-use Rattle.graph_loading.specs.Loading.{AddsAll, none, more}
 
 -- each term keeps its number
 abbrev pub Keeps : List Term → List Term → Type 0
@@ -24,10 +23,3 @@ add_keeps old new x (inr (fresh, e)) i t h = grown_keeps old (x ∷ []) new e i 
 pub all_keep : (old xs new : List Term) → AddsAll old xs new → Keeps old new
 all_keep old [] new none i t h = h
 all_keep old (x ∷ xs) new (more {mid = mid} adds later) i t h = all_keep mid xs new later i t (add_keeps old mid x adds i t h)
-
--- what is added to a list gives one list
-pub adds_one : {X : Type 0} (old a b : List X) (x : X) → Adds old x a → Adds old x b → a ≡ b
-adds_one old a b x (inl (held, e)) (inl (held', e')) = e ∙ sym e'
-adds_one old a b x (inl (held, e)) (inr (fresh, e')) = absurd (fresh held)
-adds_one old a b x (inr (fresh, e)) (inl (held, e')) = absurd (fresh held)
-adds_one old a b x (inr (fresh, e)) (inr (fresh', e')) = e ∙ sym e'

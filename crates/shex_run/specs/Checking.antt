@@ -5,7 +5,7 @@ use Rattle.shex_io.specs.Files.{Told, Holds}
 use Rattle.rdf_terms.specs.Tables.{max_terms}
 use Rattle.rdf_terms.specs.declared.terms.Term.{Term}
 use Rattle.rdf_terms.specs.declared.terms.TermId.{TermId}
-use Rattle.graph_loading.specs.declared.triples.TermTriple.{TermTriple}
+use Rattle.graph_index.specs.declared.loading.TermTriple.{TermTriple}
 use Rattle.schema_documents.specs.Tree.{Document}
 use Rattle.schema_tree.specs.declared.schema.Answer.{Answer}
 use Rattle.schema_tree.specs.declared.schema.Pair.{Pair}
@@ -17,11 +17,9 @@ use Rattle.proof_file.specs.Laws.{HoldsLines, IsTrueProof}
 use Rattle.proof_file.specs.Text.{IsFault}
 use Rattle.proof_checker.specs.Checks.{IsFullFor, IsRejectedAs}
 use Rattle.shape_map.specs.Results.{result_text}
-use Rattle.simple_typing.specs.Truths.{IsTypingOf}
+use Rattle.schema_tree.specs.Truths.{IsTypingOf}
 use Rattle.command_words.specs.Asked.{Command}
-use Rattle.shex_inputs.specs.declared.error.Refusal.TheVariants as Refusals
-use Rattle.shex_inputs.specs.Held.{Held, IsBase, IsTaken}
-use Rattle.shex_run.specs.declared.stop.File.TheVariants as Files
+use Rattle.shex_inputs.specs.Held.{Held, IsHolding, IsTaken}
 use Rattle.shex_run.specs.declared.stop.Rejection.{Rejection}
 use Rattle.shex_run.specs.declared.stop.Rejection.TheVariants as Rejections
 use Rattle.shex_run.specs.declared.stop.Stop.{Stop}
@@ -79,12 +77,13 @@ abbrev pub IsFull : Told → Command → Type 0
 IsFull told c = (h : Held) × (bytes : List ℕ) × IsGiven told c h bytes × IsFullFor h.terms bytes
 
 -- the schema and the graph are those of some documents
-abbrev pub IsSomeBase : Held → Type 0
-IsSomeBase h = (doc : Document) × (triples : List TermTriple) × IsBase doc triples h
+abbrev pub IsSomeHolding : Held → Type 0
+IsSomeHolding h = (doc : Document) × (triples : List TermTriple) × IsHolding doc triples h
 
 -- why the bytes are not confirmed
 abbrev pub ConfirmStops : Held → List ℕ → Stop → Type 0
 ConfirmStops h bytes (Stops.Rejected rejection) = Rejects h bytes rejection
-ConfirmStops h bytes (Stops.Refused file refusal) = (file ≡ Files.Proof) × (refusal ≡ Refusals.Full) × IsFullFor h.terms bytes
+ConfirmStops h bytes Stops.Full = IsFullFor h.terms bytes
+ConfirmStops h bytes (Stops.Refused refusal) = ⊥
 ConfirmStops h bytes (Stops.Failed file) = ⊥
 ConfirmStops h bytes Stops.Memory = ⊤

@@ -13,13 +13,13 @@ use Rattle.shex_inputs.specs.declared.error.Refusal.{Refusal}
 use Rattle.shex_inputs.specs.Asked.{Question}
 use Rattle.shex_run.specs.declared.stop.File.{File}
 use Rattle.shex_run.specs.declared.stop.Rejection.{Rejection}
-use Rattle.shex_run.specs.Checking.{IsCheckedAs, IsRejected}
+use Rattle.shex_run.specs.Checking.{IsCheckedAs, IsFull, IsRejected}
 use Rattle.shex_run.specs.Outcomes.{IsRefused, Reaches}
 use Rattle.shex_run.specs.Printing.{Prints}
-use Rattle.shex_run.specs.Proofs.{AreAnswers, IsCutStore, IsProofOf, Stores}
+use Rattle.shex_run.specs.Proofs.{AreAnswers, IsCutStore, IsDueProof, IsStoredProofOf, Stores}
 use Rattle.shex_run.specs.Statuses.{status_of}
 use Rattle.shex_run.specs.Tasks.{IsToValidate, act_of, name_of}
-use Rattle.shex_run.specs.Texts.{failed_line, refusal_line, rejection_line, words_line}
+use Rattle.shex_run.specs.Texts.{failed_line, full_line, refusal_line, rejection_line, words_line}
 
 -- the text is the result map of the true answers to what the map asks of the files, one for each association, in their order, and
 -- the status is 0 where each is as its association wants, and else 1; where a name is given, it holds a proof of the answers that
@@ -31,7 +31,7 @@ pub record IsAnswered (told after : Told) (c : Command) (status : ℕ) (text : L
   pub question : Question
   pub answers : List Answer
   pub are_answers : AreAnswers told c map_name question answers
-  pub stored : Stores told after proof_name (IsProofOf question answers)
+  pub stored : Stores told after proof_name (IsStoredProofOf question answers)
   pub status_is : status ≡ status_of question.associations answers
   pub text_is : text ≡ result_text question.terms answers
 
@@ -55,14 +55,15 @@ pub record IsRespondedTo (told after : Told) (words : List Text) (status : ℕ) 
 abbrev pub IsWordsLine : List Text → List ℕ → Type 0
 IsWordsLine words line = (f : Fault) × IsFirstFault words f × (line ≡ words_line f)
 
+-- the line is that of the refusal of a file of the inputs, or of a proof whose node lines the table cannot take up
+abbrev pub IsRefusalLine : Told → Command → List ℕ → Type 0
+IsRefusalLine told c line = ((refusal : Refusal) × IsRefused told c refusal × (line ≡ refusal_line c refusal)) ⊎ (IsFull told c × (line ≡ full_line c))
+
 -- the line is that of the refusal of a file that the words name
 pub record IsRefusedBy (told : Told) (words : List Text) (line : List ℕ) : Type 0 where
   pub command : Command
   pub is_asked : IsAsked words command
-  pub file : File
-  pub refusal : Refusal
-  pub refused : IsRefused told command file refusal
-  pub line_is : line ≡ refusal_line command file refusal
+  pub refused : IsRefusalLine told command line
 
 -- the line is that of the rejection of the proof that the words name
 pub record IsRejectedBy (told : Told) (words : List Text) (line : List ℕ) : Type 0 where
@@ -71,25 +72,6 @@ pub record IsRejectedBy (told : Told) (words : List Text) (line : List ℕ) : Ty
   pub rejection : Rejection
   pub rejected : IsRejected told command rejection
   pub line_is : line ≡ rejection_line command rejection
-
--- the line is that of a file of the words to which the steps came, and which could not be fetched or stored
-pub record IsFailedBy (told : Told) (words : List Text) (name : List ℕ) (act : Act) (line : List ℕ) : Type 0 where
-  pub command : Command
-  pub is_asked : IsAsked words command
-  pub file : File
-  pub reached : Reaches told command file
-  pub name_is : name ≡ name_of command file
-  pub act_is : act ≡ act_of command.task file
-  pub line_is : line ≡ failed_line name
-
--- nothing is stored, or the proof for which the words ask in part
-abbrev pub IsPartlyStored : Told → Told → List Text → Type 0
-IsPartlyStored told after words = (after ≡ told) ⊎ ((c : Command) × IsAsked words c × IsCutStore told after c)
-
--- each name holds what it held, but for the one under which the words ask for a proof to be stored
-abbrev pub KeepsTold : Told → Told → List Text → Type 0
-KeepsTold told after words =
-    (after ≡ told) ⊎ ((c : Command) × IsAsked words c × ((map_name name : Text) × IsToValidate c map_name (Some name) × KeepsOthers told after name))
 
 -- the files before and after a call: what they tell, and the count of faults; and the last fault
 pub record FilesSeen : Type 0 where
@@ -107,6 +89,27 @@ pub record SinkSeen : Type 0 where
   pub faults : ℕ
   pub faults_after : ℕ
 
+-- in this call a fault of the files came, and the line is that of a file of the words to which the steps came, and which could not be
+-- fetched or stored
+pub record IsFailedBy (files : FilesSeen) (words : List Text) (line : List ℕ) : Type 0 where
+  pub rose : Rose files.faults files.faults_after
+  pub command : Command
+  pub is_asked : IsAsked words command
+  pub file : File
+  pub reached : Reaches files.told command file
+  pub name_is : files.blame ≡ name_of command file
+  pub act_is : files.act ≡ act_of command.task file
+  pub line_is : line ≡ failed_line files.blame
+
+-- nothing is stored, or the proof for which the words ask in part
+abbrev pub IsPartlyStored : Told → Told → List Text → Type 0
+IsPartlyStored told after words = (after ≡ told) ⊎ ((c : Command) × IsAsked words c × IsCutStore told after c)
+
+-- each name holds what it held, but for the one under which the words ask for a proof to be stored
+abbrev pub KeepsTold : Told → Told → List Text → Type 0
+KeepsTold told after words =
+    (after ≡ told) ⊎ ((c : Command) × IsAsked words c × ((map_name name : Text) × IsToValidate c map_name (Some name) × KeepsOthers told after name))
+
 -- nothing was printed, and no fault came
 pub record IsQuiet (sink : SinkSeen) : Type 0 where
   pub got_same : sink.got_after ≡ sink.got
@@ -121,9 +124,8 @@ pub record AreLeft (files : FilesSeen) : Type 0 where
   pub told_same : files.told_after ≡ files.told
   pub faults_same : files.faults_after ≡ files.faults
 
--- a call on a file failed
+-- a call on a file failed: the count of faults does not fall, and the proof is stored in part at most
 pub record HaveFailed (files : FilesSeen) (words : List Text) : Type 0 where
-  pub rose : Rose files.faults files.faults_after
   pub later : files.faults ≤ files.faults_after
   pub stored : IsPartlyStored files.told files.told_after words
 
@@ -134,16 +136,33 @@ pub data Ends (words : List Text) (files : FilesSeen) (out err : SinkSeen) (stat
   answered : (text : List ℕ) (wanted : ℕ) → (wanted ≡ 0) ⊎ (wanted ≡ 1) → IsRespondedTo files.told files.told_after words wanted text → files.faults_after ≡ files.faults → PrintsTo out text wanted status → IsQuiet err → Ends words files out err status
   refused : (line : List ℕ) → IsRefusedBy files.told words line → AreLeft files → IsQuiet out → PrintsTo err line 3 status → Ends words files out err status
   rejected : (line : List ℕ) → IsRejectedBy files.told words line → AreLeft files → IsQuiet out → PrintsTo err line 6 status → Ends words files out err status
-  failed : (line : List ℕ) → IsFailedBy files.told words files.blame files.act line → HaveFailed files words → IsQuiet out → PrintsTo err line 5 status → Ends words files out err status
+  failed : (line : List ℕ) → IsFailedBy files words line → HaveFailed files words → IsQuiet out → PrintsTo err line 5 status → Ends words files out err status
   wanting : IsPartlyStored files.told files.told_after words → files.faults_after ≡ files.faults → IsQuiet out → IsQuiet err → status ≡ 8 → Ends words files out err status
 
--- the line is due to the error stream: the words are at fault, a file is refused, the proof is rejected, or a call on a file failed
-abbrev pub IsDue : Told → List Text → List ℕ → Act → List ℕ → Type 0
-IsDue told words blame act line =
-    IsWordsLine words line ⊎ (IsRefusedBy told words line ⊎ (IsRejectedBy told words line ⊎ IsFailedBy told words blame act line))
+-- the line is due to the error stream: the words are at fault, a file is refused, or the proof is rejected, and nothing is stored; or a
+-- call on a file failed
+abbrev pub IsDue : FilesSeen → List Text → List ℕ → Type 0
+IsDue files words line =
+    ((IsWordsLine words line ⊎ (IsRefusedBy files.told words line ⊎ IsRejectedBy files.told words line)) × AreLeft files)
+    ⊎ (IsFailedBy files words line × HaveFailed files words)
 
--- each sink got a prefix of the text that is due to it, or nothing was printed
-pub data IsPrintedInPart (told after : Told) (words : List Text) (blame : List ℕ) (act : Act) (out out_after err err_after : Option (List ℕ)) : Type 0 where
-  answer_in_part : (text : List ℕ) (status : ℕ) → IsRespondedTo told after words status text → GainsPrefix out out_after text → err_after ≡ err → IsPrintedInPart told after words blame act out out_after err err_after
-  line_in_part : (line : List ℕ) → IsDue told words blame act line → out_after ≡ out → GainsPrefix err err_after line → IsPrintedInPart told after words blame act out out_after err err_after
-  not_at_all : out_after ≡ out → err_after ≡ err → IsPrintedInPart told after words blame act out out_after err err_after
+-- printing stopped: the output got a prefix of the text that answers, whose proof is stored whole if one is asked for; or the error
+-- stream got a prefix of the line that is due to it. The other sink got nothing
+pub data IsPrintedInPart (words : List Text) (files : FilesSeen) (out err : SinkSeen) : Type 0 where
+  answer_in_part : (text : List ℕ) (status : ℕ) → IsRespondedTo files.told files.told_after words status text → files.faults_after ≡ files.faults → GainsPrefix out.got out.got_after text → IsQuiet err → IsPrintedInPart words files out err
+  line_in_part : (line : List ℕ) → IsDue files words line → IsQuiet out → GainsPrefix err.got err.got_after line → IsPrintedInPart words files out err
+
+-- nothing was printed, and the proof is stored in part at most; no fault came
+pub record IsUnprinted (words : List Text) (files : FilesSeen) (out err : SinkSeen) : Type 0 where
+  pub stored : IsPartlyStored files.told files.told_after words
+  pub faults_same : files.faults_after ≡ files.faults
+  pub out_quiet : IsQuiet out
+  pub err_quiet : IsQuiet err
+
+-- what is printed where memory ran out: a part of what is due, or nothing
+abbrev pub MayPrintInPart : List Text → FilesSeen → SinkSeen → SinkSeen → Type 0
+MayPrintInPart words files out err = IsPrintedInPart words files out err ⊎ IsUnprinted words files out err
+
+-- the proof for which the command asks under this name is stored whole, as far as is told, and no other name changed
+abbrev pub IsWhollyStored : Told → Told → Command → Text → Type 0
+IsWhollyStored told after c name = Stores told after (Some name) (IsDueProof told c name)

@@ -5,13 +5,12 @@ use Rattle.shex_io.specs.Files.{Told, Lacks}
 use Rattle.command_words.specs.Asked.{Command}
 use Rattle.command_words.specs.Requests.{Task, checking, validation}
 use Rattle.shex_inputs.specs.declared.error.Refusal.{Refusal}
-use Rattle.shex_inputs.specs.declared.error.Refusal.TheVariants as Refusals
 use Rattle.shex_inputs.specs.Asked.{IsAskedOf, Question}
 use Rattle.shex_inputs.specs.Held.{Held, IsTaken}
+use Rattle.shex_inputs.specs.Named.{source_of}
 use Rattle.shex_inputs.specs.Refusals.{IsRefused as IsInputRefused, Reaches as ReachesInput}
 use Rattle.shex_run.specs.declared.stop.File.{File}
 use Rattle.shex_run.specs.declared.stop.File.TheVariants as Files
-use Rattle.shex_run.specs.Checking.{IsFull}
 use Rattle.shex_run.specs.Proofs.{IsDueProof}
 use Rattle.shex_run.specs.Tasks.{IsFetched, IsInputOf, name_of}
 
@@ -35,11 +34,9 @@ abbrev pub Reaches : Told → Command → File → Type 0
 Reaches told c (Files.Input source) = IsInputOf c.task source × ReachesInput told c source
 Reaches told c Files.Proof = ReachesProof told c c.task
 
--- the file is the first of the inputs that is not taken, and this is why; or it is a proof that is checked, and the table cannot
--- take up its node lines
-abbrev pub IsRefused : Told → Command → File → Refusal → Type 0
-IsRefused told c (Files.Input source) refusal = IsInputOf c.task source × IsInputRefused told c source refusal
-IsRefused told c Files.Proof refusal = (refusal ≡ Refusals.Full) × IsFull told c
+-- a file of the task is the first of the inputs that is not taken, and this is why
+abbrev pub IsRefused : Told → Command → Refusal → Type 0
+IsRefused told c refusal = IsInputOf c.task (source_of refusal) × IsInputRefused told c refusal
 
 -- the next file to be fetched is told to be absent
 abbrev pub IsAbsent : Told → Command → File → Type 0

@@ -1,22 +1,17 @@
 -- The answers that are due, their proof, and how it is stored.
-use Rattle.std.specs.Prelude.{ℕ, List, [], ◌≡◌, ◌≢◌, ◌≤◌, ◌⊎◌, ◌↔◌, Option, Some, None, Contains, length}
-use Rattle.std.specs.List.{AllByRecursion}
+use Rattle.std.specs.Prelude.{ℕ, List, ◌≡◌, ◌≤◌, ◌⊎◌, Option, Some, None, length}
 use Rattle.clap.specs.Words.{Text}
 use Rattle.shex_io.specs.Files.{Told, Holds, HoldsPart, KeepsOthers}
 use Rattle.rdf_terms.specs.Tables.{max_terms}
 use Rattle.rdf_terms.specs.declared.terms.Term.{Term}
-use Rattle.rdf_terms.specs.declared.terms.TermId.{TermId}
 use Rattle.schema_tree.specs.declared.schema.Answer.{Answer}
-use Rattle.schema_tree.specs.declared.schema.Pair.{Pair}
-use Rattle.schema_tree.specs.declared.schema.Schema.{Schema}
 use Rattle.schema_tree.specs.Edges.{IsStratum}
-use Rattle.proof_file.specs.declared.Proof.{Proof}
-use Rattle.proof_file.specs.Views.{records_of}
 use Rattle.proof_checker.specs.Checks.{IsAcceptedAs}
 use Rattle.command_words.specs.Asked.{Command}
 use Rattle.shex_inputs.specs.Asked.{IsAskedOf, Question}
 use Rattle.shex_inputs.specs.Held.{Held}
-use Rattle.simple_typing.specs.Answers.{AreAnswersTo, AsksOf, HasRecord}
+use Rattle.shape_map.specs.Answers.{AreAnswersTo}
+use Rattle.proof_file.specs.Answers.{AsksNoMore}
 use Rattle.shex_run.specs.Tasks.{IsToValidate}
 
 -- the bytes are the text of a proof that is accepted for the schema, with each Shape on its stratum, and the graph, the table,
@@ -33,16 +28,9 @@ pub record AreAnswers (told : Told) (c : Command) (map_name : Text) (q : Questio
   pub asked : IsAskedOf told c map_name q
   pub truth : AreAnswersTo q.held.schema q.terms q.held.graph q.associations answers
 
--- the proof, whose node lines have these numbers, has no more than the answers ask for: its node lines are the nodes of the
--- answers, its records are of the pairs that the answers ask for, and no section is empty
-pub record AsksNoMore (s : Schema) (nodes : List TermId) (answers : List Answer) (p : Proof) : Type 0 where
-  pub exactly : (n : TermId) → Contains nodes n ↔ ((x : Answer) × Contains answers x × (x.node ≡ n))
-  pub recorded : (q : Pair) → HasRecord nodes (records_of p) q ↔ ((x : Answer) × Contains answers x × AsksOf s x q)
-  pub filled : AllByRecursion (λ x. x.records ≢ []) p.sections
-
 -- the bytes are a proof whose claims are the answers, so that a check of them with the same schema and data accepts them, and
 -- which has no more than the answers ask for
-pub record IsProofOf (q : Question) (answers : List Answer) (bytes : List ℕ) : Type 0 where
+pub record IsStoredProofOf (q : Question) (answers : List Answer) (bytes : List ℕ) : Type 0 where
   pub accepted : Accepted q.held bytes q.terms answers
   pub lean : AsksNoMore q.held.schema accepted.found.nodes answers accepted.found.proof
 
@@ -59,7 +47,7 @@ pub record IsDueProof (told : Told) (c : Command) (name : Text) (bytes : List �
   pub question : Question
   pub answers : List Answer
   pub are_answers : AreAnswers told c map_name question answers
-  pub proof : IsProofOf question answers bytes
+  pub proof : IsStoredProofOf question answers bytes
 
 -- the name of the proof holds what it held or a prefix of the proof, as far as is told, and each other name what it held
 pub record IsCutStore (told after : Told) (c : Command) : Type 0 where

@@ -1,18 +1,22 @@
 -- The statuses with which a call ends.
-use Rattle.std.specs.Prelude.{ℕ, Bool, List, ◌≡◌, ◌⊎◌, if◌then◌else◌}
+use Rattle.std.specs.Prelude.{ℕ, Bool, List, ◌≡◌, ◌⊎◌, if◌then◌else◌, map}
 use Rattle.std.specs.Bool.{beq}
 use Rattle.std.specs.List.{list_all, zip}
 use Rattle.schema_tree.specs.declared.schema.Answer.{Answer}
 use Rattle.shape_map.specs.declared.resolve.Association.{Association}
 use Rattle.command_words.specs.Requests.{Task, checking, validation}
 
--- each association is answered as it wants
-unfoldable pub are_wanted : List Association → List Answer → Bool
-are_wanted associations answers = list_all (λ (p : Association × Answer). beq p.0.want p.1.holds) (zip associations answers)
+-- each answer is as it is wanted
+unfoldable pub are_wanted : List Bool → List Answer → Bool
+are_wanted wants answers = list_all (λ (p : Bool × Answer). beq p.0 p.1.holds) (zip wants answers)
+
+-- the status of answers by what is wanted of each: 0 where each is as it is wanted, and else 1
+unfoldable pub status_by : List Bool → List Answer → ℕ
+status_by wants answers = if are_wanted wants answers then 0 else 1
 
 -- the status of answers: 0 where each is as its association wants, and else 1
-unfoldable pub status_of : List Association → List Answer → ℕ
-status_of associations answers = if are_wanted associations answers then 0 else 1
+abbrev pub status_of : List Association → List Answer → ℕ
+status_of associations answers = status_by (map (λ a. a.want) associations) answers
 
 -- the statuses: 0 and 1 for answers, 2 for the words, 3 for the inputs, 5 for a file, 6 for a proof, 7 for a sink, 8 for
 -- memory

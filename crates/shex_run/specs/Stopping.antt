@@ -10,7 +10,7 @@ use Rattle.shex_inputs.specs.declared.error.InputError.TheVariants as Errors
 use Rattle.shex_run.specs.declared.stop.File.TheVariants as Files
 use Rattle.shex_run.specs.declared.stop.Stop.{Stop}
 use Rattle.shex_run.specs.declared.stop.Stop.TheVariants as Stops
-use Rattle.shex_run.specs.Checking.{IsRejected}
+use Rattle.shex_run.specs.Checking.{IsFull, IsRejected}
 use Rattle.shex_run.specs.Outcomes.{IsRefused, Reaches}
 use Rattle.shex_run.specs.Proofs.{MayStore}
 use Rattle.shex_run.specs.Tasks.{act_of, name_of}
@@ -22,14 +22,15 @@ pub record HasBases (c : Command) : Type 0 where
 
 -- the stop that an error of the inputs is
 abbrev pub stop_of : InputError → Stop
-stop_of (Errors.Refused source refusal) = Stops.Refused (Files.Input source) refusal
+stop_of (Errors.Refused refusal) = Stops.Refused refusal
 stop_of (Errors.Failed source) = Stops.Failed (Files.Input source)
 stop_of Errors.Memory = Stops.Memory
 
--- why there is no answer: a file is refused, the proof is rejected, the steps came to a file that was not fetched or stored, or
--- memory ran out
+-- why there is no answer: a file is refused, the table is full, the proof is rejected, the steps came to a file that was not fetched
+-- or stored, or memory ran out
 abbrev pub Explains : Told → Command → Stop → Type 0
-Explains told c (Stops.Refused file refusal) = IsRefused told c file refusal
+Explains told c (Stops.Refused refusal) = IsRefused told c refusal
+Explains told c Stops.Full = IsFull told c
 Explains told c (Stops.Rejected rejection) = IsRejected told c rejection
 Explains told c (Stops.Failed file) = Reaches told c file
 Explains told c Stops.Memory = ⊤
@@ -42,7 +43,8 @@ FaultsAs c before after blame act stop = after ≡ before
 
 -- what a call that stops leaves stored: nothing, or, where a call on a file failed or memory ran out, the proof in part
 abbrev pub LeavesStored : Told → Told → Command → Stop → Type 0
-LeavesStored told after c (Stops.Refused file refusal) = after ≡ told
+LeavesStored told after c (Stops.Refused refusal) = after ≡ told
+LeavesStored told after c Stops.Full = after ≡ told
 LeavesStored told after c (Stops.Rejected rejection) = after ≡ told
 LeavesStored told after c (Stops.Failed file) = MayStore told after c
 LeavesStored told after c Stops.Memory = MayStore told after c

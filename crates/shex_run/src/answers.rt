@@ -1,6 +1,6 @@
 //! What answers a command: the text that is due, and what is stored before it is printed.
 
-ghost use Rattle.std.specs.Prelude.{◌≡◌, ◌⊎◌, All, Some, IsSome, IfErr, IfOk, OnErr, OnOk};
+ghost use Rattle.std.specs.Prelude.{◌≡◌, ◌⊎◌, All, Some, IsSome, IfErr, IfOk, OnErr, OnOk, is_some};
 ghost use Rattle.graph_index.specs.Laws.{IsOfTable};
 ghost use Rattle.std.specs.Str.{IsUtf8};
 ghost use Rattle.shex_io.specs.Files.{Holds, HoldsPart, KeepsOthers};
@@ -17,10 +17,11 @@ ghost use Rattle.shex_run.specs.Stopping.{Explains, FaultsAs, HasBases, LeavesSt
 use crate::checking::confirm;
 use crate::deciding::{Decided, decide};
 use crate::stop::{File, Stop, stop_of};
-use command_words::{Checking, Command, Validation};
-use line_terms::{bases_are_lines, data_have_lines, map_has_lines};
+use command_words::{Checking, Command, Validation, bases_are_lines};
+use data_reader::data_have_lines;
 use proof_file::write::write;
-use shex_inputs::{Base, read_base, read_map};
+use shape_map::laws::map_has_lines;
+use shex_inputs::{Holding, read_holding, read_map};
 use shex_io::{FetchError, Files, StoreError};
 use std::alloc::Global;
 
@@ -69,19 +70,19 @@ fn are_texts(schema_base: &str, data_base: &str)
     ensures data_file { IsUtf8 data_base.now }
 {}
 
-/// The answers to the map of `validate`.
+/// The answers to the map of `validate`, with their proof where it is to be stored.
 fn decide_map<F: Files>(
     alloc: Global,
     files: &mut F,
-    base: &mut Base,
+    holding: &mut Holding,
     validation: &Validation<'_>,
 ) -> Result<Decided, Stop>
-    requires taken { IsTaken (F.told files.old) (command_of (Lent.Validate validation.now)) (held_by base.old) }
+    requires taken { IsTaken (F.told files.old) (command_of (Lent.Validate validation.now)) (held_by holding.old) }
     requires bases { HasBases (command_of (Lent.Validate validation.now)) }
-    requires scheme { IsSome (scheme_of (base_of base.old.names)) }
-    requires room { HasRoom (held_by base.old) }
-    requires of_table { All (IsOfTable base.old.terms) base.old.graph.triples }
-    ensures decided { IfOk result (IsReply (F.told files.old) (command_of (Lent.Validate validation.now)) validation.now.map.now) }
+    requires scheme { IsSome (scheme_of (base_of holding.old.names)) }
+    requires room { HasRoom (held_by holding.old) }
+    requires of_table { All (IsOfTable holding.old.terms) holding.old.graph.triples }
+    ensures decided { IfOk result (IsReply (F.told files.old) (command_of (Lent.Validate validation.now)) validation.now.map.now (is_some validation.now.proof)) }
     ensures cause { IfErr result (Explains (F.told files.old) (command_of (Lent.Validate validation.now))) }
     ensures faults { IfErr result (FaultsAs (command_of (Lent.Validate validation.now)) (F.faults files.old) (F.faults files.new) (F.blame files.new) (F.act files.new)) }
     ensures stored { IfErr result (LeavesStored (F.told files.old) (F.told files.new) (command_of (Lent.Validate validation.now))) }
@@ -93,13 +94,13 @@ fn decide_map<F: Files>(
     map_has_lines();
     bases_are_lines();
     are_texts(validation.inputs.schema_base, validation.inputs.data_base);
-    let associations = match read_map(alloc, files, validation, base) {
+    let associations = match read_map(alloc, files, validation, holding) {
         Ok(associations) => associations,
         Err(error) => return Err(stop_of(error)),
     };
     // The length of a table tells contracts that it is within the limit.
-    let _count = base.terms.len();
-    match decide(alloc, base, associations.as_slice()) {
+    let _count = holding.terms.len();
+    match decide(alloc, holding, associations, validation.proof.is_some()) {
         Ok(decided) => Ok(decided),
         Err(_) => Err(Stop::Memory),
     }
@@ -112,7 +113,7 @@ fn keep<F: Files>(
     validation: &Validation<'_>,
     decided: Decided,
 ) -> Result<Response, Stop>
-    requires { IsReply (F.told files.old) (command_of (Lent.Validate validation.now)) validation.now.map.now decided }
+    requires { IsReply (F.told files.old) (command_of (Lent.Validate validation.now)) validation.now.map.now (is_some validation.now.proof) decided }
     ensures response { IfOk result (λ r. IsResponse (F.told files.old) (F.told files.new) (command_of (Lent.Validate validation.now)) r.status r.text.items) }
     ensures low { IfOk result (λ r. (r.status ≡ 0) ⊎ (r.status ≡ 1)) }
     ensures cause { IfErr result (Explains (F.told files.old) (command_of (Lent.Validate validation.now))) }
@@ -129,6 +130,9 @@ fn keep<F: Files>(
     let Some(name) = validation.proof else {
         return Ok(response);
     };
+    let Some(proof) = proof else {
+        unreachable!();
+    };
     let Ok(bytes) = write(alloc, &proof) else {
         return Err(Stop::Memory);
     };
@@ -142,14 +146,14 @@ fn keep<F: Files>(
 fn validate<F: Files>(
     alloc: Global,
     files: &mut F,
-    base: Base,
+    holding: Holding,
     validation: &Validation<'_>,
 ) -> Result<Response, Stop>
-    requires taken { IsTaken (F.told files.old) (command_of (Lent.Validate validation.now)) (held_by base) }
+    requires taken { IsTaken (F.told files.old) (command_of (Lent.Validate validation.now)) (held_by holding) }
     requires bases { HasBases (command_of (Lent.Validate validation.now)) }
-    requires scheme { IsSome (scheme_of (base_of base.names)) }
-    requires room { HasRoom (held_by base) }
-    requires of_table { All (IsOfTable base.terms) base.graph.triples }
+    requires scheme { IsSome (scheme_of (base_of holding.names)) }
+    requires room { HasRoom (held_by holding) }
+    requires of_table { All (IsOfTable holding.terms) holding.graph.triples }
     ensures response { IfOk result (λ r. IsResponse (F.told files.old) (F.told files.new) (command_of (Lent.Validate validation.now)) r.status r.text.items) }
     ensures low { IfOk result (λ r. (r.status ≡ 0) ⊎ (r.status ≡ 1)) }
     ensures cause { IfErr result (Explains (F.told files.old) (command_of (Lent.Validate validation.now))) }
@@ -157,8 +161,8 @@ fn validate<F: Files>(
     ensures stored { IfErr result (LeavesStored (F.told files.old) (F.told files.new) (command_of (Lent.Validate validation.now))) }
     ensures faults_stay { OnOk result (F.faults files.new ≡ F.faults files.old) }
 {
-    let mut base = base;
-    let decided = match decide_map(alloc, files, &mut base, validation) {
+    let mut holding = holding;
+    let decided = match decide_map(alloc, files, &mut holding, validation) {
         Ok(decided) => decided,
         Err(stop) => return Err(stop),
     };
@@ -169,11 +173,12 @@ fn validate<F: Files>(
 fn check<F: Files>(
     alloc: Global,
     files: &mut F,
-    base: Base,
+    holding: Holding,
     checking: &Checking<'_>,
 ) -> Result<Response, Stop>
-    requires taken { IsTaken (F.told files.old) (command_of (Lent.Check checking.now)) (held_by base) }
-    requires room { HasRoom (held_by base) }
+    requires taken { IsTaken (F.told files.old) (command_of (Lent.Check checking.now)) (held_by holding) }
+    requires room { HasRoom (held_by holding) }
+    requires of_table { All (IsOfTable holding.terms) holding.graph.triples }
     ensures response { IfOk result (λ r. IsResponse (F.told files.old) (F.told files.new) (command_of (Lent.Check checking.now)) r.status r.text.items) }
     ensures low { IfOk result (λ r. (r.status ≡ 0) ⊎ (r.status ≡ 1)) }
     ensures cause { IfErr result (Explains (F.told files.old) (command_of (Lent.Check checking.now))) }
@@ -185,7 +190,7 @@ fn check<F: Files>(
         Ok(bytes) => bytes,
         Err(stop) => return Err(stop),
     };
-    match confirm(alloc, base, bytes.as_slice()) {
+    match confirm(alloc, holding, bytes.as_slice()) {
         Ok(text) => Ok(Response { status: 0, text }),
         Err(stop) => Err(stop),
     }
@@ -205,12 +210,12 @@ pub fn respond<F: Files>(
     ensures stored { IfErr result (LeavesStored (F.told files.old) (F.told files.new) (command_of command.now)) }
     ensures faults_stay { OnOk result (F.faults files.new ≡ F.faults files.old) }
 {
-    let base = match read_base(alloc, files, command) {
-        Ok(base) => base,
+    let holding = match read_holding(alloc, files, command) {
+        Ok(holding) => holding,
         Err(error) => return Err(stop_of(error)),
     };
     match command {
-        Command::Validate(validation) => validate(alloc, files, base, validation),
-        Command::Check(checking) => check(alloc, files, base, checking),
+        Command::Validate(validation) => validate(alloc, files, holding, validation),
+        Command::Check(checking) => check(alloc, files, holding, checking),
     }
 }

@@ -9,6 +9,3 @@ mod stop;
 mod top;
 
 pub use top::run;
-
-#[cfg(test)]
-mod tests;

@@ -4,35 +4,27 @@ ghost use Rattle.std.specs.Prelude.{◌≡◌, ◌<◌, ◌++◌, IfOk, codes, s
 ghost use Rattle.std.specs.Fmt.{decimal};
 ghost use Rattle.command_words.specs.Lent.{Because, command_of};
 ghost use Rattle.shex_inputs.specs.Named.{map_name, source_name};
-ghost use Rattle.shex_inputs.specs.declared.error.Refusal.TheVariants as Refusals;
 ghost use Rattle.shex_run.specs.Printing.{Prints};
 ghost use Rattle.shex_run.specs.Tasks.{name_of};
-ghost use Rattle.shex_run.specs.Texts.{error_line, failed_line, pattern_text, refusal_line, refusal_text, rejection_line, rejection_text, schema_text, why_text, with_value, words_line};
+ghost use Rattle.shex_run.specs.Texts.{failed_line, full_line, refusal_line, rejection_line, rejection_text, why_text, words_line};
 ghost use Rattle.shex_run.specs.declared.stop.File.TheVariants as Files;
 
 use crate::stop::{File, Rejection};
 use command_words::{Command, WordsError, text};
 use proof_file::Why;
-use schema_documents::SchemaError;
-use schema_tree::labels::Label;
-use shex_inputs::{Refusal, Source};
+use shex_inputs::{Refusal, Source, error_line, refusal_text};
 use shex_io::{Sink, SinkError, put_all};
 use std::alloc::{AllocError, Global};
-use xs_pattern::PatternError;
 
-/// The line for a place and what is wrong there.
-fn line(alloc: Global, place: &str, what: &str) -> Result<String, AllocError>
-    ensures { IfOk result (λ s. string_bytes s ≡ error_line place.now what.now) }
-{
-    format!(in alloc; "shex: {place}: {what}\n")
-}
+/// The name of the program, with which its lines begin.
+const PROGRAM: &str = "shex";
 
 /// The line for words that are at fault.
 pub fn words(alloc: Global, error: WordsError<'_>) -> Result<String, AllocError>
     ensures { IfOk result (λ s. Because (λ f. string_bytes s ≡ words_line f) error.entry) }
 {
     let what = text(alloc, error)?;
-    line(alloc, "words", what.as_str())
+    error_line(alloc, PROGRAM, "words", what.as_str())
 }
 
 /// The name of the map, and the empty text where there is none.
@@ -103,7 +95,7 @@ fn name<'a>(command: &Command<'a>, file: File) -> &'a str
 pub fn failed(alloc: Global, command: &Command<'_>, file: File) -> Result<String, AllocError>
     ensures { IfOk result (λ s. string_bytes s ≡ failed_line (name_of (command_of command.now) file)) }
 {
-    line(alloc, name(command, file), "Failed")
+    error_line(alloc, PROGRAM, name(command, file), "Failed")
 }
 
 /// That bytes are of no form from a place on.
@@ -113,112 +105,28 @@ fn syntax(alloc: Global, at: u64) -> Result<String, AllocError>
     format!(in alloc; "Syntax({at})")
 }
 
-/// That a prefix is not declared, and where it stands.
-fn prefix(alloc: Global, at: u64) -> Result<String, AllocError>
-    ensures { IfOk result (λ s. string_bytes s ≡ codes "Prefix(" ++ (decimal at ++ codes ")")) }
-{
-    format!(in alloc; "Prefix({at})")
-}
-
-/// That the text of a term is too long, and where it begins.
-fn long(alloc: Global, at: u64) -> Result<String, AllocError>
-    ensures { IfOk result (λ s. string_bytes s ≡ codes "Long(" ++ (decimal at ++ codes ")")) }
-{
-    format!(in alloc; "Long({at})")
-}
-
-/// The bytes of a label that is an IRI and is not declared.
-fn iri_bytes(alloc: Global, iri: &str) -> Result<String, AllocError>
-    ensures { IfOk result (λ s. string_bytes s ≡ codes "Label(<" ++ (iri.now ++ codes ">)")) }
-{
-    format!(in alloc; "Label(<{iri}>)")
-}
-
-/// The bytes of a label that is a blank node's and is not declared.
-fn blank_bytes(alloc: Global, name: &str) -> Result<String, AllocError>
-    ensures { IfOk result (λ s. string_bytes s ≡ codes "Label(_:" ++ (name.now ++ codes ")")) }
-{
-    format!(in alloc; "Label(_:{name})")
-}
-
-/// That the target with this label is not declared.
-fn label(alloc: Global, label: &Label) -> Result<String, AllocError>
-    ensures { IfOk result (λ s. string_bytes s ≡ refusal_text (Refusals.Label label.now)) }
-{
-    match label {
-        Label::Iri(iri) => iri_bytes(alloc, iri.as_str()),
-        Label::Blank(name) => blank_bytes(alloc, name.as_str()),
-    }
-}
-
-/// A name with its value in round brackets.
-fn with_value(alloc: Global, name: &str, value: &str) -> Result<String, AllocError>
-    ensures { IfOk result (λ s. string_bytes s ≡ with_value name.now value.now) }
-{
-    format!(in alloc; "{name}({value})")
-}
-
-/// Why a pattern is refused.
-fn pattern_name(error: PatternError) -> &'static str
-    ensures { result.now ≡ pattern_text error }
-{
-    match error {
-        PatternError::Flag => "Flag",
-        PatternError::Syntax => "Syntax",
-        PatternError::Large => "Large",
-        PatternError::Memory => "Memory",
-    }
-}
-
-/// Why a schema document is refused.
-fn schema_what(alloc: Global, error: &SchemaError) -> Result<String, AllocError>
-    ensures { IfOk result (λ s. string_bytes s ≡ schema_text error.now) }
-{
-    match error {
-        SchemaError::NotUtf8 => String::from_str(alloc, "NotUtf8"),
-        SchemaError::Json => String::from_str(alloc, "Json"),
-        SchemaError::Key(name) => with_value(alloc, "Key", name.as_str()),
-        SchemaError::Form(name) => with_value(alloc, "Form", name.as_str()),
-        SchemaError::Action => String::from_str(alloc, "Action"),
-        SchemaError::FloatFacet => String::from_str(alloc, "FloatFacet"),
-        SchemaError::FacetNumber => String::from_str(alloc, "FacetNumber"),
-        SchemaError::Pattern(error) => with_value(alloc, "Pattern", pattern_name(*error)),
-        SchemaError::NotBuilt(name) => with_value(alloc, "NotBuilt", name.as_str()),
-        SchemaError::Memory => String::from_str(alloc, "Memory"),
-    }
-}
-
-/// Why a file is refused.
-fn refusal_what(alloc: Global, refusal: &Refusal) -> Result<String, AllocError>
-    ensures { IfOk result (λ s. string_bytes s ≡ refusal_text refusal.now) }
-{
-    match refusal {
-        Refusal::Size => String::from_str(alloc, "Size"),
-        Refusal::NotBuilt => String::from_str(alloc, "NotBuilt"),
-        Refusal::Schema(error) => schema_what(alloc, error),
-        Refusal::NotUtf8 => String::from_str(alloc, "NotUtf8"),
-        Refusal::Syntax(at) => syntax(alloc, *at),
-        Refusal::Prefix(at) => prefix(alloc, *at),
-        Refusal::Deep => String::from_str(alloc, "Deep"),
-        Refusal::Long(at) => long(alloc, *at),
-        Refusal::Full => String::from_str(alloc, "Full"),
-        Refusal::Label(target) => label(alloc, target),
-        Refusal::NoStart => String::from_str(alloc, "NoStart"),
-        Refusal::Many => String::from_str(alloc, "Many"),
-    }
-}
-
-/// The line for a file that is refused.
+/// The line for a file of the inputs that is refused.
 pub fn refusal(
     alloc: Global,
     command: &Command<'_>,
-    file: File,
     refusal: &Refusal,
 ) -> Result<String, AllocError>
-    ensures { IfOk result (λ s. string_bytes s ≡ refusal_line (command_of command.now) file refusal.now) }
+    ensures { IfOk result (λ s. string_bytes s ≡ refusal_line (command_of command.now) refusal.now) }
 {
-    let what = refusal_what(alloc, refusal)?;
-    line(alloc, name(command, file), what.as_str())
+    let what = refusal_text(alloc, refusal)?;
+    error_line(
+        alloc,
+        PROGRAM,
+        input_name(command, refusal.source()),
+        what.as_str(),
+    )
+}
+
+/// The line for a proof whose node lines the table of terms cannot take up.
+pub fn full(alloc: Global, command: &Command<'_>) -> Result<String, AllocError>
+    ensures { IfOk result (λ s. string_bytes s ≡ full_line (command_of command.now)) }
+{
+    error_line(alloc, PROGRAM, proof_name(command), "Full")
 }
 
 /// The name of a check.
@@ -263,7 +171,7 @@ pub fn rejection(
     ensures { IfOk result (λ s. string_bytes s ≡ rejection_line (command_of command.now) rejection) }
 {
     let what = rejection_what(alloc, rejection)?;
-    line(alloc, proof_name(command), what.as_str())
+    error_line(alloc, PROGRAM, proof_name(command), what.as_str())
 }
 
 /// Prints a text, and gives the status, or 7 or 8 where it is not printed whole.

@@ -29,9 +29,10 @@ pub enum Rejection {
 /// Why there is no answer.
 #[derive(Debug, Drop, PartialEq, Eq)]
 pub enum Stop {
-    /// The file is refused. A proof that is checked is refused as `Full` where the table of terms cannot take up its node
-    /// lines.
-    Refused(File, Refusal),
+    /// A file of the inputs is refused.
+    Refused(Refusal),
+    /// The table of terms cannot take up the node lines of the proof that is checked.
+    Full,
     /// The proof is rejected.
     Rejected(Rejection),
     /// The file was not fetched, or not stored.
@@ -56,7 +57,7 @@ pub fn stop_of(error: InputError) -> Stop
     ensures { result ≡ stop_of error }
 {
     match error {
-        InputError::Refused(source, refusal) => Stop::Refused(File::Input(source), refusal),
+        InputError::Refused(refusal) => Stop::Refused(refusal),
         InputError::Failed(source) => Stop::Failed(File::Input(source)),
         InputError::Memory => Stop::Memory,
     }

@@ -3,17 +3,19 @@
 ghost use Rattle.std.specs.Prelude.{◌≡◌, ◌<◌, ◌⊎◌, ℕ, List, Option, Some, IfOk, map, string_bytes};
 ghost use Rattle.rdf_terms.specs.declared.terms.Term.{Term};
 ghost use Rattle.schema_tree.specs.declared.schema.Answer.{Answer};
+ghost use Rattle.clap.specs.Words.{Text};
 ghost use Rattle.shex_io.specs.Faults.{Rose};
 ghost use Rattle.shex_io.specs.Sinks.{Gains};
 ghost use Rattle.command_words.specs.Asked.{Command as Asking, IsAsked, IsFirstFault};
 ghost use Rattle.command_words.specs.Checks.{Fault};
 ghost use Rattle.shex_inputs.specs.Held.{Held};
-ghost use Rattle.shex_run.specs.Checking.{IsGiven, IsRejected};
-ghost use Rattle.shex_run.specs.Endings.{Ends, IsFailedBy, IsPartlyStored, IsPrintedInPart, IsRefusedBy, IsRejectedBy, IsRespondedTo, IsWordsLine, KeepsTold};
+ghost use Rattle.shex_run.specs.Checking.{IsFull, IsGiven, IsRejected};
+ghost use Rattle.shex_run.specs.Endings.{Ends, IsFailedBy, IsPartlyStored, IsPrintedInPart, IsRefusedBy, IsRejectedBy, IsRespondedTo, IsWhollyStored, IsWordsLine, KeepsTold, MayPrintInPart};
 ghost use Rattle.shex_run.specs.Outcomes.{AreTaken, IsAbsent, IsRefused};
 ghost use Rattle.shex_run.specs.Printing.{Prints, RefusesWords};
 ghost use Rattle.shex_run.specs.Proofs.{Accepted};
 ghost use Rattle.shex_run.specs.Statuses.{Concludes, IsInterrupted, IsStatus};
+ghost use Rattle.shex_run.specs.Tasks.{IsToValidate};
 
 use crate::answers::respond;
 use crate::report;
@@ -65,9 +67,8 @@ fn end<F: Files, O: Sink, E: Sink>(
     };
     match respond(alloc, files, &command) {
         Ok(response) => report::print(out, response.text.as_slice(), response.status),
-        Err(Stop::Refused(file, refusal)) => {
-            say(report::refusal(alloc, &command, file, &refusal), 3, err)
-        }
+        Err(Stop::Refused(refusal)) => say(report::refusal(alloc, &command, &refusal), 3, err),
+        Err(Stop::Full) => say(report::full(alloc, &command), 3, err),
         Err(Stop::Rejected(rejection)) => {
             say(report::rejection(alloc, &command, rejection), 6, err)
         }
@@ -116,7 +117,9 @@ pub fn run<F: Files, O: Sink, E: Sink>(
         × Gains (E.got err.old) (E.got err.new) line }
     ensures failed { result ≡ 5 →
         (line : List ℕ)
-        × IsFailedBy (F.told files.old) (map string_bytes words.now) (F.blame files.new) (F.act files.new) line
+        × IsFailedBy
+        (record { told = F.told files.old; told_after = F.told files.new; faults = F.faults files.old; faults_after = F.faults files.new; blame = F.blame files.new; act = F.act files.new })
+        (map string_bytes words.now) line
         × Gains (E.got err.old) (E.got err.new) line }
     ensures fault { result ≡ 5 → Rose (F.faults files.old) (F.faults files.new) }
     ensures rejected { result ≡ 6 →
@@ -127,16 +130,27 @@ pub fn run<F: Files, O: Sink, E: Sink>(
         Rose (O.faults out.old) (O.faults out.new) ⊎ Rose (E.faults err.old) (E.faults err.new) }
     ensures nothing_out { (result ≡ 2) ⊎ ((result ≡ 3) ⊎ ((result ≡ 5) ⊎ (result ≡ 6))) →
         O.got out.new ≡ O.got out.old }
-    ensures in_part { (result ≡ 7) ⊎ (result ≡ 8) →
-        IsPrintedInPart
-        (F.told files.old) (F.told files.new) (map string_bytes words.now) (F.blame files.new) (F.act files.new)
-        (O.got out.old) (O.got out.new) (E.got err.old) (E.got err.new) }
+    ensures in_part { result ≡ 7 → IsPrintedInPart
+        (map string_bytes words.now)
+        (record { told = F.told files.old; told_after = F.told files.new; faults = F.faults files.old; faults_after = F.faults files.new; blame = F.blame files.new; act = F.act files.new })
+        (record { got = O.got out.old; got_after = O.got out.new; faults = O.faults out.old; faults_after = O.faults out.new })
+        (record { got = E.got err.old; got_after = E.got err.new; faults = E.faults err.old; faults_after = E.faults err.new }) }
+    ensures unprinted { result ≡ 8 → MayPrintInPart
+        (map string_bytes words.now)
+        (record { told = F.told files.old; told_after = F.told files.new; faults = F.faults files.old; faults_after = F.faults files.new; blame = F.blame files.new; act = F.act files.new })
+        (record { got = O.got out.old; got_after = O.got out.new; faults = O.faults out.old; faults_after = O.faults out.new })
+        (record { got = E.got err.old; got_after = E.got err.new; faults = E.faults err.old; faults_after = E.faults err.new }) }
 
     // What is stored: nothing where the words, the inputs or the proof are refused, the proof or a part of it where the call
-    // is interrupted, and under no other name anything.
+    // is interrupted, the whole proof where a sink alone failed, and under no other name anything.
     ensures unstored { (result ≡ 2) ⊎ ((result ≡ 3) ⊎ (result ≡ 6)) → F.told files.new ≡ F.told files.old }
     ensures stored_in_part { IsInterrupted result →
         IsPartlyStored (F.told files.old) (F.told files.new) (map string_bytes words.now) }
+    ensures stored_whole { (contents : List ℕ → Option (List ℕ)) (c : Asking) (map_name name : Text) →
+        F.told files.old ≡ Some contents → IsAsked (map string_bytes words.now) c →
+        IsToValidate c map_name (Some name) → AreTaken (F.told files.old) c →
+        result ≡ 7 → ¬ Rose (F.faults files.old) (F.faults files.new) →
+        IsWhollyStored (F.told files.old) (F.told files.new) c name }
     ensures told { KeepsTold (F.told files.old) (F.told files.new) (map string_bytes words.now) }
 
     // Where contents are told, words and files decide how the call ends, but for faults and want of memory.
@@ -151,9 +165,12 @@ pub fn run<F: Files, O: Sink, E: Sink>(
     ensures rejects { (contents : List ℕ → Option (List ℕ)) (c : Asking) (rejection : Rejection) →
         F.told files.old ≡ Some contents → IsAsked (map string_bytes words.now) c →
         IsRejected (F.told files.old) c rejection → (result ≡ 6) ⊎ IsInterrupted result }
-    ensures refuses { (contents : List ℕ → Option (List ℕ)) (c : Asking) (file : File) (refusal : Refusal) →
+    ensures refuses { (contents : List ℕ → Option (List ℕ)) (c : Asking) (refusal : Refusal) →
         F.told files.old ≡ Some contents → IsAsked (map string_bytes words.now) c →
-        IsRefused (F.told files.old) c file refusal → (result ≡ 3) ⊎ IsInterrupted result }
+        IsRefused (F.told files.old) c refusal → (result ≡ 3) ⊎ IsInterrupted result }
+    ensures fills { (contents : List ℕ → Option (List ℕ)) (c : Asking) →
+        F.told files.old ≡ Some contents → IsAsked (map string_bytes words.now) c →
+        IsFull (F.told files.old) c → (result ≡ 3) ⊎ IsInterrupted result }
     ensures misses { (contents : List ℕ → Option (List ℕ)) (c : Asking) (file : File) →
         F.told files.old ≡ Some contents → IsAsked (map string_bytes words.now) c →
         IsAbsent (F.told files.old) c file → IsInterrupted result }

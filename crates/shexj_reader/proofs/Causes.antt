@@ -8,6 +8,10 @@ use Rattle.shexj_reader.specs.Faults.{Because, Fault}
 pub because : (P Q : Fault → Type 0) (e : SchemaError) → ((f : Fault) → P f → Q f) → Because P e → Because Q e
 because P Q Errors.NotUtf8 w h = absurd h
 because P Q Errors.Json w h = absurd h
+because P Q (Errors.Syntax at) w h = absurd h
+because P Q Errors.External w h = absurd h
+because P Q (Errors.Prefix at) w h = absurd h
+because P Q Errors.Deep w h = absurd h
 because P Q (Errors.Key name) w h = w _ h
 because P Q (Errors.Form name) w h = w _ h
 because P Q Errors.Action w h = w _ h

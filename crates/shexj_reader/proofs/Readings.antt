@@ -17,6 +17,10 @@ use Rattle.shexj_reader.proofs.DocumentLaws.{no_document_fault, one_document}
 pub caused : (bytes : List ℕ) (d : Data) (e : SchemaError) → IsUtf8 bytes → read bytes ≡ Some d → Because (λ f. DocumentFault f d) e → IsCause bytes e
 caused bytes d Errors.NotUtf8 utf json h = absurd h
 caused bytes d Errors.Json utf json h = absurd h
+caused bytes d (Errors.Syntax at) utf json h = absurd h
+caused bytes d Errors.External utf json h = absurd h
+caused bytes d (Errors.Prefix at) utf json h = absurd h
+caused bytes d Errors.Deep utf json h = absurd h
 caused bytes d Errors.Memory utf json h = tt
 caused bytes d (Errors.Key name) utf json h = record { utf8 = utf; value = d; json = json; fault = h }
 caused bytes d (Errors.Form name) utf json h = record { utf8 = utf; value = d; json = json; fault = h }
@@ -30,6 +34,10 @@ caused bytes d (Errors.NotBuilt name) utf json h = record { utf8 = utf; value = 
 unfaulty : (d : Data) (doc : Document) (e : SchemaError) → Because (λ f. DocumentFault f d) e → SpellsDocument doc d → e ≡ Errors.Memory
 unfaulty d doc Errors.NotUtf8 h s = absurd h
 unfaulty d doc Errors.Json h s = absurd h
+unfaulty d doc (Errors.Syntax at) h s = absurd h
+unfaulty d doc Errors.External h s = absurd h
+unfaulty d doc (Errors.Prefix at) h s = absurd h
+unfaulty d doc Errors.Deep h s = absurd h
 unfaulty d doc Errors.Memory h s = refl
 unfaulty d doc (Errors.Key name) h s = absurd (no_document_fault doc _ d h s)
 unfaulty d doc (Errors.Form name) h s = absurd (no_document_fault doc _ d h s)
@@ -48,6 +56,10 @@ faulty bytes doc e h s =
 pub only_memory : (bytes : List ℕ) (doc : Document) (e : SchemaError) → IsCause bytes e → IsDocumentText doc bytes → e ≡ Errors.Memory
 only_memory bytes doc Errors.NotUtf8 h s = absurd (h s.utf8)
 only_memory bytes doc Errors.Json h s = let none = h.1 in let json = s.json in cc
+only_memory bytes doc (Errors.Syntax at) h s = absurd h
+only_memory bytes doc Errors.External h s = absurd h
+only_memory bytes doc (Errors.Prefix at) h s = absurd h
+only_memory bytes doc Errors.Deep h s = absurd h
 only_memory bytes doc Errors.Memory h s = refl
 only_memory bytes doc (Errors.Key name) h s = faulty bytes doc (Errors.Key name) h s
 only_memory bytes doc (Errors.Form name) h s = faulty bytes doc (Errors.Form name) h s

@@ -4,7 +4,8 @@ use Rattle.std.specs.Prelude.{Option, Some, None, codes, option_map, unwrap_or, 
 use Rattle.std.specs.Char.{to_ascii_lowercase}
 use Rattle.std.specs.Str.{bytes_eq, chars}
 use Rattle.std.proofs.lemmas.Slice.Eq.{bytes_eq-Decides}
-use Rattle.rdf_terms.specs.Literals.{LiteralParts, rdf_lang_string, xsd_string}
+use Rattle.rdf_terms.specs.Literals.{LiteralParts}
+use Rattle.rdf_terms.specs.Vocabulary.{rdf_lang_string, xsd_string}
 use Rattle.rdf_terms.specs.declared.terms.Term.TheVariants as Terms
 use Rattle.serde_json.specs.Data.{Data, null, boolean, number, string, array, object, Items, no_items, item}
 use Rattle.serde_json.specs.Find.{as_array, get, get_item}

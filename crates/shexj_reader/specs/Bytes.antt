@@ -29,6 +29,10 @@ abbrev pub IsCause : List ℕ → SchemaError → Type 0
 IsCause bytes Errors.NotUtf8 = ¬ IsUtf8 bytes
 IsCause bytes Errors.Json = IsUtf8 bytes × (read bytes ≡ None)
 IsCause bytes Errors.Memory = ⊤
+IsCause bytes (Errors.Syntax at) = ⊥
+IsCause bytes Errors.External = ⊥
+IsCause bytes (Errors.Prefix at) = ⊥
+IsCause bytes Errors.Deep = ⊥
 IsCause bytes (Errors.Key name) = HasFault bytes (Errors.Key name)
 IsCause bytes (Errors.Form name) = HasFault bytes (Errors.Form name)
 IsCause bytes Errors.Action = HasFault bytes Errors.Action

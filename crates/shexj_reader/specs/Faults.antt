@@ -23,12 +23,16 @@ pub data Fault : Type 0 where
 abbrev pub Because : (Fault → Type 0) → SchemaError → Type 0
 Because P Errors.NotUtf8 = ⊥
 Because P Errors.Json = ⊥
+Because P (Errors.Syntax at) = ⊥
 Because P (Errors.Key name) = P (key (encode_utf8_all name))
 Because P (Errors.Form name) = P (form (encode_utf8_all name))
 Because P Errors.Action = P action
+Because P Errors.External = ⊥
 Because P Errors.FloatFacet = P float_facet
 Because P Errors.FacetNumber = P facet_number
 Because P (Errors.Pattern e) = P (pattern e)
+Because P (Errors.Prefix at) = ⊥
+Because P Errors.Deep = ⊥
 Because P (Errors.NotBuilt name) = P (not_built (encode_utf8_all name))
 Because P Errors.Memory = ⊤
 

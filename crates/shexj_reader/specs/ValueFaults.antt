@@ -1,6 +1,6 @@
 -- What may be wrong with a JSON value in the place of a value set (ShEx 2.1, appendix A).
 use Rattle.std.specs.Prelude.{ℕ, false, true, List, [], ◌∷◌, ◌≡◌, ◌≢◌, Option, Some, None, codes}
-use Rattle.rdf_terms.specs.Literals.{rdf_lang_string}
+use Rattle.rdf_terms.specs.Vocabulary.{rdf_lang_string}
 use Rattle.serde_json.specs.Data.{Data, array, Items}
 use Rattle.serde_json.specs.Find.{as_array, get, get_item}
 use Rattle.shexj_reader.specs.Faults.{Fault, IsBad, IsUnknownKey, form}

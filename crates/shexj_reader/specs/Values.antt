@@ -1,7 +1,8 @@
 -- Which JSON values stand for the values of a value set (ShEx 2.1, appendix A, and section 5.4, Values Constraint).
 use Rattle.std.specs.Prelude.{ℕ, List, [], ◌∷◌, ◌≡◌, ◌≢◌, Option, Some, None, codes, map, option_map, true, ⊤}
 use Rattle.std.specs.Char.{to_ascii_lowercase}
-use Rattle.rdf_terms.specs.Literals.{LiteralParts, rdf_lang_string, xsd_string}
+use Rattle.rdf_terms.specs.Literals.{LiteralParts}
+use Rattle.rdf_terms.specs.Vocabulary.{rdf_lang_string, xsd_string}
 use Rattle.rdf_terms.specs.declared.terms.Term.TheVariants as Terms
 use Rattle.serde_json.specs.Data.{Data, array, Items, no_items, item}
 use Rattle.serde_json.specs.Find.{get}

@@ -10,6 +10,3 @@ mod reading;
 mod values;
 
 pub use reading::read;
-
-#[cfg(test)]
-mod tests;

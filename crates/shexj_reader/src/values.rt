@@ -3,7 +3,7 @@
 ghost use Rattle.std.specs.Prelude.{ℕ, ◌≡◌, ◌≢◌, ◌↔◌, IfErr, IfOk, IfSome, IsNone, IsTrue, List, None, Option, Some, codes, map, option_map, true};
 ghost use Rattle.std.specs.Char.{to_ascii_lowercase};
 ghost use Rattle.std.specs.Str.{chars};
-ghost use Rattle.rdf_terms.specs.Literals.{rdf_lang_string};
+ghost use Rattle.rdf_terms.specs.Vocabulary.{rdf_lang_string};
 ghost use Rattle.serde_json.specs.Data.{Data};
 ghost use Rattle.serde_json.specs.Find.{get};
 ghost use Rattle.serde_json.specs.View.{view};
@@ -12,13 +12,11 @@ ghost use Rattle.shexj_reader.specs.Keys.{is_object, text, type_of};
 ghost use Rattle.shexj_reader.specs.ValueFaults.{AreApart, ExclusionFault, ExclusionsFault, LanguageFault, LiteralFault, RangeFault, RangeStemFault, StemFault, ValueFault, ValueSetFault};
 ghost use Rattle.shexj_reader.specs.Values.{HasExclusions, IsExclusion, IsLanguage, IsLiteral, IsOfLiteral, IsRange, IsRangeStem, IsStem, IsTyped, SpellsValue, SpellsValueSet, range_type, stem_type, taken};
 
-#[cfg(test)]
-mod tests;
-
 use crate::objects::{bad_form, has_type, only_keys, only_listed, text_at, text_if_any, type_of};
 use rdf_terms::items::Items;
 use rdf_terms::terms::{Literal, Term};
 use rdf_terms::text::Text;
+use rdf_terms::vocabulary::RDF_LANG_STRING;
 use schema_documents::SchemaError;
 use serde_json::Value;
 use std::alloc::{AllocError, Global};
@@ -34,8 +32,6 @@ pub(crate) enum StemKind {
     /// Literals, by their language tags.
     Language,
 }
-
-const RDF_LANG_STRING: &str = "http://www.w3.org/1999/02/22-rdf-syntax-ns#langString";
 
 /// Whether the value is an object.
 fn is_object(value: &Value) -> bool

@@ -11,8 +11,8 @@ use Rattle.schema_tree.specs.declared.schema.Schema.{Schema}
 use Rattle.schema_tree.specs.declared.schema.Shape.{Shape}
 use Rattle.schema_tree.specs.Loaded.{IsTarget}
 use Rattle.schema_tree.specs.Sure.{IsSure}
-use Rattle.schema_tree.proofs.Lists.{all_append, all_weaker}
-use Rattle.proof_file.specs.Accepts.{AreAccepted, IsAccepted, PassesClaim, PassesKind, Setting, in_section, is_claim, verdict_of}
+use Rattle.lists.proofs.Quantifiers.{all_append, all_weaker, all_of, all_mapped}
+use Rattle.proof_file.specs.Accepts.{AreAccepted, IsAccepted, PassesClaim, PassesKind, Setting, in_section, is_claim, verdict_of, setting_of}
 use Rattle.proof_file.specs.Views.{no_pairs, records_of, whole_view, yes_pairs}
 use Rattle.proof_file.specs.declared.Claim.{Claim}
 use Rattle.proof_file.specs.declared.Proof.{Proof}
@@ -21,13 +21,14 @@ use Rattle.proof_file.specs.declared.RecordKind.{RecordKind}
 use Rattle.proof_file.specs.declared.RecordKind.TheVariants.{Plus, Minus}
 use Rattle.proof_file.specs.declared.Why.{Why}
 use Rattle.proof_file.specs.declared.Why.TheVariants as Whys
-use Rattle.proof_checker.specs.Checks.{AreAnswers, answer_with, setting_of}
+use Rattle.proof_file.specs.Answers.{AreClaimed, answer_with}
 use Rattle.shape_map.specs.declared.resolve.Association.{Association}
-use Rattle.simple_typing.specs.Answers.{IsAsked, flat}
+use Rattle.shape_map.specs.Answers.{IsAsked}
+use Rattle.simple_typing.specs.Answers.{flat}
 use Rattle.simple_typing.specs.Evidence.{Shows}
 use Rattle.simple_typing.specs.Records.{IsClaimOf, IsReplyTo, IsShown, sections_of}
-use Rattle.simple_typing.proofs.Listed.{all_given, beside_back}
-use Rattle.simple_typing.proofs.Truths.{flat_level}
+use Rattle.lists.proofs.Beside.{beside_back}
+use Rattle.simple_typing.proofs.Flat.{flat_level}
 
 -- the proof with these lines, records and claims
 abbrev pub proof_of : List Term → List Record → List Claim → Proof
@@ -41,10 +42,6 @@ records_are (r ∷ rs) = append-nil (r ∷ rs)
 items_are : (rs : List Record) → flat_map (λ x. map (λ r. in_section x.stratum r) x.records) (sections_of rs) ≡ map (λ r. in_section 0 r) rs
 items_are [] = refl
 items_are (r ∷ rs) = append-nil (map (λ u. in_section 0 u) (r ∷ rs))
-
-pub all_mapped : {A B : Type 0} (P : B → Type 0) (f : A → B) (xs : List A) → AllByRecursion (λ x. P (f x)) xs → AllByRecursion P (map f xs)
-all_mapped P f [] h = tt
-all_mapped P f (x ∷ xs) h = (h.0, all_mapped P f xs h.1)
 
 module _ (s : Schema) (terms : List Term) (g : List Triple) (nodes : List TermId) (lines : List Term) (records : List Record) (claims : List Claim) where
   abbrev pub proof : Proof
@@ -104,7 +101,7 @@ module _ (s : Schema) (terms : List Term) (g : List Triple) (nodes : List TermId
       all_append (IsAccepted setting proof) (flat_map (λ x. map (λ r. in_section x.stratum r) x.records) (sections_of records)) (map (λ c. is_claim c) claims)
       (subst (AllByRecursion (IsAccepted setting proof)) (sym (items_are records))
       (all_mapped (IsAccepted setting proof) (λ r. in_section 0 r) records (all_weaker (IsShown s terms g nodes) (λ r. IsAccepted setting proof (in_section 0 r)) records (λ r held h. record_passes r h) shown)))
-      (all_mapped (IsAccepted setting proof) (λ c. is_claim c) claims (all_given (λ c. IsAccepted setting proof (is_claim c)) claims (λ c held. claim_of c held)))
+      (all_mapped (IsAccepted setting proof) (λ c. is_claim c) claims (all_of (λ c. IsAccepted setting proof (is_claim c)) claims (λ c held. claim_of c held)))
     where
       claim_of : (c : Claim) → Contains claims c → IsAccepted setting proof (is_claim c)
       claim_of c held =
@@ -117,7 +114,7 @@ claim_gives : (nodes : List TermId) (x : Answer) (c : Claim) → IsClaimOf nodes
 claim_gives nodes x c claim =
     ap (option_map (answer_with c)) claim.node ∙ ap (λ (y : Answer). Some y) (λ i. record { node = x.node; target = claim.target i; holds = claim.holds i })
 
-pub claims_give : (nodes : List TermId) (answers : List Answer) (claims : List Claim) → AllZip (IsClaimOf nodes) answers claims → AreAnswers nodes claims answers
+pub claims_give : (nodes : List TermId) (answers : List Answer) (claims : List Claim) → AllZip (IsClaimOf nodes) answers claims → AreClaimed nodes claims answers
 claims_give nodes [] [] h = refl
 claims_give nodes [] (c ∷ claims) h = absurd h
 claims_give nodes (x ∷ answers) [] h = absurd h

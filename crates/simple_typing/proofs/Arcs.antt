@@ -9,21 +9,20 @@ use Rattle.rdf_terms.specs.declared.terms.Term.{Term}
 use Rattle.rdf_terms.specs.declared.terms.TermId.{TermId}
 use Rattle.rdf_terms.specs.declared.terms.Triple.{Triple}
 use Rattle.rdf_terms.specs.Graphs.{ins, is_loop, outs, same_id}
-use Rattle.rdf_terms.specs.Order.{by_object, by_subject, sorted_by}
+use Rattle.rdf_terms.specs.Order.{by_object, by_subject, neighbourhood}
+use Rattle.lists.specs.Sorting.{sorted_by}
 use Rattle.graph_index.specs.Contents.{outs_by}
-use Rattle.graph_index.proofs.Orders.{object_total}
-use Rattle.graph_index.proofs.Sorting.{filter_sorted_by}
-use Rattle.tally.specs.declared.Count.{Count}
+use Rattle.rdf_terms.proofs.Orders.{object_total}
+use Rattle.lists.proofs.Sorting.{filter_sorted_by}
 use Rattle.schema_tree.specs.declared.schema.Occurrence.{Occurrence}
 use Rattle.schema_tree.specs.declared.schema.Schema.{Schema}
 use Rattle.schema_tree.specs.declared.schema.Shape.{Shape}
 use Rattle.schema_tree.specs.Matches.{near_end}
-use Rattle.schema_tree.specs.Order.{neighbourhood}
 use Rattle.schema_tree.specs.Relevant.{is_relevant, relevant_in_order}
-use Rattle.schema_tree.proofs.Lists.{in_filter}
-use Rattle.schema_tree.proofs.Ordered.{sorted_same}
+use Rattle.lists.proofs.Filters.{in_filter, filter_none, filter_same}
+use Rattle.lists.proofs.Ordered.{sorted_same}
 use Rattle.simple_typing.specs.Simple.{IsSimple, IsSimpleBody}
-use Rattle.simple_typing.proofs.Listed.{filter_none, filter_same}
+use Rattle.tally.specs.Plan.{Plan}
 
 plain : (b : Bool) → ((b && true) || false) ≡ b
 plain true = refl
@@ -78,7 +77,7 @@ pub arcs_are : (s : Schema) (terms : List Term) (g : List Triple) (n : TermId) (
     arcs ≡ relevant_in_order terms g sh n
 arcs_are s terms g n sh o arcs simple first lent = go sh.body simple.body
   where
-    go : (b : Option Count) → IsSimpleBody s b sh.occs → arcs ≡ relevant_in_order terms g sh n
+    go : (b : Option Plan) → IsSimpleBody s b sh.occs → arcs ≡ relevant_in_order terms g sh n
     go None none = cc
     go (Some c) (plan, (p, one, forward, value)) =
         let same : p ≡ o = cc in

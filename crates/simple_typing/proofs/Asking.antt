@@ -15,20 +15,19 @@ use Rattle.std.specs.Ordering.{eq_by_cmp, is_eq, nat_cmp, ordering_then}
 use Rattle.std.specs.Prelude.{Contains, ◌↔◌, Some, slice_get}
 use Rattle.std.specs.declared.cmp.Ordering.{Ordering}
 use Rattle.std.specs.declared.cmp.Ordering.TheVariants.{Less, Equal, Greater}
-use Rattle.rdf_terms.specs.Sameness.{decided_equiv}
+use Rattle.lists.specs.Equality.{decided_equiv}
 use Rattle.rdf_terms.specs.declared.terms.TermId.{TermId}
 use Rattle.schema_tree.specs.declared.schema.Expr.TheVariants as Exprs
 use Rattle.schema_tree.specs.declared.schema.Schema.{Schema}
 use Rattle.schema_tree.specs.declared.schema.ShapeId.{ShapeId}
 use Rattle.schema_tree.specs.Entries.{entry}
-use Rattle.schema_tree.proofs.Lists.{got_in, in_map}
-use Rattle.schema_tree.proofs.Members.{in_one, is_first}
+use Rattle.lists.proofs.Members.{got_in, in_map, in_one, is_first}
 use Rattle.shape_map.specs.declared.resolve.Association.{Association}
 use Rattle.simple_typing.specs.declared.pairs.Asked.{Asked}
 use Rattle.proof_file.specs.declared.Record.{Record}
 use Rattle.proof_file.specs.declared.RecordKind.{RecordKind}
 use Rattle.simple_typing.specs.Records.{AsksFor, compare_asked, is_plus, pair_of_record}
-use Rattle.simple_typing.proofs.Searched.{met, one_item}
+use Rattle.lists.proofs.Halving.{met, one_item}
 
 pub asked_total : IsTotalOrder compare_asked
 asked_total = then_total (on_total (λ (q : Asked). q.node) nat_cmp_total) (on_total (λ (q : Asked). q.shape.0) nat_cmp_total)

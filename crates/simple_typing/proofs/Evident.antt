@@ -6,8 +6,7 @@ use Rattle.rdf_terms.specs.Graphs.{same_id}
 use Rattle.rdf_terms.specs.declared.terms.Term.{Term}
 use Rattle.rdf_terms.specs.declared.terms.TermId.{TermId}
 use Rattle.rdf_terms.specs.declared.terms.Triple.{Triple}
-use Rattle.tally.specs.declared.Count.{Count}
-use Rattle.tally.specs.Plan.{plan_of, sym as symbol}
+use Rattle.tally.specs.Plan.{Plan, sym as symbol}
 use Rattle.tally.specs.Copies.{Copies}
 use Rattle.tally.specs.Span.{HasSpan, proper, span}
 use Rattle.schema_tree.specs.declared.schema.Expr.{Expr}
@@ -21,13 +20,13 @@ use Rattle.schema_tree.specs.declared.verdicts.Place.TheVariants.{At, Rest}
 use Rattle.schema_tree.specs.declared.verdicts.State.{State}
 use Rattle.schema_tree.specs.declared.verdicts.Verdict.TheVariants.{Yes, No}
 use Rattle.schema_tree.specs.Matches.{fits, near_end, other_end, SatValue}
-use Rattle.schema_tree.specs.Order.{neighbourhood}
+use Rattle.rdf_terms.specs.Order.{neighbourhood}
 use Rattle.schema_tree.specs.Places.{AreAllowed, IsAllowed, MayFail, MayHold, MayStay, MayStayOut, times}
 use Rattle.schema_tree.specs.Relevant.{is_forward, is_relevant, relevant_in_order}
 use Rattle.schema_tree.specs.Satisfies.{Sat, SatEntry, SatWithin}
 use Rattle.schema_tree.specs.States.{IsCovered, IsDead, after, fitting}
 use Rattle.schema_tree.specs.Sure.{Known, SureEntry, SureWithin}
-use Rattle.schema_tree.proofs.Members.{in_one, in_rest, is_first, is_later, not_in_none}
+use Rattle.lists.proofs.Members.{in_one, in_rest, is_first, is_later, not_in_none}
 use Rattle.proof_file.specs.Accepts.{AreStates}
 use Rattle.proof_file.specs.declared.RecordKind.{RecordKind}
 use Rattle.proof_file.specs.declared.RecordKind.TheVariants.{Plus}
@@ -35,8 +34,7 @@ use Rattle.simple_typing.specs.Evidence.{AreMatch, IsGood, IsJudged, Shows, alon
 use Rattle.simple_typing.specs.Simple.{IsNodeValue, IsSimple, IsSimpleBody}
 use Rattle.std.proofs.lemmas.List.Sorted.{Contains-permutation, IsPermutation-sym}
 use Rattle.schema_tree.proofs.Ordered.{ordered_same}
-use Rattle.schema_tree.proofs.Lists.{in_filter}
-use Rattle.simple_typing.proofs.Listed.{filter_none}
+use Rattle.lists.proofs.Filters.{in_filter, filter_none}
 
 -- ---- lists of triples
 
@@ -85,7 +83,7 @@ above low high = go (nat_le low high)
     go true h = h
     go false h = absurd h
 
-dead_from : (c : Count) (low high : ℕ → ℕ) → plan_of c ≡ symbol 0 → ((low 0 ≤ 1) × (1 ≤ high 0) → ⊥) → ¬ HasSpan (span (plan_of c) low high) 1
+dead_from : (c : Plan) (low high : ℕ → ℕ) → c ≡ symbol 0 → ((low 0 ≤ 1) × (1 ≤ high 0) → ⊥) → ¬ HasSpan (span c low high) 1
 unfolding span
 dead_from c low high plan no_room = λ h. no_room (above (low 0) (high 0) (subst (λ p. HasSpan (span p low high) 1) plan h))
 
@@ -98,7 +96,7 @@ parts true true h = (refl, refl)
 parts true false h = cc
 parts false b h = cc
 
-module _ (s : Schema) (terms : List Term) (g : List Triple) (n : TermId) (o : Occurrence) (forward : o.inverse ≡ false) (value : IsNodeValue s o.value) (c : Count) (plan : plan_of c ≡ symbol 0) where
+module _ (s : Schema) (terms : List Term) (g : List Triple) (n : TermId) (o : Occurrence) (forward : o.inverse ≡ false) (value : IsNodeValue s o.value) (c : Plan) (plan : c ≡ symbol 0) where
   abbrev shape : Shape
   shape = record { closed = false; extra = []; body = Some c; occs = o ∷ [] }
 
@@ -269,7 +267,7 @@ module _ (s : Schema) (terms : List Term) (g : List Triple) (n : TermId) (sh : S
   pub simple_judged : (o : Occurrence) → slice_get sh.occs 0 ≡ Some o → (rank : ℕ) → rank ≤ 4294967295 → (kind : RecordKind) → IsJudged s terms o (relevant_in_order terms g sh n) rank kind → Shows s terms g sh n kind
   simple_judged o first rank low kind is = go sh.body refl simple.body
     where
-      go : (b : Option Count) → sh.body ≡ b → IsSimpleBody s b sh.occs → Shows s terms g sh n kind
+      go : (b : Option Plan) → sh.body ≡ b → IsSimpleBody s b sh.occs → Shows s terms g sh n kind
       go None e occs = cc
       go (Some c) e (plan, (p, one, forward, value)) =
           let same : p ≡ o = cc in
@@ -280,7 +278,7 @@ module _ (s : Schema) (terms : List Term) (g : List Triple) (n : TermId) (sh : S
   pub simple_shows : None ≡ slice_get sh.occs 0 → Shows s terms g sh n (Plus [])
   simple_shows none_there = go sh.body refl simple.body
     where
-      go : (b : Option Count) → sh.body ≡ b → IsSimpleBody s b sh.occs → Shows s terms g sh n (Plus [])
+      go : (b : Option Plan) → sh.body ≡ b → IsSimpleBody s b sh.occs → Shows s terms g sh n (Plus [])
       go None e occs =
           let made : sh ≡ record { closed = false; extra = []; body = None; occs = [] } = λ i. record { closed = simple.closed i; extra = simple.extra i; body = e i; occs = occs i } in
           subst (λ x. Shows s terms g x n (Plus [])) (sym made) (empty_shows s terms g n)

@@ -14,7 +14,7 @@ use Rattle.std.specs.Prelude.{Contains, Some, slice_get}
 use Rattle.std.specs.declared.cmp.Ordering.{Ordering}
 use Rattle.std.specs.declared.cmp.Ordering.TheVariants.{Less, Equal, Greater}
 use Rattle.rdf_terms.specs.Laws.{IsTerm, TextsAreDistinct}
-use Rattle.rdf_terms.specs.Lists.{AreDistinct}
+use Rattle.lists.specs.Distinct.{AreDistinct}
 use Rattle.rdf_terms.specs.Order.{compare_at, text_if_any}
 use Rattle.rdf_terms.specs.Written.{term_text}
 use Rattle.rdf_terms.specs.declared.terms.Term.{Term}
@@ -23,10 +23,12 @@ use Rattle.rdf_terms.specs.declared.terms.Triple.{Triple}
 use Rattle.schema_tree.specs.declared.schema.Answer.{Answer}
 use Rattle.schema_tree.specs.declared.schema.Schema.{Schema}
 use Rattle.schema_tree.specs.declared.schema.Shape.{Shape}
-use Rattle.schema_tree.proofs.Lists.{all_append, all_weaker, in_map}
-use Rattle.schema_tree.proofs.Members.{from_map}
+use Rattle.lists.proofs.Quantifiers.{all_append, all_weaker, all_of, all_mapped}
+use Rattle.lists.proofs.Members.{in_map, from_map}
 use Rattle.proof_file.specs.Accepts.{AreNumbers}
-use Rattle.proof_file.specs.Text.{HasNoFeed, HasNoFeeds, lines_of, IsKind, IsLine, IsRecordBefore, IsSectionBefore, IsTermBefore, Keeps, Rises, RisesFrom, section_lines, target_text}
+use Rattle.schema_tree.specs.Targets.{target_text}
+use Rattle.schema_tree.specs.Rising.{Rises, RisesFrom}
+use Rattle.proof_file.specs.Text.{HasNoFeed, HasNoFeeds, lines_of, IsKind, IsLine, IsRecordBefore, IsSectionBefore, IsTermBefore, Keeps, section_lines}
 use Rattle.proof_file.specs.declared.Claim.{Claim}
 use Rattle.proof_file.specs.declared.Record.{Record}
 use Rattle.proof_file.specs.declared.RecordKind.{RecordKind}
@@ -38,10 +40,10 @@ use Rattle.shape_map.specs.declared.resolve.Association.{Association}
 use Rattle.simple_typing.specs.Answers.{HasLines}
 use Rattle.simple_typing.specs.Evidence.{Shows}
 use Rattle.simple_typing.specs.Records.{IsClaimOf, IsReplyTo, IsShown, compare_asked, pair_of_record, sections_of}
-use Rattle.term_reader.specs.Values.{IsValue, IsWhole}
-use Rattle.simple_typing.proofs.Accepting.{all_mapped, proof_of}
-use Rattle.simple_typing.proofs.Copies.{whole_term}
-use Rattle.simple_typing.proofs.Listed.{all_given, beside_back}
+use Rattle.rdf_terms.specs.Values.{IsValue, IsWhole}
+use Rattle.simple_typing.proofs.Accepting.{proof_of}
+use Rattle.rdf_terms.proofs.TermTexts.{whole_term}
+use Rattle.lists.proofs.Beside.{beside_back}
 
 -- ---- the order of node lines
 
@@ -131,10 +133,10 @@ module _ (s : Schema) (terms : List Term) (g : List Triple) (nodes : List TermId
       (a, of, ap (λ (m : TermId). slice_get terms m.0) same ∙ at)
 
   line_whole : (t : Term) → Contains lines t → IsWhole t
-  line_whole t held = let (a, of, at) = line_of t held in (has_lines a of).whole t at
+  line_whole t held = let (a, of, at) = line_of t held in ((has_lines a of).node t at).0
 
   line_clean : (t : Term) → Contains lines t → ¬ Contains (term_text t) 10
-  line_clean t held = let (a, of, at) = line_of t held in subst (λ x. ¬ Contains (text_if_any x) 10) at (has_lines a of).node
+  line_clean t held = let (a, of, at) = line_of t held in ((has_lines a of).node t at).1
 
   -- a claim's target is that of an association
   claim_clean : (c : Claim) → Contains claims c → ¬ Contains (target_text c.target) 10
@@ -160,17 +162,17 @@ module _ (s : Schema) (terms : List Term) (g : List Triple) (nodes : List TermId
       AllByRecursion P (lines_of (proof_of lines records claims))
   all_lines P of_node of_section of_record of_claim =
       all_append P (map (λ t. Lines.Node t) lines) (flat_map section_lines (sections_of records) ++ map (λ c. Lines.Claim c) claims)
-      (all_mapped P (λ t. Lines.Node t) lines (all_given (λ t. P (Lines.Node t)) lines of_node))
+      (all_mapped P (λ t. Lines.Node t) lines (all_of (λ t. P (Lines.Node t)) lines of_node))
       (all_append P (flat_map section_lines (sections_of records)) (map (λ c. Lines.Claim c) claims)
       (section_lines_all P records of_section (all_weaker (IsShown s terms g nodes) (λ r. P (Lines.Record r)) records (λ r held h. of_record r h) shown))
-      (all_mapped P (λ c. Lines.Claim c) claims (all_given (λ c. P (Lines.Claim c)) claims of_claim)))
+      (all_mapped P (λ c. Lines.Claim c) claims (all_of (λ c. P (Lines.Claim c)) claims of_claim)))
 
   pub no_feeds : HasNoFeeds (proof_of lines records claims)
   no_feeds = all_lines HasNoFeed line_clean tt (λ r h. tt) claim_clean
 
   -- the terms have texts of their own
   whole : AllByRecursion IsValue lines → AllByRecursion IsTerm lines
-  whole values = all_weaker IsValue IsTerm lines (λ t held v. whole_term t (line_whole t held) v) values
+  whole values = all_weaker IsValue IsTerm lines (λ t held v. whole_term t (line_whole t held, v)) values
 
   few_lines : length lines ≤ 16777216
   few_lines =

@@ -1,5 +1,3 @@
-pub mod Listed
-pub mod Searched
 pub mod Valued
 pub mod Evident
 pub mod Arcs
@@ -7,9 +5,10 @@ pub mod Asking
 pub mod Copies
 pub mod Sureness
 pub mod Reading
+pub mod Flat
 pub mod Truths
 pub mod Accepting
 pub mod Keeping
 pub mod Recorded
 pub mod Typed
-pub mod Sampled
+pub mod Alone

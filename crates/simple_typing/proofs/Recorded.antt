@@ -3,7 +3,7 @@ use Rattle.std.proofs.Common.{◌≡◌, ◌≢◌, ℕ, zero, suc, ◌<◌, Lis
 use Rattle.std.proofs.lemmas.Option.{slice_get_read}
 use Rattle.std.specs.List.{AllByRecursion, AllZip}
 use Rattle.std.specs.Prelude.{Contains, ◌↔◌, Option, Some, None, slice_get}
-use Rattle.rdf_terms.specs.Lists.{AreDistinct}
+use Rattle.lists.specs.Distinct.{AreDistinct}
 use Rattle.rdf_terms.specs.declared.terms.Term.{Term}
 use Rattle.rdf_terms.specs.declared.terms.TermId.{TermId}
 use Rattle.schema_documents.specs.declared.label.Label.{Label}
@@ -17,15 +17,15 @@ use Rattle.schema_tree.specs.declared.schema.Target.TheVariants as Targets
 use Rattle.schema_tree.specs.Entries.{entry}
 use Rattle.schema_tree.specs.Labels.{labels_of}
 use Rattle.schema_tree.specs.Loaded.{IsTarget}
-use Rattle.schema_tree.proofs.Lists.{in_map}
-use Rattle.schema_tree.proofs.Members.{from_map}
+use Rattle.lists.proofs.Members.{in_map, from_map}
 use Rattle.proof_file.specs.Views.{pair_at}
 use Rattle.proof_file.specs.declared.Record.{Record}
 use Rattle.shape_map.specs.declared.resolve.Association.{Association}
 use Rattle.simple_typing.specs.declared.pairs.Asked.{Asked}
-use Rattle.simple_typing.specs.Answers.{AsksOf, HasRecord, IsAsked}
+use Rattle.shape_map.specs.Answers.{IsAsked}
+use Rattle.proof_file.specs.Answers.{AsksOf, HasRecord}
 use Rattle.simple_typing.specs.Records.{AsksFor, IsReplyTo, pair_of_record, sections_of}
-use Rattle.simple_typing.proofs.Listed.{beside, beside_back}
+use Rattle.lists.proofs.Beside.{beside, beside_back}
 use Rattle.simple_typing.proofs.Sureness.{at_line, from_line}
 
 -- ---- a target has one expression

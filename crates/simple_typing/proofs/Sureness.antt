@@ -10,8 +10,7 @@ use Rattle.schema_tree.specs.declared.schema.Schema.{Schema}
 use Rattle.schema_tree.specs.declared.schema.ShapeId.{ShapeId}
 use Rattle.schema_tree.specs.Entries.{SatNodeAt, entry}
 use Rattle.schema_tree.specs.Sure.{Known, PairIs, SureEntry, SureWithin}
-use Rattle.schema_tree.proofs.Lists.{from_flat_map, in_flat_map, in_map}
-use Rattle.schema_tree.proofs.Members.{from_map, in_one, is_first, not_in_none}
+use Rattle.lists.proofs.Members.{from_flat_map, in_flat_map, in_map, from_map, in_one, is_first, not_in_none}
 use Rattle.proof_file.specs.Accepts.{verdict_of}
 use Rattle.proof_file.specs.Views.{Refuted, minus_of, no_pairs, pair_at, pair_with, plus_of, whole_view, yes_pairs}
 use Rattle.proof_file.specs.declared.Record.{Record}

@@ -4,7 +4,7 @@ use Rattle.std.specs.List.{AllByRecursion, AllZip}
 use Rattle.std.specs.List.Sorted.{IsStrictlySortedBy}
 use Rattle.std.proofs.lemmas.List.Elements.{All-contains}
 use Rattle.std.specs.Prelude.{All, Contains, ◌↔◌}
-use Rattle.rdf_terms.specs.Lists.{AreDistinct}
+use Rattle.lists.specs.Distinct.{AreDistinct}
 use Rattle.rdf_terms.specs.Order.{compare_at}
 use Rattle.rdf_terms.specs.declared.terms.Term.{Term}
 use Rattle.rdf_terms.specs.declared.terms.TermId.{TermId}
@@ -22,15 +22,17 @@ use Rattle.proof_file.specs.declared.Record.{Record}
 use Rattle.proof_file.specs.declared.Section.{Section}
 use Rattle.shape_map.specs.Selection.{max_associations}
 use Rattle.shape_map.specs.declared.resolve.Association.{Association}
-use Rattle.simple_typing.specs.Answers.{AreAnswersTo, AsksOf, HasLines, HasRecord, IsAnswerTo, IsAsked, IsProofOf, flat}
+use Rattle.shape_map.specs.Answers.{AreAnswersTo, IsAnswerTo, IsAsked}
+use Rattle.proof_file.specs.Answers.{AsksOf, HasRecord}
+use Rattle.simple_typing.specs.Answers.{HasLines, IsFlatProofOf, flat}
 use Rattle.simple_typing.specs.declared.pairs.Asked.{Asked}
 use Rattle.simple_typing.specs.Laws.{AreLaws}
 use Rattle.simple_typing.specs.Records.{AsksFor, IsClaimOf, IsReplyTo, IsShown, compare_asked, pair_of_record, sections_of}
 use Rattle.simple_typing.specs.Simple.{IsSimpleSchema}
-use Rattle.term_reader.specs.Values.{IsValue}
+use Rattle.rdf_terms.specs.Values.{IsValue}
 use Rattle.simple_typing.proofs.Accepting.{accepted, claims_give, proof_of, records_are}
 use Rattle.simple_typing.proofs.Keeping.{keeps, no_feeds}
-use Rattle.simple_typing.proofs.Listed.{beside, beside_back, zip_weaker}
+use Rattle.lists.proofs.Beside.{beside, beside_back, zip_weaker}
 use Rattle.simple_typing.proofs.Recorded.{placed, records_exactly, sections_filled}
 use Rattle.simple_typing.proofs.Truths.{is_truth}
 
@@ -105,7 +107,7 @@ module _ (s : Schema) (terms : List Term) (g : List Triple) (asked : List Associ
   pub are_answers : AreAnswersTo s terms g asked answers
   are_answers = zip_weaker (IsReplyTo s terms nodes records) (IsAnswerTo s terms g) asked answers (λ a x held there reply. answer_is a x held reply) parts.replies
 
-  pub is_proof : IsProofOf s terms g answers proof
+  pub is_proof : IsFlatProofOf s terms g answers proof
   is_proof = record {
     keeps =
         keeps s terms g nodes lines records claims asked answers parts.numbers parts.few parts.loaded.few (λ n. (parts.exactly n).0) parts.has_lines parts.shown parts.replies parts.claimed
@@ -115,17 +117,19 @@ module _ (s : Schema) (terms : List Term) (g : List Triple) (asked : List Associ
     numbers = parts.numbers;
     accepted = accepts.items;
     claims = claims_give nodes answers claims parts.claimed;
-    exactly = λ n. (
-      λ h.
-          let (a, held, at) = (parts.exactly n).0 h in
-          let (x, there, reply) = beside (IsReplyTo s terms nodes records) asked answers parts.replies a held in
-          (x, there, reply.node ∙ at),
-      λ h.
-          let (a, held, reply) = beside_back (IsReplyTo s terms nodes records) asked answers parts.replies h.0 h.1 in
-          (parts.exactly n).1 (a, held, sym reply.node ∙ h.2),
-    );
-    recorded =
-        subst (λ (rs : List Record). (q : Pair) → HasRecord nodes rs q ↔ ((x : Answer) × Contains answers x × AsksOf s x q)) (sym (records_are records))
-        (records_exactly s terms nodes records asked answers parts.loaded.once parts.are_asked (λ a held. placed nodes a.node ((parts.exactly a.node).1 (a, held, refl))) parts.recorded parts.replies);
-    filled = sections_filled records;
+    lean = record {
+      exactly = λ n. (
+        λ h.
+            let (a, held, at) = (parts.exactly n).0 h in
+            let (x, there, reply) = beside (IsReplyTo s terms nodes records) asked answers parts.replies a held in
+            (x, there, reply.node ∙ at),
+        λ h.
+            let (a, held, reply) = beside_back (IsReplyTo s terms nodes records) asked answers parts.replies h.0 h.1 in
+            (parts.exactly n).1 (a, held, sym reply.node ∙ h.2),
+      );
+      recorded =
+          subst (λ (rs : List Record). (q : Pair) → HasRecord nodes rs q ↔ ((x : Answer) × Contains answers x × AsksOf s x q)) (sym (records_are records))
+          (records_exactly s terms nodes records asked answers parts.loaded.once parts.are_asked (λ a held. placed nodes a.node ((parts.exactly a.node).1 (a, held, refl))) parts.recorded parts.replies);
+      filled = sections_filled records;
+    };
   }

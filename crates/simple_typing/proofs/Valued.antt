@@ -16,8 +16,8 @@ use Rattle.schema_tree.specs.declared.schema.Shape.{Shape}
 use Rattle.schema_tree.specs.Entries.{SatNodeAt, entry}
 use Rattle.schema_tree.specs.Matches.{SatValue}
 use Rattle.schema_tree.specs.Satisfies.{Sat, SatEntry, SatWithin}
-use Rattle.tally.specs.declared.Count.{Count}
 use Rattle.simple_typing.specs.Simple.{IsNodeValue, IsSimple, IsSimpleBody}
+use Rattle.tally.specs.Plan.{Plan}
 
 -- what is read at a number is what stands there
 pub read_at : {X : Type 0} (xs shown : List X) (i : ℕ) (x r : X) → slice_get xs i ≡ Some x → shown ≡ xs → r ≡ get_or shown i r → r ≡ x
@@ -37,7 +37,7 @@ node_value s terms T end e c term P at there both =
 pub simple_occurrence : (s : Schema) (sh : Shape) (o : Occurrence) → IsSimple s sh → slice_get sh.occs 0 ≡ Some o → IsNodeValue s o.value
 simple_occurrence s sh o simple at = go sh.body simple.body
   where
-    go : (b : Option Count) → IsSimpleBody s b sh.occs → IsNodeValue s o.value
+    go : (b : Option Plan) → IsSimpleBody s b sh.occs → IsNodeValue s o.value
     go None none = cc
     go (Some c) (plan, (p, one, forward, value)) =
         let same : p ≡ o = cc in subst (λ q. IsNodeValue s q.value) same value

@@ -1,5 +1,4 @@
 pub mod Simple
-pub mod Truths
 pub mod Answers
 pub mod Evidence
 pub mod Records

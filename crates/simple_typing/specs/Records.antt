@@ -8,6 +8,7 @@ use Rattle.rdf_terms.specs.declared.terms.Triple.{Triple}
 use Rattle.schema_tree.specs.declared.schema.Answer.{Answer}
 use Rattle.schema_tree.specs.declared.schema.Expr.{Expr}
 use Rattle.schema_tree.specs.declared.schema.Expr.TheVariants as Exprs
+use Rattle.schema_tree.specs.declared.schema.Occurrence.{Occurrence}
 use Rattle.schema_tree.specs.declared.schema.Schema.{Schema}
 use Rattle.schema_tree.specs.declared.schema.Shape.{Shape}
 use Rattle.schema_tree.specs.Entries.{SatNodeAt, entry, shape_at}
@@ -21,7 +22,7 @@ use Rattle.proof_file.specs.declared.RecordKind.TheVariants.{Plus, Minus}
 use Rattle.proof_file.specs.declared.Section.{Section}
 use Rattle.shape_map.specs.declared.resolve.Association.{Association}
 use Rattle.simple_typing.specs.declared.pairs.Asked.{Asked}
-use Rattle.simple_typing.specs.Evidence.{Shows}
+use Rattle.simple_typing.specs.Evidence.{IsJudged, Shows}
 
 -- by node line and then Shape
 abbrev pub compare_asked : Asked → Asked → Ordering
@@ -54,6 +55,14 @@ pub record IsShown (s : Schema) (terms : List Term) (g : List Triple) (nodes : L
 abbrev pub is_plus : RecordKind → Bool
 is_plus (Plus places) = true
 is_plus (Minus rank states) = false
+
+-- some record says of triples that the only occurrence fits whether they match
+abbrev pub IsJudgedAs : Schema → List Term → Occurrence → List Triple → Bool → Type 0
+IsJudgedAs s terms o ts holds = (kind : RecordKind) × IsJudged s terms o ts 1 kind × (holds ≡ is_plus kind)
+
+-- some record that shows what it says says whether the node has the Shape
+abbrev pub IsShownAs : Schema → List Term → List Triple → Shape → TermId → Bool → Type 0
+IsShownAs s terms g sh n holds = (kind : RecordKind) × Shows s terms g sh n kind × (holds ≡ is_plus kind)
 
 -- by the records it is sure that the node of the association satisfies its expression, or that it does not
 abbrev pub IsSureBy : Schema → List Term → List TermId → List Record → Association → Bool → Type 0

@@ -1,7 +1,6 @@
 -- Shapes of at most one occurrence, whose value is a node constraint.
 use Rattle.std.specs.Prelude.{false, List, [], ◌∷◌, ◌≡◌, Option, Some, None, ⊤}
-use Rattle.tally.specs.declared.Count.{Count}
-use Rattle.tally.specs.Plan.{plan_of, sym}
+use Rattle.tally.specs.Plan.{Plan, sym}
 use Rattle.node_constraint.specs.Constraint.{Constraint}
 use Rattle.schema_tree.specs.declared.schema.ExprId.{ExprId}
 use Rattle.schema_tree.specs.declared.schema.Expr.{Expr}
@@ -18,9 +17,9 @@ IsNodeValue s None = ⊤
 IsNodeValue s (Some e) = (c : Constraint) × (entry s e ≡ Some (Exprs.Node c))
 
 -- the body is one occurrence, once, that takes arcs out; or there is none
-abbrev pub IsSimpleBody : Schema → Option Count → List Occurrence → Type 0
+abbrev pub IsSimpleBody : Schema → Option Plan → List Occurrence → Type 0
 IsSimpleBody s None occs = occs ≡ []
-IsSimpleBody s (Some body) occs = (plan_of body ≡ sym 0) × ((o : Occurrence) × (occs ≡ o ∷ []) × (o.inverse ≡ false) × IsNodeValue s o.value)
+IsSimpleBody s (Some body) occs = (body ≡ sym 0) × ((o : Occurrence) × (occs ≡ o ∷ []) × (o.inverse ≡ false) × IsNodeValue s o.value)
 
 -- an open Shape without EXTRA with such a body
 pub record IsSimple (s : Schema) (sh : Shape) : Type 0 where

@@ -6,9 +6,8 @@ mod evidence;
 mod nodes;
 mod pairs;
 mod records;
-#[cfg(test)]
-mod tests;
+mod satisfied;
 mod typing;
 mod values;
 
-pub use typing::{Typing, answer};
+pub use typing::{Typing, answer, answer_with_proof};

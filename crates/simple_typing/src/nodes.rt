@@ -4,20 +4,18 @@ ghost use Rattle.std.specs.Prelude.{◌≡◌, ◌≤◌, ◌<◌, ◌↔◌, Co
 ghost use Rattle.std.specs.List.{AllByRecursion};
 ghost use Rattle.std.specs.List.Sorted.{IsStrictlySortedBy};
 ghost use Rattle.rdf_terms.specs.Order.{compare_at};
-ghost use Rattle.rdf_terms.specs.declared.terms.Term.{Term as Value};
 ghost use Rattle.rdf_terms.specs.declared.terms.TermId.{TermId as Id};
 ghost use Rattle.proof_file.specs.Accepts.{AreNumbers};
 ghost use Rattle.shape_map.specs.Selection.{max_associations};
 ghost use Rattle.shape_map.specs.declared.resolve.Association.{Association as Asked};
-ghost use Rattle.term_reader.specs.Values.{IsValue, IsWhole};
+ghost use Rattle.rdf_terms.specs.Values.{IsValue};
 
+use rdf_terms::order::{compare_ids, put_in_order};
 use rdf_terms::table::TermTable;
 use rdf_terms::terms::{Term, TermId};
+use rdf_terms::values::term_is_value;
 use shape_map::Association;
-use shape_map::copies::copied_term;
-use shape_map::order::{compare_nodes, put_in_order};
 use std::alloc::{AllocError, Global};
-use term_reader::term_is_value;
 
 /// The nodes of associations, in their order.
 fn collected(alloc: Global, associations: &[Association]) -> Result<Vec<TermId>, AllocError>
@@ -48,7 +46,7 @@ pub(crate) fn place_of(terms: &TermTable, nodes: &[TermId], node: TermId) -> u32
     requires held { Contains nodes.now node }
     ensures { slice_get nodes.now result ≡ Some node }
 {
-    match nodes.binary_search_by(|n| compare_nodes(terms, *n, node)) {
+    match nodes.binary_search_by(|n| compare_ids(terms, *n, node)) {
         Ok(place) => place as u32,
         Err(_) => unreachable!(),
     }
@@ -56,12 +54,11 @@ pub(crate) fn place_of(terms: &TermTable, nodes: &[TermId], node: TermId) -> u32
 
 /// A copy of the term.
 fn line(alloc: Global, term: &Term) -> Result<Term, AllocError>
-    requires { IsWhole term.now }
     ensures copy { IfOk result (λ t. t ≡ term.now) }
     ensures value { IsValue term.now }
 {
     term_is_value(term);
-    copied_term(alloc, term)
+    term.try_clone(alloc)
 }
 
 /// The terms of nodes.
@@ -70,8 +67,7 @@ pub(crate) fn lines(
     terms: &TermTable,
     nodes: &[TermId],
 ) -> Result<Vec<Term>, AllocError>
-    requires there { (n : Id) → Contains nodes.now n → n.0 < length terms.now }
-    requires whole { (n : Id) (t : Value) → Contains nodes.now n → slice_get terms.now n.0 ≡ Some t → IsWhole t }
+    requires { (n : Id) → Contains nodes.now n → n.0 < length terms.now }
     ensures numbers { IfOk result (λ v. AreNumbers terms.now v.items nodes.now) }
     ensures values { IfOk result (λ v. AllByRecursion IsValue v.items) }
 {

@@ -3,7 +3,7 @@
 ghost use Rattle.std.specs.Prelude.{◌≡◌, ◌≤◌, All, Contains, IfOk, Some, length, map};
 ghost use Rattle.std.specs.List.{AllZip};
 ghost use Rattle.std.specs.List.Sorted.{IsStrictlySortedBy};
-ghost use Rattle.rdf_terms.specs.Lists.{AreDistinct};
+ghost use Rattle.lists.specs.Distinct.{AreDistinct};
 ghost use Rattle.rdf_terms.specs.Order.{compare_at};
 ghost use Rattle.graph_index.specs.Contents.{IsSealedWith};
 ghost use Rattle.graph_index.specs.Laws.{IsOfTable};
@@ -14,7 +14,8 @@ ghost use Rattle.schema_tree.specs.declared.schema.ShapeId.{ShapeId as Id};
 ghost use Rattle.shape_map.specs.Selection.{max_associations};
 ghost use Rattle.shape_map.specs.declared.resolve.Association.{Association as Asking};
 ghost use Rattle.simple_typing.specs.declared.pairs.Asked.{Asked as Wanted};
-ghost use Rattle.simple_typing.specs.Answers.{AreAnswersTo, HasLines, IsAsked, IsProofOf};
+ghost use Rattle.shape_map.specs.Answers.{AreAnswersTo, IsAsked};
+ghost use Rattle.simple_typing.specs.Answers.{HasLines, IsFlatProofOf};
 ghost use Rattle.simple_typing.specs.Records.{AsksFor, IsReplyTo, IsClaimOf, IsRead, compare_asked, pair_of_record, sections_of};
 ghost use Rattle.simple_typing.specs.Laws.{AreLaws};
 ghost use Rattle.simple_typing.specs.Simple.{IsSimpleSchema};
@@ -22,6 +23,7 @@ ghost use Rattle.simple_typing.specs.Simple.{IsSimpleSchema};
 use crate::nodes::{lines, nodes_of, place_of};
 use crate::pairs::{Asked, pairs_of};
 use crate::records::{confirms, records_of};
+use crate::satisfied::is_satisfied;
 use graph_index::graph::Graph;
 use proof_file::{Claim, Proof, Record, Section, accepted_is_true};
 use rdf_terms::items::Items;
@@ -31,7 +33,6 @@ use rdf_terms::terms::TermId;
 use schema_tree::laws::{strata_are_alike, strata_are_least, sure_is_true, typing_is_one};
 use schema_tree::schema::{Answer, Expr, Schema};
 use shape_map::Association;
-use shape_map::copies::copied_target;
 use std::alloc::{AllocError, Global};
 
 /// The answers to associations, and the proof of them all.
@@ -79,7 +80,7 @@ fn answer_to(alloc: Global, association: &Association, holds: bool) -> Result<An
 {
     Ok(Answer {
         node: association.node,
-        target: copied_target(alloc, &association.target)?,
+        target: association.target.try_clone(alloc)?,
         holds,
     })
 }
@@ -96,7 +97,7 @@ fn claim_of(
     Ok(Claim {
         holds,
         node: line,
-        target: copied_target(alloc, &association.target)?,
+        target: association.target.try_clone(alloc)?,
     })
 }
 
@@ -159,11 +160,11 @@ fn laws(terms: &TermTable)
     typing_is_one();
 }
 
-/// The answers to associations, each true of the complete typing (ShEx 2.1, section 5.2), with the proof of them all. The
+/// The answers to associations, with the proof of them all, as `answer_with_proof` gives them. The
 /// schema is one whose Shapes have at most one occurrence, which takes arcs out and whose value is absent or a node
 /// constraint. There are at most 1,000,000 associations, whose nodes are of the table and whose targets are declared. The
 /// proof has a record for each pair of a node and a Shape that some association asks for, in one section of the stratum 0.
-pub fn answer(
+fn prove(
     alloc: Global,
     schema: &Schema,
     terms: &TermTable,
@@ -182,7 +183,7 @@ pub fn answer(
     ensures answers { IfOk result (λ t. AreAnswersTo schema.now terms.now graph.now.triples associations.now t.answers.items) }
 
     // They have a proof.
-    ensures proof { IfOk result (λ t. IsProofOf schema.now terms.now graph.now.triples t.answers.items t.proof) }
+    ensures proof { IfOk result (λ t. IsFlatProofOf schema.now terms.now graph.now.triples t.answers.items t.proof) }
 {
     laws(terms);
     let distinct = nodes_of(alloc, terms, associations)?;
@@ -198,4 +199,69 @@ pub fn answer(
         claims: Items::of(claims),
     };
     Ok(Typing { answers, proof })
+}
+
+/// The answer to an association, whose target it takes.
+fn answered(association: Association, holds: bool) -> Answer
+    ensures { result ≡ record { node = association.node; target = association.target; holds = holds } }
+{
+    Answer {
+        node: association.node,
+        target: association.target,
+        holds,
+    }
+}
+
+/// The answers to associations, each true of the complete typing (ShEx 2.1, section 5.2). The schema is one whose Shapes have
+/// at most one occurrence, which takes arcs out and whose value is absent or a node constraint. The nodes of the
+/// associations are of the table, and their targets are declared.
+pub fn answer(
+    alloc: Global,
+    schema: &Schema,
+    terms: &TermTable,
+    graph: &Graph,
+    associations: Vec<Association>,
+) -> Result<Vec<Answer>, AllocError>
+    requires loaded { IsLoaded schema.now }
+    requires simple { IsSimpleSchema schema.now }
+    requires sealed { IsSealedWith terms.now graph.now }
+    requires of_table { All (IsOfTable terms.now) graph.now.triples }
+    requires asked { All (IsAsked schema.now terms.now) associations.items }
+    ensures { IfOk result (λ v. AreAnswersTo schema.now terms.now graph.now.triples associations.items v.items) }
+{
+    laws(terms);
+    let mut answers = Vec::new(alloc);
+    for association in associations {
+        let holds = is_satisfied(alloc, schema, terms, graph, &association)?;
+        answers.push(answered(association, holds))?;
+    }
+    Ok(answers)
+}
+
+/// The answers to associations, each true of the complete typing (ShEx 2.1, section 5.2), with the proof of them all. The
+/// schema is one whose Shapes have at most one occurrence, which takes arcs out and whose value is absent or a node
+/// constraint. There are at most 1,000,000 associations, whose nodes are of the table and whose targets are declared. The
+/// proof has a record for each pair of a node and a Shape that some association asks for, in one section of the stratum 0.
+pub fn answer_with_proof(
+    alloc: Global,
+    schema: &Schema,
+    terms: &TermTable,
+    graph: &Graph,
+    associations: Vec<Association>,
+) -> Result<Typing, AllocError>
+    requires loaded { IsLoaded schema.now }
+    requires simple { IsSimpleSchema schema.now }
+    requires sealed { IsSealedWith terms.now graph.now }
+    requires of_table { All (IsOfTable terms.now) graph.now.triples }
+    requires asked { All (IsAsked schema.now terms.now) associations.items }
+    requires lines { All (HasLines terms.now) associations.items }
+    requires few { length associations.items ≤ max_associations }
+
+    // Each answer is the truth.
+    ensures answers { IfOk result (λ t. AreAnswersTo schema.now terms.now graph.now.triples associations.items t.answers.items) }
+
+    // They have a proof.
+    ensures proof { IfOk result (λ t. IsFlatProofOf schema.now terms.now graph.now.triples t.answers.items t.proof) }
+{
+    prove(alloc, schema, terms, graph, associations.as_slice())
 }

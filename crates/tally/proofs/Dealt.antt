@@ -4,7 +4,7 @@ use Rattle.std.proofs.lemmas.Bool.{eqb-true, eq-eqb}
 use Rattle.std.proofs.lemmas.List.Recursion.{is_count_by}
 use Rattle.std.proofs.lemmas.List.Sorted.{sum_by-IsPermutation}
 use Rattle.std.specs.Prelude.{nat_eq, count_by, ◌||◌}
-use Rattle.std.specs.List.{AllByRecursion, flat_map}
+use Rattle.std.specs.List.{AllByRecursion}
 use Rattle.std.specs.List.Sorted.{IsPermutation}
 use Rattle.tally.proofs.CopyLaws.{copies_agree, each_agree, copies_zero, one_zero, copies_add}
 use Rattle.tally.specs.declared.Bound.{Bound}
@@ -13,9 +13,7 @@ use Rattle.tally.specs.Plan.{Plan, sym as symbol, each, one, many, Plans, no_pla
 use Rattle.tally.specs.Copies.{Copies, CopiesEach, CopiesOne, Fills}
 use Rattle.tally.specs.Deals.{DealsInto, IsUpTo, Matches, MatchesEach, MatchesOne}
 use Rattle.tally.specs.Symbols.{has_symbol, some_has, IsDistinct, AreDistinct}
-
-abbrev pub flat : {X : Type 0} → List (List X) → List X
-flat xss = flat_map (λ xs. xs) xss
+use Rattle.lists.proofs.Joined.{flat}
 
 -- how often a symbol stands in the list
 abbrev pub times : List ℕ → ℕ → ℕ

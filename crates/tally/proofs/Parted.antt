@@ -1,77 +1,25 @@
 -- From counts that spell copies to a division into parts that match.
-use Rattle.std.proofs.Common.{◌≡◌, ℕ, zero, suc, ◌+◌, ◌-◌, ◌*◌, ◌≤◌, inl, inr, List, [], ◌∷◌, ◌++◌, refl, arith, sym, ap, ◌∙◌, Bool, true, false, cond, not, length, map, max, take, drop, append_assoc, true≢false, length-append, length-drop, filter}
-use Rattle.std.proofs.lemmas.Bool.{eqb-true}
-use Rattle.std.proofs.Math.Nat.{mul-le-mul_right}
-use Rattle.std.proofs.lemmas.List.{length-map, take-append-drop, length-take-le}
+use Rattle.std.proofs.Common.{◌≡◌, ℕ, suc, ◌+◌, ◌≤◌, inl, inr, List, [], ◌∷◌, ◌++◌, refl, sym, ap, ◌∙◌, Bool, true, false, cond, not, length, map, true≢false, length-append, filter}
+use Rattle.std.proofs.lemmas.Bool.{eqb-true, not_from_false}
+use Rattle.std.proofs.lemmas.List.{length-map}
 use Rattle.std.proofs.lemmas.List.Concat.{flat_map-append}
-use Rattle.std.proofs.lemmas.List.Sorted.{IsPermutation-refl, IsPermutation-trans, IsPermutation-append, IsPermutation-cons, IsPermutation-append_comm, IsPermutation-append_left, IsPermutation-append_right, IsPermutation-filter_both}
+use Rattle.std.proofs.lemmas.List.Sorted.{IsPermutation-refl, IsPermutation-trans, IsPermutation-append, IsPermutation-cons, IsPermutation-filter_both}
 use Rattle.std.specs.Prelude.{nat_eq, ◌||◌}
 use Rattle.std.specs.List.{AllByRecursion}
 use Rattle.std.specs.List.Sorted.{IsPermutation}
 use Rattle.tally.proofs.CopyLaws.{copies_agree, each_agree, one_agree}
-use Rattle.tally.proofs.Dealt.{flat, times, times_count, other_absent, dealt_copies}
+use Rattle.tally.proofs.Dealt.{times, times_count, other_absent, dealt_copies}
+use Rattle.lists.proofs.Joined.{all_flat, flat, flat_of_maps}
+use Rattle.lists.proofs.Quantifiers.{all_weaker, all_append, all_map, all_both}
+use Rattle.lists.proofs.Filters.{all_passing}
+use Rattle.lists.proofs.Tests.{other_passes}
+use Rattle.tally.proofs.Groupings.{Rows, group_in, no_rows, zip_rows}
 use Rattle.tally.specs.declared.Bound.{Bound}
-use Rattle.tally.specs.declared.Bound.TheVariants.{Upto, Free}
 use Rattle.tally.specs.Plan.{Plan, sym as symbol, each, one, many, Plans, no_plans, more_plans}
 use Rattle.tally.specs.Copies.{Copies, CopiesEach, CopiesOne, Fills}
 use Rattle.tally.specs.Deals.{DealsInto, HaveCounts, IsUpTo, Matches, MatchesEach, MatchesOne}
-use Rattle.tally.specs.Span.{IsSound, AreSound, IsOrdered}
+use Rattle.tally.specs.Span.{IsSound, AreSound}
 use Rattle.tally.specs.Symbols.{has_symbol, some_has, IsDistinct, AreDistinct}
-
-nothing_left : {X : Type 0} (xs : List X) → length xs ≡ 0 → xs ≡ []
-nothing_left [] e = refl
-nothing_left (x ∷ xs) e = absurd (omega arith)
-
-all_append :
-    {X : Type 0} (P : X → Type 0) (xs ys : List X) → AllByRecursion P xs → AllByRecursion P ys →
-    AllByRecursion P (xs ++ ys)
-all_append P [] ys h t = t
-all_append P (x ∷ xs) ys h t = (h.0, all_append P xs ys h.1 t)
-
-all_weaker :
-    {X : Type 0} (P Q : X → Type 0) (xs : List X) → ((x : X) → P x → Q x) → AllByRecursion P xs →
-    AllByRecursion Q xs
-all_weaker P Q [] step h = tt
-all_weaker P Q (x ∷ xs) step h = (step x h.0, all_weaker P Q xs step h.1)
-
-all_map :
-    {X Y : Type 0} (P : X → Type 0) (Q : Y → Type 0) (f : X → Y) → ((x : X) → P x → Q (f x)) → (xs : List X) →
-    AllByRecursion P xs → AllByRecursion Q (map f xs)
-all_map P Q f step [] h = tt
-all_map P Q f step (x ∷ xs) h = (step x h.0, all_map P Q f step xs h.1)
-
-all_both :
-    {X : Type 0} (P Q : X → Type 0) (xs : List X) → AllByRecursion P xs → AllByRecursion Q xs →
-    AllByRecursion (λ x. P x × Q x) xs
-all_both P Q [] h t = tt
-all_both P Q (x ∷ xs) h t = ((h.0, t.0), all_both P Q xs h.1 t.1)
-
--- what passes the test and had P has Q
-all_passing :
-    {X : Type 0} (P Q : X → Type 0) (test : X → Bool) → ((x : X) → test x ≡ true → P x → Q x) → (xs : List X) →
-    AllByRecursion P xs → AllByRecursion Q (filter test xs)
-all_passing P Q test step [] h = tt
-all_passing P Q test step (x ∷ xs) h = go (test x) refl (all_passing P Q test step xs h.1)
-  where
-    go :
-        (b : Bool) → test x ≡ b → AllByRecursion Q (filter test xs) →
-        AllByRecursion Q (cond b (x ∷ filter test xs) (filter test xs))
-    go true e r = (step x e h.0, r)
-    go false e r = r
-
-all_flat :
-    {X : Type 0} (P : X → Type 0) (xss : List (List X)) → AllByRecursion P (flat xss) →
-    AllByRecursion (AllByRecursion P) xss
-all_flat P [] h = tt
-all_flat P (xs ∷ xss) h = (front xs h, all_flat P xss (back xs h))
-  where
-    front : (ys : List _) → AllByRecursion P (ys ++ flat xss) → AllByRecursion P ys
-    front [] t = tt
-    front (y ∷ ys) t = (t.0, front ys t.1)
-
-    back : (ys : List _) → AllByRecursion P (ys ++ flat xss) → AllByRecursion P (flat xss)
-    back [] t = t
-    back (y ∷ ys) t = back ys t.1
 
 -- a filter keeps the counts of what it keeps
 times_filter : (keep : ℕ → Bool) (ss : List ℕ) (i : ℕ) → keep i ≡ true → times (filter keep ss) i ≡ times ss i
@@ -84,73 +32,6 @@ times_filter keep (s ∷ ss) i k = go (keep s) refl (nat_eq i s) refl (times_fil
     go true is false same r = rw (same, r)
     go false is true same r = absurd (true≢false (sym k ∙ ap keep (eqb-true i s same) ∙ is))
     go false is false same r = r
-
-flat_of_maps : {X : Type 0} (xsss : List (List (List X))) → flat (map flat xsss) ≡ flat (flat xsss)
-flat_of_maps [] = refl
-flat_of_maps (xss ∷ xsss) = rw (flat_map-append (λ xs. xs) xss (flat xsss), flat_of_maps xsss)
-
--- (x ++ P) ++ (y ++ R) to x ++ (y ++ Z), where P ++ R is Z in another order
-interleave :
-    {X : Type 0} (x P y R Z : List X) → IsPermutation (P ++ R) Z →
-    IsPermutation ((x ++ P) ++ (y ++ R)) (x ++ (y ++ Z))
-interleave x P y R Z h =
-    let swap : IsPermutation ((P ++ y) ++ R) ((y ++ P) ++ R) =
-    IsPermutation-append_left R (P ++ y) (y ++ P) (IsPermutation-append_comm P y) in
-    let swapped : IsPermutation (P ++ (y ++ R)) (y ++ (P ++ R)) = simp append_assoc at swap in
-    let whole : IsPermutation (P ++ (y ++ R)) (y ++ Z) =
-    IsPermutation-trans _ _ _ swapped (IsPermutation-append_right y (P ++ R) Z h) in
-    rw (append_assoc x P (y ++ R)) (IsPermutation-append_right x (P ++ (y ++ R)) (y ++ Z) whole)
-
--- a list in k groups of sizes from low to the bound
-record Groups {X : Type 0} (low : ℕ) (bound : Bound) (k : ℕ) (xs : List X) : Type 0 where
-  pub groups : List (List X)
-  pub many : length groups ≡ k
-  pub is : flat groups ≡ xs
-  pub sizes : AllByRecursion (λ group. (low ≤ length group) × IsUpTo (length group) bound) groups
-
-group_in :
-    {X : Type 0} (low : ℕ) (bound : Bound) → IsOrdered low bound → (k : ℕ) (xs : List X) →
-    Fills low bound k (length xs) → Groups low bound k xs
-group_in low Free ord zero xs h =
-    record { groups = []; many = refl; is = sym (nothing_left xs (h.1 refl)); sizes = tt }
-group_in low (Upto m) ord zero xs h =
-    record { groups = []; many = refl; is = sym (nothing_left xs (omega arith)); sizes = tt }
-group_in low Free ord (suc k) xs h =
-    let size : ℕ = length xs - low * k in
-    let r : Groups low Free k (drop size xs) =
-    group_in low Free ord k (drop size xs)
-    (omega (arith, length-drop size xs), λ e. rw (length-drop, e) (omega arith)) in
-    record {
-      groups = take size xs ∷ r.groups;
-      many = (let more = r.many in omega arith);
-      is = rw r.is (take-append-drop size xs);
-      sizes = ((rw (length-take-le size xs (omega arith)) (omega arith), tt), r.sizes);
-    }
-group_in low (Upto m) ord (suc k) xs h =
-    let size : ℕ = max low (length xs - m * k) in
-    let short : size ≤ length xs = omega arith in
-    let order : low * k ≤ m * k = mul-le-mul_right k ord in
-    let r : Groups low (Upto m) k (drop size xs) =
-    group_in low (Upto m) ord k (drop size xs)
-    (omega (arith, length-drop size xs), omega (arith, length-drop size xs)) in
-    record {
-      groups = take size xs ∷ r.groups;
-      many = (let more = r.many in omega arith);
-      is = rw r.is (take-append-drop size xs);
-      sizes = (
-        (rw (length-take-le size xs short) (omega arith), rw (length-take-le size xs short) (omega arith)),
-        r.sizes,
-      );
-    }
-
--- one of two tests
-other_passes : (a b : Bool) → a || b ≡ true → not a ≡ true → b ≡ true
-other_passes true b e n = absurd (true≢false (sym n))
-other_passes false b e n = e
-
-passes_not : (a : Bool) → a ≡ false → not a ≡ true
-passes_not true e = absurd (true≢false e)
-passes_not false e = refl
 
 -- each of equal symbols is a part
 singles :
@@ -189,47 +70,8 @@ divide has others ss w = record {
   rest_within = all_passing (λ s. has s || others s ≡ true) (λ s. others s ≡ true) (λ s. not (has s))
       (λ s e o. other_passes (has s) (others s) o e) ss w;
   own_count = λ i e. sym (times_filter has ss i e);
-  rest_count = λ i e. sym (times_filter (λ j. not (has j)) ss i (passes_not (has i) e));
+  rest_count = λ i e. sym (times_filter (λ j. not (has j)) ss i (not_from_false (has i) e));
 }
-
--- rows of parts, one part for each member
-record Rows (ms : Plans) (k : ℕ) (ss : List ℕ) : Type 0 where
-  pub rows : List (List (List ℕ))
-  pub many : length rows ≡ k
-  pub deals : IsPermutation ss (flat (flat rows))
-  pub all : AllByRecursion (λ row. MatchesEach ms row) rows
-
-record Zipped (p : Plan) (ms : Plans) (k : ℕ) (parts : List (List ℕ)) (rows : List (List (List ℕ))) : Type 0 where
-  pub zipped : List (List (List ℕ))
-  pub many : length zipped ≡ k
-  pub deals : IsPermutation (flat parts ++ flat (flat rows)) (flat (flat zipped))
-  pub all : AllByRecursion (λ row. MatchesEach (more_plans p ms) row) zipped
-
-zip_rows :
-    (p : Plan) (ms : Plans) (k : ℕ) (parts : List (List ℕ)) (rows : List (List (List ℕ))) → length parts ≡ k →
-    length rows ≡ k →
-    AllByRecursion (λ part. Matches p part) parts → AllByRecursion (λ row. MatchesEach ms row) rows →
-    Zipped p ms k parts rows
-unfolding Matches
-zip_rows p ms k [] [] a b h t = record { zipped = []; many = a; deals = IsPermutation-refl []; all = tt }
-zip_rows p ms k [] (row ∷ rows) a b h t = absurd (omega arith)
-zip_rows p ms k (part ∷ parts) [] a b h t = absurd (omega arith)
-zip_rows p ms zero (part ∷ parts) (row ∷ rows) a b h t = absurd (omega arith)
-zip_rows p ms (suc k) (part ∷ parts) (row ∷ rows) a b h t =
-    let r = zip_rows p ms k parts rows (omega arith) (omega arith) h.1 t.1 in
-    record {
-      zipped = (part ∷ row) ∷ r.zipped;
-      many = ap suc r.many;
-      deals = rw (flat_map-append (λ xs. xs) row (flat rows), flat_map-append (λ xs. xs) row (flat r.zipped))
-          (interleave part (flat parts) (flat row) (flat (flat rows)) (flat (flat r.zipped)) r.deals);
-      all = ((h.0, t.0), r.all);
-    }
-
-no_rows : (k : ℕ) → Rows no_plans k []
-unfolding Matches
-no_rows zero = record { rows = []; many = refl; deals = IsPermutation-refl []; all = tt }
-no_rows (suc k) = let r = no_rows k in
-    record { rows = [] ∷ r.rows; many = ap suc r.many; deals = r.deals; all = (tt, r.all) }
 
 row_part : (ms : Plans) (row : List (List ℕ)) → MatchesEach ms row → Matches (each ms) (flat row)
 unfolding Matches
@@ -283,17 +125,17 @@ mutual
   rows_of :
       (ms : Plans) → AreDistinct ms → AreSound ms → (k : ℕ) (ss : List ℕ) →
       AllByRecursion (λ s. some_has s ms ≡ true) ss →
-      CopiesEach ms (times ss) k → Rows ms k ss
-  rows_of no_plans apart sound k ss w c = rw (none_within ss w) (no_rows k)
+      CopiesEach ms (times ss) k → Rows (MatchesEach ms) k ss
+  rows_of no_plans apart sound k ss w c = rw (none_within ss w) (no_rows (MatchesEach no_plans) tt k)
   rows_of (more_plans p ms) apart sound k ss w c =
       (let d = divide (λ i. has_symbol i p) (λ i. some_has i ms) ss w in
       let a = copies_dealt p apart.0 sound.0 k d.own d.own_within
       (copies_agree p (times ss) (times d.own) k d.own_count c.0) in
       let b = rows_of ms apart.1 sound.1 k d.rest d.rest_within
       (each_agree ms (times ss) (times d.rest) k (λ i e. d.rest_count i (other_absent p ms apart.2 i e)) c.1) in
-      let z = zip_rows p ms k a.parts b.rows a.many b.many a.all b.all in
+      let z = zip_rows (Matches p) (MatchesEach ms) (MatchesEach (more_plans p ms)) (λ part row m ms. (m, ms)) k a.parts b.rows a.many b.many a.all b.all in
       record {
-        rows = z.zipped;
+        rows = z.rows;
         many = z.many;
         deals = IsPermutation-trans _ _ _ d.deals
             (IsPermutation-trans _ _ _ (IsPermutation-append _ _ _ _ a.deals b.deals) z.deals);
@@ -318,8 +160,8 @@ mutual
         deals = rw (flat_map-append (λ xs. xs) a.parts b.parts)
             (IsPermutation-trans _ _ _ d.deals (IsPermutation-append _ _ _ _ a.deals b.deals));
         all = all_append _ a.parts b.parts
-            (all_weaker (Matches p) (MatchesOne (more_plans p ms)) a.parts (λ part m. inl m) a.all)
-            (all_weaker (MatchesOne ms) (MatchesOne (more_plans p ms)) b.parts (λ part m. inr m) b.all);
+            (all_weaker (Matches p) (MatchesOne (more_plans p ms)) a.parts (λ part held m. inl m) a.all)
+            (all_weaker (MatchesOne ms) (MatchesOne (more_plans p ms)) b.parts (λ part held m. inr m) b.all);
       })
 
 module _ (p : Plan) (symbols : List ℕ) (counts : ℕ → ℕ) (k : ℕ) (distinct : IsDistinct p) where

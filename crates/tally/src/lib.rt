@@ -10,10 +10,6 @@ ghost use Rattle.tally.specs.Span.{HasSpan, add_ends, meet, plus, proper, repeat
 
 pub use counter::Steps;
 
-#[cfg(test)]
-#[tactic(auto, unfolding(crate::specs::Symbols::IsDistinct, crate::specs::Span::IsSound))]
-mod tests;
-
 /// The maximum of a cardinality (ShEx 2.1 section 5.5, where -1 stands for any number).
 #[derive(Clone, Copy, Debug, PartialEq, Eq)]
 pub enum Bound {

@@ -1,25 +1,27 @@
 -- What is spelled is read.
 use Rattle.std.proofs.Common.{◌≡◌, ℕ, zero, suc, Bool, true, false, cond, List, [], ◌∷◌, Result, Ok, Err, refl, ◌∙◌, inl, inr, ◌||◌}
-use Rattle.token_readers.specs.Ahead.{Ahead, finished, next_is}
-use Rattle.token_readers.specs.Phrases.{Is, Many}
-use Rattle.token_readers.specs.Readers.{loop}
-use Rattle.token_readers.proofs.Completeness.{one_read, loop_read, many_follows, elements_follow, elements_read}
+use Rattle.rdf_cursor.specs.Ahead.{Ahead, finished, next_is}
+use Rattle.rdf_cursor.specs.Phrases.{Is, Many}
+use Rattle.rdf_cursor.specs.Readers.{loop}
+use Rattle.rdf_cursor.proofs.Completeness.{one_read, loop_read, many_follows, elements_follow, elements_read}
 use Rattle.rdf_lex.specs.Tokens.{Spelled}
-use Rattle.rdf_lex.specs.declared.kinds.Mode.TheVariants.{Turtle}
-use Rattle.rdf_cursor.specs.Meanings.{text_of}
+use Rattle.term_tokens.specs.Meanings.{text_of}
 use Rattle.rdf_terms.specs.declared.terms.Term.{Term}
-use Rattle.graph_loading.specs.declared.triples.TermTriple.{TermTriple}
+use Rattle.graph_index.specs.declared.loading.TermTriple.{TermTriple}
 use Rattle.rdf_cursor.specs.declared.stops.Fault.{Fault}
 use Rattle.rdf_cursor.specs.declared.stops.Fault.TheVariants.{Syntax}
-use Rattle.turtle_reader.specs.declared.symbols.Symbol.{Symbol}
-use Rattle.turtle_reader.specs.declared.symbols.Symbol.TheVariants as symbol
-use Rattle.turtle_reader.specs.Meanings.{iri_ref_of, iri_of, blank_of, string_of, typed_of, tagged_of, shorthand_of, resolved, joined, lexical, prefix_of}
-use Rattle.turtle_reader.specs.Reading.{R, mark, next_node, iri_ref, iri, datatyped, literal, resource, simple, verb, one_object, comma, objects, pair, semicolon, predicates, node, in_cell, member, next_member, cells, collection, object, subject, about_subject, listed, about_node, triples, ended, prefix_declaration, base_declaration, behind, statement, further, document}
-use Rattle.turtle_reader.specs.States.{Scope, added}
-use Rattle.turtle_reader.specs.Symbols.{symbol_of, same_symbol, is_symbol, is_other, is_among, is_any, of_symbol, verbs, tags, shorthands}
-use Rattle.turtle_reader.specs.Vocabulary.{rdf_rest}
+use Rattle.rdf_cursor.specs.declared.symbols.Symbol.{Symbol}
+use Rattle.rdf_cursor.specs.declared.symbols.Symbol.TheVariants as symbol
+use Rattle.term_tokens.specs.Terms.{iri_ref_of, iri_of, string_of, typed_of, tagged_of, shorthand_of, resolved, joined, prefix_of, tags, shorthands, blank_of}
+use Rattle.turtle_reader.specs.Meanings.{verbs}
+use Rattle.turtle_reader.specs.Reading.{R, next_node, iri_ref, iri, literal, resource, simple, verb, one_object, comma, objects, pair, semicolon, predicates, node, in_cell, member, next_member, cells, collection, object, subject, about_subject, listed, about_node, triples, ended, prefix_declaration, base_declaration, behind, statement, further, document}
+use Rattle.rdf_cursor.specs.Marks.{mark}
+use Rattle.turtle_reader.specs.States.{names_in, DocumentScope, added}
+use Rattle.rdf_cursor.specs.Symbols.{symbol_of, same_symbol, is_symbol, is_other, is_among, is_any, of_symbol}
+use Rattle.rdf_terms.specs.Vocabulary.{rdf_rest}
 use Rattle.turtle_reader.specs.Grammar as g
-use Rattle.turtle_reader.proofs.Nexts.{Next, nexts, no_next, no_symbol, begins, first, first_of, single, guarded, guarded_one, other_next, same_next, any_next}
+use Rattle.term_tokens.proofs.Literals as any
+use Rattle.term_tokens.proofs.Nexts.{Next, nexts, no_next, no_symbol, begins, first, first_of, single, other_next, same_next, any_next}
 use Rattle.turtle_reader.proofs.Places.{local_object, consumes_object, consumes_comma, consumes_semicolon, consumes_next_member, consumes_further}
 
 took : (a : Symbol) (w : Spelled) (ts r : Ahead Spelled) → Is (of_symbol a) w ts r → mark a ts ≡ Ok (w, r)
@@ -61,103 +63,77 @@ iri_bits false false true x y z e = refl
 iri_bits false false false x y z e = absurd cc
 
 module _ (k : Bool) where
-  iri_class : (v : Scope) (x : List ℕ) (t : Spelled) → iri_of k v t ≡ Ok x → is_among iris t ≡ true
+  iri_class : (v : DocumentScope) (x : List ℕ) (t : Spelled) → iri_of k (names_in v) t ≡ Ok x → is_among iris t ≡ true
   unfolding iri_of iri_ref_of is_among is_symbol
   iri_class v x t e =
       let s = symbol_of t.kind t.text in
-      iri_bits (same_symbol s symbol.PnameNs) (same_symbol s symbol.PnameLn) (same_symbol s symbol.IriRef) (joined k (text_of Turtle t) (v.prefixes (prefix_of t))) (resolved k v (text_of Turtle t)) x e
+      iri_bits (same_symbol s symbol.PnameNs) (same_symbol s symbol.PnameLn) (same_symbol s symbol.IriRef) (joined k (text_of t) (v.prefixes (prefix_of t))) (resolved k (names_in v) (text_of t)) x e
 
-  pub iri_begins : (v : Scope) (x : List ℕ) (ts r : Ahead Spelled) → Is (iri_of k v) x ts r → Next iris ts
+  pub iri_begins : (v : DocumentScope) (x : List ℕ) (ts r : Ahead Spelled) → Is (iri_of k (names_in v)) x ts r → Next iris ts
   iri_begins v x ts r h = rw h.1 (iri_class v x h.0 h.2)
 
-  iri_read : (v : Scope) (x : List ℕ) (ts r : Ahead Spelled) → Is (iri_of k v) x ts r → iri k v ts ≡ Ok (x, r)
+  iri_read : (v : DocumentScope) (x : List ℕ) (ts r : Ahead Spelled) → Is (iri_of k (names_in v)) x ts r → iri k v ts ≡ Ok (x, r)
   unfolding iri
-  iri_read v x ts r h = one_read Syntax (iri_of k v) x ts r h
+  iri_read v x ts r h = one_read Syntax (iri_of k (names_in v)) x ts r h
 
-  iri_ref_read : (v : Scope) (x : List ℕ) (ts r : Ahead Spelled) → Is (iri_ref_of k v) x ts r → iri_ref k v ts ≡ Ok (x, r)
+  iri_ref_read : (v : DocumentScope) (x : List ℕ) (ts r : Ahead Spelled) → Is (iri_ref_of k (names_in v)) x ts r → iri_ref k v ts ≡ Ok (x, r)
   unfolding iri_ref
-  iri_ref_read v x ts r h = one_read Syntax (iri_ref_of k v) x ts r h
+  iri_ref_read v x ts r h = one_read Syntax (iri_ref_of k (names_in v)) x ts r h
 
-  next_read : (v : Scope) (x : Term) (u : Scope) (ts : Ahead Spelled) → g.IsNext k v x u → next_node k v ts ≡ Ok ((x, u), ts)
+  next_read : (v : DocumentScope) (x : Term) (u : DocumentScope) (ts : Ahead Spelled) → g.IsNext k v x u → next_node k v ts ≡ Ok ((x, u), ts)
   unfolding next_node
   next_read v x u ts e = rw e refl
 
-  pub string_begins : (x : List ℕ) (ts r : Ahead Spelled) → Is (string_of k) x ts r → Next (symbol.Str ∷ []) ts
-  unfolding string_of
-  string_begins x ts r h = guarded_one symbol.Str (string_of k) (λ t. lexical k (text_of Turtle t)) (λ t. refl) x ts r h
+  literal_read : (v : DocumentScope) (x : Term) (ts r : Ahead Spelled) → g.Literal k v x ts r → Next after_object r → literal k v ts ≡ Ok (x, r)
+  unfolding literal
+  literal_read v x ts r h f =
+      any.literal_read tags (string_of k) tagged_of (typed_of k (names_in v)) refl any.tagged_begins x ts r h (no_next after_object tags r refl f) (no_symbol after_object symbol.Carets r refl f)
 
-  pub tagged_begins : (lex : List ℕ) (x : Term) (ts r : Ahead Spelled) → Is (tagged_of lex) x ts r → Next tags ts
-  unfolding tagged_of
-  tagged_begins lex x ts r h = guarded tags (tagged_of lex) _ (λ t. refl) x ts r h
-
-  pub shorthand_begins : (x : Term) (ts r : Ahead Spelled) → Is (shorthand_of k) x ts r → Next shorthands ts
-  unfolding shorthand_of
-  shorthand_begins x ts r h = guarded shorthands (shorthand_of k) _ (λ t. refl) x ts r h
-
-  pub blank_begins : (x : Term) (ts r : Ahead Spelled) → Is (blank_of k) x ts r → Next (symbol.BlankLabel ∷ []) ts
-  unfolding blank_of
-  blank_begins x ts r h = guarded_one symbol.BlankLabel (blank_of k) _ (λ t. refl) x ts r h
-
-  literal_read : (v : Scope) (x : Term) (ts r : Ahead Spelled) → g.Literal k v x ts r → Next after_object r → literal k v ts ≡ Ok (x, r)
-  unfolding literal datatyped
-  literal_read v x ts r (lex, (m, s, inl (e, n))) f =
-      rw (one_read Syntax (string_of k) lex ts m s, n, no_next after_object tags r refl f, no_symbol after_object symbol.Carets r refl f, e) refl
-  literal_read v x ts r (lex, (m, s, inr (inl h))) f =
-      rw (one_read Syntax (string_of k) lex ts m s, tagged_begins lex x m r h, one_read Syntax (tagged_of lex) x m r h) refl
-  literal_read v x ts r (lex, (m, s, inr (inr (n, (w, c), h)))) f =
-      rw (
-        one_read Syntax (string_of k) lex ts m s,
-        no_next (symbol.Carets ∷ []) tags m refl (first symbol.Carets w m n c),
-        begins symbol.Carets w m n c,
-        took symbol.Carets w m n c,
-        one_read Syntax (typed_of k v lex) x n r h,
-      ) refl
-
-  resource_read : (v : Scope) (x : Term) (ts r : Ahead Spelled) → g.Resource k v x ts r → resource k v ts ≡ Ok (x, r)
+  resource_read : (v : DocumentScope) (x : Term) (ts r : Ahead Spelled) → g.Resource k v x ts r → resource k v ts ≡ Ok (x, r)
   unfolding resource
   resource_read v x ts r (inl (i, e, h)) = rw (no_symbol iris symbol.BlankLabel ts refl (iri_begins v i ts r h), iri_read v i ts r h, e) refl
-  resource_read v x ts r (inr h) = rw (single symbol.BlankLabel ts ∙ blank_begins x ts r h, one_read Syntax (blank_of k) x ts r h) refl
+  resource_read v x ts r (inr h) = rw (single symbol.BlankLabel ts ∙ any.blank_begins k x ts r h, one_read Syntax (blank_of k) x ts r h) refl
 
-  resource_begins : (v : Scope) (x : Term) (ts r : Ahead Spelled) → g.Resource k v x ts r → Next resources ts
+  resource_begins : (v : DocumentScope) (x : Term) (ts r : Ahead Spelled) → g.Resource k v x ts r → Next resources ts
   resource_begins v x ts r (inl (i, e, h)) = nexts iris resources ts refl (iri_begins v i ts r h)
-  resource_begins v x ts r (inr h) = nexts (symbol.BlankLabel ∷ []) resources ts refl (blank_begins x ts r h)
+  resource_begins v x ts r (inr h) = nexts (symbol.BlankLabel ∷ []) resources ts refl (any.blank_begins k x ts r h)
 
-  simple_read : (v : Scope) (x : Term) (ts r : Ahead Spelled) → g.Simple k v x ts r → Next after_object r → simple k v ts ≡ Ok (x, r)
+  simple_read : (v : DocumentScope) (x : Term) (ts r : Ahead Spelled) → g.Simple k v x ts r → Next after_object r → simple k v ts ≡ Ok (x, r)
   unfolding simple
-  simple_read v x ts r (inl (lex, (m, s, h))) f = rw (single symbol.Str ts ∙ string_begins lex ts m s) (literal_read v x ts r (lex, (m, s, h)) f)
+  simple_read v x ts r (inl (lex, (m, s, h))) f = rw (single symbol.Str ts ∙ any.string_begins k lex ts m s) (literal_read v x ts r (lex, (m, s, h)) f)
   simple_read v x ts r (inr (inl h)) f =
-      let n = shorthand_begins x ts r h in rw (no_symbol shorthands symbol.Str ts refl n, n, one_read Syntax (shorthand_of k) x ts r h) refl
+      let n = any.shorthand_begins k x ts r h in rw (no_symbol shorthands symbol.Str ts refl n, n, one_read Syntax (shorthand_of k) x ts r h) refl
   simple_read v x ts r (inr (inr h)) f =
       let n = resource_begins v x ts r h in rw (no_symbol resources symbol.Str ts refl n, no_next resources shorthands ts refl n) (resource_read v x ts r h)
 
-  simple_begins : (v : Scope) (x : Term) (ts r : Ahead Spelled) → g.Simple k v x ts r → Next simples ts
-  simple_begins v x ts r (inl (lex, (m, s, h))) = nexts (symbol.Str ∷ []) simples ts refl (string_begins lex ts m s)
-  simple_begins v x ts r (inr (inl h)) = nexts shorthands simples ts refl (shorthand_begins x ts r h)
+  simple_begins : (v : DocumentScope) (x : Term) (ts r : Ahead Spelled) → g.Simple k v x ts r → Next simples ts
+  simple_begins v x ts r (inl (lex, (m, s, h))) = nexts (symbol.Str ∷ []) simples ts refl (any.string_begins k lex ts m s)
+  simple_begins v x ts r (inr (inl h)) = nexts shorthands simples ts refl (any.shorthand_begins k x ts r h)
   simple_begins v x ts r (inr (inr h)) = nexts resources simples ts refl (resource_begins v x ts r h)
 
-  verb_read : (v : Scope) (p : List ℕ) (ts r : Ahead Spelled) → g.Verb k v p ts r → (verb k v ts ≡ Ok (p, r)) × Next verbs ts
+  verb_read : (v : DocumentScope) (p : List ℕ) (ts r : Ahead Spelled) → g.Verb k v p ts r → (verb k v ts ≡ Ok (p, r)) × Next verbs ts
   unfolding verb
   verb_read v p ts r (inl (e, (w, h))) = (rw (begins symbol.A w ts r h, took symbol.A w ts r h, e) refl, nexts (symbol.A ∷ []) verbs ts refl (first symbol.A w ts r h))
   verb_read v p ts r (inr h) =
       let n = iri_begins v p ts r h in (rw (no_symbol iris symbol.A ts refl n, iri_read v p ts r h) refl, nexts iris verbs ts refl n)
 
-  module _ (d : ℕ) (start : (v : Scope) (x : Term) (w : Scope) (ts r : Ahead Spelled) → g.Object k d v x w ts r → Next starts ts)
-      (each : (v : Scope) (x : Term) (w : Scope) (ts r : Ahead Spelled) → g.Object k d v x w ts r → Next after_object r → object k d v ts ≡ Ok ((x, w), r)) where
-    one_reads : (s : Term) (p : List ℕ) (v w : Scope) (ts r : Ahead Spelled) → g.OneObject k (g.Object k d) s p v w ts r → Next after_object r → one_object k (object k d) s p v ts ≡ Ok (w, r)
+  module _ (d : ℕ) (start : (v : DocumentScope) (x : Term) (w : DocumentScope) (ts r : Ahead Spelled) → g.Object k d v x w ts r → Next starts ts)
+      (each : (v : DocumentScope) (x : Term) (w : DocumentScope) (ts r : Ahead Spelled) → g.Object k d v x w ts r → Next after_object r → object k d v ts ≡ Ok ((x, w), r)) where
+    one_reads : (s : Term) (p : List ℕ) (v w : DocumentScope) (ts r : Ahead Spelled) → g.OneObject k (g.Object k d) s p v w ts r → Next after_object r → one_object k (object k d) s p v ts ≡ Ok (w, r)
     unfolding one_object
     one_reads s p v w ts r (x, u, e, h) f = rw (each v x u ts r h f, e) refl
 
-    comma_reads : (s : Term) (p : List ℕ) (v w : Scope) (ts r : Ahead Spelled) → g.Another k (g.Object k d) s p v w ts r → Next after_object r → comma k (object k d) s p v ts ≡ Ok (w, r)
+    comma_reads : (s : Term) (p : List ℕ) (v w : DocumentScope) (ts r : Ahead Spelled) → g.Another k (g.Object k d) s p v w ts r → Next after_object r → comma k (object k d) s p v ts ≡ Ok (w, r)
     unfolding comma
     comma_reads s p v w ts r (m, (z, c), h) f = rw (took symbol.Comma z ts m c, one_reads s p v w m r h f) refl
 
-    comma_starts : (s : Term) (p : List ℕ) (v w : Scope) (ts r : Ahead Spelled) → g.Another k (g.Object k d) s p v w ts r → next_is (is_symbol symbol.Comma) ts ≡ true
+    comma_starts : (s : Term) (p : List ℕ) (v w : DocumentScope) (ts r : Ahead Spelled) → g.Another k (g.Object k d) s p v w ts r → next_is (is_symbol symbol.Comma) ts ≡ true
     comma_starts s p v w ts r (m, (z, c), h) = begins symbol.Comma z ts m c
 
     comma_then : (ts : Ahead Spelled) → next_is (is_symbol symbol.Comma) ts ≡ true → Next after_object ts
     comma_then ts h = nexts (symbol.Comma ∷ []) after_object ts refl (first_of symbol.Comma ts h)
 
-    objects_read : (s : Term) (p : List ℕ) (v w : Scope) (ts r : Ahead Spelled) → g.Objects k (g.Object k d) s p v w ts r → Next after_objects r → objects k (object k d) s p v ts ≡ Ok (w, r)
+    objects_read : (s : Term) (p : List ℕ) (v w : DocumentScope) (ts r : Ahead Spelled) → g.Objects k (g.Object k d) s p v w ts r → Next after_objects r → objects k (object k d) s p v ts ≡ Ok (w, r)
     unfolding objects
     objects_read s p v w ts r (u, (m, h, i)) f =
         let g1 : Next after_object r = nexts after_objects after_object r refl f in
@@ -166,23 +142,23 @@ module _ (k : Bool) where
         (loop_read (is_symbol symbol.Comma) (comma k (object k d) s p) (g.Another k (g.Object k d) s p) (Next after_object) (consumes_comma k (object k d) (local_object k d) (consumes_object k d) s p)
         (comma_reads s p) (comma_starts s p) comma_then u w m r i g1 (no_symbol after_objects symbol.Comma r refl f))
 
-    pair_read : (s : Term) (v w : Scope) (ts r : Ahead Spelled) → g.Pair k (g.Object k d) s v w ts r → Next after_objects r → (pair k (object k d) s v ts ≡ Ok (w, r)) × Next verbs ts
+    pair_read : (s : Term) (v w : DocumentScope) (ts r : Ahead Spelled) → g.Pair k (g.Object k d) s v w ts r → Next after_objects r → (pair k (object k d) s v ts ≡ Ok (w, r)) × Next verbs ts
     unfolding pair
     pair_read s v w ts r (p, (m, h, i)) f = let a = verb_read v p ts m h in (rw (a.0, objects_read s p v w m r i f) refl, a.1)
 
-    semicolon_reads : (s : Term) (v w : Scope) (ts r : Ahead Spelled) → g.Further k (g.Object k d) s v w ts r → Next after_objects r → semicolon k (object k d) s v ts ≡ Ok (w, r)
+    semicolon_reads : (s : Term) (v w : DocumentScope) (ts r : Ahead Spelled) → g.Further k (g.Object k d) s v w ts r → Next after_objects r → semicolon k (object k d) s v ts ≡ Ok (w, r)
     unfolding semicolon
     semicolon_reads s v w ts r (m, (z, c), inl h) f = let a = pair_read s v w m r h f in rw (took symbol.Semicolon z ts m c, a.1, a.0) refl
     semicolon_reads s v w ts r (m, (z, c), inr (e, i)) f =
         let n : next_is (is_among verbs) m ≡ false = rw i (no_next after_objects verbs r refl f) in rw (took symbol.Semicolon z ts m c, n, e, i) refl
 
-    semicolon_starts : (s : Term) (v w : Scope) (ts r : Ahead Spelled) → g.Further k (g.Object k d) s v w ts r → next_is (is_symbol symbol.Semicolon) ts ≡ true
+    semicolon_starts : (s : Term) (v w : DocumentScope) (ts r : Ahead Spelled) → g.Further k (g.Object k d) s v w ts r → next_is (is_symbol symbol.Semicolon) ts ≡ true
     semicolon_starts s v w ts r (m, (z, c), h) = begins symbol.Semicolon z ts m c
 
     semicolon_then : (ts : Ahead Spelled) → next_is (is_symbol symbol.Semicolon) ts ≡ true → Next after_objects ts
     semicolon_then ts h = nexts (symbol.Semicolon ∷ []) after_objects ts refl (first_of symbol.Semicolon ts h)
 
-    predicates_read : (s : Term) (v w : Scope) (ts r : Ahead Spelled) → g.Predicates k (g.Object k d) s v w ts r → Next closing r → (predicates k (object k d) s v ts ≡ Ok (w, r)) × Next verbs ts
+    predicates_read : (s : Term) (v w : DocumentScope) (ts r : Ahead Spelled) → g.Predicates k (g.Object k d) s v w ts r → Next closing r → (predicates k (object k d) s v ts ≡ Ok (w, r)) × Next verbs ts
     unfolding predicates
     predicates_read s v w ts r (u, (m, h, i)) f =
         let g1 : Next after_objects r = nexts closing after_objects r refl f in
@@ -193,7 +169,7 @@ module _ (k : Bool) where
           a.1,
         )
 
-    node_read : (v : Scope) (x : Term) (w : Scope) (ts r : Ahead Spelled) → g.Node k (g.Object k d) v x w ts r → node k (object k d) v ts ≡ Ok ((x, w), r)
+    node_read : (v : DocumentScope) (x : Term) (w : DocumentScope) (ts r : Ahead Spelled) → g.Node k (g.Object k d) v x w ts r → node k (object k d) v ts ≡ Ok ((x, w), r)
     unfolding node
     node_read v x w ts r (u, n, (m, (z, o), (q, inl (c, i), (y, l)))) =
         rw (took symbol.OpenBracket z ts m o, next_read v x u m n, i, begins symbol.CloseBracket y q r l, took symbol.CloseBracket y q r l, c) refl
@@ -201,31 +177,31 @@ module _ (k : Bool) where
         let a = predicates_read x u w m q h (nexts (symbol.CloseBracket ∷ []) closing q refl (first symbol.CloseBracket y q r l)) in
         rw (took symbol.OpenBracket z ts m o, next_read v x u m n, no_symbol verbs symbol.CloseBracket m refl a.1, a.0, took symbol.CloseBracket y q r l) refl
 
-    cell_read : (cell : Term) (v w : Scope) (ts r : Ahead Spelled) → g.InCell k (g.Object k d) cell v w ts r → Next after_object r → in_cell k (object k d) cell v ts ≡ Ok ((cell, w), r)
+    cell_read : (cell : Term) (v w : DocumentScope) (ts r : Ahead Spelled) → g.InCell k (g.Object k d) cell v w ts r → Next after_object r → in_cell k (object k d) cell v ts ≡ Ok ((cell, w), r)
     unfolding in_cell
     cell_read cell v w ts r (y, u, e, h) f = rw (each v y u ts r h f, e) refl
 
-    member_read : (v : Scope) (x : Term) (w : Scope) (ts r : Ahead Spelled) → g.Member k (g.Object k d) v x w ts r → Next after_object r → member k (object k d) v ts ≡ Ok ((x, w), r)
+    member_read : (v : DocumentScope) (x : Term) (w : DocumentScope) (ts r : Ahead Spelled) → g.Member k (g.Object k d) v x w ts r → Next after_object r → member k (object k d) v ts ≡ Ok ((x, w), r)
     unfolding member
     member_read v x w ts r (u, n, h) f = rw (next_read v x u ts n) (cell_read x u w ts r h f)
 
-    following_read : (a b : Term × Scope) (ts r : Ahead Spelled) → g.Following k (g.Object k d) a b ts r → Next after_object r → next_member k (object k d) a ts ≡ Ok (b, r)
+    following_read : (a b : Term × DocumentScope) (ts r : Ahead Spelled) → g.Following k (g.Object k d) a b ts r → Next after_object r → next_member k (object k d) a ts ≡ Ok (b, r)
     unfolding next_member
     following_read a b ts r (u, n, h) f = rw (next_read a.1 b.0 u ts n) (cell_read b.0 (added a.0 rdf_rest b.0 u) b.1 ts r h f)
 
-    following_begins : (a b : Term × Scope) (ts r : Ahead Spelled) → g.Following k (g.Object k d) a b ts r → Next starts ts
+    following_begins : (a b : Term × DocumentScope) (ts r : Ahead Spelled) → g.Following k (g.Object k d) a b ts r → Next starts ts
     following_begins a b ts r (u, n, (y, w, e, h)) = start _ y w ts r h
 
-    following_starts : (a b : Term × Scope) (ts r : Ahead Spelled) → g.Following k (g.Object k d) a b ts r → next_is (is_other symbol.CloseParenthesis) ts ≡ true
+    following_starts : (a b : Term × DocumentScope) (ts r : Ahead Spelled) → g.Following k (g.Object k d) a b ts r → next_is (is_other symbol.CloseParenthesis) ts ≡ true
     following_starts a b ts r h = other_next symbol.CloseParenthesis starts ts refl (following_begins a b ts r h)
 
-    following_then : (a b : Term × Scope) (ts r : Ahead Spelled) → g.Following k (g.Object k d) a b ts r → Next after_object ts
+    following_then : (a b : Term × DocumentScope) (ts r : Ahead Spelled) → g.Following k (g.Object k d) a b ts r → Next after_object ts
     following_then a b ts r h = nexts starts after_object ts refl (following_begins a b ts r h)
 
-    member_begins : (v : Scope) (x : Term) (w : Scope) (ts r : Ahead Spelled) → g.Member k (g.Object k d) v x w ts r → Next starts ts
+    member_begins : (v : DocumentScope) (x : Term) (w : DocumentScope) (ts r : Ahead Spelled) → g.Member k (g.Object k d) v x w ts r → Next starts ts
     member_begins v x w ts r (u, n, (y, q, e, h)) = start _ y q ts r h
 
-    cells_read : (v : Scope) (x : Term) (w : Scope) (ts r : Ahead Spelled) → g.Cells k (g.Object k d) v x w ts r → (cells k (object k d) v ts ≡ Ok ((x, w), r)) × Next starts ts
+    cells_read : (v : DocumentScope) (x : Term) (w : DocumentScope) (ts r : Ahead Spelled) → g.Cells k (g.Object k d) v x w ts r → (cells k (object k d) v ts ≡ Ok ((x, w), r)) × Next starts ts
     unfolding cells
     cells_read v x w ts r (f, l, e, a, (m, h, (n, i, (z, c)))) =
         let g1 : Next after_object n = nexts (symbol.CloseParenthesis ∷ []) after_object n refl (first symbol.CloseParenthesis z n r c) in
@@ -241,20 +217,20 @@ module _ (k : Bool) where
           member_begins v f.0 f.1 ts m h,
         )
 
-    collection_read : (v : Scope) (x : Term) (w : Scope) (ts r : Ahead Spelled) → g.Collection k (g.Object k d) v x w ts r → collection k (object k d) v ts ≡ Ok ((x, w), r)
+    collection_read : (v : DocumentScope) (x : Term) (w : DocumentScope) (ts r : Ahead Spelled) → g.Collection k (g.Object k d) v x w ts r → collection k (object k d) v ts ≡ Ok ((x, w), r)
     unfolding collection
     collection_read v x w ts r (m, (z, o), inl (e, a, (y, c))) = rw (took symbol.OpenParenthesis z ts m o, begins symbol.CloseParenthesis y m r c, took symbol.CloseParenthesis y m r c, e, a) refl
     collection_read v x w ts r (m, (z, o), inr h) =
         let a = cells_read v x w m r h in rw (took symbol.OpenParenthesis z ts m o, no_symbol starts symbol.CloseParenthesis m refl a.1, a.0) refl
 
-  object_begins : (d : ℕ) (v : Scope) (x : Term) (w : Scope) (ts r : Ahead Spelled) → g.Object k d v x w ts r → Next starts ts
+  object_begins : (d : ℕ) (v : DocumentScope) (x : Term) (w : DocumentScope) (ts r : Ahead Spelled) → g.Object k d v x w ts r → Next starts ts
   unfolding g.Object
   object_begins zero v x w ts r (e, h) = nexts simples starts ts refl (simple_begins v x ts r h)
   object_begins (suc d) v x w ts r (inl (e, h)) = nexts simples starts ts refl (simple_begins v x ts r h)
   object_begins (suc d) v x w ts r (inr (inl (u, n, (m, (z, o), i)))) = nexts (symbol.OpenBracket ∷ []) starts ts refl (first symbol.OpenBracket z ts m o)
   object_begins (suc d) v x w ts r (inr (inr (m, (z, o), i))) = nexts (symbol.OpenParenthesis ∷ []) starts ts refl (first symbol.OpenParenthesis z ts m o)
 
-  object_read : (d : ℕ) (v : Scope) (x : Term) (w : Scope) (ts r : Ahead Spelled) → g.Object k d v x w ts r → Next after_object r → object k d v ts ≡ Ok ((x, w), r)
+  object_read : (d : ℕ) (v : DocumentScope) (x : Term) (w : DocumentScope) (ts r : Ahead Spelled) → g.Object k d v x w ts r → Next after_object r → object k d v ts ≡ Ok ((x, w), r)
   unfolding object g.Object
   object_read zero v x w ts r (e, h) f =
       let n = simple_begins v x ts r h in rw (no_symbol simples symbol.OpenBracket ts refl n, no_symbol simples symbol.OpenParenthesis ts refl n, simple_read v x ts r h f, e) refl
@@ -265,25 +241,25 @@ module _ (k : Bool) where
       rw (no_symbol (symbol.OpenParenthesis ∷ []) symbol.OpenBracket ts refl (first symbol.OpenParenthesis z ts m o), begins symbol.OpenParenthesis z ts m o) (collection_read d (object_begins d) (object_read d) v x w ts r (m, (z, o), i))
 
   module _ (d : ℕ) where
-    within_read : (s : Term) (v w : Scope) (ts r : Ahead Spelled) → g.Predicates k (g.Object k d) s v w ts r → Next closing r → (predicates k (object k d) s v ts ≡ Ok (w, r)) × Next verbs ts
+    within_read : (s : Term) (v w : DocumentScope) (ts r : Ahead Spelled) → g.Predicates k (g.Object k d) s v w ts r → Next closing r → (predicates k (object k d) s v ts ≡ Ok (w, r)) × Next verbs ts
     within_read s v w ts r h f = predicates_read d (object_begins d) (object_read d) s v w ts r h f
 
-    outside_read : (s : Term) (v w : Scope) (ts r : Ahead Spelled) → g.Predicates k (g.Object k (suc d)) s v w ts r → Next closing r → (predicates k (object k (suc d)) s v ts ≡ Ok (w, r)) × Next verbs ts
+    outside_read : (s : Term) (v w : DocumentScope) (ts r : Ahead Spelled) → g.Predicates k (g.Object k (suc d)) s v w ts r → Next closing r → (predicates k (object k (suc d)) s v ts ≡ Ok (w, r)) × Next verbs ts
     outside_read s v w ts r h f = predicates_read (suc d) (object_begins (suc d)) (object_read (suc d)) s v w ts r h f
 
-    subject_read : (v : Scope) (x : Term) (w : Scope) (ts r : Ahead Spelled) → g.Subject k d v x w ts r → (subject k d v ts ≡ Ok ((x, w), r)) × Next subjects ts
+    subject_read : (v : DocumentScope) (x : Term) (w : DocumentScope) (ts r : Ahead Spelled) → g.Subject k d v x w ts r → (subject k d v ts ≡ Ok ((x, w), r)) × Next subjects ts
     unfolding subject
     subject_read v x w ts r (inl (e, h)) =
         let n = resource_begins v x ts r h in (rw (no_symbol resources symbol.OpenParenthesis ts refl n, resource_read v x ts r h, e) refl, nexts resources subjects ts refl n)
     subject_read v x w ts r (inr (m, (z, o), i)) =
         (rw (begins symbol.OpenParenthesis z ts m o) (collection_read d (object_begins d) (object_read d) v x w ts r (m, (z, o), i)), nexts (symbol.OpenParenthesis ∷ []) subjects ts refl (first symbol.OpenParenthesis z ts m o))
 
-    about_subject_read : (v w : Scope) (ts r : Ahead Spelled) → g.AboutSubject k d v w ts r → Next closing r → (about_subject k d v ts ≡ Ok (w, r)) × Next subjects ts
+    about_subject_read : (v w : DocumentScope) (ts r : Ahead Spelled) → g.AboutSubject k d v w ts r → Next closing r → (about_subject k d v ts ≡ Ok (w, r)) × Next subjects ts
     unfolding about_subject
     about_subject_read v w ts r (s, u, (m, h, i)) f =
         let a = subject_read v s u ts m h in let b = outside_read s u w m r i f in (rw (a.0, b.0) refl, a.1)
 
-    listed_read : (s : Term) (v w : Scope) (ts r : Ahead Spelled) → g.Listed k d s v w ts r → Next (symbol.Dot ∷ []) r → (listed k d s v ts ≡ Ok (w, r)) × Next verbs ts
+    listed_read : (s : Term) (v w : DocumentScope) (ts r : Ahead Spelled) → g.Listed k d s v w ts r → Next (symbol.Dot ∷ []) r → (listed k d s v ts ≡ Ok (w, r)) × Next verbs ts
     unfolding listed
     listed_read s v w ts r (u, (m, h, (n, (z, c), inl i))) f =
         let a = within_read s v u ts m h (nexts (symbol.CloseBracket ∷ []) closing m refl (first symbol.CloseBracket z m n c)) in
@@ -294,7 +270,7 @@ module _ (k : Bool) where
         let b : next_is (is_among verbs) n ≡ false = rw i (no_next (symbol.Dot ∷ []) verbs r refl f) in
         (rw (a.0, took symbol.CloseBracket z m n c, b, e, i) refl, a.1)
 
-    about_node_read : (v w : Scope) (ts r : Ahead Spelled) → g.AboutNode k d v w ts r → Next (symbol.Dot ∷ []) r → about_node k d v ts ≡ Ok (w, r)
+    about_node_read : (v w : DocumentScope) (ts r : Ahead Spelled) → g.AboutNode k d v w ts r → Next (symbol.Dot ∷ []) r → about_node k d v ts ≡ Ok (w, r)
     unfolding about_node
     about_node_read v w ts r (s, u, n, (m, (z, o), inl (q, (y, c), i))) f =
         let b = outside_read s u w q r i (nexts (symbol.Dot ∷ []) closing r refl f) in
@@ -303,31 +279,31 @@ module _ (k : Bool) where
         let a = listed_read s u w m r h f in
         rw (took symbol.OpenBracket z ts m o, next_read v s u m n, no_symbol verbs symbol.CloseBracket m refl a.1, a.0) refl
 
-    triples_read : (v w : Scope) (ts r : Ahead Spelled) → g.Triples k d v w ts r → Next (symbol.Dot ∷ []) r → (triples k d v ts ≡ Ok (w, r)) × Next statements ts
+    triples_read : (v w : DocumentScope) (ts r : Ahead Spelled) → g.Triples k d v w ts r → Next (symbol.Dot ∷ []) r → (triples k d v ts ≡ Ok (w, r)) × Next statements ts
     unfolding triples
     triples_read v w ts r (inl h) f =
         let a = about_subject_read v w ts r h (nexts (symbol.Dot ∷ []) closing r refl f) in (rw (no_symbol subjects symbol.OpenBracket ts refl a.1) a.0, nexts subjects statements ts refl a.1)
     triples_read v w ts r (inr (s, u, n, (m, (z, o), h))) f =
         (rw (begins symbol.OpenBracket z ts m o) (about_node_read v w ts r (s, u, n, (m, (z, o), h)) f), nexts (symbol.OpenBracket ∷ []) statements ts refl (first symbol.OpenBracket z ts m o))
 
-  prefix_read : (v w : Scope) (ts r : Ahead Spelled) → g.PrefixDeclaration k v w ts r → prefix_declaration k v ts ≡ Ok (w, r)
+  prefix_read : (v w : DocumentScope) (ts r : Ahead Spelled) → g.PrefixDeclaration k v w ts r → prefix_declaration k v ts ≡ Ok (w, r)
   unfolding prefix_declaration
   prefix_read v w ts r (t, i, e, (m, h, j)) = rw (took symbol.PnameNs t ts m h, iri_ref_read v i m r j, e) refl
 
-  base_read : (v w : Scope) (ts r : Ahead Spelled) → g.BaseDeclaration k v w ts r → base_declaration k v ts ≡ Ok (w, r)
+  base_read : (v w : DocumentScope) (ts r : Ahead Spelled) → g.BaseDeclaration k v w ts r → base_declaration k v ts ≡ Ok (w, r)
   unfolding base_declaration
   base_read v w ts r (i, e, j) = rw (iri_ref_read v i ts r j, e) refl
 
-  ended_read : (p : Scope → R Scope) (v w : Scope) (ts m r : Ahead Spelled) (z : Spelled) → p v ts ≡ Ok (w, m) → Is (of_symbol symbol.Dot) z m r → ended k p v ts ≡ Ok (w, r)
+  ended_read : (p : DocumentScope → R DocumentScope) (v w : DocumentScope) (ts m r : Ahead Spelled) (z : Spelled) → p v ts ≡ Ok (w, m) → Is (of_symbol symbol.Dot) z m r → ended k p v ts ≡ Ok (w, r)
   unfolding ended
   ended_read p v w ts m r z e c = rw (e, took symbol.Dot z m r c) refl
 
-  behind_read : (a : Symbol) (p : Scope → R Scope) (v w : Scope) (ts m r : Ahead Spelled) (z : Spelled) → Is (of_symbol a) z ts m → p v m ≡ Ok (w, r) → behind k a p v ts ≡ Ok (w, r)
+  behind_read : (a : Symbol) (p : DocumentScope → R DocumentScope) (v w : DocumentScope) (ts m r : Ahead Spelled) (z : Spelled) → Is (of_symbol a) z ts m → p v m ≡ Ok (w, r) → behind k a p v ts ≡ Ok (w, r)
   unfolding behind
   behind_read a p v w ts m r z c e = rw (took a z ts m c, e) refl
 
   module _ (d : ℕ) where
-    statement_read : (v w : Scope) (ts r : Ahead Spelled) → g.Statement k d v w ts r → (statement k d v ts ≡ Ok (w, r)) × (next_is is_any ts ≡ true)
+    statement_read : (v w : DocumentScope) (ts r : Ahead Spelled) → g.Statement k d v w ts r → (statement k d v ts ≡ Ok (w, r)) × (next_is is_any ts ≡ true)
     unfolding statement
     statement_read v w ts r (inl (inl (m, (z, c), (n, h, (y, e))))) =
         (rw (begins symbol.AtPrefix z ts m c) (behind_read symbol.AtPrefix _ v w ts m r z c (ended_read _ v w m n r y (prefix_read v w m n h) e)), any_next (symbol.AtPrefix ∷ []) ts (first symbol.AtPrefix z ts m c))
@@ -353,17 +329,17 @@ module _ (k : Bool) where
           any_next statements ts a.1,
         )
 
-    pub further_read : (a b : Scope × List TermTriple) (ts r : Ahead Spelled) → g.Behind k d a b ts r → Unit {0} → further k d a ts ≡ Ok (b, r)
+    pub further_read : (a b : DocumentScope × List TermTriple) (ts r : Ahead Spelled) → g.Behind k d a b ts r → Unit {0} → further k d a ts ≡ Ok (b, r)
     unfolding further
     further_read a b ts r (w, e, i, h) f = let s = statement_read a.0 w ts r h in rw (s.0, e, i) refl
 
-    further_starts : (a b : Scope × List TermTriple) (ts r : Ahead Spelled) → g.Behind k d a b ts r → next_is is_any ts ≡ true
+    further_starts : (a b : DocumentScope × List TermTriple) (ts r : Ahead Spelled) → g.Behind k d a b ts r → next_is is_any ts ≡ true
     further_starts a b ts r (w, e, i, h) = (statement_read a.0 w ts r h).1
 
-    pub further_loop_read : (a b : Scope × List TermTriple) (ts : Ahead Spelled) → Many (g.Behind k d) a b ts finished → loop is_any (further k d) a ts ≡ Ok (b, finished)
+    pub further_loop_read : (a b : DocumentScope × List TermTriple) (ts : Ahead Spelled) → Many (g.Behind k d) a b ts finished → loop is_any (further k d) a ts ≡ Ok (b, finished)
     further_loop_read a b ts h =
         loop_read is_any (further k d) (g.Behind k d) (λ r. Unit {0}) (consumes_further k d) further_read further_starts (λ m n. tt) a b ts finished h tt refl
 
-    pub document_read : (v : Scope) (x : Scope × List TermTriple) (ts : Ahead Spelled) → g.Document k d v x ts → document k d v ts ≡ Ok (x, finished)
+    pub document_read : (v : DocumentScope) (x : DocumentScope × List TermTriple) (ts : Ahead Spelled) → g.Document k d v x ts → document k d v ts ≡ Ok (x, finished)
     unfolding document
     document_read v x ts h = rw (further_loop_read (v, []) x ts h) refl

@@ -1,7 +1,4 @@
-pub mod Texts
-pub mod Nexts
 pub mod Places
-pub mod Failing
 pub mod Sound
 pub mod Complete
 pub mod Limits
@@ -10,3 +7,5 @@ pub mod Endings
 pub mod Tells
 pub mod Causes
 pub mod Depths
+pub mod ScopeLines
+pub mod DocumentLines

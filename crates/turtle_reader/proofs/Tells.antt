@@ -1,8 +1,8 @@
 -- What a reader answers, by the form of the reader: what a value and what lies ahead of it satisfy, and what a fault and its place do.
 use Rattle.std.proofs.Common.{◌≡◌, Bool, true, false, cond, ℕ, zero, suc, Result, Ok, Err, refl, sym, ap, subst, ◌⊎◌, inl, inr}
-use Rattle.token_readers.specs.Ahead.{Ahead, finished, broken, token, count, next_is}
-use Rattle.token_readers.specs.Readers.{Answer, and_then, ◌>>=◌, give, refuse, taken, one, either, loop_within, loop}
-use Rattle.token_readers.proofs.Answers.{then_ok, apart, ok_is, err_is}
+use Rattle.rdf_cursor.specs.Ahead.{Ahead, finished, broken, token, count, next_is}
+use Rattle.rdf_cursor.specs.Readers.{Answer, and_then, ◌>>=◌, give, refuse, taken, one, either, loop_within, loop}
+use Rattle.rdf_cursor.proofs.Answers.{then_ok, apart, ok_is, err_is}
 use Rattle.rdf_lex.specs.Tokens.{Spelled}
 use Rattle.rdf_cursor.specs.declared.stops.Fault.{Fault}
 use Rattle.rdf_cursor.specs.declared.stops.Fault.TheVariants.{Syntax}

@@ -1,32 +1,35 @@
 -- How the loop over statements goes on and ends.
-use Rattle.std.proofs.Common.{append_assoc, ◌≡◌, true, false, List, [], ◌∷◌, ◌++◌, Result, Ok, Err, refl, sym, ap, subst, ◌∙◌}
+use Rattle.std.proofs.Common.{◌≡◌, true, false, List, [], ◌++◌, Ok, Err, refl, sym, ap, subst}
 use Rattle.std.proofs.lemmas.List.{append-nil}
 use Rattle.rdf_terms.specs.declared.terms.Term.{Term}
 use Rattle.rdf_terms.specs.declared.terms.Triple.{Triple}
-use Rattle.token_readers.specs.Ahead.{Ahead, finished, broken, token, next_is}
-use Rattle.token_readers.specs.Phrases.{Phrase, Many, none, more}
-use Rattle.token_readers.specs.Readers.{Answer, loop, finish}
-use Rattle.token_readers.proofs.Answers.{err_is}
-use Rattle.token_readers.proofs.Loops.{loop_goes, loop_fails, loop_ends}
+use Rattle.rdf_cursor.specs.Ahead.{Ahead, finished, broken, token, next_is}
+use Rattle.rdf_cursor.specs.Phrases.{Phrase, Many, none, more}
+use Rattle.rdf_cursor.specs.Readers.{Answer, loop, finish}
+use Rattle.rdf_cursor.proofs.Answers.{err_is}
+use Rattle.rdf_cursor.proofs.Loops.{loop_goes, loop_fails, loop_ends}
 use Rattle.rdf_lex.specs.Tokens.{Spelled}
-use Rattle.graph_loading.specs.declared.triples.LoadError.{LoadError}
-use Rattle.graph_loading.specs.declared.triples.LoadError.TheVariants as load
-use Rattle.graph_loading.specs.declared.triples.TermTriple.{TermTriple}
-use Rattle.graph_loading.specs.Loading.{Loads, nothing, FindsNoRoom}
-use Rattle.graph_loading.proofs.Loading.{loads_append}
+use Rattle.graph_index.specs.declared.loading.LoadError.{LoadError}
+use Rattle.graph_index.specs.declared.loading.LoadError.TheVariants as load
+use Rattle.graph_index.specs.declared.loading.TermTriple.{TermTriple}
+use Rattle.graph_index.specs.Loading.{Loads, nothing}
+use Rattle.graph_index.proofs.Loaded.{loads_append}
 use Rattle.rdf_cursor.specs.declared.stops.Fault.{Fault}
 use Rattle.rdf_cursor.specs.declared.stops.Fault.TheVariants.{Syntax}
 use Rattle.rdf_cursor.specs.declared.stops.Stop.{Stop}
 use Rattle.rdf_cursor.specs.declared.stops.Stop.TheVariants as stop
-use Rattle.turtle_reader.specs.declared.reader.Refusal.{Refusal}
-use Rattle.turtle_reader.specs.declared.reader.Refusal.TheVariants as refusal
+use Rattle.data_loading.specs.declared.refusal.Refusal.{Refusal}
+use Rattle.data_loading.specs.declared.refusal.Refusal.TheVariants as refusal
 use Rattle.turtle_reader.specs.Documents.{inner_depth}
 use Rattle.rdf_cursor.specs.Stops.{StopsAs}
 use Rattle.turtle_reader.specs.Grammar.{Behind}
 use Rattle.turtle_reader.specs.Reading.{statement, further, document}
-use Rattle.turtle_reader.specs.States.{Scope, begun}
-use Rattle.turtle_reader.specs.Steps.{from_stop, from_load, Fills, LoadsAll, Steps, Comes, Ends}
-use Rattle.turtle_reader.specs.Symbols.{is_any}
+use Rattle.turtle_reader.specs.States.{DocumentScope, begun}
+use Rattle.data_loading.specs.Loads.{Fills, LoadsAll}
+use Rattle.data_loading.specs.Refusals.{from_stop, from_load}
+use Rattle.data_loading.proofs.Filling.{fills_behind}
+use Rattle.turtle_reader.specs.Steps.{Steps, Comes, Ends}
+use Rattle.rdf_cursor.specs.Symbols.{is_any}
 use Rattle.turtle_reader.specs.Causes.{bare, Causes, IsAtLimit}
 use Rattle.turtle_reader.proofs.Causes.{statement_tells}
 use Rattle.turtle_reader.proofs.Depths.{statement_fails}
@@ -38,49 +41,36 @@ pub many_more : {S : Type 0} (One : S → S → Phrase Spelled) (a b c : S) (ts 
 many_more One a b c ts mid rest none h = more h none
 many_more One a b c ts mid rest (more {x = x} {mid = m} o others) h = more o (many_more One x b c m mid rest others h)
 
-step_ok : (v u : Scope) (before : List TermTriple) (ts rest : Ahead Spelled) → statement true inner_depth v ts ≡ Ok (u, rest) → further true inner_depth (v, before) ts ≡ Ok ((begun u, before ++ u.triples), rest)
+step_ok : (v u : DocumentScope) (before : List TermTriple) (ts rest : Ahead Spelled) → statement true inner_depth v ts ≡ Ok (u, rest) → further true inner_depth (v, before) ts ≡ Ok ((begun u, before ++ u.triples), rest)
 unfolding further
 step_ok v u before ts rest e = rw e refl
 
-step_err : (v : Scope) (before : List TermTriple) (ts : Ahead Spelled) (f : Fault × Ahead Spelled) → statement true inner_depth v ts ≡ Err f → further true inner_depth (v, before) ts ≡ Err f
+step_err : (v : DocumentScope) (before : List TermTriple) (ts : Ahead Spelled) (f : Fault × Ahead Spelled) → statement true inner_depth v ts ≡ Err f → further true inner_depth (v, before) ts ≡ Err f
 unfolding further
 step_err v before ts f e = rw e refl
 
--- triples behind others
-fills_behind : (terms mid_terms : List Term) (graph mid_graph : List Triple) (so ts : List TermTriple) → Loads terms graph so mid_terms mid_graph → Fills mid_terms mid_graph ts → Fills terms graph (so ++ ts)
-fills_behind terms mid_terms graph mid_graph so ts l f = record {
-  before = so ++ f.before;
-  last = f.last;
-  behind = f.behind;
-  parts = ap (λ (v : List TermTriple). so ++ v) f.parts ∙ sym (append_assoc so f.before (f.last ∷ f.behind));
-  mid_terms = f.mid_terms;
-  mid_graph = f.mid_graph;
-  loaded = loads_append terms mid_terms f.mid_terms graph mid_graph f.mid_graph so f.before l f.loaded;
-  no_room = f.no_room;
-}
-
-pub begins : (v : Scope) (ahead : Ahead Spelled) (terms : List Term) (graph : List Triple) → Comes v ahead terms graph v ahead terms graph
+pub begins : (v : DocumentScope) (ahead : Ahead Spelled) (terms : List Term) (graph : List Triple) → Comes v ahead terms graph v ahead terms graph
 begins v ahead terms graph = record { so_far = []; goes = refl; statements = none; loaded = nothing }
 
-pub smaller : (v w : Scope) (ts rest : Ahead Spelled) (terms new_terms : List Term) (graph new_graph : List Triple) → Steps (Ok tt) v ts w rest terms graph new_terms new_graph → (u : Scope) × (statement true inner_depth v ts ≡ Ok (u, rest))
+pub smaller : (v w : DocumentScope) (ts rest : Ahead Spelled) (terms new_terms : List Term) (graph new_graph : List Triple) → Steps (Ok tt) v ts w rest terms graph new_terms new_graph → (u : DocumentScope) × (statement true inner_depth v ts ≡ Ok (u, rest))
 smaller v w ts rest terms new_terms graph new_graph (u, e, s, l) = (u, e)
 
-module _ (v : Scope) (ahead : Ahead Spelled) (terms : List Term) (graph : List Triple) where
-  one_more : (w u : Scope) (rest mid : Ahead Spelled) (so : List TermTriple) → next_is is_any rest ≡ true → statement true inner_depth w rest ≡ Ok (u, mid)
+module _ (v : DocumentScope) (ahead : Ahead Spelled) (terms : List Term) (graph : List Triple) where
+  one_more : (w u : DocumentScope) (rest mid : Ahead Spelled) (so : List TermTriple) → next_is is_any rest ≡ true → statement true inner_depth w rest ≡ Ok (u, mid)
       → loop is_any (further true inner_depth) (w, so) rest ≡ loop is_any (further true inner_depth) (v, []) ahead
       → loop is_any (further true inner_depth) (begun u, so ++ u.triples) mid ≡ loop is_any (further true inner_depth) (v, []) ahead
   one_more w u rest mid so n e goes =
       loop_goes is_any (further true inner_depth) (consumes_further true inner_depth) (w, so) rest (begun u, so ++ u.triples) mid (loop is_any (further true inner_depth) (v, []) ahead) n (step_ok w u so rest mid e) goes
 
-  more_statements : (w u : Scope) (rest mid : Ahead Spelled) (so : List TermTriple) → statement true inner_depth w rest ≡ Ok (u, mid) → Many (Behind true inner_depth) (v, []) (w, so) ahead rest
+  more_statements : (w u : DocumentScope) (rest mid : Ahead Spelled) (so : List TermTriple) → statement true inner_depth w rest ≡ Ok (u, mid) → Many (Behind true inner_depth) (v, []) (w, so) ahead rest
       → Many (Behind true inner_depth) (v, []) (begun u, so ++ u.triples) ahead mid
   more_statements w u rest mid so e m =
       many_more (Behind true inner_depth) (v, []) (w, so) (begun u, so ++ u.triples) ahead rest mid m ((further_meets true inner_depth (w, so) rest).holds ((begun u, so ++ u.triples), mid) (step_ok w u so rest mid e))
 
-  pub comes_on : (w x : Scope) (rest mid : Ahead Spelled) (now_terms new_terms : List Term) (now_graph new_graph : List Triple) → Comes v ahead terms graph w rest now_terms now_graph → next_is is_any rest ≡ true
+  pub comes_on : (w x : DocumentScope) (rest mid : Ahead Spelled) (now_terms new_terms : List Term) (now_graph new_graph : List Triple) → Comes v ahead terms graph w rest now_terms now_graph → next_is is_any rest ≡ true
       → Steps (Ok tt) w rest x mid now_terms now_graph new_terms new_graph → Comes v ahead terms graph x mid new_terms new_graph
   comes_on w x rest mid now_terms new_terms now_graph new_graph c n (u, e, is, l) =
-      subst (λ (s : Scope). Comes v ahead terms graph s mid new_terms new_graph) (sym is) (record {
+      subst (λ (s : DocumentScope). Comes v ahead terms graph s mid new_terms new_graph) (sym is) (record {
         so_far = c.so_far ++ u.triples;
         goes = one_more w u rest mid c.so_far n e c.goes;
         statements = more_statements w u rest mid c.so_far e c.statements;
@@ -91,7 +81,7 @@ module _ (v : Scope) (ahead : Ahead Spelled) (terms : List Term) (graph : List T
   unfolding document
   fault_ends f e = rw e refl
 
-  pub stops : (w x y : Scope) (rest mid : Ahead Spelled) (now_terms new_terms : List Term) (now_graph new_graph : List Triple) (e : Refusal) → Comes v ahead terms graph w rest now_terms now_graph → next_is is_any rest ≡ true
+  pub stops : (w x y : DocumentScope) (rest mid : Ahead Spelled) (now_terms new_terms : List Term) (now_graph new_graph : List Triple) (e : Refusal) → Comes v ahead terms graph w rest now_terms now_graph → next_is is_any rest ≡ true
       → Steps (Err e) w rest x mid now_terms now_graph new_terms new_graph → Ends (Err e) v ahead y mid terms graph new_terms new_graph
   stops w x y rest mid now_terms new_terms now_graph new_graph refusal.Memory c n s = tt
   stops w x y rest mid now_terms new_terms now_graph new_graph refusal.Full c n (u, e, f) = record {
@@ -132,11 +122,11 @@ module _ (v : Scope) (ahead : Ahead Spelled) (terms : List Term) (graph : List T
       err_same : (a b : Fault × Ahead Spelled) → Path (Answer Spelled Fault (Unit {0})) (Err a) (Err b) → a ≡ b
       err_same a b e = cc
 
-  end_fault : (x : Scope × List TermTriple) (rest : Ahead Spelled) (f : Fault × Ahead Spelled) → loop is_any (further true inner_depth) (v, []) ahead ≡ Ok (x, rest) → finish Syntax x rest ≡ Err f → document true inner_depth v ahead ≡ Err f
+  end_fault : (x : DocumentScope × List TermTriple) (rest : Ahead Spelled) (f : Fault × Ahead Spelled) → loop is_any (further true inner_depth) (v, []) ahead ≡ Ok (x, rest) → finish Syntax x rest ≡ Err f → document true inner_depth v ahead ≡ Err f
   unfolding document
   end_fault x rest f e g = rw e g
 
-  pub ends_badly : (w y : Scope) (rest : Ahead Spelled) (e : Stop) (r : Refusal) (new_terms : List Term) (new_graph : List Triple) → Comes v ahead terms graph w rest new_terms new_graph → next_is is_any rest ≡ false
+  pub ends_badly : (w y : DocumentScope) (rest : Ahead Spelled) (e : Stop) (r : Refusal) (new_terms : List Term) (new_graph : List Triple) → Comes v ahead terms graph w rest new_terms new_graph → next_is is_any rest ≡ false
       → StopsAs {Y = Unit {0}} e rest (finish Syntax tt rest) → r ≡ from_stop e → Ends (Err r) v ahead y rest terms graph new_terms new_graph
   ends_badly w y rest stop.Memory r new_terms new_graph c n s is = subst (λ (z : Refusal). Ends (Err z) v ahead y rest terms graph new_terms new_graph) (sym is) tt
   ends_badly w y rest (stop.Fault f) r new_terms new_graph c n s is =
@@ -153,37 +143,20 @@ module _ (v : Scope) (ahead : Ahead Spelled) (terms : List Term) (graph : List T
       })
 
 -- one statement
-pub statement_stops : (v w : Scope) (ahead rest : Ahead Spelled) (e : Stop) (r : Refusal) (terms : List Term) (graph : List Triple) → StopsAs e rest (statement true inner_depth v ahead) → r ≡ from_stop e → Steps (Err r) v ahead w rest terms graph terms graph
+pub statement_stops : (v w : DocumentScope) (ahead rest : Ahead Spelled) (e : Stop) (r : Refusal) (terms : List Term) (graph : List Triple) → StopsAs e rest (statement true inner_depth v ahead) → r ≡ from_stop e → Steps (Err r) v ahead w rest terms graph terms graph
 statement_stops v w ahead rest stop.Memory r terms graph s is = subst (λ (z : Refusal). Steps (Err z) v ahead w rest terms graph terms graph) (sym is) tt
 statement_stops v w ahead rest (stop.Fault f) r terms graph s is = subst (λ (z : Refusal). Steps (Err z) v ahead w rest terms graph terms graph) (sym is) s
 
-pub loads_stop : (v u w : Scope) (ahead rest : Ahead Spelled) (ts : List TermTriple) (e : LoadError) (r : Refusal) (terms new_terms : List Term) (graph new_graph : List Triple) → statement true inner_depth v ahead ≡ Ok (u, rest) → ts ≡ u.triples
+pub loads_stop : (v u w : DocumentScope) (ahead rest : Ahead Spelled) (ts : List TermTriple) (e : LoadError) (r : Refusal) (terms new_terms : List Term) (graph new_graph : List Triple) → statement true inner_depth v ahead ≡ Ok (u, rest) → ts ≡ u.triples
     → LoadsAll (Err e) terms graph ts new_terms new_graph → r ≡ from_load e → Steps (Err r) v ahead w rest terms graph new_terms new_graph
 loads_stop v u w ahead rest ts load.Memory r terms new_terms graph new_graph s same l is = subst (λ (z : Refusal). Steps (Err z) v ahead w rest terms graph new_terms new_graph) (sym is) tt
 loads_stop v u w ahead rest ts load.Full r terms new_terms graph new_graph s same l is =
     subst (λ (z : Refusal). Steps (Err z) v ahead w rest terms graph new_terms new_graph) (sym is) (u, s, subst (Fills terms graph) same l)
 
-pub statement_steps : (v u w : Scope) (ahead rest : Ahead Spelled) (ts : List TermTriple) (terms new_terms : List Term) (graph new_graph : List Triple) → statement true inner_depth v ahead ≡ Ok (u, rest) → ts ≡ u.triples → w ≡ begun u
+pub statement_steps : (v u w : DocumentScope) (ahead rest : Ahead Spelled) (ts : List TermTriple) (terms new_terms : List Term) (graph new_graph : List Triple) → statement true inner_depth v ahead ≡ Ok (u, rest) → ts ≡ u.triples → w ≡ begun u
     → Loads terms graph ts new_terms new_graph → Steps (Ok tt) v ahead w rest terms graph new_terms new_graph
 statement_steps v u w ahead rest ts terms new_terms graph new_graph s same is l = (u, s, is, subst (λ (z : List TermTriple). Loads terms graph z new_terms new_graph) same l)
 
--- loading
-pub fills_at : (terms now_terms : List Term) (graph now_graph : List Triple) (all so rest : List TermTriple) (t : TermTriple) → all ≡ so ++ t ∷ rest → Loads terms graph so now_terms now_graph → FindsNoRoom now_terms now_graph t → Fills terms graph all
-fills_at terms now_terms graph now_graph all so rest t e l n = record { before = so; last = t; behind = rest; parts = e; mid_terms = now_terms; mid_graph = now_graph; loaded = l; no_room = n }
-
-pub load_fails : (terms now_terms new_terms : List Term) (graph now_graph new_graph : List Triple) (all so rest : List TermTriple) (t : TermTriple) (e : LoadError) → all ≡ so ++ t ∷ rest → Loads terms graph so now_terms now_graph
-    → (Path (Result (Unit {0}) LoadError) (Err e) (Err load.Full) → FindsNoRoom now_terms now_graph t) → LoadsAll (Err e) terms graph all new_terms new_graph
-load_fails terms now_terms new_terms graph now_graph new_graph all so rest t load.Memory e l n = tt
-load_fails terms now_terms new_terms graph now_graph new_graph all so rest t load.Full e l n = fills_at terms now_terms graph now_graph all so rest t e l (n refl)
-
+-- what is as it was has grown by nothing
 pub same_grown : {X : Type 0} (xs : List X) → (more : List X) × (xs ≡ xs ++ more)
 same_grown xs = ([], sym (append-nil xs))
-
-pub is_grown : {X : Type 0} (xs ys : List X) → ys ≡ xs → (more : List X) × (ys ≡ xs ++ more)
-is_grown xs ys e = ([], e ∙ sym (append-nil xs))
-
-pub grown_on : {X : Type 0} (xs ys zs : List X) → ((more : List X) × (ys ≡ xs ++ more)) → ((more : List X) × (zs ≡ ys ++ more)) → (more : List X) × (zs ≡ xs ++ more)
-grown_on xs ys zs (a, e) (b, f) = (a ++ b, f ∙ ap (λ (v : List _). v ++ b) e ∙ append_assoc xs a b)
-
-pub yields_on : {X : Type 0} (all yielded rest behind : List X) (x : X) → all ≡ yielded ++ rest → rest ≡ x ∷ behind → all ≡ (yielded ++ x ∷ []) ++ behind
-yields_on all yielded rest behind x e f = e ∙ ap (λ (v : List _). yielded ++ v) f ∙ sym (append_assoc yielded (x ∷ []) behind)

@@ -1,24 +1,25 @@
 -- What the bytes of a document spell, and what the answers of the reader say of them, of the table and of the graph.
-use Rattle.std.specs.Prelude.{◌≡◌, true, false, ℕ, ◌≤◌, List, [], ◌∷◌, ◌++◌, ◌⊎◌, Result, Ok, Err}
+use Rattle.std.specs.Prelude.{◌≡◌, true, false, ℕ, ◌≤◌, List, [], ◌∷◌, ◌++◌, ◌⊎◌, Contains, Result, Ok, Err}
 use Rattle.std.specs.Str.{IsUtf8}
-use Rattle.token_readers.specs.Ahead.{Ahead, finished, prepend}
-use Rattle.token_readers.specs.Phrases.{Many}
+use Rattle.rdf_cursor.specs.Ahead.{Ahead, finished, prepend}
+use Rattle.rdf_cursor.specs.Phrases.{Many}
+use Rattle.rdf_terms.specs.OneLine.{IsOneLine}
 use Rattle.rdf_terms.specs.declared.terms.Term.{Term}
 use Rattle.rdf_terms.specs.declared.terms.Triple.{Triple}
 use Rattle.graph_index.specs.declared.read_error.ReadError.{ReadError}
 use Rattle.graph_index.specs.declared.read_error.ReadError.TheVariants as error
-use Rattle.graph_loading.specs.declared.triples.TermTriple.{TermTriple}
-use Rattle.graph_loading.specs.Loading.{Loads, FindsNoRoom}
+use Rattle.graph_index.specs.declared.loading.TermTriple.{TermTriple}
+use Rattle.graph_index.specs.Loading.{HaveOneLine, Loads, FindsNoRoom}
 use Rattle.rdf_lex.specs.declared.kinds.Mode.TheVariants.{Turtle}
 use Rattle.rdf_lex.specs.declared.prefixes.Prefixes.{Prefixes}
-use Rattle.rdf_lex.specs.Prefixes.{base_of, iri_under}
+use Rattle.rdf_lex.specs.Prefixes.{AreOneLine, base_of, iri_under}
 use Rattle.rdf_lex.specs.Tokens.{Spelled, Between, Tokens}
 use Rattle.rdf_cursor.specs.Lent.{Stands}
 use Rattle.rdf_cursor.specs.Places.{IsFaultPlace}
 use Rattle.rdf_cursor.specs.declared.stops.Fault.{Fault}
 use Rattle.rdf_cursor.specs.declared.stops.Fault.TheVariants as faults
 use Rattle.turtle_reader.specs.Causes.{bare, Causes, IsAtLimit}
-use Rattle.turtle_reader.specs.States.{Scope, start}
+use Rattle.turtle_reader.specs.States.{DocumentScope, start}
 use Rattle.turtle_reader.specs.Grammar.{Document, Behind}
 
 -- how deep brackets nest in those of a statement's first term
@@ -27,23 +28,23 @@ inner_depth = 63
 
 -- the tokens are a document with this base: its scope at the end and its triples. Brackets nest up to 64 deep, and texts and nodes are within
 -- the limits
-abbrev pub Spells : List ℕ → Scope × List TermTriple → List Spelled → Type 0
+abbrev pub Spells : List ℕ → DocumentScope × List TermTriple → List Spelled → Type 0
 Spells base x ts = Document true inner_depth (start base) x (prepend ts finished)
 
 -- the same without these limits
-abbrev pub SpellsAny : List ℕ → Scope × List TermTriple → List Spelled → Type 0
+abbrev pub SpellsAny : List ℕ → DocumentScope × List TermTriple → List Spelled → Type 0
 SpellsAny base x ts = (d : ℕ) × (inner_depth ≤ d) × Document false d (start base) x (prepend ts finished)
 
 -- the bytes are a document, within the limits
-abbrev pub IsDocument : List ℕ → List ℕ → Scope × List TermTriple → Type 0
+abbrev pub IsDocument : List ℕ → List ℕ → DocumentScope × List TermTriple → Type 0
 IsDocument base source x = (ts : List Spelled) × IsUtf8 source × Tokens Turtle source ts × Spells base x ts
 
 -- the bytes are a document of any lengths and depth
-abbrev pub IsAnyDocument : List ℕ → List ℕ → Scope × List TermTriple → Type 0
+abbrev pub IsAnyDocument : List ℕ → List ℕ → DocumentScope × List TermTriple → Type 0
 IsAnyDocument base source x = (ts : List Spelled) × IsUtf8 source × Tokens Turtle source ts × SpellsAny base x ts
 
 -- the base and the prefixes are those of the scope
-pub record AreLast (p : Prefixes) (v : Scope) : Type 0 where
+pub record AreLast (p : Prefixes) (v : DocumentScope) : Type 0 where
   pub base : base_of p ≡ v.base
   pub prefixes : iri_under p ≡ v.prefixes
 
@@ -55,7 +56,7 @@ pub record IsOverfull (base source : List ℕ) (terms : List Term) (graph : List
   pub front : List Spelled
   pub to : ℕ
   pub rest : Ahead Spelled
-  pub scope : Scope
+  pub scope : DocumentScope
   pub passed : Between Turtle source 0 front to
   pub statements : Many (Behind true inner_depth) (start base, []) (scope, before ++ last ∷ behind) (prepend front rest) rest
   pub mid_terms : List Term
@@ -69,7 +70,7 @@ IsLimitPlace base source at = IsFaultPlace (Spells base) Turtle source at
 
 -- behind some statements, in the scope in which they end, and behind tokens of a further one, the token at this place has a fault
 pub record IsCausedAt (base source : List ℕ) (f : Fault) (at : ℕ) : Type 0 where
-  pub scope : Scope
+  pub scope : DocumentScope
   pub so_far : List TermTriple
   pub front : List Spelled
   pub inside : List Spelled
@@ -92,7 +93,7 @@ Explains base error.Full source terms graph = IsOverfull base source terms graph
 Explains base error.Memory source terms graph = Unit {0}
 
 -- unless memory ran out, the table and the graph became these, and the base and the prefixes are those of the scope
-abbrev pub ReadsTo : Result Prefixes ReadError → Scope → List Term → List Triple → List Term → List Triple → Type 0
+abbrev pub ReadsTo : Result Prefixes ReadError → DocumentScope → List Term → List Triple → List Term → List Triple → Type 0
 ReadsTo (Ok p) v wanted_terms wanted_graph terms graph = AreLast p v × (terms ≡ wanted_terms) × (graph ≡ wanted_graph)
 ReadsTo (Err error.Memory) v wanted_terms wanted_graph terms graph = Unit {0}
 ReadsTo (Err error.NotUtf8) v wanted_terms wanted_graph terms graph = ⊥
@@ -104,7 +105,7 @@ ReadsTo (Err error.Full) v wanted_terms wanted_graph terms graph = ⊥
 
 -- what was read: the document that the bytes are, its triples in the table and the graph, and its base and prefixes at the end
 pub record IsRead (base source : List ℕ) (p : Prefixes) (terms : List Term) (graph : List Triple) (new_terms : List Term) (new_graph : List Triple) : Type 0 where
-  pub scope : Scope
+  pub scope : DocumentScope
   pub triples : List TermTriple
   pub document : IsDocument base source (scope, triples)
   pub loaded : Loads terms graph triples new_terms new_graph
@@ -113,12 +114,17 @@ pub record IsRead (base source : List ℕ) (p : Prefixes) (terms : List Term) (g
 -- with one base the bytes are one document at most, of whatever lengths and depth: one list of triples, and one base and the same prefixes
 -- at the end
 abbrev pub DocumentsAreOne : Type 0
-DocumentsAreOne = (base source : List ℕ) (x y : Scope × List TermTriple) → IsAnyDocument base source x → IsAnyDocument base source y → x ≡ y
+DocumentsAreOne = (base source : List ℕ) (x y : DocumentScope × List TermTriple) → IsAnyDocument base source x → IsAnyDocument base source y → x ≡ y
 
 -- so within the limits
 abbrev pub LimitedDocumentsAreOne : Type 0
-LimitedDocumentsAreOne = (base source : List ℕ) (x y : Scope × List TermTriple) → IsDocument base source x → IsDocument base source y → x ≡ y
+LimitedDocumentsAreOne = (base source : List ℕ) (x y : DocumentScope × List TermTriple) → IsDocument base source x → IsDocument base source y → x ≡ y
 
 -- what is a document within the limits is that document without them
 abbrev pub LimitedDocumentsAreDocuments : Type 0
-LimitedDocumentsAreDocuments = (base source : List ℕ) (x : Scope × List TermTriple) → IsDocument base source x → IsAnyDocument base source x
+LimitedDocumentsAreDocuments = (base source : List ℕ) (x : DocumentScope × List TermTriple) → IsDocument base source x → IsAnyDocument base source x
+
+-- under a base on one line each term of a document can stand on one line, and so are the base and the IRIs of the prefixes at its end
+abbrev pub DocumentsHaveLines : Type 0
+DocumentsHaveLines = (base source : List ℕ) (x : DocumentScope × List TermTriple) → IsOneLine base → IsDocument base source x
+    → AreOneLine x.0.base x.0.prefixes × ((t : TermTriple) → Contains x.1 t → HaveOneLine t)

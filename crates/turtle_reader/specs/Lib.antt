@@ -1,10 +1,7 @@
-pub mod Symbols
-pub mod Vocabulary
 pub mod States
 pub mod Meanings
 pub mod Reading
 pub mod Grammar
-pub mod Gives
 pub mod Documents
 pub mod Steps
 pub mod Causes

@@ -4,158 +4,74 @@ ghost use Rattle.std.specs.Prelude.{◌≡◌, true, string_bytes};
 ghost use Rattle.std.specs.Result.{IfOk};
 ghost use Rattle.std.specs.Option.{IsSome};
 ghost use Rattle.iri_resolve.specs.Reference.{scheme_of};
-ghost use Rattle.token_readers.specs.Ahead.{next_is};
-ghost use Rattle.token_readers.specs.Readers.{one, loop};
+ghost use Rattle.rdf_cursor.specs.Ahead.{next_is};
+ghost use Rattle.rdf_cursor.specs.Readers.{one, loop};
 ghost use Rattle.rdf_cursor.specs.declared.stops.Fault.TheVariants.{Syntax};
-ghost use Rattle.turtle_reader.specs.declared.symbols.Symbol.TheVariants.{AtPrefix, AtBase, SparqlPrefix, SparqlBase, Comma, Semicolon, CloseParenthesis};
+ghost use Rattle.rdf_cursor.specs.declared.symbols.Symbol.TheVariants.{AtPrefix, AtBase, SparqlPrefix, SparqlBase, Comma, Semicolon, CloseParenthesis};
 ghost use Rattle.rdf_cursor.specs.Stops.{Gives};
-ghost use Rattle.turtle_reader.specs.Gives.{ahead, source_in};
-ghost use Rattle.turtle_reader.specs.Meanings.{blank_of, string_of, tagged_of, shorthand_of};
-ghost use Rattle.turtle_reader.specs.Reading.{iri_ref, iri, datatyped, literal, resource, simple, verb, one_object, comma, objects, pair, semicolon, predicates, node, in_cell, member, next_member, cells, collection, object, subject, about_subject, listed, about_node, triples, ended, prefix_declaration, base_declaration, behind, statement};
+ghost use Rattle.rdf_cursor.specs.Cursors.{ahead, source_in};
+ghost use Rattle.rdf_cursor.specs.Lent.{spelled};
+ghost use Rattle.turtle_reader.specs.Meanings.{verbs};
+ghost use Rattle.turtle_reader.specs.Reading.{iri_ref, iri, literal, resource, simple, verb, one_object, comma, objects, pair, semicolon, predicates, node, in_cell, member, next_member, cells, collection, object, subject, about_subject, listed, about_node, triples, ended, prefix_declaration, base_declaration, behind, statement};
 ghost use Rattle.turtle_reader.specs.States.{scope_of, term_of, anonymous};
-ghost use Rattle.turtle_reader.specs.Symbols.{is_symbol, is_other, is_among, verbs, tags, shorthands};
+ghost use Rattle.rdf_cursor.specs.Symbols.{is_symbol, is_other, is_among};
 
 use crate::state::{Resource, State};
-use crate::symbols::Symbol;
-use crate::terms;
-use crate::tokens::Tokens;
-use rdf_cursor::{Fault, Stop};
-use rdf_terms::terms::{Literal, Name, Term};
+use rdf_cursor::{Cursor, Fault, Stop, Symbol};
+use rdf_lex::Token;
+use rdf_terms::terms::{FreshNumber, Literal, Name, Term};
 use rdf_terms::text::Text;
-
-const RDF_TYPE: &str = "http://www.w3.org/1999/02/22-rdf-syntax-ns#type";
+use rdf_terms::vocabulary::RDF_TYPE;
+use term_tokens::parts::prefix_of;
+use term_tokens::reading;
 
 /// How deep blank node property lists and collections nest at most.
 const MAX_DEPTH: u32 = 64;
 
+/// An IRI reference [18].
 #[tactic(auto, unfolding(crate::specs::Reading::iri_ref))]
-fn iri_ref(c: &mut Tokens<'_>, state: &State) -> Result<String, Stop>
+fn iri_ref(c: &mut Cursor<'_>, state: &State) -> Result<String, Stop>
     ensures gives { Gives string_bytes result (ahead c.new) (iri_ref true (scope_of state.now) (ahead c.old)) }
     ensures scheme { IfOk result (λ iri. IsSome (scheme_of (string_bytes iri))) }
     ensures source { source_in c.new ≡ source_in c.old }
 {
-    let Some(token) = c.peek() else {
-        return Err(Stop::Fault(Fault::Syntax));
-    };
-    let iri = terms::iri_ref(state, token)?;
-    c.advance();
-    Ok(iri)
+    reading::iri_ref(c, &state.names(), true)
 }
 
 /// An IRI [135s].
 #[tactic(auto, unfolding(crate::specs::Reading::iri))]
-fn iri(c: &mut Tokens<'_>, state: &State) -> Result<String, Stop>
+fn iri(c: &mut Cursor<'_>, state: &State) -> Result<String, Stop>
     ensures gives { Gives string_bytes result (ahead c.new) (iri true (scope_of state.now) (ahead c.old)) }
     ensures source { source_in c.new ≡ source_in c.old }
 {
-    let Some(token) = c.peek() else {
-        return Err(Stop::Fault(Fault::Syntax));
-    };
-    let iri = terms::iri(state, token)?;
-    c.advance();
-    Ok(iri)
+    reading::iri(c, &state.names(), true)
 }
 
-/// A labelled blank node [141s].
-fn blank(c: &mut Tokens<'_>, state: &State) -> Result<Resource, Stop>
-    ensures gives { Gives term_of result (ahead c.new) (one Syntax (blank_of true) (ahead c.old)) }
-    ensures source { source_in c.new ≡ source_in c.old }
+/// Whether a token begins a verb: `a` or an IRI.
+#[tactic(auto, unfolding(rdf_cursor::specs::Symbols::is_among))]
+fn is_verb(token: Token<'_>) -> bool
+    ensures { result ≡ is_among verbs (spelled token.entry) }
 {
-    let Some(token) = c.peek() else {
-        return Err(Stop::Fault(Fault::Syntax));
-    };
-    let blank = terms::blank(state.alloc, token)?;
-    c.advance();
-    Ok(blank)
+    let symbol = Symbol::of(token);
+    matches!(
+        symbol,
+        Symbol::A | Symbol::IriRef | Symbol::PnameNs | Symbol::PnameLn
+    )
 }
 
-/// The lexical form of a string [17].
-fn string(c: &mut Tokens<'_>, state: &State) -> Result<Text, Stop>
-    ensures gives { Gives (λ x. x) result (ahead c.new) (one Syntax (string_of true) (ahead c.old)) }
-    ensures source { source_in c.new ≡ source_in c.old }
-{
-    let Some(token) = c.peek() else {
-        return Err(Stop::Fault(Fault::Syntax));
-    };
-    let text = terms::string(state.alloc, token)?;
-    c.advance();
-    Ok(text)
-}
-
-/// `^^` and a datatype behind a lexical form.
-#[tactic(auto, unfolding(crate::specs::Reading::datatyped))]
-fn datatyped(c: &mut Tokens<'_>, state: &State, lex: Text) -> Result<Term, Stop>
-    ensures gives { Gives (λ x. x) result (ahead c.new) (datatyped true (scope_of state.now) lex (ahead c.old)) }
-    ensures source { source_in c.new ≡ source_in c.old }
-{
-    c.take(Symbol::Carets)?;
-    let Some(token) = c.peek() else {
-        return Err(Stop::Fault(Fault::Syntax));
-    };
-    let term = terms::typed(state, lex, token)?;
-    c.advance();
-    Ok(term)
-}
-
-/// A language tag behind a lexical form.
-fn tagged(c: &mut Tokens<'_>, state: &State, lex: Text) -> Result<Term, Stop>
-    ensures gives { Gives (λ x. x) result (ahead c.new) (one Syntax (tagged_of lex) (ahead c.old)) }
-    ensures source { source_in c.new ≡ source_in c.old }
-{
-    let Some(token) = c.peek() else {
-        return Err(Stop::Fault(Fault::Syntax));
-    };
-    let term = terms::tagged(state.alloc, lex, token)?;
-    c.advance();
-    Ok(term)
-}
-
-/// A number or a truth value.
-fn shorthand(c: &mut Tokens<'_>, state: &State) -> Result<Term, Stop>
-    ensures gives { Gives (λ x. x) result (ahead c.new) (one Syntax (shorthand_of true) (ahead c.old)) }
-    ensures source { source_in c.new ≡ source_in c.old }
-{
-    let Some(token) = c.peek() else {
-        return Err(Stop::Fault(Fault::Syntax));
-    };
-    let term = terms::shorthand(state.alloc, token)?;
-    c.advance();
-    Ok(term)
-}
-
-#[tactic(auto, unfolding(crate::specs::Symbols::is_among))]
-fn at_tag(c: &Tokens<'_>) -> bool
-    ensures { result ≡ next_is (is_among tags) (ahead c.now) }
-{
-    match c.peek() {
-        Some(token) => terms::is_tag(token),
-        None => false,
-    }
-}
-
-#[tactic(auto, unfolding(crate::specs::Symbols::is_among))]
-fn at_shorthand(c: &Tokens<'_>) -> bool
-    ensures { result ≡ next_is (is_among shorthands) (ahead c.now) }
-{
-    match c.peek() {
-        Some(token) => terms::is_shorthand(token),
-        None => false,
-    }
-}
-
-#[tactic(auto, unfolding(crate::specs::Symbols::is_among))]
-fn at_verb(c: &Tokens<'_>) -> bool
+#[tactic(auto, unfolding(rdf_cursor::specs::Symbols::is_among))]
+fn at_verb(c: &Cursor<'_>) -> bool
     ensures { result ≡ next_is (is_among verbs) (ahead c.now) }
 {
     match c.peek() {
-        Some(token) => terms::is_verb(token),
+        Some(token) => is_verb(token),
         None => false,
     }
 }
 
 /// Whether a token is next that does not close a collection.
-#[tactic(auto, unfolding(crate::specs::Symbols::is_other))]
-fn at_member(c: &Tokens<'_>) -> bool
+#[tactic(auto, unfolding(rdf_cursor::specs::Symbols::is_other))]
+fn at_member(c: &Cursor<'_>) -> bool
     ensures { result ≡ next_is (is_other CloseParenthesis) (ahead c.now) }
 {
     c.has_next() && !c.is_at(Symbol::CloseParenthesis)
@@ -163,15 +79,15 @@ fn at_member(c: &Tokens<'_>) -> bool
 
 /// A literal that begins with a string [128s].
 #[tactic(auto, unfolding(crate::specs::Reading::literal))]
-fn literal(c: &mut Tokens<'_>, state: &State) -> Result<Term, Stop>
+fn literal(c: &mut Cursor<'_>, state: &State) -> Result<Term, Stop>
     ensures gives { Gives (λ x. x) result (ahead c.new) (literal true (scope_of state.now) (ahead c.old)) }
     ensures source { source_in c.new ≡ source_in c.old }
 {
-    let lex = string(c, state)?;
-    if at_tag(c) {
-        tagged(c, state, lex)
+    let lex = reading::string(c, state.alloc, true)?;
+    if reading::at_tag(c) {
+        reading::tagged(c, state.alloc, lex)
     } else if c.is_at(Symbol::Carets) {
-        datatyped(c, state, lex)
+        reading::datatyped(c, &state.names(), lex, true)
     } else {
         Ok(Term::Lit(Literal::plain(state.alloc, lex)?))
     }
@@ -179,12 +95,13 @@ fn literal(c: &mut Tokens<'_>, state: &State) -> Result<Term, Stop>
 
 /// An IRI or a labelled blank node.
 #[tactic(auto, unfolding(crate::specs::Reading::resource))]
-fn resource(c: &mut Tokens<'_>, state: &State) -> Result<Resource, Stop>
+fn resource(c: &mut Cursor<'_>, state: &State) -> Result<Resource, Stop>
     ensures gives { Gives term_of result (ahead c.new) (resource true (scope_of state.now) (ahead c.old)) }
     ensures source { source_in c.new ≡ source_in c.old }
 {
     if c.is_at(Symbol::BlankLabel) {
-        blank(c, state)
+        let name = reading::blank(c, state.alloc, true)?;
+        Ok(Resource::Blank(name))
     } else {
         let iri = iri(c, state)?;
         Ok(Resource::Iri(Text::from_string(iri)))
@@ -193,14 +110,14 @@ fn resource(c: &mut Tokens<'_>, state: &State) -> Result<Resource, Stop>
 
 /// A term without brackets.
 #[tactic(auto, unfolding(crate::specs::Reading::simple))]
-fn simple(c: &mut Tokens<'_>, state: &State) -> Result<Term, Stop>
+fn simple(c: &mut Cursor<'_>, state: &State) -> Result<Term, Stop>
     ensures gives { Gives (λ x. x) result (ahead c.new) (simple true (scope_of state.now) (ahead c.old)) }
     ensures source { source_in c.new ≡ source_in c.old }
 {
     if c.is_at(Symbol::Str) {
         literal(c, state)
-    } else if at_shorthand(c) {
-        shorthand(c, state)
+    } else if reading::at_shorthand(c) {
+        reading::shorthand(c, state.alloc, true)
     } else {
         let resource = resource(c, state)?;
         Ok(resource.into_term())
@@ -209,7 +126,7 @@ fn simple(c: &mut Tokens<'_>, state: &State) -> Result<Term, Stop>
 
 /// A verb [9].
 #[tactic(auto, unfolding(crate::specs::Reading::verb))]
-fn verb(c: &mut Tokens<'_>, state: &State) -> Result<String, Stop>
+fn verb(c: &mut Cursor<'_>, state: &State) -> Result<String, Stop>
     ensures gives { Gives string_bytes result (ahead c.new) (verb true (scope_of state.now) (ahead c.old)) }
     ensures source { source_in c.new ≡ source_in c.old }
 {
@@ -222,7 +139,7 @@ fn verb(c: &mut Tokens<'_>, state: &State) -> Result<String, Stop>
 }
 
 /// An anonymous node.
-fn anonymous_node(number: u32) -> Resource
+fn anonymous_node(number: FreshNumber) -> Resource
     ensures { term_of result ≡ anonymous number }
 {
     Resource::Blank(Name::Fresh(number))
@@ -232,7 +149,7 @@ fn anonymous_node(number: u32) -> Resource
 #[cycle(grammar)]
 #[tactic(auto, unfolding(crate::specs::Reading::one_object))]
 fn one_object(
-    c: &mut Tokens<'_>,
+    c: &mut Cursor<'_>,
     state: &mut State,
     depth: u32,
     subject: &Resource,
@@ -250,7 +167,7 @@ fn one_object(
 #[cycle(grammar)]
 #[tactic(auto, unfolding(crate::specs::Reading::comma))]
 fn comma(
-    c: &mut Tokens<'_>,
+    c: &mut Cursor<'_>,
     state: &mut State,
     depth: u32,
     subject: &Resource,
@@ -266,7 +183,7 @@ fn comma(
 /// All further objects.
 #[cycle(grammar)]
 fn commas(
-    c: &mut Tokens<'_>,
+    c: &mut Cursor<'_>,
     state: &mut State,
     depth: u32,
     subject: &Resource,
@@ -284,7 +201,7 @@ fn commas(
 /// A verb and its objects [8].
 #[cycle(grammar)]
 #[tactic(auto, unfolding(crate::specs::Reading::pair, crate::specs::Reading::objects))]
-fn pair(c: &mut Tokens<'_>, state: &mut State, depth: u32, subject: &Resource) -> Result<(), Stop>
+fn pair(c: &mut Cursor<'_>, state: &mut State, depth: u32, subject: &Resource) -> Result<(), Stop>
     ensures gives { Gives (λ x. scope_of state.new) result (ahead c.new) (pair true (object true depth) (term_of subject.now) (scope_of state.old) (ahead c.old)) }
     ensures source { source_in c.new ≡ source_in c.old }
 {
@@ -297,7 +214,7 @@ fn pair(c: &mut Tokens<'_>, state: &mut State, depth: u32, subject: &Resource) -
 #[cycle(grammar)]
 #[tactic(auto, unfolding(crate::specs::Reading::semicolon))]
 fn semicolon(
-    c: &mut Tokens<'_>,
+    c: &mut Cursor<'_>,
     state: &mut State,
     depth: u32,
     subject: &Resource,
@@ -316,7 +233,7 @@ fn semicolon(
 /// All that follows by semicolons.
 #[cycle(grammar)]
 fn semicolons(
-    c: &mut Tokens<'_>,
+    c: &mut Cursor<'_>,
     state: &mut State,
     depth: u32,
     subject: &Resource,
@@ -334,7 +251,7 @@ fn semicolons(
 #[cycle(grammar)]
 #[tactic(auto, unfolding(crate::specs::Reading::predicates))]
 fn predicates(
-    c: &mut Tokens<'_>,
+    c: &mut Cursor<'_>,
     state: &mut State,
     depth: u32,
     subject: &Resource,
@@ -349,7 +266,7 @@ fn predicates(
 /// An anonymous node in brackets [14], whose number is that of its opening bracket.
 #[cycle(grammar)]
 #[tactic(auto, unfolding(crate::specs::Reading::node, crate::specs::Reading::next_node))]
-fn node(c: &mut Tokens<'_>, state: &mut State, depth: u32) -> Result<u32, Stop>
+fn node(c: &mut Cursor<'_>, state: &mut State, depth: u32) -> Result<FreshNumber, Stop>
     ensures gives { Gives (λ n. (anonymous n, scope_of state.new)) result (ahead c.new) (node true (object true depth) (scope_of state.old) (ahead c.old)) }
     ensures source { source_in c.new ≡ source_in c.old }
 {
@@ -367,7 +284,12 @@ fn node(c: &mut Tokens<'_>, state: &mut State, depth: u32) -> Result<u32, Stop>
 /// A member of a collection, in its cell.
 #[cycle(grammar)]
 #[tactic(auto, unfolding(crate::specs::Reading::in_cell))]
-fn in_cell(c: &mut Tokens<'_>, state: &mut State, depth: u32, cell: u32) -> Result<u32, Stop>
+fn in_cell(
+    c: &mut Cursor<'_>,
+    state: &mut State,
+    depth: u32,
+    cell: FreshNumber,
+) -> Result<FreshNumber, Stop>
     ensures gives { Gives (λ n. (anonymous n, scope_of state.new)) result (ahead c.new) (in_cell true (object true depth) (anonymous cell) (scope_of state.old) (ahead c.old)) }
     ensures source { source_in c.new ≡ source_in c.old }
 {
@@ -379,7 +301,7 @@ fn in_cell(c: &mut Tokens<'_>, state: &mut State, depth: u32, cell: u32) -> Resu
 /// The first member of a collection, whose cell takes its number before it.
 #[cycle(grammar)]
 #[tactic(auto, unfolding(crate::specs::Reading::member, crate::specs::Reading::next_node))]
-fn member(c: &mut Tokens<'_>, state: &mut State, depth: u32) -> Result<u32, Stop>
+fn member(c: &mut Cursor<'_>, state: &mut State, depth: u32) -> Result<FreshNumber, Stop>
     ensures gives { Gives (λ n. (anonymous n, scope_of state.new)) result (ahead c.new) (member true (object true depth) (scope_of state.old) (ahead c.old)) }
     ensures source { source_in c.new ≡ source_in c.old }
 {
@@ -390,7 +312,12 @@ fn member(c: &mut Tokens<'_>, state: &mut State, depth: u32) -> Result<u32, Stop
 /// A further member, whose cell is the rest of the last one.
 #[cycle(grammar)]
 #[tactic(auto, unfolding(crate::specs::Reading::next_member, crate::specs::Reading::next_node))]
-fn next_member(c: &mut Tokens<'_>, state: &mut State, depth: u32, last: u32) -> Result<u32, Stop>
+fn next_member(
+    c: &mut Cursor<'_>,
+    state: &mut State,
+    depth: u32,
+    last: FreshNumber,
+) -> Result<FreshNumber, Stop>
     ensures gives { Gives (λ n. (anonymous n, scope_of state.new)) result (ahead c.new) (next_member true (object true depth) (anonymous last, scope_of state.old) (ahead c.old)) }
     ensures source { source_in c.new ≡ source_in c.old }
 {
@@ -401,7 +328,12 @@ fn next_member(c: &mut Tokens<'_>, state: &mut State, depth: u32, last: u32) -> 
 
 /// All further members; the answer is the last cell.
 #[cycle(grammar)]
-fn members(c: &mut Tokens<'_>, state: &mut State, depth: u32, first: u32) -> Result<u32, Stop>
+fn members(
+    c: &mut Cursor<'_>,
+    state: &mut State,
+    depth: u32,
+    first: FreshNumber,
+) -> Result<FreshNumber, Stop>
     ensures gives { Gives (λ n. (anonymous n, scope_of state.new)) result (ahead c.new) (loop (is_other CloseParenthesis) (next_member true (object true depth)) (anonymous first, scope_of state.old) (ahead c.old)) }
     ensures source { source_in c.new ≡ source_in c.old }
 {
@@ -415,7 +347,7 @@ fn members(c: &mut Tokens<'_>, state: &mut State, depth: u32, first: u32) -> Res
 /// The members of a collection that has some; the answer is the first cell.
 #[cycle(grammar)]
 #[tactic(auto, unfolding(crate::specs::Reading::cells))]
-fn cells(c: &mut Tokens<'_>, state: &mut State, depth: u32) -> Result<u32, Stop>
+fn cells(c: &mut Cursor<'_>, state: &mut State, depth: u32) -> Result<FreshNumber, Stop>
     ensures gives { Gives (λ n. (anonymous n, scope_of state.new)) result (ahead c.new) (cells true (object true depth) (scope_of state.old) (ahead c.old)) }
     ensures source { source_in c.new ≡ source_in c.old }
 {
@@ -430,7 +362,7 @@ fn cells(c: &mut Tokens<'_>, state: &mut State, depth: u32) -> Result<u32, Stop>
 /// A collection [15].
 #[cycle(grammar)]
 #[tactic(auto, unfolding(crate::specs::Reading::collection))]
-fn collection(c: &mut Tokens<'_>, state: &mut State, depth: u32) -> Result<Resource, Stop>
+fn collection(c: &mut Cursor<'_>, state: &mut State, depth: u32) -> Result<Resource, Stop>
     ensures gives { Gives (λ x. (term_of x, scope_of state.new)) result (ahead c.new) (collection true (object true depth) (scope_of state.old) (ahead c.old)) }
     ensures source { source_in c.new ≡ source_in c.old }
 {
@@ -447,7 +379,7 @@ fn collection(c: &mut Tokens<'_>, state: &mut State, depth: u32) -> Result<Resou
 /// An object [12], in which brackets nest so deep at most.
 #[cycle(grammar)]
 #[tactic(auto, unfolding(crate::specs::Reading::object))]
-fn object(c: &mut Tokens<'_>, state: &mut State, depth: u32) -> Result<Term, Stop>
+fn object(c: &mut Cursor<'_>, state: &mut State, depth: u32) -> Result<Term, Stop>
     ensures gives { Gives (λ x. (x, scope_of state.new)) result (ahead c.new) (object true depth (scope_of state.old) (ahead c.old)) }
     ensures source { source_in c.new ≡ source_in c.old }
 {
@@ -470,7 +402,7 @@ fn object(c: &mut Tokens<'_>, state: &mut State, depth: u32) -> Result<Term, Sto
 
 /// A subject [10], but for anonymous nodes.
 #[tactic(auto, unfolding(crate::specs::Reading::subject))]
-fn subject(c: &mut Tokens<'_>, state: &mut State) -> Result<Resource, Stop>
+fn subject(c: &mut Cursor<'_>, state: &mut State) -> Result<Resource, Stop>
     ensures gives { Gives (λ x. (term_of x, scope_of state.new)) result (ahead c.new) (subject true 63 (scope_of state.old) (ahead c.old)) }
     ensures source { source_in c.new ≡ source_in c.old }
 {
@@ -483,7 +415,7 @@ fn subject(c: &mut Tokens<'_>, state: &mut State) -> Result<Resource, Stop>
 
 /// A subject and its verbs and objects.
 #[tactic(auto, unfolding(crate::specs::Reading::about_subject))]
-fn about_subject(c: &mut Tokens<'_>, state: &mut State) -> Result<(), Stop>
+fn about_subject(c: &mut Cursor<'_>, state: &mut State) -> Result<(), Stop>
     ensures gives { Gives (λ x. scope_of state.new) result (ahead c.new) (about_subject true 63 (scope_of state.old) (ahead c.old)) }
     ensures source { source_in c.new ≡ source_in c.old }
 {
@@ -493,7 +425,7 @@ fn about_subject(c: &mut Tokens<'_>, state: &mut State) -> Result<(), Stop>
 
 /// The verbs and objects in the brackets of an anonymous node, and further ones behind them.
 #[tactic(auto, unfolding(crate::specs::Reading::listed))]
-fn listed(c: &mut Tokens<'_>, state: &mut State, subject: &Resource) -> Result<(), Stop>
+fn listed(c: &mut Cursor<'_>, state: &mut State, subject: &Resource) -> Result<(), Stop>
     ensures gives { Gives (λ x. scope_of state.new) result (ahead c.new) (listed true 63 (term_of subject.now) (scope_of state.old) (ahead c.old)) }
     ensures source { source_in c.new ≡ source_in c.old }
 {
@@ -508,7 +440,7 @@ fn listed(c: &mut Tokens<'_>, state: &mut State, subject: &Resource) -> Result<(
 
 /// Triples that begin with an anonymous node in brackets.
 #[tactic(auto, unfolding(crate::specs::Reading::about_node, crate::specs::Reading::next_node))]
-fn about_node(c: &mut Tokens<'_>, state: &mut State) -> Result<(), Stop>
+fn about_node(c: &mut Cursor<'_>, state: &mut State) -> Result<(), Stop>
     ensures gives { Gives (λ x. scope_of state.new) result (ahead c.new) (about_node true 63 (scope_of state.old) (ahead c.old)) }
     ensures source { source_in c.new ≡ source_in c.old }
 {
@@ -525,7 +457,7 @@ fn about_node(c: &mut Tokens<'_>, state: &mut State) -> Result<(), Stop>
 
 /// Triples [6] and their dot.
 #[tactic(auto, unfolding(crate::specs::Reading::triples, crate::specs::Reading::ended))]
-fn ended_triples(c: &mut Tokens<'_>, state: &mut State) -> Result<(), Stop>
+fn ended_triples(c: &mut Cursor<'_>, state: &mut State) -> Result<(), Stop>
     ensures gives { Gives (λ x. scope_of state.new) result (ahead c.new) (ended true (triples true 63) (scope_of state.old) (ahead c.old)) }
     ensures source { source_in c.new ≡ source_in c.old }
 {
@@ -536,7 +468,7 @@ fn ended_triples(c: &mut Tokens<'_>, state: &mut State) -> Result<(), Stop>
 
 /// Triples [6].
 #[tactic(auto, unfolding(crate::specs::Reading::triples))]
-fn triples(c: &mut Tokens<'_>, state: &mut State) -> Result<(), Stop>
+fn triples(c: &mut Cursor<'_>, state: &mut State) -> Result<(), Stop>
     ensures gives { Gives (λ x. scope_of state.new) result (ahead c.new) (triples true 63 (scope_of state.old) (ahead c.old)) }
     ensures source { source_in c.new ≡ source_in c.old }
 {
@@ -549,19 +481,19 @@ fn triples(c: &mut Tokens<'_>, state: &mut State) -> Result<(), Stop>
 
 /// A prefix and its IRI.
 #[tactic(auto, unfolding(crate::specs::Reading::prefix_declaration))]
-fn prefix_declaration(c: &mut Tokens<'_>, state: &mut State) -> Result<(), Stop>
+fn prefix_declaration(c: &mut Cursor<'_>, state: &mut State) -> Result<(), Stop>
     ensures gives { Gives (λ x. scope_of state.new) result (ahead c.new) (prefix_declaration true (scope_of state.old) (ahead c.old)) }
     ensures source { source_in c.new ≡ source_in c.old }
 {
     let token = c.take(Symbol::PnameNs)?;
     let iri = iri_ref(c, state)?;
-    state.declare(terms::before_colon(token.text), iri.as_str())?;
+    state.declare(prefix_of(token), iri.as_str())?;
     Ok(())
 }
 
 /// An IRI as the base.
 #[tactic(auto, unfolding(crate::specs::Reading::base_declaration))]
-fn base_declaration(c: &mut Tokens<'_>, state: &mut State) -> Result<(), Stop>
+fn base_declaration(c: &mut Cursor<'_>, state: &mut State) -> Result<(), Stop>
     ensures gives { Gives (λ x. scope_of state.new) result (ahead c.new) (base_declaration true (scope_of state.old) (ahead c.old)) }
     ensures source { source_in c.new ≡ source_in c.old }
 {
@@ -572,7 +504,7 @@ fn base_declaration(c: &mut Tokens<'_>, state: &mut State) -> Result<(), Stop>
 
 /// `@prefix` and its declaration [4].
 #[tactic(auto, unfolding(crate::specs::Reading::behind, crate::specs::Reading::ended))]
-fn prefix_id(c: &mut Tokens<'_>, state: &mut State) -> Result<(), Stop>
+fn prefix_id(c: &mut Cursor<'_>, state: &mut State) -> Result<(), Stop>
     ensures gives { Gives (λ x. scope_of state.new) result (ahead c.new) (behind true AtPrefix (ended true (prefix_declaration true)) (scope_of state.old) (ahead c.old)) }
     ensures source { source_in c.new ≡ source_in c.old }
 {
@@ -584,7 +516,7 @@ fn prefix_id(c: &mut Tokens<'_>, state: &mut State) -> Result<(), Stop>
 
 /// `@base` and its declaration [5].
 #[tactic(auto, unfolding(crate::specs::Reading::behind, crate::specs::Reading::ended))]
-fn base(c: &mut Tokens<'_>, state: &mut State) -> Result<(), Stop>
+fn base(c: &mut Cursor<'_>, state: &mut State) -> Result<(), Stop>
     ensures gives { Gives (λ x. scope_of state.new) result (ahead c.new) (behind true AtBase (ended true (base_declaration true)) (scope_of state.old) (ahead c.old)) }
     ensures source { source_in c.new ≡ source_in c.old }
 {
@@ -596,7 +528,7 @@ fn base(c: &mut Tokens<'_>, state: &mut State) -> Result<(), Stop>
 
 /// `PREFIX` and its declaration [6s].
 #[tactic(auto, unfolding(crate::specs::Reading::behind))]
-fn sparql_prefix(c: &mut Tokens<'_>, state: &mut State) -> Result<(), Stop>
+fn sparql_prefix(c: &mut Cursor<'_>, state: &mut State) -> Result<(), Stop>
     ensures gives { Gives (λ x. scope_of state.new) result (ahead c.new) (behind true SparqlPrefix (prefix_declaration true) (scope_of state.old) (ahead c.old)) }
     ensures source { source_in c.new ≡ source_in c.old }
 {
@@ -606,7 +538,7 @@ fn sparql_prefix(c: &mut Tokens<'_>, state: &mut State) -> Result<(), Stop>
 
 /// `BASE` and its declaration [5s].
 #[tactic(auto, unfolding(crate::specs::Reading::behind))]
-fn sparql_base(c: &mut Tokens<'_>, state: &mut State) -> Result<(), Stop>
+fn sparql_base(c: &mut Cursor<'_>, state: &mut State) -> Result<(), Stop>
     ensures gives { Gives (λ x. scope_of state.new) result (ahead c.new) (behind true SparqlBase (base_declaration true) (scope_of state.old) (ahead c.old)) }
     ensures source { source_in c.new ≡ source_in c.old }
 {
@@ -616,7 +548,7 @@ fn sparql_base(c: &mut Tokens<'_>, state: &mut State) -> Result<(), Stop>
 
 /// A statement [2].
 #[tactic(auto, unfolding(crate::specs::Reading::statement))]
-pub fn statement(c: &mut Tokens<'_>, state: &mut State) -> Result<(), Stop>
+pub fn statement(c: &mut Cursor<'_>, state: &mut State) -> Result<(), Stop>
     ensures gives { Gives (λ x. scope_of state.new) result (ahead c.new) (statement true 63 (scope_of state.old) (ahead c.old)) }
     ensures source { source_in c.new ≡ source_in c.old }
 {

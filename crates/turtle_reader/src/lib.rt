@@ -5,11 +5,6 @@ mod grammar;
 mod laws;
 mod reader;
 mod state;
-mod symbols;
-mod terms;
-#[cfg(test)]
-mod tests;
-mod tokens;
 
-pub use laws::documents_are_one;
+pub use laws::{documents_are_one, documents_have_lines};
 pub use reader::read;

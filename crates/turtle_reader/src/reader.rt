@@ -4,79 +4,29 @@ ghost use Rattle.std.specs.Prelude.{◌≡◌, ◌↔◌, ◌++◌, List, IfOk, 
 ghost use Rattle.std.specs.Str.{IsUtf8};
 ghost use Rattle.iri_resolve.specs.Reference.{scheme_of};
 ghost use Rattle.rdf_lex.specs.Prefixes.{base_of};
-ghost use Rattle.rdf_terms.specs.Lists.{AreDistinct};
+ghost use Rattle.lists.specs.Distinct.{AreDistinct};
 ghost use Rattle.rdf_terms.specs.declared.terms.Term.{Term};
 ghost use Rattle.rdf_terms.specs.declared.terms.Triple.{Triple};
-ghost use Rattle.graph_loading.specs.declared.triples.TermTriple.{TermTriple};
-ghost use Rattle.graph_loading.specs.Loading.{Loads, IsWithin};
+ghost use Rattle.graph_index.specs.declared.loading.TermTriple.{TermTriple};
+ghost use Rattle.graph_index.specs.Loading.{Loads, IsWithin};
 ghost use Rattle.turtle_reader.specs.Documents.{IsDocument, IsRead, ReadsTo, Explains};
-ghost use Rattle.turtle_reader.specs.Gives.{ahead, source_in};
-ghost use Rattle.turtle_reader.specs.States.{Scope, scope_of};
-ghost use Rattle.turtle_reader.specs.Steps.{from_stop, from_load, error_of, LoadsAll, Steps, Ends};
+ghost use Rattle.rdf_cursor.specs.Cursors.{ahead, source_in};
+ghost use Rattle.turtle_reader.specs.States.{DocumentScope, scope_of};
+ghost use Rattle.turtle_reader.specs.Steps.{Steps, Ends};
 
 use crate::grammar::statement;
 use crate::state::State;
-use crate::tokens::Tokens;
+use data_loading::{Refusal, error, load_all};
 use graph_index::graph::Graph;
 use graph_index::read_error::ReadError;
-use graph_loading::{LoadError, TermTriple, load};
-use rdf_cursor::{Fault, Stop};
-use rdf_lex::Prefixes;
+use rdf_cursor::Cursor;
+use rdf_lex::{Mode, Prefixes};
 use rdf_terms::table::TermTable;
 use std::alloc::Global;
 
-/// Why a text was not read.
-#[derive(Debug, Drop)]
-pub enum Refusal {
-    /// Memory ran out.
-    Memory,
-    /// A triple finds no room.
-    Full,
-    /// A fault at the next token.
-    Fault(Fault),
-}
-
-impl From<Stop> for Refusal {
-    ghost from_gives = { λ s r. r ≡ from_stop s };
-
-    fn from(stop: Stop) -> Refusal {
-        match stop {
-            Stop::Memory => Refusal::Memory,
-            Stop::Fault(fault) => Refusal::Fault(fault),
-        }
-    }
-}
-
-impl From<LoadError> for Refusal {
-    ghost from_gives = { λ e r. r ≡ from_load e };
-
-    fn from(error: LoadError) -> Refusal {
-        match error {
-            LoadError::Full => Refusal::Full,
-            LoadError::Memory => Refusal::Memory,
-        }
-    }
-}
-
-/// Loads triples, one after the other.
-fn load_all(
-    terms: &mut TermTable,
-    graph: &mut Graph,
-    triples: Vec<TermTriple>,
-) -> Result<(), LoadError>
-    ensures loads { LoadsAll result terms.old graph.old.triples triples.items terms.new graph.new.triples }
-    ensures grown { (more : List Term) × (terms.new ≡ terms.old ++ more) }
-    ensures appended { (more : List Triple) × (graph.new.triples ≡ graph.old.triples ++ more) }
-{
-    for triple in triples {
-        load(terms, graph, triple)?;
-    }
-    Ok(())
-}
-
 /// Reads one statement, and loads its triples.
 fn load_statement(
-    c: &mut Tokens<'_>,
+    c: &mut Cursor<'_>,
     state: &mut State,
     terms: &mut TermTable,
     graph: &mut Graph,
@@ -94,7 +44,7 @@ fn load_statement(
 
 /// Reads all statements, and loads their triples.
 fn load_statements(
-    c: &mut Tokens<'_>,
+    c: &mut Cursor<'_>,
     state: &mut State,
     terms: &mut TermTable,
     graph: &mut Graph,
@@ -111,21 +61,6 @@ fn load_statements(
     Ok(())
 }
 
-/// The answer for a refusal at a place.
-fn error(refusal: Refusal, at: u64) -> ReadError
-    ensures { result ≡ error_of refusal at }
-{
-    match refusal {
-        Refusal::Memory => ReadError::Memory,
-        Refusal::Full => ReadError::Full,
-        Refusal::Fault(Fault::Syntax) => ReadError::Syntax(at),
-        Refusal::Fault(Fault::Deep) => ReadError::Deep,
-        Refusal::Fault(Fault::Long) => ReadError::Long(at),
-        Refusal::Fault(Fault::Prefix) => ReadError::Prefix(at),
-        Refusal::Fault(Fault::Full) => ReadError::Full,
-    }
-}
-
 /// Reads a text; the triples of one that is refused are taken back.
 fn read_text(
     alloc: Global,
@@ -138,7 +73,7 @@ fn read_text(
     requires distinct { AreDistinct terms.old }
     ensures found { IfOk result (λ p. IsRead base.now text.now p terms.old graph.old.triples terms.new graph.new.triples) }
     ensures scheme { IfOk result (λ p. IsSome (scheme_of (base_of p))) }
-    ensures complete { (v : Scope) (ts : List TermTriple) (new_terms : List Term) (new_graph : List Triple) → IsDocument base.now text.now (v, ts) → Loads terms.old graph.old.triples ts new_terms new_graph → IsWithin new_terms new_graph → ReadsTo result v new_terms new_graph terms.new graph.new.triples }
+    ensures complete { (v : DocumentScope) (ts : List TermTriple) (new_terms : List Term) (new_graph : List Triple) → IsDocument base.now text.now (v, ts) → Loads terms.old graph.old.triples ts new_terms new_graph → IsWithin new_terms new_graph → ReadsTo result v new_terms new_graph terms.new graph.new.triples }
     ensures refused { IfErr result (λ e. Explains base.now e text.now terms.old graph.old.triples) }
     ensures kept { OnErr result (graph.new.triples ≡ graph.old.triples) }
     ensures grown { (more : List Term) × (terms.new ≡ terms.old ++ more) }
@@ -147,7 +82,7 @@ fn read_text(
     let Ok(mut state) = State::new(alloc, base) else {
         return Err(ReadError::Memory);
     };
-    let mut c = Tokens::new(text);
+    let mut c = Cursor::new(text, Mode::Turtle);
     match load_statements(&mut c, &mut state, terms, graph) {
         Ok(()) => Ok(state.into_prefixes()),
         Err(refusal) => {
@@ -180,7 +115,7 @@ pub fn read(
     ensures scheme { IfOk result (λ p. IsSome (scheme_of (base_of p))) }
 
     // What the bytes are within the limits is read.
-    ensures complete { (v : Scope) (ts : List TermTriple) (new_terms : List Term) (new_graph : List Triple) → IsDocument base.now source.now (v, ts) → Loads terms.old graph.old.triples ts new_terms new_graph → IsWithin new_terms new_graph → ReadsTo result v new_terms new_graph terms.new graph.new.triples }
+    ensures complete { (v : DocumentScope) (ts : List TermTriple) (new_terms : List Term) (new_graph : List Triple) → IsDocument base.now source.now (v, ts) → Loads terms.old graph.old.triples ts new_terms new_graph → IsWithin new_terms new_graph → ReadsTo result v new_terms new_graph terms.new graph.new.triples }
 
     // What is refused has its cause in the bytes.
     ensures refused { IfErr result (λ e. Explains base.now e source.now terms.old graph.old.triples) }

@@ -1,22 +1,18 @@
 //! What a statement is read with.
 
-ghost use Rattle.std.specs.Prelude.{◌≡◌, IfOk, OnOk, IsSome};
+ghost use Rattle.std.specs.Prelude.{◌≡◌, ◌≤◌, IfOk, OnOk, IsSome};
 ghost use Rattle.iri_resolve.specs.Reference.{scheme_of};
 ghost use Rattle.rdf_lex.specs.Prefixes.{base_of};
 
-use graph_loading::TermTriple;
+use graph_index::loading::TermTriple;
 use rdf_cursor::{Fault, Stop};
 use rdf_lex::Prefixes;
-use rdf_terms::terms::{Name, Term};
+use rdf_terms::terms::{FreshNumber, Name, Term};
 use rdf_terms::text::Text;
+use rdf_terms::vocabulary::{RDF_FIRST, RDF_NIL, RDF_REST};
 use std::alloc::{AllocError, Global};
 use std::mem;
-
-const RDF_FIRST: &str = "http://www.w3.org/1999/02/22-rdf-syntax-ns#first";
-
-const RDF_REST: &str = "http://www.w3.org/1999/02/22-rdf-syntax-ns#rest";
-
-const RDF_NIL: &str = "http://www.w3.org/1999/02/22-rdf-syntax-ns#nil";
+use term_tokens::Names;
 
 /// What a triple may be about: an IRI or a blank node (RDF 1.1 Concepts, section 3.1).
 #[derive(Debug, Drop)]
@@ -46,10 +42,7 @@ impl Resource {
     {
         match self {
             Resource::Iri(iri) => Ok(Term::Iri(iri.try_clone(alloc)?)),
-            Resource::Blank(Name::Label(label)) => {
-                Ok(Term::Blank(Name::Label(label.try_clone(alloc)?)))
-            }
-            Resource::Blank(Name::Fresh(number)) => Ok(Term::Blank(Name::Fresh(*number))),
+            Resource::Blank(name) => Ok(Term::Blank(name.try_clone(alloc)?)),
         }
     }
 }
@@ -62,16 +55,19 @@ pub struct State {
     pub prefixes: Prefixes,
     pub next: u64,
     pub triples: Vec<TermTriple>,
+    ghost from_one: { 1 ≤ next },
     ghost absolute: { IsSome (scheme_of (base_of prefixes)) },
 }
 
 impl State {
     ghost use Rattle.std.specs.Prelude.{true};
-    ghost use Rattle.turtle_reader.specs.Gives.{Answers};
+    ghost use Rattle.rdf_cursor.specs.Stops.{Answers};
     ghost use Rattle.turtle_reader.specs.Meanings.{numbered};
-    ghost use Rattle.turtle_reader.specs.States.{anonymous, scope_of, term_of, iri_term, added, begun, declared, rebased, start};
+    ghost use Rattle.turtle_reader.specs.States.{anonymous, names_in, scope_of, term_of, added, begun, declared, rebased, start};
+    ghost use Rattle.term_tokens.specs.Terms.{iri_term};
     ghost use Rattle.turtle_reader.specs.Documents.{AreLast};
-    ghost use Rattle.turtle_reader.specs.Vocabulary.{rdf_first, rdf_rest, rdf_nil};
+    ghost use Rattle.term_tokens.specs.Scopes.{scope_in};
+    ghost use Rattle.rdf_terms.specs.Vocabulary.{rdf_first, rdf_rest, rdf_nil};
 
     /// The state before the first statement of a document with this base, which has a scheme.
     pub fn new(alloc: Global, base: &str) -> Result<State, AllocError>
@@ -84,6 +80,16 @@ impl State {
             next: 1,
             triples: Vec::new(alloc),
         })
+    }
+
+    /// The base and the prefixes, lent.
+    pub fn names(&self) -> Names<'_>
+        ensures { scope_in result ≡ names_in (scope_of self.now) }
+    {
+        Names {
+            alloc: self.alloc,
+            prefixes: &self.prefixes,
+        }
     }
 
     /// Lets a prefix stand for an IRI from here on.
@@ -120,14 +126,14 @@ impl State {
     }
 
     /// Adds the triple of a cell of a collection and its member (RDF 1.1 Turtle, section 2.8).
-    pub fn add_first(&mut self, cell: u32, member: Term) -> Result<(), AllocError>
+    pub fn add_first(&mut self, cell: FreshNumber, member: Term) -> Result<(), AllocError>
         ensures { OnOk result (scope_of self.new ≡ added (anonymous cell) rdf_first member (scope_of self.old)) }
     {
         self.add(&Resource::Blank(Name::Fresh(cell)), RDF_FIRST, member)
     }
 
     /// Adds the triple of a cell of a collection and the rest of the collection (RDF 1.1 Turtle, section 2.8).
-    pub fn add_rest(&mut self, cell: u32, rest: Resource) -> Result<(), AllocError>
+    pub fn add_rest(&mut self, cell: FreshNumber, rest: Resource) -> Result<(), AllocError>
         ensures { OnOk result (scope_of self.new ≡ added (anonymous cell) rdf_rest (term_of rest) (scope_of self.old)) }
     {
         self.add(
@@ -163,13 +169,13 @@ impl State {
 
     /// The number of the next anonymous node; `Full` where no number is left.
     #[tactic(auto, unfolding(crate::specs::Meanings::numbered))]
-    pub fn number(&mut self) -> Result<u32, Stop>
+    pub fn number(&mut self) -> Result<FreshNumber, Stop>
         ensures { Answers (λ n. (anonymous n, scope_of self.new)) result (numbered true (scope_of self.old)) }
     {
         match u32::try_from(self.next) {
             Ok(number) => {
                 self.next += 1;
-                Ok(number)
+                Ok(FreshNumber::new(number))
             }
             Err(_) => Err(Stop::Fault(Fault::Full)),
         }

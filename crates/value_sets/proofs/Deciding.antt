@@ -1,10 +1,9 @@
 -- A value set holds for a term or does not.
-use Rattle.std.proofs.Common.{◌≡◌, ◌≢◌, ℕ, zero, suc, ◌⊎◌, inl, inr, Bool, true, false, true≢false, List, [], ◌∷◌, ◌++◌, drop, get_or, refl, sym, ap, subst, arith, Option, Some, None, IfSome, IsTrue, ◌↔◌, ◌∙◌, unwrap_or}
+use Rattle.std.proofs.Common.{◌≡◌, ◌≢◌, ℕ, ◌⊎◌, inl, inr, Bool, List, [], ◌∷◌, ◌++◌, drop, get_or, refl, sym, ap, Option, Some, IsTrue, ◌↔◌, ◌∙◌, unwrap_or}
 use Rattle.std.proofs.lemmas.Bool.{cases_eq}
-use Rattle.std.specs.Bool.{Decides}
-use Rattle.std.specs.List.{Any}
-use Rattle.std.specs.Option.{IsSomeAnd, option_eq}
-use Rattle.rdf_terms.specs.Sameness.{text_decides, option_decides}
+use Rattle.std.specs.Option.{option_eq}
+use Rattle.rdf_terms.specs.Sameness.{text_decides}
+use Rattle.lists.specs.Equality.{option_decides}
 use Rattle.rdf_terms.specs.Texts.{same_text}
 use Rattle.rdf_terms.specs.declared.terms.Term.{Term}
 use Rattle.rdf_terms.proofs.SameTerms.{same_term, term_decides}
@@ -14,51 +13,8 @@ use Rattle.value_sets.specs.Values.{IsExcludedBy, IsInRange, IsValue, iri_of, le
 use Rattle.value_sets.specs.declared.value.Except.{Except}
 use Rattle.value_sets.specs.declared.value.Except.TheVariants.{Exact, Stem}
 use Rattle.value_sets.specs.declared.value.Value.{Value}
+use Rattle.lists.proofs.Decided.{Decided, from_test, decide_not, decide_both, decide_either, decide_some_and, decide_if_some, decide_any}
 use Rattle.value_sets.specs.declared.value.Value.TheVariants as Values
-
--- P holds or it does not
-abbrev pub Decided : Type 0 → Type 0
-Decided P = P ⊎ (¬ P)
-
-pub from_test : {P : Type 0} (b : Bool) → Decides b P → Decided P
-from_test true d = inl (d.0 refl)
-from_test false d = inr (λ p. true≢false (sym (d.1 p)))
-
-pub decide_not : {P : Type 0} → Decided P → Decided (¬ P)
-decide_not (inl p) = inr (λ h. h p)
-decide_not (inr h) = inl h
-
-pub decide_both : {P Q : Type 0} → Decided P → Decided Q → Decided (P × Q)
-decide_both (inl p) (inl q) = inl (p, q)
-decide_both (inl p) (inr h) = inr (λ t. h t.1)
-decide_both (inr h) q = inr (λ t. h t.0)
-
-pub decide_either : {P Q : Type 0} → Decided P → Decided Q → Decided (P ⊎ Q)
-decide_either (inl p) q = inl (inl p)
-decide_either (inr h) (inl q) = inl (inr q)
-decide_either (inr h) (inr k) = inr (elim [ inl p ↦ h p | inr q ↦ k q ])
-
-pub decide_some_and : {X : Type 0} (o : Option X) (P : X → Type 0) → ((x : X) → Decided (P x)) → Decided (IsSomeAnd o P)
-decide_some_and None P d = inr (λ h. h)
-decide_some_and (Some x) P d = d x
-
-pub decide_if_some : {X : Type 0} (o : Option X) (P : X → Type 0) → ((x : X) → Decided (P x)) → Decided (IfSome o P)
-decide_if_some None P d = inl tt
-decide_if_some (Some x) P d = d x
-
--- an item of a list is the first or a later one
-first_or_later : {X : Type 0} (P : X → Type 0) (x : X) (xs : List X) → Any P (x ∷ xs) → P x ⊎ Any P xs
-first_or_later P x xs (zero, y, within, is, p) = inl (subst P (sym is) p)
-first_or_later P x xs (suc k, y, within, is, p) = inr (k, y, omega arith, is, p)
-
-pub decide_any : {X : Type 0} (P : X → Type 0) → ((x : X) → Decided (P x)) → (xs : List X) → Decided (Any P xs)
-decide_any P d [] = inr (λ h. absurd (omega (arith, h.2)))
-decide_any P d (x ∷ xs) = go (d x) (decide_any P d xs)
-  where
-    go : Decided (P x) → Decided (Any P xs) → Decided (Any P (x ∷ xs))
-    go (inl p) rest = inl (0, x, omega arith, refl, p)
-    go (inr none) (inl (k, y, within, is, p)) = inl (suc k, y, omega arith, is, p)
-    go (inr none) (inr more) = inr (λ h. elim (first_or_later P x xs h) [ inl p ↦ none p | inr later ↦ more later ])
 
 pub decide_text : (a b : List ℕ) → Decided (a ≡ b)
 decide_text a b = from_test (same_text a b) (text_decides a b)

@@ -3,8 +3,6 @@
 
 pub mod laws;
 mod stems;
-#[cfg(test)]
-mod tests;
 mod value;
 mod value_set;
 

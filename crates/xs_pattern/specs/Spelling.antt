@@ -25,7 +25,7 @@ Begins c ts = (r : List ℕ) × (ts ≡ c ∷ r)
 abbrev pub is_normal : ℕ → Bool
 is_normal c = not (is_one_of (codes ".\\?*+()|[]{}^$") c)
 
--- what it stands for behind a backslash (section G.4.2.1, SingleCharEsc)
+-- what it stands for behind a backslash (section G.4.2.1, SingleCharEsc, and `$` of XPath; that `/` may stand there is own)
 abbrev pub escaped : ℕ → Option ℕ
 escaped c =
     if c == 110 then Some 10 else (if c == 114 then Some 13 else (if c == 116 then Some 9 else
@@ -80,13 +80,14 @@ SpellsEscape (Items.Kind k) ts r = SpellsKind 100 115 119 112 k ts r
 SpellsEscape (Items.Not k) ts r = SpellsKind 68 83 87 80 k ts r
 
 -- a character in a class: an escape, or one that is no backslash or square bracket; a hyphen stands first or right
--- before the closing bracket (section G.4.1, SingleChar)
+-- before the closing bracket (section G.4.1, singleChar; own: the standard has it stand for itself right before `-[` too)
 abbrev pub SpellsChar : Bool → ℕ → List ℕ → List ℕ → Type 0
 SpellsChar is_first d ts r =
     SpellsEscape (Items.Char d) ts r ⊎
     ((ts ≡ d ∷ r) × (is_one_of (codes "\\[]") d ≡ false) × (d ≡ 45 → (is_first ≡ true) ⊎ Begins 93 r))
 
--- an item of a class (section G.4.1, posCharGroup)
+-- an item of a class (section G.4.1, charGroupPart; that a hyphen without a backslash may begin a range, where it stands
+-- first, or end one, right before the closing bracket, is own)
 abbrev pub SpellsItem : Bool → Item → List ℕ → List ℕ → Type 0
 SpellsItem is_first (Items.Char d) ts r = SpellsChar is_first d ts r
 SpellsItem is_first (Items.Range a b) ts r =

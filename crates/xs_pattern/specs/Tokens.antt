@@ -56,7 +56,7 @@ abbrev mutual
   ArePieces none = ⊤
   ArePieces (more e es) = IsPiece e × ArePieces es
 
-  -- an anchor, an atom, or an atom with a quantifier (section G.2, piece)
+  -- an anchor, an atom, or an atom with a quantifier (section G.2, piece; own: XPath lets an anchor have a quantifier too)
   pub IsPiece : Regex → Type 0
   IsPiece start = ⊤
   IsPiece finish = ⊤

@@ -21,6 +21,3 @@ mod walk;
 pub use expression::{CharGroup, Expression, Flags, Item, Kind, Set};
 pub use pattern::Pattern;
 pub use pattern_error::PatternError;
-
-#[cfg(test)]
-mod tests;

@@ -121,6 +121,3 @@ fn is_scientific(letter: u8, text: &[u8]) -> bool
     let (mantissa, exponent) = digits::split_once(text, letter);
     decimal::is_decimal(mantissa) && integer::is_integer(exponent)
 }
-
-#[cfg(test)]
-mod tests;

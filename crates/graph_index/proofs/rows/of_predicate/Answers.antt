@@ -1,15 +1,11 @@
-use Rattle.std.proofs.Common.{nat_eq, rules, sym, ◌∙◌}
-use Rattle.std.proofs.lemmas.List.Sorted.{IsPartitionPoint-from_clause}
-use Rattle.rdf_terms.specs.Graphs.{same_id}
-use Rattle.rdf_terms.specs.declared.terms.Triple.{Triple}
-use Rattle.graph_index.proofs.Blocks.{rows_of_test, no_rows, rest_is}
+use Rattle.std.proofs.Common.{sym, ◌∙◌}
+use Rattle.graph_index.proofs.Lent.{none_unplaced, of_one_place}
 use Rattle.graph_index.proofs.rows.of_predicate.Goals as goal
 
-pub returns-in-Some : goal.returns-in-Some
-returns-in-Some c = λ together.
-    rows_of_test (λ (t : Triple). same_id t.p c.args.p) c.args.rows.now c.in-Some.first c.partition_point-count.result _ (rest_is c.args.rows.now c.in-Some.first) (sym c.first_of.ensures ∙ c.in-Some.is) together
-    c.partition_point-count.ensures.bound
-    (λ parted. IsPartitionPoint-from_clause (λ t. nat_eq t.p.0 c.args.p.0) _ _ c.partition_point-count.ensures.partitioned parted (λ a r q k. search rules))
+pub returns-then-place-eq0 : goal.returns-then-place-eq0
+returns-then-place-eq0 c = sym (none_unplaced c.args.places.now c.args.rows.now c.args.p c.requires.placed (sym c.place_of-place.ensures ∙ c.if-place-eq0.true))
 
-pub returns-in-None : goal.returns-in-None
-returns-in-None c = λ together. sym (no_rows (λ (t : Triple). same_id t.p c.args.p) c.args.rows.now (sym c.first_of.ensures ∙ c.in-None.is))
+pub returns : goal.returns
+returns c =
+    c.of_place.ensures
+    ∙ of_one_place c.args.places.now c.args.rows.now c.args.p c.place_of-place.result c.requires.apart c.place_of-place.ensures c.if-place-eq0.false

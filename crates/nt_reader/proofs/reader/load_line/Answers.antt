@@ -1,4 +1,4 @@
-use Rattle.graph_loading.proofs.Loading.{loads_grow}
+use Rattle.graph_index.proofs.Loaded.{loads_grow}
 use Rattle.nt_reader.proofs.Turns.{blank_steps}
 use Rattle.nt_reader.proofs.reader.load_line.Goals as goal
 

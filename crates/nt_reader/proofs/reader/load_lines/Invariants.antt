@@ -1,11 +1,11 @@
 use Rattle.std.proofs.Common.{◌≡◌}
-use Rattle.token_readers.specs.Ahead.{count}
-use Rattle.nt_reader.specs.Cursors.{left, text_of}
+use Rattle.rdf_cursor.specs.Ahead.{count}
+use Rattle.rdf_cursor.specs.Cursors.{ahead, source_in}
 use Rattle.nt_reader.specs.Steps.{Comes}
 use Rattle.nt_reader.proofs.reader.load_lines.Given as goal
 
-abbrev pub invariant-loop-lines : goal.invariant-loop-lines
-invariant-loop-lines l = Comes (left l.fn.lines) l.fn.terms l.fn.graph.triples (left l.lines) l.terms l.graph.triples × (text_of l.lines ≡ text_of l.fn.lines)
+abbrev pub invariant-loop-alloc : goal.invariant-loop-alloc
+invariant-loop-alloc l = Comes (ahead l.fn.c) l.fn.terms l.fn.graph.triples (ahead l.c) l.terms l.graph.triples × (source_in l.c ≡ source_in l.fn.c)
 
-abbrev pub decreases-loop-lines : goal.decreases-loop-lines
-decreases-loop-lines l = count (left l.lines)
+abbrev pub decreases-loop-alloc : goal.decreases-loop-alloc
+decreases-loop-alloc l = count (ahead l.c)

@@ -1,5 +1,5 @@
 use Rattle.std.proofs.Common.{◌≡◌, ◌++◌}
-use Rattle.rdf_terms.specs.Lists.{AreDistinct}
+use Rattle.lists.specs.Distinct.{AreDistinct}
 use Rattle.proof_file.specs.Accepts.{AreNumbers}
 use Rattle.proof_checker.specs.Checks.{KeepsTerms, TakesUp}
 use Rattle.proof_checker.proofs.lines.take_up.Given as goal

@@ -1,5 +1,6 @@
 use Rattle.std.proofs.Common.{drop}
-use Rattle.proof_file.specs.Text.{RisesFrom, IsStateBefore}
+use Rattle.schema_tree.specs.Rising.{RisesFrom}
+use Rattle.schema_tree.specs.States.{IsStateBefore}
 use Rattle.proof_file.proofs.fields.rise_from.Given as goal
 
 abbrev pub invariant-loop-state : goal.invariant-loop-state

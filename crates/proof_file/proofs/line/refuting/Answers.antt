@@ -1,6 +1,7 @@
 use Rattle.std.proofs.Common.{ap, sym, ◌∙◌, ◌∷◌, subst, true≢false}
 use Rattle.proof_file.specs.Reading.{fields, fields_left}
-use Rattle.proof_file.specs.Text.{Rises, IsStateBefore}
+use Rattle.schema_tree.specs.Rising.{Rises}
+use Rattle.schema_tree.specs.States.{IsStateBefore}
 use Rattle.proof_file.proofs.Parts.{not_rising}
 use Rattle.proof_file.proofs.line.refuting.Goals as goal
 

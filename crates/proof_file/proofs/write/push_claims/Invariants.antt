@@ -1,6 +1,7 @@
 use Rattle.std.proofs.Common.{◌≡◌, ◌++◌, take}
 use Rattle.std.specs.List.{AllByRecursion, flat_map}
-use Rattle.proof_file.specs.Text.{ended, line_text, IsTextTarget}
+use Rattle.schema_tree.specs.Targets.{IsTextTarget}
+use Rattle.proof_file.specs.Text.{ended, line_text}
 use Rattle.proof_file.specs.declared.line.Line.TheVariants as Lines
 use Rattle.proof_file.proofs.write.push_claims.Given as goal
 

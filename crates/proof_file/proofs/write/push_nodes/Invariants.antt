@@ -1,6 +1,6 @@
 use Rattle.std.proofs.Common.{◌≡◌, ◌++◌, take}
 use Rattle.std.specs.List.{AllByRecursion, flat_map}
-use Rattle.term_reader.specs.Values.{IsValue}
+use Rattle.rdf_terms.specs.Values.{IsValue}
 use Rattle.proof_file.specs.Text.{ended, line_text}
 use Rattle.proof_file.specs.declared.line.Line.TheVariants as Lines
 use Rattle.proof_file.proofs.write.push_nodes.Given as goal

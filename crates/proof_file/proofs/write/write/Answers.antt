@@ -1,7 +1,8 @@
 use Rattle.std.proofs.Common.{◌++◌, ap, subst, ◌∙◌}
 use Rattle.std.specs.List.{AllByRecursion, flat_map}
-use Rattle.term_reader.specs.Values.{IsValue}
-use Rattle.proof_file.specs.Text.{ended, line_text, lines_text, section_lines, last_line, IsTextTarget}
+use Rattle.rdf_terms.specs.Values.{IsValue}
+use Rattle.schema_tree.specs.Targets.{IsTextTarget}
+use Rattle.proof_file.specs.Text.{ended, line_text, lines_text, section_lines, last_line}
 use Rattle.proof_file.specs.declared.line.Line.TheVariants as Lines
 use Rattle.proof_file.proofs.Joined.{chained, proof_written, proof_unicode}
 use Rattle.proof_file.proofs.write.write.Goals as goal

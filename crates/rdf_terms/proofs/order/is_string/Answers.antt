@@ -1,7 +1,7 @@
 use Rattle.std.proofs.Common.{ap, sym, ◌∙◌, refl, nat_eq, encode_utf8_all}
 use Rattle.std.proofs.lemmas.Str.{encodes-IsAscii}
 use Rattle.std.specs.Cmp.Lexicographic.{pointwise}
-use Rattle.rdf_terms.specs.Literals.{xsd_string}
+use Rattle.rdf_terms.specs.Vocabulary.{xsd_string}
 use Rattle.rdf_terms.proofs.Characters.{ascii_codes}
 use Rattle.rdf_terms.proofs.order.is_string.Goals as goal
 

@@ -1,6 +1,6 @@
 use Rattle.std.proofs.Common.{refl}
 use Rattle.rdf_terms.specs.Order.{compare_at}
-use Rattle.shape_map.proofs.Chosen.{none_sorted}
+use Rattle.lists.proofs.Ordered.{none_sorted}
 use Rattle.shape_map.proofs.Focused.{no_predicate}
 use Rattle.shape_map.proofs.focus.focus_nodes.Goals as goal
 

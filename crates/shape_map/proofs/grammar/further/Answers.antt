@@ -1,8 +1,9 @@
 use Rattle.std.proofs.Common.{sym, ◌∙◌}
 use Rattle.std.proofs.lemmas.Result.{err_from_is_err_and}
-use Rattle.token_readers.proofs.Loops.{loop_goes, loop_ends}
-use Rattle.shape_map.specs.Gives.{ahead, scope_in}
-use Rattle.shape_map.proofs.Failing.{fails_loop}
+use Rattle.rdf_cursor.proofs.Loops.{loop_goes, loop_ends}
+use Rattle.rdf_cursor.specs.Cursors.{ahead}
+use Rattle.term_tokens.specs.Scopes.{scope_in}
+use Rattle.term_tokens.proofs.Failing.{fails_loop}
 use Rattle.shape_map.proofs.Places.{consumes_behind}
 use Rattle.shape_map.proofs.grammar.further.Goals as goal
 

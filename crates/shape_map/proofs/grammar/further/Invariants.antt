@@ -1,10 +1,11 @@
 use Rattle.std.proofs.Common.{◌≡◌}
-use Rattle.token_readers.specs.Ahead.{count}
-use Rattle.token_readers.specs.Readers.{loop}
-use Rattle.shape_map.specs.declared.symbols.Symbol.TheVariants.{Comma}
-use Rattle.shape_map.specs.Gives.{ahead, source_in, scope_in}
+use Rattle.rdf_cursor.specs.Ahead.{count}
+use Rattle.rdf_cursor.specs.Readers.{loop}
+use Rattle.rdf_cursor.specs.declared.symbols.Symbol.TheVariants.{Comma}
+use Rattle.rdf_cursor.specs.Cursors.{ahead, source_in}
+use Rattle.term_tokens.specs.Scopes.{scope_in}
 use Rattle.shape_map.specs.Reading.{behind}
-use Rattle.shape_map.specs.Symbols.{is_symbol}
+use Rattle.rdf_cursor.specs.Symbols.{is_symbol}
 use Rattle.shape_map.proofs.grammar.further.Given as goal
 
 abbrev pub invariant-loop-c : goal.invariant-loop-c

@@ -1,12 +1,10 @@
-use Rattle.std.proofs.Common.{◌≡◌, ◌≤◌, ◌++◌, List, length, drop}
-use Rattle.rdf_terms.specs.declared.terms.Term.{Term}
+use Rattle.std.proofs.Common.{◌≤◌, length, drop}
 use Rattle.shape_map.specs.Selection.{max_associations}
 use Rattle.shape_map.proofs.Chosen.{GoesOn}
 use Rattle.shape_map.proofs.resolve.steps.Given as goal
 
 abbrev pub invariant-loop-item : goal.invariant-loop-item
 invariant-loop-item l = record {
-  goes : GoesOn l.schema l.graph.triples l.fn.terms l.items l.terms l.out.items (drop l.item-index l.items);
+  goes : GoesOn l.schema l.graph.triples l.terms l.items l.out.items (drop l.item-index l.items);
   few : length l.out.items ≤ max_associations;
-  grown : (more : List Term) × (l.terms ≡ l.fn.terms ++ more);
 }

@@ -1,4 +1,4 @@
-use Rattle.shape_map.proofs.Listed.{item_there}
+use Rattle.lists.proofs.Members.{item_there}
 use Rattle.shape_map.proofs.results.push_more.Goals as goal
 
 pub push_answer-requires : goal.push_answer-requires

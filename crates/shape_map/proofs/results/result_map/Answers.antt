@@ -1,6 +1,6 @@
 use Rattle.std.proofs.Common.{sym}
-use Rattle.schema_tree.proofs.Lists.{got_in}
-use Rattle.shape_map.proofs.Listed.{behind_there, listed}
+use Rattle.lists.proofs.Members.{got_in, behind_there}
+use Rattle.shape_map.proofs.Listed.{listed}
 use Rattle.shape_map.proofs.results.result_map.Goals as goal
 
 pub push_answer-requires : goal.push_answer-requires

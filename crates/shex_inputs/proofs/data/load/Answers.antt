@@ -11,13 +11,13 @@ returns-clause-read c =
     let (triples, spelled, loads) = c.in_ok-graph.ensures.read in
     let own : Document = document_of c.args.doc in
     let only : Declaration = decl_of c.only_declaration-label.result in
-    (triples, spelled, based own only c.only_declaration-label.ensures c.requires.loadable triples (context_of c.in_ok-graph.names) c.in_ok-declared.declared c.in_ok-schema.schema c.in_ok-graph.graph.triples c.new-terms.result c.in_numbers.new.terms c.read_data.new.terms c.new-terms.ensures c.in_ok-declared.ensures.added c.in_ok-declared.ensures.numbered c.in_ok-schema.ensures c.in_ok-graph.ensures.distinct loads c.in_ok-graph.ensures.within)
+    (triples, spelled, based own only c.only_declaration-label.ensures c.requires.loadable triples (context_of c.in_ok-graph.names) c.in-Ok.declared c.in-Ok-make_schema.schema c.in_ok-graph.graph.triples c.new-terms.result c.in_numbers.new.terms c.read_data.new.terms c.new-terms.ensures c.in-Ok.ensures.added c.in-Ok.ensures.numbered c.in-Ok-make_schema.ensures c.in_ok-graph.ensures.distinct loads c.in_ok-graph.ensures.within)
 
 pub returns-clause-room : goal.returns-clause-room
 returns-clause-room c =
     let only : Declaration = decl_of c.only_declaration-label.result in
-    room (record { schema = c.in_ok-schema.schema; terms = c.read_data.new.terms; graph = c.in_ok-graph.graph.triples; names = context_of c.in_ok-graph.names }) (length c.in_numbers.new.terms)
-    (few_first c.new-terms.result c.in_numbers.new.terms only.expr c.new-terms.ensures c.in_ok-declared.ensures.added) c.in_ok-graph.ensures.few c.in_ok-graph.ensures.within
+    room (record { schema = c.in-Ok-make_schema.schema; terms = c.read_data.new.terms; graph = c.in_ok-graph.graph.triples; names = context_of c.in_ok-graph.names }) (length c.in_numbers.new.terms)
+    (few_first c.new-terms.result c.in_numbers.new.terms only.expr c.new-terms.ensures c.in-Ok.ensures.added) c.in_ok-graph.ensures.few c.in_ok-graph.ensures.within
 
 pub returns-clause-of_table : goal.returns-clause-of_table
 returns-clause-of_table c =
@@ -29,11 +29,11 @@ in_numbers-requires-clause-loadable c = expr_loadable (document_of c.args.doc) (
 
 pub returns-in_err-graph-clause-unread : goal.returns-in_err-graph-clause-unread
 returns-in_err-graph-clause-unread c =
-    let p = err_from_is_err_and c.from_residual-in_err-graph.result c.from_residual-in_err-graph.ensures.1 in
+    let p = err_from_is_err_and c.from_residual.result c.from_residual.ensures.1 in
     let own : Document = document_of c.args.doc in
     let only : Declaration = decl_of c.only_declaration-label.result in
     rw (p.1, p.2) (
     loading_stops c.args.format c.args.base.now own c.in_numbers.new.terms c.args.source.now
-    (from_empty own only c.only_declaration-label.ensures c.new-terms.result c.in_numbers.new.terms c.new-terms.ensures c.in_ok-declared.ensures.added)
+    (from_empty own only c.only_declaration-label.ensures c.new-terms.result c.in_numbers.new.terms c.new-terms.ensures c.in-Ok.ensures.added)
     c.in_err-graph.field-0.0 c.in_err-graph.ensures.unread
     )

@@ -1,6 +1,5 @@
-use Rattle.std.proofs.Common.{ap, sym, subst}
-use Rattle.graph_loading.specs.Loading.{Loads}
-use Rattle.shex_inputs.specs.Stops.{ReadingStops}
+use Rattle.std.proofs.Common.{ap, subst}
+use Rattle.graph_index.specs.Loading.{Loads}
 use Rattle.shex_inputs.proofs.Counted.{few}
 use Rattle.shex_inputs.proofs.Reading.{reading_stops}
 use Rattle.shex_inputs.proofs.data.read_data.Goals as goal
@@ -18,5 +17,4 @@ returns-in-Ok-clause-few c =
 
 pub returns-in-Err-clause-unread : goal.returns-in-Err-clause-unread
 returns-in-Err-clause-unread c =
-    subst (λ s. ReadingStops c.args.format c.args.base.now c.args.terms.now c.args.source.now s) (sym c.data_error.ensures)
-    (reading_stops c.args.format c.args.base.now c.args.terms.now c.new-graph.result.triples c.args.source.now (ap (λ g. g.triples) c.new-graph.ensures) c.in-Err.error c.in-Err.ensures.refused c.in-Err.ensures.complete)
+    reading_stops c.args.format c.args.base.now c.args.terms.now c.new-graph.result.triples c.args.source.now (ap (λ g. g.triples) c.new-graph.ensures) c.in-Err.error c.in-Err.ensures.refused c.in-Err.ensures.complete

@@ -10,7 +10,6 @@ not_failed x r is long failed = cc
 pub returns-in-Err-Long-clause-stops : goal.returns-in-Err-Long-clause-stops
 returns-in-Err-Long-clause-stops g c = (
   refl,
-  refl,
   too_long _ _ _ (c.in-Err-Long.ensures.taken_part (ap Err c.in-Err-Long.field-0-is)) (c.in-Err-Long.ensures.long (ap Err c.in-Err-Long.field-0-is)),
   c.in-Err-Long.ensures.faults_stay (not_failed c.in-Err-Long.field-0 _ refl c.in-Err-Long.field-0-is),
 )

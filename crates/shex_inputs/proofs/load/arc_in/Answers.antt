@@ -1,6 +1,6 @@
 use Rattle.std.proofs.Common.{sym, subst}
 use Rattle.std.specs.Prelude.{option_map}
-use Rattle.graph_loading.specs.Loading.{AddsAll, none}
+use Rattle.lists.specs.Additions.{AddsAll, none}
 use Rattle.schema_documents.specs.Tree.{maybe_triple, triple_of}
 use Rattle.shex_inputs.specs.Loading.{predicates_in_expression}
 use Rattle.shex_inputs.proofs.load.arc_in.Goals as goal

@@ -1,5 +1,5 @@
 use Rattle.std.proofs.Common.{sym, subst}
-use Rattle.graph_loading.specs.Loading.{AddsAll, more, none}
+use Rattle.lists.specs.Additions.{AddsAll, more, none}
 use Rattle.shex_inputs.proofs.Trees.{arc_predicates}
 use Rattle.shex_inputs.proofs.load.arc_of.Goals as goal
 

@@ -1,5 +1,5 @@
 use Rattle.std.proofs.Common.{sym, subst}
-use Rattle.graph_loading.specs.Loading.{AddsAll, none}
+use Rattle.lists.specs.Additions.{AddsAll, none}
 use Rattle.shex_inputs.proofs.Trees.{no_predicates}
 use Rattle.shex_inputs.proofs.load.in_numbers.Goals as goal
 

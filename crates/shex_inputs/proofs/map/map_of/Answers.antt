@@ -1,8 +1,7 @@
-use Rattle.std.proofs.Common.{sym, subst}
+use Rattle.std.proofs.Common.{subst}
 use Rattle.shape_map.specs.Maps.{IsMap}
-use Rattle.shape_map.specs.Meanings.{scope_of}
-use Rattle.shex_inputs.specs.Asked.{base_alone}
-use Rattle.shex_inputs.specs.Stops.{MapStops, map_refusal}
+use Rattle.term_tokens.specs.Scopes.{scope_of}
+use Rattle.shex_inputs.specs.Stops.{MapStops}
 use Rattle.shex_inputs.proofs.Asking.{map_stops}
 use Rattle.shex_inputs.proofs.Reading.{names_are}
 use Rattle.shex_inputs.proofs.map.map_of.Goals as goal
@@ -14,6 +13,5 @@ returns-in-Ok-clause-found c =
 pub returns-clause-stops : goal.returns-clause-stops
 returns-clause-stops c =
     let names = names_are c.in_ok-labels.labels c.args.label_base.now c.in_ok-labels.ensures.base c.in_ok-labels.ensures.empty in
-    subst (λ e. MapStops (scope_of c.args.nodes.now) (base_alone c.args.label_base.now) c.args.source.now e) (sym c.map_refusal.ensures)
-    (subst (λ v. MapStops (scope_of c.args.nodes.now) v c.args.source.now (map_refusal c.in-Err.error)) names
-    (map_stops (scope_of c.args.nodes.now) (scope_of c.in_ok-labels.labels) c.args.source.now c.in-Err.error c.in-Err.ensures.refused c.in-Err.ensures.complete))
+    subst (λ v. MapStops (scope_of c.args.nodes.now) v c.args.source.now c.in-Err.error) names
+    (map_stops (scope_of c.args.nodes.now) (scope_of c.in_ok-labels.labels) c.args.source.now c.in-Err.error c.in-Err.ensures.refused c.in-Err.ensures.complete)

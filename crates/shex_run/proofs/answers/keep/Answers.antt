@@ -1,29 +1,41 @@
-use Rattle.std.proofs.Common.{ap, refl, subst, sym}
-use Rattle.std.specs.Prelude.{option_map}
+use Rattle.std.proofs.Common.{◌≡◌, ◌∙◌, ap, refl, subst, sym, true, true≢false}
+use Rattle.std.specs.Prelude.{IfSome, None, Option, Some, is_some, option_map}
 use Rattle.proof_file.specs.Text.{ProofText}
 use Rattle.command_words.specs.Lent.{command_of}
 use Rattle.command_words.specs.declared.command.Command.TheVariants as Lent
+use Rattle.shex_run.specs.Ready.{IsReplyProof}
 use Rattle.shex_run.specs.Tasks.{IsToValidate}
 use Rattle.shex_run.proofs.Answering.{store_stopped, stored}
 use Rattle.shex_run.proofs.answers.keep.Goals as goal
 
+-- a proof that is wanted is there
+there : {X Y : Type 0} (p : Option X) (n : Option Y) (y : Y) → is_some p ≡ is_some n → ((x : X) → p ≡ Some x → ⊥) → n ≡ Some y → ⊥
+there (Some x) n y same none some = none x refl
+there None n y same none some = let on : is_some n ≡ true = ap is_some some in true≢false (sym on ∙ sym same)
+
+pub unreachable-requires : goal.unreachable-requires
+unreachable-requires g c = there c.args.decided.proof c.args.validation.now.proof c.in-Some.name c.requires.wanted c.in_default-proof.not-Some c.in-Some.is
+
 pub returns-in-Ok-store-clause-response : goal.returns-in-Ok-store-clause-response
 returns-in-Ok-store-clause-response g c =
     let task : IsToValidate (command_of (Lent.Validate c.args.validation.now)) c.args.validation.now.map.now (option_map (λ s. s.now) c.args.validation.now.proof) = record { steps = c.args.validation.now.budget; task = refl } in
+    let own : IsReplyProof c.requires.question c.requires.answers c.in-Some-proof.proof = subst (λ o. IfSome o (IsReplyProof c.requires.question c.requires.answers)) c.in-Some-proof.is c.requires.proof in
     stored (g.F.Files.told c.args.files.now) (command_of (Lent.Validate c.args.validation.now)) c.args.validation.now.map.now (option_map (λ s. s.now) c.args.validation.now.proof) task c.requires.question c.requires.answers c.requires.are_answers
     c.args.decided.text.items c.args.decided.status c.requires.text_is c.requires.status_is c.in-Some.name.now c.as_slice.result.now (ap (option_map (λ s. s.now)) c.in-Some.is)
-    (c.requires.proves c.as_slice.result.now (subst (λ bytes. ProofText c.args.decided.proof bytes) (sym c.as_slice.ensures.value) (c.in-Ok.ensures c.requires.no_feeds))) (g.F.Files.told c.store.new.files) c.in-Ok-store.ensures.holds c.store.ensures.others
+    (own.proves c.as_slice.result.now (subst (λ bytes. ProofText c.in-Some-proof.proof bytes) (sym c.as_slice.ensures.value) (c.in-Ok.ensures own.no_feeds))) (g.F.Files.told c.store.new.files) c.in-Ok-store.ensures.holds c.store.ensures.others
 
-pub returns-clause-cause : goal.returns-clause-cause
-returns-clause-cause g c =
+pub returns-in-Err-clause-cause : goal.returns-in-Err-clause-cause
+returns-in-Err-clause-cause g c =
     let task : IsToValidate (command_of (Lent.Validate c.args.validation.now)) c.args.validation.now.map.now (option_map (λ s. s.now) c.args.validation.now.proof) = record { steps = c.args.validation.now.budget; task = refl } in
+    let own : IsReplyProof c.requires.question c.requires.answers c.in-Some-proof.proof = subst (λ o. IfSome o (IsReplyProof c.requires.question c.requires.answers)) c.in-Some-proof.is c.requires.proof in
     (store_stopped (g.F.Files.told c.args.files.now) (command_of (Lent.Validate c.args.validation.now)) c.args.validation.now.map.now (option_map (λ s. s.now) c.args.validation.now.proof) task c.requires.question c.requires.answers c.requires.are_answers
     c.args.decided.text.items c.args.decided.status c.requires.text_is c.requires.status_is c.in-Some.name.now c.as_slice.result.now (ap (option_map (λ s. s.now)) c.in-Some.is)
-    (c.requires.proves c.as_slice.result.now (subst (λ bytes. ProofText c.args.decided.proof bytes) (sym c.as_slice.ensures.value) (c.in-Ok.ensures c.requires.no_feeds))) (g.F.Files.told c.store.new.files) (g.F.Files.faults c.args.files.now) (g.F.Files.faults c.store.new.files) (g.F.Files.blame c.store.new.files) (g.F.Files.act c.store.new.files) c.in-Err.stop c.in-Err.ensures.stops c.in-Err.ensures.part c.store.ensures.others).cause
+    (own.proves c.as_slice.result.now (subst (λ bytes. ProofText c.in-Some-proof.proof bytes) (sym c.as_slice.ensures.value) (c.in-Ok.ensures own.no_feeds))) (g.F.Files.told c.store.new.files) (g.F.Files.faults c.args.files.now) (g.F.Files.faults c.store.new.files) (g.F.Files.blame c.store.new.files) (g.F.Files.act c.store.new.files) c.in-Err.stop c.in-Err.ensures.stops c.in-Err.ensures.part c.store.ensures.others).cause
 
-pub returns-clause-stored : goal.returns-clause-stored
-returns-clause-stored g c =
+pub returns-in-Err-clause-stored : goal.returns-in-Err-clause-stored
+returns-in-Err-clause-stored g c =
     let task : IsToValidate (command_of (Lent.Validate c.args.validation.now)) c.args.validation.now.map.now (option_map (λ s. s.now) c.args.validation.now.proof) = record { steps = c.args.validation.now.budget; task = refl } in
+    let own : IsReplyProof c.requires.question c.requires.answers c.in-Some-proof.proof = subst (λ o. IfSome o (IsReplyProof c.requires.question c.requires.answers)) c.in-Some-proof.is c.requires.proof in
     (store_stopped (g.F.Files.told c.args.files.now) (command_of (Lent.Validate c.args.validation.now)) c.args.validation.now.map.now (option_map (λ s. s.now) c.args.validation.now.proof) task c.requires.question c.requires.answers c.requires.are_answers
     c.args.decided.text.items c.args.decided.status c.requires.text_is c.requires.status_is c.in-Some.name.now c.as_slice.result.now (ap (option_map (λ s. s.now)) c.in-Some.is)
-    (c.requires.proves c.as_slice.result.now (subst (λ bytes. ProofText c.args.decided.proof bytes) (sym c.as_slice.ensures.value) (c.in-Ok.ensures c.requires.no_feeds))) (g.F.Files.told c.store.new.files) (g.F.Files.faults c.args.files.now) (g.F.Files.faults c.store.new.files) (g.F.Files.blame c.store.new.files) (g.F.Files.act c.store.new.files) c.in-Err.stop c.in-Err.ensures.stops c.in-Err.ensures.part c.store.ensures.others).stored
+    (own.proves c.as_slice.result.now (subst (λ bytes. ProofText c.in-Some-proof.proof bytes) (sym c.as_slice.ensures.value) (c.in-Ok.ensures own.no_feeds))) (g.F.Files.told c.store.new.files) (g.F.Files.faults c.args.files.now) (g.F.Files.faults c.store.new.files) (g.F.Files.blame c.store.new.files) (g.F.Files.act c.store.new.files) c.in-Err.stop c.in-Err.ensures.stops c.in-Err.ensures.part c.store.ensures.others).stored

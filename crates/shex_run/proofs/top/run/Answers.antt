@@ -1,9 +1,16 @@
-use Rattle.shex_run.proofs.Closing.{absent_ends, accepted_ends, ends_kept, ends_partly, faulty_ends, five_rose, in_part, refused_ends, rejected_ends, seven_rose, taken_ends, unfaulted}
+use Rattle.shex_run.proofs.Closing.{absent_ends, accepted_ends, ends_kept, ends_partly, faulty_ends, filled_ends, five_rose, in_part, refused_ends, rejected_ends, seven_rose, taken_ends, unfaulted, unprinted, whole_ends}
 use Rattle.shex_run.proofs.Exclusive.{are_one}
 use Rattle.shex_run.proofs.top.run.Goals as goal
 
 pub returns-clause-in_part : goal.returns-clause-in_part
 returns-clause-in_part g c = in_part _ _ _ _ _ c.end.ensures
+
+pub returns-clause-unprinted : goal.returns-clause-unprinted
+returns-clause-unprinted g c = unprinted _ _ _ _ _ c.end.ensures
+
+pub returns-clause-stored_whole : goal.returns-clause-stored_whole
+returns-clause-stored_whole g c = λ contents k map_name name told is_asked to taken.
+    whole_ends _ k is_asked c.answers_are_one.ensures _ _ _ _ contents told (are_one c.inputs_are_one.ensures contents _ told k) map_name name to taken c.end.ensures
 
 pub returns-clause-stored_in_part : goal.returns-clause-stored_in_part
 returns-clause-stored_in_part g c = λ interrupted. ends_partly _ _ _ _ _ c.end.ensures
@@ -25,7 +32,10 @@ pub returns-clause-rejects : goal.returns-clause-rejects
 returns-clause-rejects g c = λ contents k rejection told is_asked cause. rejected_ends _ k is_asked c.answers_are_one.ensures _ _ _ _ contents told (are_one c.inputs_are_one.ensures contents _ told k) rejection cause c.end.ensures
 
 pub returns-clause-refuses : goal.returns-clause-refuses
-returns-clause-refuses g c = λ contents k file refusal told is_asked cause. refused_ends _ k is_asked c.answers_are_one.ensures _ _ _ _ contents told (are_one c.inputs_are_one.ensures contents _ told k) file refusal cause c.end.ensures
+returns-clause-refuses g c = λ contents k refusal told is_asked cause. refused_ends _ k is_asked c.answers_are_one.ensures _ _ _ _ contents told (are_one c.inputs_are_one.ensures contents _ told k) refusal cause c.end.ensures
+
+pub returns-clause-fills : goal.returns-clause-fills
+returns-clause-fills g c = λ contents k told is_asked full. filled_ends _ k is_asked c.answers_are_one.ensures _ _ _ _ contents told (are_one c.inputs_are_one.ensures contents _ told k) full c.end.ensures
 
 pub returns-clause-misses : goal.returns-clause-misses
 returns-clause-misses g c = λ contents k file told is_asked absent. absent_ends _ k is_asked c.answers_are_one.ensures _ _ _ _ contents told (are_one c.inputs_are_one.ensures contents _ told k) file absent c.end.ensures

@@ -2,7 +2,7 @@ use Rattle.std.proofs.Common.{ap, sym, ◌∙◌, refl, encode_utf8_all}
 use Rattle.std.proofs.lemmas.Str.{chars-IsAscii, encodes-IsAscii}
 use Rattle.std.specs.Cmp.Lexicographic.{bytes_decides}
 use Rattle.std.specs.Str.{IsAscii, chars}
-use Rattle.rdf_terms.specs.Literals.{rdf_lang_string}
+use Rattle.rdf_terms.specs.Vocabulary.{rdf_lang_string}
 use Rattle.rdf_terms.proofs.Characters.{ascii_codes}
 use Rattle.shexj_reader.proofs.values.is_lang_string.Goals as goal
 

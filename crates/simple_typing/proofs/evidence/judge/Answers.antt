@@ -1,5 +1,5 @@
 use Rattle.std.proofs.Common.{◌∙◌, ◌∷◌, [], ap, sym, arith, true≢false}
-use Rattle.schema_tree.proofs.Lists.{got_in}
+use Rattle.lists.proofs.Members.{got_in}
 use Rattle.proof_file.specs.declared.RecordKind.TheVariants.{Plus, Minus}
 use Rattle.simple_typing.specs.Evidence.{alone, bad, many}
 use Rattle.simple_typing.proofs.Evident.{one_alone}

@@ -4,10 +4,7 @@ use Rattle.simple_typing.proofs.Copies.{numbers_more, values_more}
 use Rattle.simple_typing.proofs.nodes.lines.Goals as goal
 
 pub get-requires : goal.get-requires
-get-requires c = c.requires.there _ (Contains-get_or c.args.nodes.now c.loop-node.node-index (record { 0 = 0 }) c.loop-node-test.true)
-
-pub line-requires : goal.line-requires
-line-requires c = c.requires.whole _ c.get.result.now (Contains-get_or c.args.nodes.now c.loop-node.node-index (record { 0 = 0 }) c.loop-node-test.true) c.get.ensures
+get-requires c = c.requires _ (Contains-get_or c.args.nodes.now c.loop-node.node-index (record { 0 = 0 }) c.loop-node-test.true)
 
 pub loop-node-preserved : goal.loop-node-preserved
 loop-node-preserved c =

@@ -1,7 +1,7 @@
 use Rattle.std.proofs.Common.{take}
 use Rattle.std.specs.List.{AllByRecursion}
 use Rattle.proof_file.specs.Accepts.{AreNumbers}
-use Rattle.term_reader.specs.Values.{IsValue}
+use Rattle.rdf_terms.specs.Values.{IsValue}
 use Rattle.simple_typing.proofs.nodes.lines.Given as goal
 
 abbrev pub invariant-loop-node : goal.invariant-loop-node

@@ -1,6 +1,6 @@
 use Rattle.std.proofs.Common.{subst, sym}
 use Rattle.std.specs.Prelude.{Contains}
-use Rattle.schema_tree.proofs.Members.{from_map}
+use Rattle.lists.proofs.Members.{from_map}
 use Rattle.simple_typing.proofs.Asking.{node_held}
 use Rattle.simple_typing.proofs.nodes.nodes_of.Goals as goal
 

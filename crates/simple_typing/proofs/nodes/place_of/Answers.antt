@@ -1,6 +1,7 @@
 use Rattle.std.proofs.Common.{rules, Ok, Err}
 use Rattle.rdf_terms.specs.Order.{compare_at}
-use Rattle.simple_typing.proofs.Searched.{halves, place_found, place_missed}
+use Rattle.lists.proofs.Halving.{halves}
+use Rattle.rdf_terms.proofs.Orders.{place_found, place_missed}
 use Rattle.simple_typing.proofs.nodes.place_of.Goals as goal
 
 pub returns : goal.returns

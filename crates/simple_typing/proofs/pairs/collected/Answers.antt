@@ -1,8 +1,8 @@
 use Rattle.std.proofs.Common.{◌∙◌, ◌≤◌, ◌+◌, ap, arith, length, take, sym, subst}
 use Rattle.std.proofs.lemmas.List.{take_all}
 use Rattle.simple_typing.proofs.Asking.{AreAsked, asks_none, asks_one, few_more}
-use Rattle.simple_typing.proofs.Listed.{item_there}
-use Rattle.simple_typing.proofs.Searched.{nodes_once}
+use Rattle.lists.proofs.Members.{item_there}
+use Rattle.rdf_terms.proofs.Orders.{nodes_once}
 use Rattle.simple_typing.proofs.pairs.collected.Goals.{in-Some+in_ok-push, in_default}
 use Rattle.simple_typing.proofs.pairs.collected.Goals as goal
 

@@ -1,5 +1,5 @@
 use Rattle.std.proofs.Common.{rules, refl}
-use Rattle.graph_index.proofs.Sorting.{sorted_rows}
+use Rattle.lists.proofs.Sorting.{sorted_rows}
 use Rattle.simple_typing.specs.Records.{compare_asked}
 use Rattle.simple_typing.proofs.Asking.{asked_total, pairs_same, pairs_sorted}
 use Rattle.simple_typing.proofs.pairs.pairs_of.Goals as goal

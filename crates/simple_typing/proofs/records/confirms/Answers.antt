@@ -2,7 +2,7 @@ use Rattle.std.proofs.Common.{rules, Ok, Err}
 use Rattle.simple_typing.specs.Records.{compare_asked, pair_of_record}
 use Rattle.proof_file.specs.declared.RecordKind.TheVariants.{Plus, Minus}
 use Rattle.simple_typing.proofs.Asking.{asked_total, found_kind}
-use Rattle.simple_typing.proofs.Searched.{halves, not_missed}
+use Rattle.lists.proofs.Halving.{halves, not_missed}
 use Rattle.simple_typing.proofs.records.confirms.Goals as goal
 
 pub unreachable-requires : goal.unreachable-requires

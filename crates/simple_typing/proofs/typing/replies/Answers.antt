@@ -4,9 +4,10 @@ use Rattle.proof_file.specs.declared.Claim.{Claim}
 use Rattle.shape_map.specs.declared.resolve.Association.{Association}
 use Rattle.std.specs.List.{AllZip}
 use Rattle.simple_typing.specs.Records.{IsClaimOf, IsReplyTo}
-use Rattle.simple_typing.proofs.Listed.{item_there, zip_more, zip_push}
+use Rattle.lists.proofs.Members.{item_there}
+use Rattle.lists.proofs.Beside.{zip_more, zip_push}
 use Rattle.simple_typing.proofs.Reading.{claim_is, reply_is}
-use Rattle.simple_typing.proofs.Searched.{nodes_once}
+use Rattle.rdf_terms.proofs.Orders.{nodes_once}
 use Rattle.simple_typing.proofs.Sureness.{read_is_sure}
 use Rattle.simple_typing.proofs.typing.replies.Goals as goal
 

@@ -1,11 +1,11 @@
 use Rattle.std.proofs.Common.{◌≡◌, ◌+◌, ◌*◌, true}
-use Rattle.token_readers.specs.Ahead.{count}
-use Rattle.token_readers.specs.Readers.{loop}
-use Rattle.turtle_reader.specs.declared.symbols.Symbol.TheVariants.{Comma, Semicolon, CloseParenthesis}
-use Rattle.turtle_reader.specs.Gives.{ahead, source_in}
+use Rattle.rdf_cursor.specs.Ahead.{count}
+use Rattle.rdf_cursor.specs.Readers.{loop}
+use Rattle.rdf_cursor.specs.declared.symbols.Symbol.TheVariants.{Comma, Semicolon, CloseParenthesis}
+use Rattle.rdf_cursor.specs.Cursors.{ahead, source_in}
 use Rattle.turtle_reader.specs.Reading.{comma, semicolon, object, next_member}
 use Rattle.turtle_reader.specs.States.{scope_of, term_of, anonymous}
-use Rattle.turtle_reader.specs.Symbols.{is_symbol, is_other}
+use Rattle.rdf_cursor.specs.Symbols.{is_symbol, is_other}
 use Rattle.turtle_reader.proofs.grammar.+grammar.Given as goal
 
 abbrev pub decreases-object : goal.decreases-object
@@ -72,7 +72,7 @@ decreases-semicolons-loop-c l = count (ahead l.c)
 abbrev pub invariant-members-loop-c : goal.invariant-members-loop-c
 invariant-members-loop-c l =
     (loop (is_other CloseParenthesis) (next_member true (object true l.depth)) (anonymous l.last, scope_of l.state) (ahead l.c)
-    ≡ loop (is_other CloseParenthesis) (next_member true (object true l.depth)) (anonymous l.first, scope_of l.fn.state) (ahead l.fn.c)) × (source_in l.c ≡ source_in l.fn.c)
+    ≡ loop (is_other CloseParenthesis) (next_member true (object true l.depth)) (anonymous l.fn.first, scope_of l.fn.state) (ahead l.fn.c)) × (source_in l.c ≡ source_in l.fn.c)
 
 abbrev pub decreases-members-loop-c : goal.decreases-members-loop-c
 decreases-members-loop-c l = count (ahead l.c)

@@ -1,9 +1,10 @@
 use Rattle.std.proofs.Common.{refl, sym, ◌∙◌, true}
 use Rattle.std.proofs.lemmas.Result.{err_from_is_err_and}
-use Rattle.graph_loading.proofs.Loading.{loads_grow}
+use Rattle.graph_index.proofs.Loaded.{loads_grow}
 use Rattle.turtle_reader.specs.Documents.{inner_depth}
 use Rattle.turtle_reader.proofs.Places.{consumes_statement}
-use Rattle.turtle_reader.proofs.Turns.{begins, comes_on, stops, ends_badly, grown_on}
+use Rattle.turtle_reader.proofs.Turns.{begins, comes_on, stops, ends_badly}
+use Rattle.lists.proofs.Additions.{grown_on}
 use Rattle.turtle_reader.proofs.reader.load_statements.Goals as goal
 
 pub loop-c-init : goal.loop-c-init

@@ -1,6 +1,6 @@
 use Rattle.std.proofs.Common.{◌≡◌}
-use Rattle.token_readers.specs.Ahead.{count}
-use Rattle.turtle_reader.specs.Gives.{ahead, source_in}
+use Rattle.rdf_cursor.specs.Ahead.{count}
+use Rattle.rdf_cursor.specs.Cursors.{ahead, source_in}
 use Rattle.turtle_reader.specs.States.{scope_of}
 use Rattle.turtle_reader.specs.Steps.{Comes}
 use Rattle.turtle_reader.proofs.reader.load_statements.Given as goal

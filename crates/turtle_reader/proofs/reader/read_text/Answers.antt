@@ -1,5 +1,5 @@
 use Rattle.std.proofs.Common.{◌∙◌}
-use Rattle.turtle_reader.specs.Gives.{ahead}
+use Rattle.rdf_cursor.specs.Cursors.{ahead}
 use Rattle.turtle_reader.proofs.Endings.{found_from, ok_from, err_from, cause_from}
 use Rattle.turtle_reader.proofs.reader.read_text.Goals as goal
 

@@ -1,6 +1,6 @@
 use Rattle.std.proofs.Common.{subst, ap}
-use Rattle.rdf_terms.specs.Lists.{AreDistinct}
-use Rattle.rdf_terms.proofs.Distinct.{distinct_items}
+use Rattle.lists.specs.Distinct.{AreDistinct}
+use Rattle.lists.proofs.Distinct.{distinct_items}
 use Rattle.graph_index.proofs.Held.{same_triple, triple_decides}
 use Rattle.graph_index.proofs.graph.Graph.len.Goals as goal
 

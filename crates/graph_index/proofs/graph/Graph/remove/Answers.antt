@@ -2,8 +2,8 @@ use Rattle.std.proofs.Common.{◌≡◌, subst, ap, sym, ◌∙◌, IsTrue, ◌�
 use Rattle.std.specs.Bool.{OnTrue}
 use Rattle.std.specs.List.Sorted.{IsPermutation}
 use Rattle.graph_index.proofs.graph.Graph.remove.Goals.{in-Some-1, in-None-1}
-use Rattle.rdf_terms.specs.Lists.{AreDistinct}
-use Rattle.rdf_terms.proofs.Distinct.{distinct_items}
+use Rattle.lists.specs.Distinct.{AreDistinct}
+use Rattle.lists.proofs.Distinct.{distinct_items}
 use Rattle.rdf_terms.specs.declared.terms.Triple.{Triple}
 use Rattle.graph_index.proofs.Held.{same_triple, triple_decides, held_exactly, removed_triple}
 use Rattle.graph_index.proofs.graph.Graph.remove.Goals as goal

@@ -1,9 +1,13 @@
 use Rattle.std.proofs.Common.{arith, map, subst, sym}
-use Rattle.std.specs.Prelude.{Some}
+use Rattle.std.specs.Prelude.{Contains, Some}
 use Rattle.proof_file.specs.Accepts.{in_section, is_claim, items_of}
 use Rattle.proof_checker.specs.Faults.{FirstFault, held, setting}
 use Rattle.proof_checker.proofs.Found.{claim_fits, count_fits, count_here, fault_claims, fault_fits, fault_here, fault_none, fault_some, none_claims, none_here}
 use Rattle.proof_checker.proofs.items.Held.fault.Goals as goal
+
+pub section_fault-requires-clause-rising : goal.section_fault-requires-clause-rising
+section_fault-requires-clause-rising c = λ r h.
+    c.requires.ready.rising c.section-item.result (c.loop-section.section-index, c.loop-section-test.true, sym c.section-item.is) r (subst (λ rs. Contains rs r) c.as_slice-records.ensures h)
 
 pub after-requires : goal.after-requires
 after-requires c =

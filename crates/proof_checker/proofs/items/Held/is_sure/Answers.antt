@@ -5,7 +5,7 @@ use Rattle.proof_file.specs.Accepts.{no_of, verdict_of, yes_of}
 use Rattle.proof_checker.specs.declared.standings.Reader.TheVariants as Readers
 use Rattle.proof_checker.specs.Faults.{held, known_to, setting}
 use Rattle.proof_checker.specs.Standings.{known_from}
-use Rattle.proof_checker.proofs.Allowed.{in_turn}
+use Rattle.bag_match.proofs.Allowed.{in_turn}
 use Rattle.proof_checker.proofs.Known.{known_is_view}
 use Rattle.proof_checker.proofs.items.Held.is_sure.Goals as goal
 

@@ -1,8 +1,11 @@
-use Rattle.std.proofs.Common.{subst}
+use Rattle.std.proofs.Common.{subst, sym}
 use Rattle.proof_file.specs.Accepts.{FailsAt, IsAccepted, Passes, checks_of, in_section}
 use Rattle.proof_checker.specs.Faults.{held, setting}
 use Rattle.proof_checker.proofs.Found.{found_none, found_some, next_accepted, next_fault, no_fault}
 use Rattle.proof_checker.proofs.items.Held.section_fault.Goals as goal
+
+pub record_fails-requires-clause-rising : goal.record_fails-requires-clause-rising
+record_fails-requires-clause-rising c = c.requires.rising c.index-records-i.result (c.loop-i.i, c.loop-i-test.true, sym c.index-records-i.is)
 
 pub returns-in-Some : goal.returns-in-Some
 returns-in-Some c =

@@ -7,7 +7,7 @@ use Rattle.proof_checker.specs.declared.standings.Reader.TheVariants.{Refutes}
 use Rattle.proof_checker.specs.Faults.{held, known_to, setting}
 use Rattle.proof_checker.specs.Standings.{known_from}
 use Rattle.proof_checker.proofs.Alike.{states_same}
-use Rattle.proof_checker.proofs.Allowed.{in_turn}
+use Rattle.bag_match.proofs.Allowed.{in_turn}
 use Rattle.proof_checker.proofs.Known.{known_is_view}
 use Rattle.proof_checker.proofs.items.Held.states_refute.Goals as goal
 

@@ -9,7 +9,7 @@ use Rattle.proof_checker.specs.declared.standings.Reader.TheVariants.{Confirms}
 use Rattle.proof_checker.specs.Faults.{held, known_to, setting}
 use Rattle.proof_checker.specs.Standings.{known_from}
 use Rattle.proof_checker.proofs.Alike.{values_same}
-use Rattle.proof_checker.proofs.Allowed.{in_turn}
+use Rattle.bag_match.proofs.Allowed.{in_turn}
 use Rattle.proof_checker.proofs.Known.{known_is_view}
 use Rattle.proof_checker.proofs.items.Held.values_fit.Goals as goal
 

@@ -4,8 +4,9 @@ use Rattle.std.proofs.lemmas.Result.{IfOk-weaker}
 use Rattle.rdf_terms.specs.declared.terms.Triple.{Triple}
 use Rattle.schema_tree.specs.declared.verdicts.Place.{Place}
 use Rattle.schema_tree.specs.declared.verdicts.Place.TheVariants.{At, Rest}
-use Rattle.proof_checker.specs.Stated.{LeadsOn, state_of}
-use Rattle.proof_checker.proofs.Allowed.{neither}
+use Rattle.bag_match.specs.Counts.{state_of}
+use Rattle.proof_checker.specs.Stated.{LeadsOn}
+use Rattle.bag_match.proofs.Allowed.{neither}
 use Rattle.proof_checker.proofs.Stating.{all_places, one_more_leads}
 use Rattle.proof_checker.proofs.states.Listing.all_lead_on.Goals as goal
 

@@ -2,7 +2,8 @@ use Rattle.std.proofs.Common.{◌≡◌, ◌<◌, ℕ}
 use Rattle.std.specs.Prelude.{Some, slice_get}
 use Rattle.rdf_terms.specs.declared.terms.Triple.{Triple}
 use Rattle.schema_tree.specs.declared.verdicts.Place.TheVariants.{At}
-use Rattle.proof_checker.specs.Stated.{LeadsOn, state_of}
+use Rattle.bag_match.specs.Counts.{state_of}
+use Rattle.proof_checker.specs.Stated.{LeadsOn}
 use Rattle.proof_checker.proofs.states.Listing.all_lead_on.Given as goal
 
 abbrev pub invariant-loop-i : goal.invariant-loop-i

@@ -1,5 +1,5 @@
 use Rattle.std.proofs.Common.{ap, sym, ◌∙◌}
-use Rattle.rdf_terms.specs.Literals.{xsd_string}
+use Rattle.rdf_terms.specs.Vocabulary.{xsd_string}
 use Rattle.rdf_terms.specs.Texts.{same_text}
 use Rattle.rdf_terms.proofs.Escapes.{tagged_suffix, plain_suffix, typed_suffix}
 use Rattle.rdf_terms.proofs.order.TextBytes.of_literal.Goals as goal

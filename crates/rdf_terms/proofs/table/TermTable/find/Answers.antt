@@ -1,5 +1,6 @@
 use Rattle.std.proofs.Common.{◌≡◌, subst, sym, true≢false, Contains, slice_get, Some, refl}
-use Rattle.rdf_terms.proofs.Distinct.{found_item, missed_item, held_item}
+use Rattle.lists.proofs.Distinct.{found_item, missed_item}
+use Rattle.lists.proofs.Members.{got_in}
 use Rattle.rdf_terms.proofs.SameTerms.{same_term, term_decides}
 use Rattle.rdf_terms.proofs.table.TermTable.find.Goals as goal
 
@@ -9,7 +10,7 @@ returns-in-Some-clause-found c =
 
 pub returns-in-Some-clause-absent : goal.returns-in-Some-clause-absent
 returns-in-Some-clause-absent c =
-    (λ e. absurd (true≢false e), λ missing. absurd (missing (held_item _ _ _ (returns-in-Some-clause-found c))))
+    (λ e. absurd (true≢false e), λ missing. absurd (missing (got_in _ _ _ (returns-in-Some-clause-found c))))
 
 pub returns-in-None-clause-absent : goal.returns-in-None-clause-absent
 returns-in-None-clause-absent c =

@@ -1,6 +1,6 @@
 use Rattle.std.proofs.Common.{subst}
-use Rattle.rdf_terms.specs.Lists.{AreDistinct}
-use Rattle.rdf_terms.proofs.Distinct.{distinct_items}
+use Rattle.lists.specs.Distinct.{AreDistinct}
+use Rattle.lists.proofs.Distinct.{distinct_items}
 use Rattle.rdf_terms.proofs.SameTerms.{same_term, term_decides}
 use Rattle.rdf_terms.proofs.table.TermTable.len.Goals as goal
 

@@ -1,7 +1,9 @@
 use Rattle.std.proofs.Common.{◌≡◌, subst, sym, ◌∙◌, Contains, slice_get, Some, ap, length, arith, refl, inl}
-use Rattle.rdf_terms.specs.Lists.{AreDistinct, Adds}
+use Rattle.lists.specs.Distinct.{AreDistinct}
+use Rattle.lists.specs.Additions.{Adds}
 use Rattle.rdf_terms.specs.Tables.{max_terms}
-use Rattle.rdf_terms.proofs.Distinct.{found_item, missed_item, held_item, adds_item, distinct_items, inserted_item}
+use Rattle.lists.proofs.Distinct.{found_item, missed_item, adds_item, distinct_items, inserted_item}
+use Rattle.lists.proofs.Members.{got_in}
 use Rattle.rdf_terms.proofs.SameTerms.{same_term, term_decides}
 use Rattle.rdf_terms.proofs.table.TermTable.put.Goals as goal
 
@@ -23,10 +25,10 @@ returns-in-Some-clause-number c =
     subst (λ ts. slice_get ts c.in-Some.place ≡ Some c.args.term) c.self.view_is (found_item same_term term_decides _ c.args.term c.in-Some.place (sym c.in-Some.ensures.index))
 
 pub returns-in-Some-clause-added : goal.returns-in-Some-clause-added
-returns-in-Some-clause-added c = inl (held_item _ _ _ (returns-in-Some-clause-number c), refl)
+returns-in-Some-clause-added c = inl (got_in _ _ _ (returns-in-Some-clause-number c), refl)
 
 pub returns-in-Some-clause-full : goal.returns-in-Some-clause-full
-returns-in-Some-clause-full c = (λ e. cc, λ new. absurd (new.0 (held_item _ _ _ (returns-in-Some-clause-number c))))
+returns-in-Some-clause-full c = (λ e. cc, λ new. absurd (new.0 (got_in _ _ _ (returns-in-Some-clause-number c))))
 
 pub returns-in-Some-clause-distinct : goal.returns-in-Some-clause-distinct
 returns-in-Some-clause-distinct c = subst AreDistinct c.self.view_is (distinct_items same_term term_decides _ c.len.ensures.unique)

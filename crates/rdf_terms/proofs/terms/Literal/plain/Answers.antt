@@ -1,6 +1,7 @@
 use Rattle.std.proofs.Common.{◌≡◌, ℕ, List, None, ap, sym, ◌∙◌, length, refl, nat_eq, true≢false}
 use Rattle.std.specs.Str.{chars}
-use Rattle.rdf_terms.specs.Literals.{LiteralParts, xsd_string, rdf_lang_string}
+use Rattle.rdf_terms.specs.Literals.{LiteralParts}
+use Rattle.rdf_terms.specs.Vocabulary.{xsd_string, rdf_lang_string}
 use Rattle.rdf_terms.proofs.terms.Literal.plain.Goals as goal
 
 string_chars : chars xsd_string ≡ xsd_string

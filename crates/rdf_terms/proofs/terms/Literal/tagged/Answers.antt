@@ -2,7 +2,8 @@ use Rattle.std.proofs.Common.{◌≡◌, ℕ, List, Some, ap, sym, ◌∙◌, su
 use Rattle.std.proofs.lemmas.Str.{chars-IsAscii, encodes-chars, IsUtf8-string_bytes}
 use Rattle.std.specs.Char.{to_ascii_lowercase}
 use Rattle.std.specs.Str.{chars, IsUtf8}
-use Rattle.rdf_terms.specs.Literals.{rdf_lang_string, is_lowered}
+use Rattle.rdf_terms.specs.Literals.{is_lowered}
+use Rattle.rdf_terms.specs.Vocabulary.{rdf_lang_string}
 use Rattle.rdf_terms.proofs.Characters.{lowered, lowered_chars, ascii_codes}
 use Rattle.rdf_terms.proofs.terms.Literal.tagged.Goals as goal
 

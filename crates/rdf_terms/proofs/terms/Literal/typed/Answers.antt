@@ -2,7 +2,7 @@ use Rattle.std.proofs.Common.{ap, sym, ◌∙◌, refl}
 use Rattle.std.proofs.lemmas.Str.{chars-IsAscii}
 use Rattle.std.specs.Cmp.Lexicographic.{bytes_decides}
 use Rattle.std.specs.Str.{chars}
-use Rattle.rdf_terms.specs.Literals.{rdf_lang_string}
+use Rattle.rdf_terms.specs.Vocabulary.{rdf_lang_string}
 use Rattle.rdf_terms.proofs.Characters.{ascii_codes}
 use Rattle.rdf_terms.proofs.terms.Literal.typed.Goals as goal
 

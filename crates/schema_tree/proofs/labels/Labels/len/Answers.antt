@@ -1,6 +1,6 @@
 use Rattle.std.proofs.Common.{subst}
-use Rattle.rdf_terms.specs.Lists.{AreDistinct}
-use Rattle.rdf_terms.proofs.Distinct.{distinct_items}
+use Rattle.lists.specs.Distinct.{AreDistinct}
+use Rattle.lists.proofs.Distinct.{distinct_items}
 use Rattle.schema_tree.specs.Labels.{labels_of}
 use Rattle.schema_tree.proofs.SameLabels.{same_label, label_decides}
 use Rattle.schema_tree.proofs.labels.Labels.len.Goals as goal

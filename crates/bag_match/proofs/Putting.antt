@@ -1,0 +1,87 @@
+-- What a set of counts has after one more is put into it.
+use Rattle.std.proofs.Common.{◌≡◌, ℕ, ◌⊎◌, inl, inr, List, [], ◌∷◌, map, refl, ap, sym, subst, ◌∙◌, Bool, true, false, true≢false}
+use Rattle.std.proofs.lemmas.Map.Lookups.{exact_bytes}
+use Rattle.std.specs.Prelude.{Contains, IsTrue, ◌↔◌, ◌||◌, bytes_eq}
+use Rattle.std.specs.BTreeSet.{insert_key}
+use Rattle.std.specs.Global.{Vec}
+use Rattle.std.specs.List.{list_any}
+use Rattle.std.proofs.lemmas.Map.Text.{is_eq-slice_cmp}
+use Rattle.std.specs.Cmp.Lexicographic.{bytes_decides, slice_cmp}
+use Rattle.std.specs.Ordering.{is_eq, match_ordering, nat_cmp}
+use Rattle.std.specs.declared.cmp.Ordering.{Ordering}
+use Rattle.std.specs.declared.cmp.Ordering.TheVariants.{Less, Equal, Greater}
+use Rattle.lists.proofs.Members.{in_rest, is_first, is_later, not_in_none}
+
+abbrev pub compare_items : Vec ℕ → Vec ℕ → Ordering
+compare_items x y = slice_cmp nat_cmp x.items y.items
+
+abbrev pub lists : List (Vec ℕ) → List (List ℕ)
+lists ks = map (λ v. v.items) ks
+
+abbrev Puts : List (List ℕ) → List (List ℕ) → List ℕ → List ℕ → Type 0
+Puts new old k c = (Contains new c → Contains old c ⊎ (k ≡ c)) × (Contains old c ⊎ (k ≡ c) → Contains new c)
+
+pub put_has : (ks : List (Vec ℕ)) (k : Vec ℕ) (c : List ℕ) → Puts (lists (insert_key compare_items ks k)) (lists ks) k.items c
+put_has [] k c = (
+  (λ h. elim (in_rest k.items [] c h) [ inl e ↦ inr e | inr none ↦ inl none ]),
+  (λ h. elim h [ inl none ↦ absurd (not_in_none c none) | inr e ↦ subst (λ z. Contains (k.items ∷ []) z) e (is_first k.items []) ]),
+)
+put_has (x ∷ xs) k c = go (compare_items k x) refl (put_has xs k c)
+  where
+    go : (o : Ordering) → compare_items k x ≡ o → Puts (lists (insert_key compare_items xs k)) (lists xs) k.items c →
+        Puts (lists (match_ordering o (k ∷ x ∷ xs) (x ∷ xs) (x ∷ insert_key compare_items xs k))) (lists (x ∷ xs)) k.items c
+    go Less is deeper = (
+      (λ h. elim (in_rest k.items (lists (x ∷ xs)) c h) [ inl e ↦ inr e | inr later ↦ inl later ]),
+      (λ h. elim h [
+        | inl held ↦ is_later k.items (lists (x ∷ xs)) c held
+        | inr e ↦ subst (λ z. Contains (lists (k ∷ x ∷ xs)) z) e (is_first k.items (lists (x ∷ xs)))
+      ]),
+    )
+    go Equal is deeper = (
+      (λ h. inl h),
+      (λ h. elim h [
+        | inl held ↦ held
+        | inr e ↦ subst (λ z. Contains (lists (x ∷ xs)) z) (sym (exact_bytes k.items x.items is) ∙ e) (is_first x.items (lists xs))
+      ]),
+    )
+    go Greater is deeper = (
+      (λ h. elim (in_rest x.items (lists (insert_key compare_items xs k)) c h) [
+        | inl e ↦ inl (subst (λ z. Contains (lists (x ∷ xs)) z) e (is_first x.items (lists xs)))
+        | inr later ↦ elim (deeper.0 later) [ inl held ↦ inl (is_later x.items (lists xs) c held) | inr e ↦ inr e ]
+      ]),
+      (λ h. elim h [
+        | inl held ↦ elim (in_rest x.items (lists xs) c held) [
+          | inl e ↦ subst (λ z. Contains (x.items ∷ lists (insert_key compare_items xs k)) z) e (is_first x.items (lists (insert_key compare_items xs k)))
+          | inr later ↦ is_later x.items (lists (insert_key compare_items xs k)) c (deeper.1 (inl later))
+        ]
+        | inr e ↦ is_later x.items (lists (insert_key compare_items xs k)) c (deeper.1 (inr e))
+      ]),
+    )
+
+pub put_keys : (ks new : List (Vec ℕ)) (k : Vec ℕ) → new ≡ insert_key compare_items ks k → (c : List ℕ) → Contains (lists new) c ↔ (Contains (lists ks) c ⊎ (k.items ≡ c))
+put_keys ks new k is c = subst (λ z. Puts (lists z) (lists ks) k.items c) (sym is) (put_has ks k c)
+
+-- the counts are in the set where one of its keys compares equal to them
+pub has_key : (ks : List (Vec ℕ)) (k : Vec ℕ) → IsTrue (list_any (λ x. is_eq (compare_items k x)) ks) ↔ Contains (lists ks) k.items
+has_key [] k = ((λ h. absurd (true≢false (sym h))), λ c. absurd (not_in_none k.items c))
+has_key (x ∷ xs) k = go (is_eq (compare_items k x)) refl (has_key xs k)
+  where
+    tests : is_eq (compare_items k x) ≡ bytes_eq k.items x.items
+    tests = is_eq-slice_cmp k.items x.items
+
+    go : (b : Bool) → is_eq (compare_items k x) ≡ b → IsTrue (list_any (λ z. is_eq (compare_items k z)) xs) ↔ Contains (lists xs) k.items →
+        IsTrue (b || list_any (λ z. is_eq (compare_items k z)) xs) ↔ Contains (lists (x ∷ xs)) k.items
+    go true e rest = (
+      (λ h. subst (λ z. Contains (x.items ∷ lists xs) z) (sym ((bytes_decides k.items x.items).0 (sym tests ∙ e))) (is_first x.items (lists xs))),
+      (λ c. refl),
+    )
+    go false e rest = (
+      (λ h. is_later x.items (lists xs) k.items (rest.0 h)),
+      (λ c. elim (in_rest x.items (lists xs) k.items c) [
+        | inl same ↦ absurd (true≢false (sym ((bytes_decides k.items x.items).1 (sym same)) ∙ sym tests ∙ e))
+        | inr later ↦ rest.1 later
+      ]),
+    )
+
+pub has_is : (ks : List (Vec ℕ)) (k : Vec ℕ) (b : Bool) → b ≡ list_any (λ x. is_eq (compare_items k x)) ks → IsTrue b ↔ Contains (lists ks) k.items
+has_is ks k b e = subst (λ z. IsTrue z ↔ Contains (lists ks) k.items) (sym e) (has_key ks k)

@@ -1,0 +1,10 @@
+pub mod Counts
+pub mod Sets
+pub mod Reached
+pub mod Least
+pub mod Layers
+pub mod Outcomes
+pub mod Bounds
+pub mod Keys
+pub mod Counted
+pub mod Later

@@ -1,0 +1,22 @@
+//! Matches of the triples of a node with the triple expression of a Shape, by the counts of its occurrences.
+#![tactic(auto)]
+
+pub mod arcs;
+pub mod counts;
+pub mod dying;
+mod keys;
+pub mod laws;
+mod layers;
+mod matching;
+mod outcome;
+mod passing;
+pub mod places;
+mod placing;
+mod products;
+pub mod raising;
+mod spreading;
+
+pub use matching::match_pair;
+pub use outcome::Outcome;
+pub use passing::dead;
+pub use products::width;

@@ -1,0 +1,111 @@
+//! Matches of pairs.
+
+ghost use Rattle.std.specs.Prelude.{◌≡◌, ◌↔◌, ◌<◌, ◌≤◌, ◌+◌, ◌*◌, ◌^◌, ℕ, List, Contains, ◌++◌, IfOk, OnOk, length};
+ghost use Rattle.std.specs.List.{flat_map};
+ghost use Rattle.graph_index.specs.Contents.{IsSealedWith};
+ghost use Rattle.schema_tree.specs.Loaded.{BodyOk, IsLoaded};
+ghost use Rattle.schema_tree.specs.Places.{PairCanMatch};
+ghost use Rattle.schema_tree.specs.Width.{HasWidth};
+ghost use Rattle.bag_match.specs.Bounds.{IsBound, most_ticks};
+ghost use Rattle.bag_match.specs.Outcomes.{IsFound, IsOutcome, IsPlaced, ticks_of};
+
+use crate::arcs::{is_shut, relevant};
+use crate::layers::{Question, layer_at};
+use crate::outcome::Outcome;
+use crate::places::{Judge, Values};
+use graph_index::graph::Graph;
+use rdf_terms::items::Items;
+use rdf_terms::table::TermTable;
+use schema_tree::schema::{Pair, Schema};
+use schema_tree::sure::View;
+use schema_tree::verdicts::{Lean, State};
+use std::alloc::{AllocError, Global};
+use std::sync::ledger::Ledger;
+use tally::Steps;
+
+/// Puts the states of a layer behind those that are there.
+fn put_all(layer: Vec<State>, states: &mut Vec<State>) -> Result<(), AllocError>
+    ensures { OnOk result (states.new.items ≡ states.old.items ++ layer.items) }
+{
+    for state in layer {
+        states.push(state)?;
+    }
+    Ok(())
+}
+
+/// The states of the layers, one behind the other.
+fn joined(alloc: Global, layers: Vec<Items<State>>) -> Result<Vec<State>, AllocError>
+    ensures { IfOk result (λ v. v.items ≡ flat_map (λ xs. xs) layers.items) }
+{
+    let mut states = Vec::new(alloc);
+    for layer in layers {
+        put_all(layer.into_vec(), &mut states)?;
+    }
+    Ok(states)
+}
+
+impl<J: Judge> Question<'_, J> {
+    /// The least places, or the states that are reached where there are none.
+    fn outcome<L: Ledger>(&self, alloc: Global, steps: &mut Steps<L>) -> Result<Outcome, AllocError>
+        requires ready { J.ready self.now.judge.now }
+        requires body { BodyOk self.now.shape.now.occs self.now.shape.now.body }
+        requires few { length self.now.triples.now < 2 ^ 31 }
+        requires few_occurrences { length self.now.shape.now.occs ≤ 256 }
+        ensures found { IfOk result (IsFound (J.hold self.now.judge.now) (J.fail self.now.judge.now) self.now.shape.now self.now.node self.now.triples.now) }
+        ensures least { IfOk result (λ r. steps.old + ticks_of r ≤ steps.new) }
+        ensures most { (bound : ℕ) → IsBound (J.hold self.now.judge.now) (J.fail self.now.judge.now) self.now.shape.now self.now.node self.now.triples.now bound → steps.new ≤ steps.old + (length self.now.triples.now + 1) * bound }
+    {
+        let last = self.triples.len();
+        let layers = self.layers(alloc, steps)?;
+        if layer_at(layers.as_slice(), last).is_empty() {
+            Ok(Outcome::Never(Items::of(joined(alloc, layers)?)))
+        } else {
+            Ok(Outcome::Placed(Items::of(self.least_places(alloc, layers.as_slice())?)))
+        }
+    }
+}
+
+/// The least places, by their numbers and the remainder last, that are allowed for the relevant triples of a pair and
+/// have matching counts, where there are such and the pair is not shut (ShEx 2.1, section 5.5.2); and else the states
+/// that allowed places reach through states that are not dead, sorted by the number of triples done and then the counts,
+/// and none where the pair is shut. Values have the verdicts that the view leaves, Unknown as `lean` says.
+pub fn match_pair<V: View, L: Ledger>(
+    alloc: Global,
+    schema: &Schema,
+    graph: &Graph,
+    terms: &TermTable,
+    view: &V,
+    lean: Lean,
+    pair: Pair,
+    steps: &mut Steps<L>,
+) -> Result<Outcome, AllocError>
+    requires loaded { IsLoaded schema.now }
+    requires sealed { IsSealedWith terms.now graph.now }
+    ensures outcome { IfOk result (IsOutcome schema.now terms.now graph.now.triples (V.known view.now) lean pair) }
+    ensures placed { IfOk result (λ r. IsPlaced r ↔ PairCanMatch schema.now terms.now graph.now.triples (V.known view.now) lean pair) }
+    ensures least { IfOk result (λ r. steps.old + ticks_of r ≤ steps.new) }
+    ensures most { (w : ℕ) → HasWidth schema.now terms.now graph.now.triples pair w → steps.new ≤ steps.old + most_ticks schema.now terms.now graph.now.triples pair w }
+{
+    let node = pair.node;
+    let Some(shape) = schema.shapes.as_slice().get(pair.shape.0 as usize) else {
+        return Ok(Outcome::Never(Items::of(Vec::new(alloc))));
+    };
+    if is_shut(graph, shape, node) {
+        return Ok(Outcome::Never(Items::of(Vec::new(alloc))));
+    }
+    let _held = graph.len();
+    let triples = relevant(alloc, graph, shape, node)?;
+    let judge = Values {
+        schema,
+        terms,
+        view,
+        lean,
+    };
+    let question = Question {
+        shape,
+        node,
+        triples: triples.as_slice(),
+        judge: &judge,
+    };
+    question.outcome(alloc, steps)
+}

@@ -1,0 +1,13 @@
+pub mod Additions
+pub mod Beside
+pub mod Decided
+pub mod Distinct
+pub mod Filters
+pub mod Halving
+pub mod Joined
+pub mod Members
+pub mod Numbers
+pub mod Ordered
+pub mod Quantifiers
+pub mod Sorting
+pub mod Tests

@@ -1,0 +1,5 @@
+pub mod Additions
+pub mod Distinct
+pub mod Equality
+pub mod Quantifiers
+pub mod Sorting

@@ -1,6 +1,0 @@
-use Rattle.std.proofs.Common.{length, take}
-use Rattle.proof_checker.specs.Counted.{Counts}
-use Rattle.proof_checker.proofs.counts.count_places.Given as goal
-
-abbrev pub invariant-loop-place : goal.invariant-loop-place
-invariant-loop-place l = Counts (length l.fn.counts) (take l.place-index l.places) l.counts

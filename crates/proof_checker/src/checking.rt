@@ -1,0 +1,174 @@
+//! The check of bytes that are given as a proof.
+
+ghost use Rattle.std.specs.Prelude.{◌<◌, ◌^◌, ◌≡◌, All, Contains, IfErr, IfOk, length};
+ghost use Rattle.lists.specs.Distinct.{AreDistinct};
+ghost use Rattle.graph_index.specs.Contents.{IsSealedWith};
+ghost use Rattle.graph_index.specs.Laws.{IsOfTable};
+ghost use Rattle.schema_tree.specs.Cycles.{HasNegatedCycle};
+ghost use Rattle.schema_tree.specs.Edges.{IsStratum};
+ghost use Rattle.schema_tree.specs.Loaded.{IsLoaded};
+ghost use Rattle.proof_file.specs.Accepts.{items_of, setting_of};
+ghost use Rattle.proof_checker.specs.Checks.{FailsAs, IsAcceptedAs, IsTrueAs, KeepsTerms, OnStrata};
+ghost use Rattle.proof_checker.specs.Faults.{AreRising, FirstFault, proof_of};
+
+use crate::claims::{Claims, answers};
+use crate::items::{Fault, Held};
+use crate::lines::take_up;
+use crate::standings::Standings;
+use graph_index::graph::Graph;
+use graph_index::laws::sealing_outlives_growth;
+use proof_file::laws::lines_are_few;
+use proof_file::read::{ReadError, read};
+use proof_file::{Claim, Proof, Section, Why, accepted_is_true};
+use rdf_terms::table::{PutError, TermTable};
+use rdf_terms::terms::TermId;
+use schema_tree::schema::Schema;
+use std::alloc::{AllocError, Global};
+use strata::list::StrataError;
+use strata::strata::strata;
+use thiserror::Error;
+
+/// Why bytes are not accepted as a proof.
+#[derive(Debug, Drop, Error)]
+pub enum CheckError {
+    /// They are no text of a proof: the place of the first line for which the lines up to it begin none, or their length
+    /// where they end before the last line.
+    #[error("Syntax({0})")]
+    Syntax(u64),
+    /// They are the text of a proof with an item that is not accepted: its number, from 0 over records and claims, and
+    /// the first check that it fails.
+    #[error("Rejected({0},{1:?})")]
+    Rejected(u64, Why),
+    /// They are the text of a proof, and the table cannot take up all terms of its node lines.
+    #[error("Full")]
+    Full,
+    /// Memory ran out.
+    #[error("Memory")]
+    Memory,
+}
+
+impl From<AllocError> for CheckError {
+    ghost use Rattle.std.specs.Prelude.{◌≡◌};
+    ghost use Rattle.proof_checker.specs.declared.checking.CheckError.TheVariants.{Memory};
+
+    ghost from_gives = { λ _ e. e ≡ Memory };
+
+    fn from(_error: AllocError) -> CheckError {
+        CheckError::Memory
+    }
+}
+
+/// The first item of a proof that is not accepted.
+fn first_fault(
+    alloc: Global,
+    schema: &Schema,
+    strata: &[u32],
+    graph: &Graph,
+    terms: &TermTable,
+    nodes: &[TermId],
+    sections: &[Section],
+    claims: &[Claim],
+) -> Result<Option<Fault>, AllocError>
+    requires loaded { IsLoaded schema.now }
+    requires sealed { IsSealedWith terms.now graph.now }
+    requires rising { AreRising sections.now }
+    requires few_items { length (items_of (proof_of sections.now claims.now)) < 2 ^ 64 }
+    ensures { IfOk result (FirstFault (setting_of strata.now schema.now terms.now graph.now.triples nodes.now) (proof_of sections.now claims.now) (items_of (proof_of sections.now claims.now))) }
+{
+    let _held = graph.len();
+    let standings = Standings::of_sections(alloc, nodes, sections)?;
+    let held = Held {
+        schema,
+        terms,
+        graph,
+        strata,
+        nodes,
+        sections,
+        claims,
+        standings: &standings,
+    };
+    held.fault(alloc)
+}
+
+/// How many bytes there are, which a `u64` holds.
+fn size(bytes: &[u8]) -> u64
+    ensures { result ≡ length bytes.now }
+{
+    bytes.len() as u64
+}
+
+/// Checks bytes that are given as a proof, with a stratum for each Shape, as `check` does.
+fn checked(
+    alloc: Global,
+    schema: &Schema,
+    strata: &[u32],
+    graph: &Graph,
+    terms: &mut TermTable,
+    proof: &[u8],
+) -> Result<Claims, CheckError>
+    requires loaded { IsLoaded schema.now }
+    requires least { IsStratum schema.now strata.now }
+    requires sealed { IsSealedWith terms.old graph.now }
+    requires numbers { All (IsOfTable terms.old) graph.now.triples }
+    ensures accepted { IfOk result (IsAcceptedAs strata.now schema.now terms.old terms.new graph.now.triples proof.now) }
+    ensures fails { IfErr result (FailsAs schema.now terms.old terms.new graph.now.triples proof.now) }
+    ensures kept { KeepsTerms terms.old terms.new }
+    ensures distinct { AreDistinct terms.new }
+{
+    let _distinct = terms.len();
+    let _fits = size(proof);
+    lines_are_few();
+    sealing_outlives_growth();
+    let Proof {
+        nodes,
+        sections,
+        claims,
+    } = match read(alloc, proof) {
+        Ok(read) => read,
+        Err(ReadError::Syntax(at)) => return Err(CheckError::Syntax(at)),
+        Err(ReadError::Memory) => return Err(CheckError::Memory),
+    };
+    let nodes = match take_up(alloc, terms, nodes.into_vec()) {
+        Ok(nodes) => nodes,
+        Err(PutError::Full) => return Err(CheckError::Full),
+        Err(PutError::Memory) => return Err(CheckError::Memory),
+    };
+    let (nodes, sections, claims) = (nodes.as_slice(), sections.as_slice(), claims.as_slice());
+    let fault = first_fault(alloc, schema, strata, graph, terms, nodes, sections, claims)?;
+    if let Some(fault) = fault {
+        return Err(CheckError::Rejected(fault.item as u64, fault.why));
+    }
+    Ok(Claims::of(answers(alloc, nodes, claims)?))
+}
+
+/// Checks bytes that are given as a proof, against a loaded schema in which no cycle of edges has a negative one, and a
+/// graph that is sealed with the table. The terms of the node lines are put into the table. Gives the claims in their
+/// order where the proof is accepted, with each Shape on its stratum; then each of its records and claims is true of the
+/// complete typing (ShEx 2.1, section 5.2). After a refusal the table may have more terms.
+pub fn check(
+    alloc: Global,
+    schema: &Schema,
+    graph: &Graph,
+    terms: &mut TermTable,
+    proof: &[u8],
+) -> Result<Claims, CheckError>
+    requires loaded { IsLoaded schema.now }
+    requires stratified { ¬ HasNegatedCycle schema.now }
+    requires sealed { IsSealedWith terms.old graph.now }
+    requires numbers { All (IsOfTable terms.old) graph.now.triples }
+    ensures accepted { IfOk result (λ a. OnStrata schema.now (λ f. IsAcceptedAs f schema.now terms.old terms.new graph.now.triples proof.now a)) }
+    ensures sound { IfOk result (IsTrueAs schema.now terms.old terms.new graph.now.triples proof.now) }
+    ensures fails { IfErr result (FailsAs schema.now terms.old terms.new graph.now.triples proof.now) }
+    ensures kept { KeepsTerms terms.old terms.new }
+    ensures distinct { AreDistinct terms.new }
+{
+    // The law that ties what is accepted to the complete typing.
+    accepted_is_true();
+    let _distinct = terms.len();
+    let strata = match strata(alloc, schema) {
+        Ok(strata) => strata,
+        Err(StrataError::Memory) => return Err(CheckError::Memory),
+        Err(StrataError::NegatedCycle(_)) => unreachable!(),
+    };
+    checked(alloc, schema, strata.list(), graph, terms, proof)
+}

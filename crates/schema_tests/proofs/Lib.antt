@@ -1,0 +1,4 @@
+mod CheckedSchemas
+mod SampledMatches
+mod SampledStrata
+mod SampledTypings

@@ -1,0 +1,22 @@
+//! Constraints, schemas, strata, matches, proofs and typings, called as the crates above call them. The crates themselves have no tests, since one with tests is proved twice.
+#![tactic(auto)]
+
+#[cfg(test)]
+#[tactic(auto, unfolding(tally::specs::Symbols::IsDistinct, tally::specs::Span::IsSound))]
+mod counts;
+#[cfg(test)]
+mod documents;
+#[cfg(test)]
+mod labels;
+#[cfg(test)]
+mod levels;
+#[cfg(test)]
+mod matches;
+#[cfg(test)]
+mod proof_texts;
+#[cfg(test)]
+mod targets;
+#[cfg(test)]
+mod typings;
+#[cfg(test)]
+mod verdicts;

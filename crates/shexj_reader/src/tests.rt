@@ -1,5 +1,0 @@
-//! What is read, and what is refused.
-
-mod constraints;
-mod documents;
-mod refusals;

@@ -1,4 +1,0 @@
-mod Escapes
-mod Spellings
-pub mod TermReading
-pub mod TermTexts

@@ -1,0 +1,217 @@
+//! Files and sinks in memory and of the machine, called as a program calls them.
+
+ghost use Rattle.std.specs.Prelude.{None, Some};
+
+use shex_io::*;
+use std::io::Write;
+use std::test::Fail;
+use std::{fs, io};
+
+#[test]
+fn memory_files_fail_at_the_listed_calls_alone(rt: HostRuntime) -> Result<(), Fail> {
+    let alloc = rt.alloc();
+    let mut files = MemFiles::new(alloc, vec![in alloc; 1, 3]?);
+    files.add("a", b"first")?;
+    files.add("b", b"")?;
+    files.add("a", b"second")?;
+    assert_eq!(rt; files.file("a"), Some(b"second".as_slice()));
+    assert_eq!(rt; files.file("b"), Some(b"".as_slice()));
+    assert_eq!(rt; files.file("c"), None);
+    assert_eq!(rt;
+        files.fetch(alloc, "a", 9)?.as_slice(),
+        b"second".as_slice()
+    );
+    assert_eq!(rt;
+        files.fetch(alloc, "a", 9).err(),
+        Some(FetchError::Failed),
+        "call 1"
+    );
+    assert_eq!(rt;
+        files.fetch(alloc, "c", 9).err(),
+        Some(FetchError::Failed),
+        "absent"
+    );
+    assert_eq!(rt;
+        files.fetch(alloc, "c", 9).err(),
+        Some(FetchError::Failed),
+        "call 3"
+    );
+    assert_eq!(rt; files.fetch(alloc, "b", 9)?.as_slice(), b"".as_slice());
+    Ok(())
+}
+
+#[test]
+fn fetches_and_stores_in_memory_are_numbered_together(rt: HostRuntime) -> Result<(), Fail> {
+    let alloc = rt.alloc();
+    let mut files = MemFiles::new(alloc, vec![in alloc; 0, 2]?);
+    files.add("kept", b"as it was")?;
+    assert_eq!(rt;
+        files.store("a", b"first"),
+        Err(StoreError::Failed),
+        "call 0"
+    );
+    assert_eq!(rt; files.file("a"), None);
+    assert_eq!(rt; files.store("a", b"first"), Ok(()));
+    assert_eq!(rt;
+        files.fetch(alloc, "a", 9).err(),
+        Some(FetchError::Failed),
+        "call 2"
+    );
+    assert_eq!(rt; files.store("a", b"again"), Ok(()));
+    assert_eq!(rt; files.fetch(alloc, "a", 9)?.as_slice(), b"again".as_slice());
+    assert_eq!(rt; files.file("kept"), Some(b"as it was".as_slice()));
+    Ok(())
+}
+
+#[test]
+fn sure_files_fail_at_absent_names_alone(rt: HostRuntime) -> Result<(), Fail> {
+    let alloc = rt.alloc();
+    let mut files = SureFiles::new(alloc);
+    files.add("a", b"added")?;
+    assert_eq!(rt; files.fetch(alloc, "b", 9).err(), Some(FetchError::Failed));
+    assert_eq!(rt; files.store("b", b"stored"), Ok(()));
+    assert_eq!(rt;
+        files.fetch(alloc, "b", 6)?.as_slice(),
+        b"stored".as_slice()
+    );
+    assert_eq!(rt; files.fetch(alloc, "b", 5).err(), Some(FetchError::Long));
+    assert_eq!(rt; files.file("a"), Some(b"added".as_slice()));
+    assert_eq!(rt; files.file("c"), None);
+    let mut sink = SureSink::new(alloc);
+    assert_eq!(rt; put_all(&mut sink, b"one"), Ok(()));
+    assert_eq!(rt; sink.put(b"two"), Ok(3));
+    assert_eq!(rt; sink.bytes(), b"onetwo".as_slice());
+    Ok(())
+}
+
+#[test]
+fn a_fetch_takes_as_many_bytes_as_the_limit_and_no_more(rt: HostRuntime) -> Result<(), Fail> {
+    let alloc = rt.alloc();
+    let mut files = MemFiles::new(alloc, Vec::new(alloc));
+    files.add("four", b"1234")?;
+    files.add("none", b"")?;
+    for (name, limit, want) in [
+        ("four", 0, None),
+        ("four", 3, None),
+        ("four", 4, Some(4)),
+        ("four", u64::MAX, Some(4)),
+        ("none", 0, Some(0)),
+    ] {
+        match files.fetch(alloc, name, limit) {
+            Ok(bytes) => assert_eq!(rt; Some(bytes.len()), want, "{name} at {limit}"),
+            Err(error) => {
+                assert_eq!(rt; error, FetchError::Long, "{name} at {limit}");
+                assert_eq!(rt; None, want, "{name} at {limit}");
+            }
+        }
+    }
+    Ok(())
+}
+
+#[test]
+fn a_memory_sink_fails_at_the_listed_calls_alone(rt: HostRuntime) -> Result<(), Fail> {
+    let alloc = rt.alloc();
+    let mut sink = MemSink::new(alloc, vec![in alloc; 1]?);
+    assert_eq!(rt; sink.put(b"one"), Ok(3));
+    assert_eq!(rt; sink.put(b"two"), Err(SinkError::Failed));
+    assert_eq!(rt; sink.put(b"three"), Ok(5));
+    assert_eq!(rt; sink.bytes(), b"onethree".as_slice());
+    Ok(())
+}
+
+/// A sink that takes two bytes a call.
+#[derive(Drop)]
+struct Sips {
+    sink: MemSink,
+}
+
+impl Sink for Sips {
+    ghost use Rattle.shex_io.specs.Memory.{bytes_of, failed_puts};
+
+    ghost got = { λ sips. Some (bytes_of sips.sink) };
+
+    ghost faults = { λ sips. failed_puts sips.sink };
+
+    fn put(&mut self, piece: &[u8]) -> Result<u64, SinkError> {
+        let end = piece.len().min(2);
+        self.sink.put(&piece[..end])
+    }
+}
+
+#[test]
+fn put_all_hands_on_a_refusal_in_mid_stream(rt: HostRuntime) -> Result<(), Fail> {
+    let alloc = rt.alloc();
+    for (fail, want, got) in [
+        (9, Ok(()), b"abcdefg".as_slice()),
+        (0, Err(SinkError::Failed), b"".as_slice()),
+        (2, Err(SinkError::Failed), b"abcd".as_slice()),
+        (3, Err(SinkError::Failed), b"abcdef".as_slice()),
+    ] {
+        let mut sips = Sips {
+            sink: MemSink::new(alloc, vec![in alloc; fail]?),
+        };
+        assert_eq!(rt; put_all(&mut sips, b"abcdefg"), want, "call {fail} fails");
+        assert_eq!(rt; sips.sink.bytes(), got, "call {fail} fails");
+    }
+    Ok(())
+}
+
+#[test]
+fn disk_files_read_what_was_written(rt: HostRuntime) -> Result<(), Fail> {
+    let alloc = rt.alloc();
+    let path = "disk_files_read_what_was_written";
+    let mut text = Vec::new(alloc);
+    for number in 0..70_000u32 {
+        text.extend_from_slice(&number.to_be_bytes())?;
+    }
+    let mut sink = StdSink::new(fs::create(&rt, path)?);
+    assert_eq!(rt; put_all(&mut sink, text.as_slice()), Ok(()));
+    drop(sink);
+    let mut files = DiskFiles::new(alloc, &rt);
+    let whole = files.fetch(alloc, path, 280_000);
+    let long = files.fetch(alloc, path, 279_999);
+    let empty = files.fetch(alloc, path, 0);
+    let stored = files.store(path, b"shorter");
+    let again = files.fetch(alloc, path, 280_000);
+    fs::remove_file(&rt, path)?;
+    let absent = files.fetch(alloc, path, 280_000);
+    assert!(rt;
+        whole?.as_slice() == text.as_slice(),
+        "every byte comes back"
+    );
+    assert_eq!(rt; long.err(), Some(FetchError::Long));
+    assert_eq!(rt; empty.err(), Some(FetchError::Long));
+    assert_eq!(rt; stored, Ok(()));
+    assert_eq!(rt; again?.as_slice(), b"shorter".as_slice());
+    assert_eq!(rt; absent.err(), Some(FetchError::Failed));
+    Ok(())
+}
+
+/// A stream that takes nothing.
+#[derive(Drop)]
+struct Full;
+
+impl Write for Full {
+    ghost contents = { λ full. None };
+
+    fn write(&mut self, buf: &[u8]) -> io::Result<usize> {
+        Ok(0)
+    }
+
+    fn flush(&mut self) -> io::Result<()> {
+        Ok(())
+    }
+}
+
+#[test]
+fn what_the_machine_refuses_is_a_fault(rt: HostRuntime) -> Result<(), Fail> {
+    let alloc = rt.alloc();
+    assert_eq!(rt; StdSink::new(rt.stdout()).put(b"\n"), Ok(1));
+    assert_eq!(rt; StdSink::new(Full).put(b"x"), Err(SinkError::Failed));
+    let directory = fs::open(&rt, ".")?;
+    assert_eq!(rt; StdSink::new(directory).put(b"x"), Err(SinkError::Failed));
+    let mut files = DiskFiles::new(alloc, &rt);
+    assert_eq!(rt; files.fetch(alloc, ".", 9).err(), Some(FetchError::Failed));
+    assert_eq!(rt; files.store(".", b"x"), Err(StoreError::Failed));
+    Ok(())
+}

@@ -1,5 +1,0 @@
-pub mod Ahead
-pub mod Readers
-pub mod Phrases
-pub mod Properties
-pub mod Laws
