@@ -1,5 +1,5 @@
 -- There are no more counts than the Width says.
-use Rattle.std.proofs.Common.{◌≡◌, ℕ, suc, ◌+◌, ◌*◌, ◌≤◌, ◌⊎◌, inl, inr, length, take, drop, List, [], ◌∷◌, ◌++◌, filter, map, not, refl, arith, ap, sym, subst, ◌∙◌, Bool, true, false, cond, slice_index, max, min}
+use Rattle.std.proofs.Common.{◌≡◌, ℕ, suc, ◌*◌, ◌≤◌, ◌⊎◌, inl, inr, length, take, drop, List, [], ◌∷◌, ◌++◌, filter, map, not, refl, arith, ap, sym, subst, ◌∙◌, Bool, true, false, cond, slice_index, max, min}
 use Rattle.std.proofs.Common.{eq-eqb}
 use Rattle.std.proofs.lemmas.Bool.{eqb-true}
 use Rattle.std.proofs.lemmas.Grind.{same_number_lists}

@@ -1,5 +1,5 @@
 -- How many later triples of two lists the occurrences fit, the self-loops of the second left out.
-use Rattle.std.proofs.Common.{◌≡◌, ℕ, suc, ◌+◌, ◌<◌, ◌≤◌, ◌⊎◌, inl, inr, length, get_or, set, take, drop, List, [], ◌∷◌, ◌++◌, filter, not, refl, arith, ap, sym, subst, ◌∙◌, Bool, true, false, cond, slice_index}
+use Rattle.std.proofs.Common.{◌≡◌, ℕ, suc, ◌+◌, ◌<◌, ◌≤◌, inl, inr, length, get_or, set, take, drop, List, ◌∷◌, ◌++◌, filter, not, refl, arith, ap, sym, subst, ◌∙◌, Bool, true, false, cond, slice_index}
 use Rattle.std.proofs.lemmas.Bool.{cases_eq}
 use Rattle.std.proofs.lemmas.List.{drop_all, drop_more, get_or-set_other, get_or-set_same, get_or-take, length-append, length-take-le}
 use Rattle.std.specs.Prelude.{◌&&◌, slice_get}

@@ -1,5 +1,5 @@
 -- Which states some places lead from to a match, and the least such places.
-use Rattle.std.proofs.Common.{◌≡◌, ℕ, zero, suc, ◌+◌, ◌-◌, ◌≤◌, ◌≢◌, inl, inr, length, drop, List, [], ◌∷◌, refl, arith, ap, sym, subst, ◌∙◌, slice_index, Bool, true, false, cond, get_or-set_same, get_or-set_other}
+use Rattle.std.proofs.Common.{◌≡◌, ℕ, zero, suc, ◌+◌, ◌≤◌, ◌≢◌, inl, inr, length, drop, List, [], ◌∷◌, refl, arith, ap, sym, subst, ◌∙◌, slice_index, Bool, true, false, cond, get_or-set_same, get_or-set_other}
 use Rattle.std.proofs.lemmas.Bool.{eqb-true}
 use Rattle.std.proofs.lemmas.Bool.Decides.{nat_tests}
 use Rattle.std.proofs.lemmas.List.{drop_all, get_or_past}
@@ -18,14 +18,14 @@ use Rattle.schema_tree.specs.declared.verdicts.Place.TheVariants.{At, Rest}
 use Rattle.schema_tree.specs.declared.verdicts.State.{State}
 use Rattle.schema_tree.specs.Loaded.{BodyOk}
 use Rattle.schema_tree.specs.Places.{AreAllowed, HaveCounts, IsAllowed, times}
-use Rattle.schema_tree.specs.States.{AreClosed, IsDead, IsDeadBody, after, fitting, opening}
+use Rattle.schema_tree.specs.States.{AreClosed, IsDead, IsDeadBody, fitting, opening}
 use Rattle.schema_tree.proofs.Closed.{leads_nowhere}
 use Rattle.schema_tree.proofs.Decide.{decide_span}
 use Rattle.lists.proofs.Decided.{Decided}
-use Rattle.lists.proofs.Members.{not_in_none}
+use Rattle.lists.proofs.Members.{from_map, in_map, not_in_none}
 use Rattle.schema_tree.proofs.ToPlaces.{counts_agree}
 use Rattle.bag_match.specs.Counts.{IsPlaceOf, raised, state_of}
-use Rattle.bag_match.specs.Layers.{AreFinishing, IsLayer, LeadsFirst, LeadsOn}
+use Rattle.bag_match.specs.Layers.{AreFinishing, AreLeading, IsLayer, LeadsFirst, LeadsOn, counts_of}
 use Rattle.bag_match.specs.Least.{AreLeast, ArePlacesFor, Finishes, FinishesLeast, IsNotBehind}
 use Rattle.bag_match.specs.Reached.{IsReachedAt}
 use Rattle.bag_match.proofs.Offered.{allowed_there}
@@ -127,18 +127,32 @@ module _ (hold fail : TermId → Option ExprId → Type 0) (sh : Shape) (n : Ter
   whole_state : (j : ℕ) (x : State) (c : List ℕ) → IsReachedAt hold fail sh n ts j x → x.counts ≡ c → x ≡ state_of j c
   whole_state j x c reached is = let d = (reached_shaped hold fail sh n ts j x reached).at in (λ i. state_of (d i) (is i))
 
-  pub last_finishing : IntervalHasCopies → BodyOk sh.occs sh.body → (layer : List State) (cs : List (List ℕ)) → IsLayer hold fail sh n ts (length ts) layer →
-      ((c : List ℕ) → Contains cs c ↔ ((x : State) × Contains layer x × (x.counts ≡ c))) → AreFinishing hold fail sh n ts (length ts) cs
-  last_finishing law body layer cs layer_is found c = (
-    (λ h.
-        let (x, held, e) = (found c).0 h in
-        let reached = (layer_is.same x).0 held in
-        let s = reached_shaped hold fail sh n ts (length ts) x reached in
-        let is = whole_state (length ts) x c reached e in (
-          subst (λ z. IsReachedAt hold fail sh n ts (length ts) z) is reached,
-          ([], subst (λ z. Finishes hold fail sh n ts z []) is (end_spelled law body x s.long (let d = s.at in omega (arith, d)) (reached_lives hold fail sh n ts (length ts) x reached))),
-        )),
-    (λ h. (found c).1 (state_of (length ts) c, (layer_is.same (state_of (length ts) c)).1 h.0, refl)),
+  pub last_finishing : IntervalHasCopies → BodyOk sh.occs sh.body → (layer : List State) → IsLayer hold fail sh n ts (length ts) layer → AreFinishing hold fail sh n ts (length ts) layer
+  last_finishing law body layer layer_is = record {
+    rising = layer_is.rising;
+    same = λ x. (
+      (λ h.
+          let reached = (layer_is.same x).0 h in
+          let s = reached_shaped hold fail sh n ts (length ts) x reached in (
+            reached,
+            ([], end_spelled law body x s.long (let d = s.at in omega (arith, d)) (reached_lives hold fail sh n ts (length ts) x reached)),
+          )),
+      (λ h. (layer_is.same x).1 h.0),
+    );
+  }
+
+  -- the counts of states with so many triples done that are reached, and from which some places finish the match
+  abbrev pub Ends : ℕ → List (List ℕ) → Type 0
+  Ends j cs = (c : List ℕ) → Contains cs c ↔ (Reached j c × ((ps : List Place) × Fin j c ps))
+
+  pub counts_end : (j : ℕ) (states : List State) → AreFinishing hold fail sh n ts j states → Ends j (counts_of states)
+  counts_end j states h c = (
+    (λ held.
+        let (x, own, e) = from_map (λ z. z.counts) states c held in
+        let (reached, (ps, fin)) = (h.same x).0 own in
+        let is = whole_state j x c reached e in
+        (subst (λ z. IsReachedAt hold fail sh n ts j z) is reached, (ps, subst (λ z. Finishes hold fail sh n ts z ps) is fin))),
+    (λ ends. in_map (λ z. z.counts) states (state_of j c) ((h.same (state_of j c)).1 ends)),
   )
 
   -- a state that a place leads to, where places finish from there
@@ -148,36 +162,32 @@ module _ (hold fail : TermId → Option ExprId → Type 0) (sh : Shape) (n : Ter
       ((state_of j c, reached, (t, at, (p, allowed, after_is (state_of j c) p))), finish_lives (state_of (suc j) (raised c p)) ps behind)
 
   module _ (j : ℕ) (t : Triple) (at : slice_get ts j ≡ Some t) (places : List Place) (places_are : ArePlacesFor hold fail sh n t places)
-      (ahead : List (List ℕ)) (ahead_is : AreFinishing hold fail sh n ts (suc j) ahead) where
-    pub layer_finishing : (layer : List State) (cs : List (List ℕ)) → IsLayer hold fail sh n ts j layer →
-        ((c : List ℕ) → Contains cs c ↔ ((x : State) × Contains layer x × ((x.counts ≡ c) × LeadsOn x.counts places ahead))) → AreFinishing hold fail sh n ts j cs
-    layer_finishing layer cs layer_is found c = ((λ h. there h), λ h. back h.0 h.1.0 h.1.1)
+      (ahead : List (List ℕ)) (ahead_is : Ends (suc j) ahead) where
+    pub layer_finishing : (layer states : List State) → IsLayer hold fail sh n ts j layer → AreLeading layer places ahead states → AreFinishing hold fail sh n ts j states
+    layer_finishing layer states layer_is led = record { rising = led.rising; same = λ x. ((λ h. there x ((led.same x).0 h)), λ h. back x h.0 h.1.0 h.1.1) }
       where
-        there : Contains cs c → Reached j c × ((ps : List Place) × Fin j c ps)
-        there h =
-            let (x, held, (e, (p, offered, on))) = (found c).0 h in
+        there : (x : State) → Contains layer x × LeadsOn x.counts places ahead → IsReachedAt hold fail sh n ts j x × ((ps : List Place) × Finishes hold fail sh n ts x ps)
+        there x (held, (p, offered, on)) =
             let reached = (layer_is.same x).0 held in
-            let is = whole_state j x c reached e in
-            let here : Reached j c = subst (λ z. IsReachedAt hold fail sh n ts j z) is reached in
-            let long : length c ≡ length sh.occs = (reached_shaped hold fail sh n ts j (state_of j c) here).long in
+            let is = whole_state j x x.counts reached refl in
+            let long = (reached_shaped hold fail sh n ts j x reached).long in
             let allowed = (places_are.same p).0 offered in
-            let place_there : IsPlaceOf (length c) p = subst (λ k. IsPlaceOf k p) (sym long) (allowed_there hold fail sh n t p allowed) in
-            let (far, (ps, behind)) = (ahead_is (raised c p)).0 (subst (λ z. Contains ahead (raised z p)) e on) in
-            (here, (p ∷ ps, finish_cons j c t p ps at place_there allowed behind))
+            let place_there : IsPlaceOf (length x.counts) p = subst (λ k. IsPlaceOf k p) (sym long) (allowed_there hold fail sh n t p allowed) in
+            let (far, (ps, behind)) = (ahead_is (raised x.counts p)).0 on in
+            (reached, (p ∷ ps, subst (λ z. Finishes hold fail sh n ts z (p ∷ ps)) (sym is) (finish_cons j x.counts t p ps at place_there allowed behind)))
 
-        back : Reached j c → (ps : List Place) → Fin j c ps → Contains cs c
-        back reached [] fin = absurd (finish_some j c t at fin)
-        back reached (p ∷ ps) fin =
-            let long = (reached_shaped hold fail sh n ts j (state_of j c) reached).long in
-            let (place_there, allowed, behind) = finish_split j c t p ps at long fin in
-            (found c).1 (
-              state_of j c,
-              (layer_is.same (state_of j c)).1 reached,
-              (
-                refl,
-                (p, (places_are.same p).1 allowed, (ahead_is (raised c p)).1 (reached_next j c t p ps at allowed reached behind, (ps, behind))),
-              ),
-            )
+        back : (x : State) → IsReachedAt hold fail sh n ts j x → (ps : List Place) → Finishes hold fail sh n ts x ps → Contains states x
+        back x reached ps fin = (led.same x).1 ((layer_is.same x).1 reached, on ps (subst (λ z. Finishes hold fail sh n ts z ps) is fin))
+          where
+            is : x ≡ state_of j x.counts
+            is = whole_state j x x.counts reached refl
+
+            on : (qs : List Place) → Fin j x.counts qs → LeadsOn x.counts places ahead
+            on [] end = absurd (finish_some j x.counts t at end)
+            on (p ∷ qs) end =
+                let long = (reached_shaped hold fail sh n ts j x reached).long in
+                let (place_there, allowed, behind) = finish_split j x.counts t p qs at long end in
+                (p, (places_are.same p).1 allowed, (ahead_is (raised x.counts p)).1 (reached_next j x.counts t p qs at allowed (subst (λ z. IsReachedAt hold fail sh n ts j z) is reached) behind, (qs, behind)))
 
     -- ---- the walk
 

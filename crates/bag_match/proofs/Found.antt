@@ -157,6 +157,12 @@ module _ (hold fail : TermId → Option ExprId → Type 0) (sh : Shape) (n : Ter
       ];
     }
 
+    pub states_few : (x : State) → Contains states x → (i : ℕ) → slice_index x.counts i ≤ length ts
+    states_few x c i =
+        let most = (reached_shaped hold fail sh n ts x.done x (held x c)).most i in
+        let within = reached_within x.done x (held x c) in
+        omega (arith, most, within)
+
     pub states_open : IsCovered sh n ts states (opening sh)
     states_open = elim (decide_dead (opening sh) sh.body) [
       | inl dead ↦ inr dead
@@ -169,6 +175,7 @@ module _ (hold fail : TermId → Option ExprId → Type 0) (sh : Shape) (n : Ter
       shut = λ is. absurd (open_to is);
       reached = λ is. reached;
       closed = λ is. states_close;
+      counted = λ is. states_few;
       opened = λ is. states_open;
     }
 
@@ -178,6 +185,7 @@ module _ (hold fail : TermId → Option ExprId → Type 0) (sh : Shape) (n : Ter
     shut = λ s. none;
     reached = λ s. absurd (s is);
     closed = λ s. absurd (s is);
+    counted = λ s. absurd (s is);
     opened = λ s. absurd (s is);
   }
 

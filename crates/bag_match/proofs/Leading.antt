@@ -1,12 +1,11 @@
 -- The first of the places that lead to counts of a set.
-use Rattle.std.proofs.Common.{◌≡◌, ℕ, zero, suc, ◌+◌, ◌<◌, ◌≤◌, ◌⊎◌, inl, inr, length, get_or, take, drop, List, [], ◌∷◌, ◌++◌, refl, arith, ap, sym, subst, ◌∙◌, Bool, true, false, true≢false}
+use Rattle.std.proofs.Common.{◌≡◌, ℕ, zero, suc, ◌+◌, ◌<◌, ◌≤◌, ◌⊎◌, inl, inr, length, get_or, take, drop, List, [], ◌∷◌, arith, ap, sym, subst, ◌∙◌, Bool, true, false, true≢false}
 use Rattle.std.proofs.lemmas.List.{drop_all, drop_more, take_all, take_more, take-append-drop}
-use Rattle.std.proofs.lemmas.List.Elements.{Contains-get_or, Contains-append_cases, Contains-append_left, Contains-append_right}
+use Rattle.std.proofs.lemmas.List.Elements.{Contains-get_or, Contains-append_cases}
 use Rattle.std.specs.Prelude.{Contains, IsTrue, Option, Some, None, ◌↔◌}
-use Rattle.std.specs.List.{AllByRecursion}
 use Rattle.schema_tree.specs.declared.verdicts.Place.{Place}
 use Rattle.lists.proofs.Quantifiers.{all_at}
-use Rattle.lists.proofs.Members.{in_rest, is_first, is_later, not_in_none}
+use Rattle.lists.proofs.Members.{in_rest}
 use Rattle.bag_match.specs.Counts.{raised}
 use Rattle.bag_match.specs.Layers.{LeadsFirst, LeadsOn}
 use Rattle.bag_match.specs.Least.{IsPlaceBefore}

@@ -1,6 +1,7 @@
 pub mod Allowed
 pub mod Neighbours
 pub mod Left
+pub mod Lending
 pub mod Deadness
 pub mod Rising
 pub mod Offered
@@ -9,6 +10,7 @@ pub mod Some
 pub mod Alive
 pub mod Stepping
 pub mod Layering
+pub mod Comparing
 pub mod Finishing
 pub mod Leading
 pub mod Finished

@@ -14,8 +14,8 @@ use Rattle.rdf_terms.specs.declared.terms.Triple.{Triple}
 use Rattle.schema_tree.specs.declared.schema.Schema.{Schema}
 use Rattle.schema_tree.specs.declared.schema.Shape.{Shape}
 use Rattle.schema_tree.specs.declared.verdicts.Lean.{Lean}
-use Rattle.schema_tree.specs.Places.{CanMatch, HasPlaces, IsShut, MayFail, MayHold}
-use Rattle.schema_tree.specs.Relevant.{relevant, relevant_in_order}
+use Rattle.schema_tree.specs.Places.{CanMatch, IsShut, MayFail, MayHold}
+use Rattle.schema_tree.specs.Relevant.{relevant_in_order}
 use Rattle.schema_tree.specs.Width.{HasWidth, width_of}
 use Rattle.schema_tree.specs.declared.schema.Pair.{Pair}
 use Rattle.std.proofs.Common.{◌+◌, ◌*◌, take}

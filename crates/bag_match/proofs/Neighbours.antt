@@ -1,5 +1,5 @@
 -- What the order of a neighbourhood keeps.
-use Rattle.std.proofs.Common.{◌≡◌, ℕ, suc, ◌≤◌, length, List, [], ◌∷◌, ◌++◌, refl, arith, ap, sym, subst, ◌∙◌, Bool, true, false, cond, filter, not}
+use Rattle.std.proofs.Common.{◌≡◌, suc, ◌≤◌, length, List, [], ◌∷◌, arith, sym, ◌∙◌, Bool, true, false, cond, filter, not}
 use Rattle.std.specs.Prelude.{IsTrue, ◌||◌, ◌↔◌}
 use Rattle.std.specs.List.{list_any}
 use Rattle.std.specs.declared.cmp.Ordering.{Ordering}
@@ -31,16 +31,22 @@ filter_few q (x ∷ xs) = go (q x) (filter_few q xs)
     go true le = omega (arith, le)
     go false le = omega (arith, le)
 
--- there are no more relevant triples than triples
-pub relevant_few : (terms : List Term) (g : List Triple) (sh : Shape) (n : TermId) → length (relevant_in_order terms g sh n) ≤ length g
-relevant_few terms g sh n =
-    let a = filter_few (is_relevant sh.occs n) (neighbourhood terms g n) in
+-- a node has no more triples than there are
+pub order_few : (terms : List Term) (g : List Triple) (n : TermId) → length (neighbourhood terms g n) ≤ length g
+order_few terms g n =
     let b = length_permutation (neigh g n) (neighbourhood terms g n) (ordered_same terms g n) in
     let c = neigh_few in
-    omega (arith, a, b, c)
+    omega (arith, b, c)
   where
     neigh_few : length (neigh g n) ≤ length g
     neigh_few = filter_few (λ t. same_id t.s n || same_id t.o n) g
+
+-- and no more relevant ones
+pub relevant_few : (terms : List Term) (g : List Triple) (sh : Shape) (n : TermId) → length (relevant_in_order terms g sh n) ≤ length g
+relevant_few terms g sh n =
+    let a = filter_few (is_relevant sh.occs n) (neighbourhood terms g n) in
+    let b = order_few terms g n in
+    omega (arith, a, b)
 
 -- and no more that are lent
 module _ (order : Triple → Triple → Ordering) (g : List Triple) (n : TermId) where

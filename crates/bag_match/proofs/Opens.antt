@@ -15,7 +15,6 @@ use Rattle.schema_tree.specs.declared.schema.Shape.{Shape}
 use Rattle.schema_tree.specs.declared.verdicts.Place.{Place}
 use Rattle.schema_tree.specs.declared.verdicts.Place.TheVariants.{At, Rest}
 use Rattle.schema_tree.specs.declared.verdicts.Verdict.{Verdict}
-use Rattle.schema_tree.specs.declared.verdicts.Verdict.TheVariants.{Yes, No}
 use Rattle.schema_tree.specs.Matches.{other_end}
 use Rattle.schema_tree.specs.Places.{IsAllowed, MayStay, MayStayOut, MayTake}
 use Rattle.schema_tree.specs.Relevant.{is_forward}

@@ -1,13 +1,11 @@
 -- What a set of counts has after one more is put into it.
-use Rattle.std.proofs.Common.{◌≡◌, ℕ, ◌⊎◌, inl, inr, List, [], ◌∷◌, map, refl, ap, sym, subst, ◌∙◌, Bool, true, false, true≢false}
+use Rattle.std.proofs.Common.{◌≡◌, ℕ, ◌⊎◌, inl, inr, List, [], ◌∷◌, map, refl, sym, subst, ◌∙◌}
 use Rattle.std.proofs.lemmas.Map.Lookups.{exact_bytes}
-use Rattle.std.specs.Prelude.{Contains, IsTrue, ◌↔◌, ◌||◌, bytes_eq}
+use Rattle.std.specs.Prelude.{Contains, ◌↔◌}
 use Rattle.std.specs.BTreeSet.{insert_key}
 use Rattle.std.specs.Global.{Vec}
-use Rattle.std.specs.List.{list_any}
-use Rattle.std.proofs.lemmas.Map.Text.{is_eq-slice_cmp}
-use Rattle.std.specs.Cmp.Lexicographic.{bytes_decides, slice_cmp}
-use Rattle.std.specs.Ordering.{is_eq, match_ordering, nat_cmp}
+use Rattle.std.specs.Cmp.Lexicographic.{slice_cmp}
+use Rattle.std.specs.Ordering.{match_ordering, nat_cmp}
 use Rattle.std.specs.declared.cmp.Ordering.{Ordering}
 use Rattle.std.specs.declared.cmp.Ordering.TheVariants.{Less, Equal, Greater}
 use Rattle.lists.proofs.Members.{in_rest, is_first, is_later, not_in_none}
@@ -60,28 +58,3 @@ put_has (x ∷ xs) k c = go (compare_items k x) refl (put_has xs k c)
 
 pub put_keys : (ks new : List (Vec ℕ)) (k : Vec ℕ) → new ≡ insert_key compare_items ks k → (c : List ℕ) → Contains (lists new) c ↔ (Contains (lists ks) c ⊎ (k.items ≡ c))
 put_keys ks new k is c = subst (λ z. Puts (lists z) (lists ks) k.items c) (sym is) (put_has ks k c)
-
--- the counts are in the set where one of its keys compares equal to them
-pub has_key : (ks : List (Vec ℕ)) (k : Vec ℕ) → IsTrue (list_any (λ x. is_eq (compare_items k x)) ks) ↔ Contains (lists ks) k.items
-has_key [] k = ((λ h. absurd (true≢false (sym h))), λ c. absurd (not_in_none k.items c))
-has_key (x ∷ xs) k = go (is_eq (compare_items k x)) refl (has_key xs k)
-  where
-    tests : is_eq (compare_items k x) ≡ bytes_eq k.items x.items
-    tests = is_eq-slice_cmp k.items x.items
-
-    go : (b : Bool) → is_eq (compare_items k x) ≡ b → IsTrue (list_any (λ z. is_eq (compare_items k z)) xs) ↔ Contains (lists xs) k.items →
-        IsTrue (b || list_any (λ z. is_eq (compare_items k z)) xs) ↔ Contains (lists (x ∷ xs)) k.items
-    go true e rest = (
-      (λ h. subst (λ z. Contains (x.items ∷ lists xs) z) (sym ((bytes_decides k.items x.items).0 (sym tests ∙ e))) (is_first x.items (lists xs))),
-      (λ c. refl),
-    )
-    go false e rest = (
-      (λ h. is_later x.items (lists xs) k.items (rest.0 h)),
-      (λ c. elim (in_rest x.items (lists xs) k.items c) [
-        | inl same ↦ absurd (true≢false (sym ((bytes_decides k.items x.items).1 (sym same)) ∙ sym tests ∙ e))
-        | inr later ↦ rest.1 later
-      ]),
-    )
-
-pub has_is : (ks : List (Vec ℕ)) (k : Vec ℕ) (b : Bool) → b ≡ list_any (λ x. is_eq (compare_items k x)) ks → IsTrue b ↔ Contains (lists ks) k.items
-has_is ks k b e = subst (λ z. IsTrue z ↔ Contains (lists ks) k.items) (sym e) (has_key ks k)

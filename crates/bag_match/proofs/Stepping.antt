@@ -1,8 +1,8 @@
 -- From the states with so many triples done to those with one more.
-use Rattle.std.proofs.Common.{◌≡◌, ℕ, zero, suc, ◌+◌, ◌^◌, ◌<◌, ◌≤◌, ◌⊎◌, ◌≢◌, inl, inr, length, get_or, set, drop, List, [], ◌∷◌, ◌++◌, map, replicate, refl, arith, ap, sym, subst, ◌∙◌, slice_index, add-one, Bool, true, false, cond, true≢false}
+use Rattle.std.proofs.Common.{◌≡◌, ℕ, zero, suc, ◌+◌, ◌^◌, ◌<◌, ◌≤◌, inl, inr, length, get_or, drop, List, [], ◌∷◌, replicate, refl, arith, ap, sym, subst, ◌∙◌, slice_index, add-one, Bool, true, false, cond, true≢false}
 use Rattle.std.proofs.lemmas.List.{get_or_past, get_or-set_other, get_or-set_same, length-map, length-set}
 use Rattle.std.proofs.lemmas.Bool.{cases_eq, cases_lt}
-use Rattle.std.proofs.lemmas.Option.{slice_get-get_or, slice_get_past}
+use Rattle.std.proofs.lemmas.Option.{slice_get-get_or}
 use Rattle.std.specs.Prelude.{Contains, IsTrue, Option, Some, None, ◌↔◌, slice_get}
 use Rattle.rdf_terms.specs.declared.terms.TermId.{TermId}
 use Rattle.rdf_terms.specs.declared.terms.Triple.{Triple}
@@ -14,12 +14,12 @@ use Rattle.schema_tree.specs.declared.verdicts.Place.TheVariants.{At, Rest}
 use Rattle.schema_tree.specs.declared.verdicts.State.{State}
 use Rattle.schema_tree.specs.Matches.{fits}
 use Rattle.schema_tree.specs.Places.{IsAllowed}
-use Rattle.schema_tree.specs.States.{IsDead, after, count_fits, fitting, no_counts, opening, IsStateBefore}
+use Rattle.schema_tree.specs.States.{IsDead, after, count_fits, fitting, no_counts, opening}
 use Rattle.lists.proofs.Members.{in_one, is_first, not_in_none}
-use Rattle.bag_match.specs.Counts.{AreLeft, ArePlacesOf, HasCounts, IsPlaceOf, IsRaised, raised, state_of}
-use Rattle.bag_match.specs.Layers.{AreLayers, AreLiving, IsLayer}
-use Rattle.bag_match.specs.Least.{ArePlacesFor}
-use Rattle.bag_match.specs.Reached.{ComesOf, IsReachedAt}
+use Rattle.bag_match.specs.Counts.{AreLeft, ArePlacesOf, HasCounts, IsRaised, raised, state_of}
+use Rattle.bag_match.specs.Layers.{AreLiving, IsLayer}
+use Rattle.bag_match.specs.Least.{AreOffered, ArePlacesFor}
+use Rattle.bag_match.specs.Reached.{IsReachedAt}
 use Rattle.bag_match.specs.Sets.{AreSmall}
 use Rattle.bag_match.proofs.Offered.{allowed_there}
 
@@ -162,6 +162,19 @@ module _ (hold fail : TermId → Option ExprId → Type 0) (sh : Shape) (n : Ter
 
   pub places_there : (t : Triple) (places : List Place) → ArePlacesFor hold fail sh n t places → ArePlacesOf (length sh.occs) places
   places_there t places h p c = allowed_there hold fail sh n t p ((h.same p).0 c)
+
+  -- the places of a triple, which is read
+  pub places_now : (j : ℕ) (places : List Place) → j < length ts → ((t : Triple) → slice_get ts j ≡ Some t → ArePlacesFor hold fail sh n t places) →
+      (d : Triple) × ArePlacesFor hold fail sh n (get_or ts j d) places
+  places_now j places within are = go ts refl
+    where
+      go : (us : List Triple) → ts ≡ us → (d : Triple) × ArePlacesFor hold fail sh n (get_or ts j d) places
+      go [] none = absurd (let e : length ts ≡ 0 = ap (λ z. length z) none in omega (arith, e, within))
+      go (d ∷ us) is = (d, are (get_or ts j d) (slice_get-get_or ts j d within))
+
+  pub offered_at : (lists : List (List Place)) → AreOffered hold fail sh n ts (length ts) lists → (j : ℕ) (places : List Place) → j < length ts → slice_get lists j ≡ Some places →
+      (d : Triple) × ArePlacesFor hold fail sh n (get_or ts j d) places
+  offered_at lists h j places within at = places_now j places within (λ t e. h.each j t places e at)
 
   module _ (j : ℕ) (d : Triple) (layer : List State) (places : List Place) (cs : List (List ℕ)) (within : j < length ts) (few : length ts < 2 ^ 31)
       (layer_is : IsLayer hold fail sh n ts j layer) (places_are : ArePlacesFor hold fail sh n (get_or ts j d) places)

@@ -1,13 +1,13 @@
 -- The Widths of four Shapes at a node, with the verdicts that their node constraints have.
 use Rattle.std.proofs.Common.{◌≡◌, ℕ, List, [], ◌∷◌, refl, true, false, cond}
-use Rattle.std.specs.Prelude.{Option, Some, None, nat_eq, ◌||◌}
+use Rattle.std.specs.Prelude.{Option, Some, None, nat_eq}
 use Rattle.rdf_terms.specs.declared.terms.TermId.{TermId}
 use Rattle.rdf_terms.specs.declared.terms.Triple.{Triple}
 use Rattle.schema_tree.specs.declared.schema.ExprId.{ExprId}
 use Rattle.schema_tree.specs.declared.schema.Occurrence.{Occurrence}
 use Rattle.schema_tree.specs.declared.schema.Shape.{Shape}
 use Rattle.schema_tree.specs.declared.verdicts.Verdict.{Verdict}
-use Rattle.schema_tree.specs.declared.verdicts.Verdict.TheVariants.{Yes, No, Unknown}
+use Rattle.schema_tree.specs.declared.verdicts.Verdict.TheVariants.{Yes, No}
 use Rattle.schema_tree.specs.Width.{coarse_of, width_of}
 
 abbrev id : ℕ → TermId

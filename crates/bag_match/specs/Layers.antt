@@ -1,5 +1,5 @@
 -- The states of a match layer by layer, a layer for each number of triples done (own).
-use Rattle.std.specs.Prelude.{ℕ, suc, List, [], ◌∷◌, ◌≡◌, ◌-◌, ◌↔◌, ◌⊎◌, Contains, Option, Some, None, length, slice_get}
+use Rattle.std.specs.Prelude.{ℕ, suc, List, ◌≡◌, ◌-◌, ◌↔◌, ◌⊎◌, Contains, Option, Some, None, length, map, slice_get}
 use Rattle.rdf_terms.specs.declared.terms.TermId.{TermId}
 use Rattle.rdf_terms.specs.declared.terms.Triple.{Triple}
 use Rattle.schema_tree.specs.declared.schema.ExprId.{ExprId}
@@ -7,7 +7,7 @@ use Rattle.schema_tree.specs.declared.schema.Shape.{Shape}
 use Rattle.schema_tree.specs.declared.verdicts.Place.{Place}
 use Rattle.schema_tree.specs.declared.verdicts.State.{State}
 use Rattle.schema_tree.specs.States.{IsDead, IsStateBefore}
-use Rattle.bag_match.specs.Counts.{raised, state_of}
+use Rattle.bag_match.specs.Counts.{raised}
 use Rattle.schema_tree.specs.Rising.{AreRising}
 use Rattle.bag_match.specs.Reached.{IsReachedAt}
 use Rattle.bag_match.specs.Least.{Finishes, IsPlaceBefore}
@@ -16,6 +16,10 @@ use Rattle.bag_match.specs.Least.{Finishes, IsPlaceBefore}
 pub record AreLiving (sh : Shape) (n : TermId) (ts : List Triple) (done : ℕ) (cs : List (List ℕ)) (states : List State) : Type 0 where
   pub rising : AreRising IsStateBefore states
   pub same : (x : State) → Contains states x ↔ ((x.done ≡ done) × Contains cs x.counts × (¬ IsDead sh n ts x))
+
+-- the counts of the states
+abbrev pub counts_of : List State → List (List ℕ)
+counts_of states = map (λ x. x.counts) states
 
 -- the place is the first of those that lead to counts which are among these; none where no place does
 abbrev pub LeadsFirst : List ℕ → List Place → List (List ℕ) → Option Place → Type 0
@@ -28,6 +32,11 @@ LeadsFirst counts places ahead (Some p) =
 abbrev pub LeadsOn : List ℕ → List Place → List (List ℕ) → Type 0
 LeadsOn counts places ahead = (p : Place) × Contains places p × Contains ahead (raised counts p)
 
+-- the states, in their order, from which some place leads to counts which are among these
+pub record AreLeading (states : List State) (places : List Place) (ahead : List (List ℕ)) (found : List State) : Type 0 where
+  pub rising : AreRising IsStateBefore found
+  pub same : (x : State) → Contains found x ↔ (Contains states x × LeadsOn x.counts places ahead)
+
 module _ (hold fail : TermId → Option ExprId → Type 0) (sh : Shape) (n : TermId) (ts : List Triple) where
   -- the states with so many triples done that are reached
   pub record IsLayer (j : ℕ) (states : List State) : Type 0 where
@@ -39,12 +48,12 @@ module _ (hold fail : TermId → Option ExprId → Type 0) (sh : Shape) (n : Ter
     pub count : length layers ≡ suc d
     pub each : (j : ℕ) (states : List State) → slice_get layers j ≡ Some states → IsLayer j states
 
-  -- the counts of the states with so many triples done that are reached, and from which some places finish the match
-  abbrev pub AreFinishing : ℕ → List (List ℕ) → Type 0
-  AreFinishing j cs =
-      (c : List ℕ) → Contains cs c ↔ (IsReachedAt hold fail sh n ts j (state_of j c) × ((ps : List Place) × Finishes hold fail sh n ts (state_of j c) ps))
+  -- the states with so many triples done that are reached, and from which some places finish the match
+  pub record AreFinishing (j : ℕ) (states : List State) : Type 0 where
+    pub rising : AreRising IsStateBefore states
+    pub same : (x : State) → Contains states x ↔ (IsReachedAt hold fail sh n ts j x × ((ps : List Place) × Finishes hold fail sh n ts x ps))
 
   -- the first so many of them from the last on, d triples being done there
-  pub record AreAllFinishing (d count : ℕ) (sets : List (List (List ℕ))) : Type 0 where
+  pub record AreAllFinishing (d count : ℕ) (sets : List (List State)) : Type 0 where
     pub count_is : length sets ≡ count
-    pub each : (k : ℕ) (cs : List (List ℕ)) → slice_get sets k ≡ Some cs → AreFinishing (d - k) cs
+    pub each : (k : ℕ) (states : List State) → slice_get sets k ≡ Some states → AreFinishing (d - k) states

@@ -1,5 +1,5 @@
 -- The least places of a match (own: the record of a pair that matches).
-use Rattle.std.specs.Prelude.{ℕ, ⊤, List, [], ◌∷◌, ◌≡◌, ◌<◌, ◌+◌, ◌⊎◌, ◌↔◌, ◌++◌, Contains, Option, slice_index, drop}
+use Rattle.std.specs.Prelude.{ℕ, ⊤, List, [], ◌∷◌, ◌≡◌, ◌<◌, ◌+◌, ◌⊎◌, ◌↔◌, ◌++◌, Contains, Option, Some, length, slice_get, slice_index, drop}
 use Rattle.rdf_terms.specs.declared.terms.TermId.{TermId}
 use Rattle.rdf_terms.specs.declared.terms.Triple.{Triple}
 use Rattle.schema_tree.specs.declared.schema.ExprId.{ExprId}
@@ -27,6 +27,11 @@ module _ (hold fail : TermId → Option ExprId → Type 0) (sh : Shape) (n : Ter
   pub record ArePlacesFor (t : Triple) (ps : List Place) : Type 0 where
     pub rising : AreRising IsPlaceBefore ps
     pub same : (p : Place) → Contains ps p ↔ IsAllowed hold fail sh n t p
+
+  -- the lists are the places that are allowed for each of the first so many triples, in their order
+  pub record AreOffered (ts : List Triple) (count : ℕ) (lists : List (List Place)) : Type 0 where
+    pub count_is : length lists ≡ count
+    pub each : (j : ℕ) (t : Triple) (ps : List Place) → slice_get ts j ≡ Some t → slice_get lists j ≡ Some ps → ArePlacesFor t ps
 
   -- the place is put behind the others where it is allowed
   abbrev pub PushesAllowed : Triple → Place → List Place → List Place → Type 0

@@ -8,3 +8,4 @@ pub mod Bounds
 pub mod Keys
 pub mod Counted
 pub mod Later
+pub mod Lent

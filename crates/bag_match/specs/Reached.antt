@@ -1,5 +1,5 @@
 -- The states of a match that allowed places reach (own: the record of a pair that cannot match).
-use Rattle.std.specs.Prelude.{ℕ, zero, suc, ⊤, List, [], ◌∷◌, ◌≡◌, ◌<◌, ◌⊎◌, ◌↔◌, Contains, Option, Some, slice_get}
+use Rattle.std.specs.Prelude.{ℕ, zero, suc, List, ◌≡◌, ◌↔◌, Contains, Option, Some, slice_get}
 use Rattle.rdf_terms.specs.declared.terms.TermId.{TermId}
 use Rattle.rdf_terms.specs.declared.terms.Triple.{Triple}
 use Rattle.schema_tree.specs.declared.schema.ExprId.{ExprId}

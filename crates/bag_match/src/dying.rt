@@ -10,6 +10,7 @@ ghost use Rattle.tally.specs.Span.{HasSpan, IsSound, span};
 ghost use Rattle.tally.specs.Symbols.{Covers, IsDistinct};
 ghost use Rattle.bag_match.specs.Counts.{AreLeft, state_of};
 
+use crate::arcs::RelevantTriples;
 use rdf_terms::terms::{TermId, Triple};
 use schema_tree::body::Body;
 use schema_tree::schema::{Occurrence, Shape};
@@ -31,30 +32,50 @@ fn fitting(o: Occurrence, node: TermId, triples: &[Triple]) -> u32
     count
 }
 
+/// How many of the triples from a place on the occurrence fits.
+fn fitting_after(o: Occurrence, node: TermId, triples: &RelevantTriples<'_>, done: usize) -> u32
+    requires { length triples.now < 2 ^ 31 }
+    ensures { result ≡ count_fits o node (drop done triples.now) }
+{
+    let mut count = 0;
+    for i in done..triples.len() {
+        if o.fits(node, triples.at(i)) {
+            count += 1;
+        }
+    }
+    count
+}
+
 /// How many of the triples each occurrence fits.
 pub fn fits_of(
     alloc: Global,
     occs: &[Occurrence],
     node: TermId,
-    triples: &[Triple],
+    triples: &RelevantTriples<'_>,
 ) -> Result<Vec<u32>, AllocError>
     requires { length triples.now < 2 ^ 31 }
     ensures { IfOk result (λ v. AreLeft occs.now node triples.now v.items) }
 {
     let mut left = Vec::with_capacity(alloc, occs.len())?;
     for o in occs {
-        left.push(fitting(*o, node, triples))?;
+        left.push(fitting_after(*o, node, triples, 0))?;
     }
     Ok(left)
 }
 
-/// Leaves out the first of the triples from the numbers of those that each occurrence fits.
-pub fn pass_first(left: &mut Vec<u32>, occs: &[Occurrence], node: TermId, triples: &[Triple])
-    requires some { 0 < length triples.now }
-    requires left { AreLeft occs.now node triples.now left.old.items }
-    ensures { AreLeft occs.now node (drop 1 triples.now) left.new.items }
+/// Leaves the next of the triples out of the numbers of the later ones that each occurrence fits.
+pub fn pass_next(
+    left: &mut Vec<u32>,
+    occs: &[Occurrence],
+    node: TermId,
+    triples: &RelevantTriples<'_>,
+    done: usize,
+)
+    requires within { done < length triples.now }
+    requires left { AreLeft occs.now node (drop done triples.now) left.old.items }
+    ensures { AreLeft occs.now node (drop (done + 1) triples.now) left.new.items }
 {
-    let triple = triples[0];
+    let triple = triples.at(done);
     for i in 0..occs.len() {
         if occs[i].fits(node, triple) {
             left[i] -= 1;
@@ -191,21 +212,41 @@ pub fn is_dead_before(
     is_dead(shape, counts, front(left.as_slice(), occs.len()))
 }
 
+/// Puts at the place of each occurrence how many of the triples from a place on it fits.
+fn fill_later(
+    left: &mut [u32],
+    occs: &[Occurrence],
+    node: TermId,
+    triples: &RelevantTriples<'_>,
+    done: usize,
+)
+    requires room { length occs.now ≤ length left.old }
+    requires few { length triples.now < 2 ^ 31 }
+    ensures len { length left.new ≡ length left.old }
+    ensures left { (i : ℕ) → i < length occs.now → slice_index left.new i ≡ fitting node (drop done triples.now) (slice_get occs.now i) }
+{
+    for i in 0..occs.len() {
+        left[i] = fitting_after(occs[i], node, triples, done);
+    }
+}
+
 /// Whether the state with so many of the triples done and these counts is dead. It takes no memory.
 pub fn is_dead_after(
     shape: &Shape,
     node: TermId,
-    triples: &[Triple],
+    triples: &RelevantTriples<'_>,
     done: usize,
     counts: &[u32],
 ) -> bool
     requires body { BodyOk shape.now.occs shape.now.body }
     requires few { length shape.now.occs ≤ 256 }
     requires few_triples { length triples.now < 2 ^ 31 }
-    requires within { done ≤ length triples.now }
     requires one_each { length counts.now ≡ length shape.now.occs }
     requires small { (i : ℕ) → slice_index counts.now i ≤ 2 ^ 31 }
     ensures { IsTrue result ↔ IsDead shape.now node triples.now (state_of done counts.now) }
 {
-    is_dead_before(shape, node, counts, &triples[done..], &triples[..0])
+    let occs = shape.occs.as_slice();
+    let mut left = [0u32; 256];
+    fill_later(left.as_mut_slice(), occs, node, triples, done);
+    is_dead(shape, counts, front(left.as_slice(), occs.len()))
 }

@@ -8,15 +8,17 @@ ghost use Rattle.schema_tree.specs.Loaded.{BodyOk};
 ghost use Rattle.bag_match.specs.Bounds.{AreApart, IsBound};
 ghost use Rattle.bag_match.specs.Counts.{AreLeft};
 ghost use Rattle.bag_match.specs.Layers.{AreLayers, AreLiving, IsLayer};
+ghost use Rattle.bag_match.specs.Least.{AreOffered, ArePlacesFor};
 ghost use Rattle.bag_match.specs.Sets.{AreSmall, lists_of};
 
-use crate::dying::{fits_of, is_dead, pass_first};
+use crate::arcs::RelevantTriples;
+use crate::dying::{fits_of, is_dead, pass_next};
 use crate::places::{Judge, allowed_places};
 use crate::raising::{successors, zeros};
 use rdf_terms::items::Items;
-use rdf_terms::terms::{TermId, Triple};
+use rdf_terms::terms::TermId;
 use schema_tree::schema::Shape;
-use schema_tree::verdicts::State;
+use schema_tree::verdicts::{Place, State};
 use std::alloc::{AllocError, Global};
 use std::collections::BTreeSet;
 use std::sync::ledger::Ledger;
@@ -30,7 +32,7 @@ pub struct Question<'a, J> {
     /// The node.
     pub node: TermId,
     /// The relevant triples.
-    pub triples: &'a [Triple],
+    pub triples: &'a RelevantTriples<'a>,
     /// What judges values.
     pub judge: &'a J,
 }
@@ -68,20 +70,20 @@ fn living<L: Ledger>(
     Ok(states)
 }
 
-/// The triples after the first so many.
-pub fn later(triples: &[Triple], done: usize) -> &[Triple]
-    requires { done ≤ length triples.now }
-    ensures { result.now ≡ drop done triples.now }
-{
-    &triples[done..]
-}
-
 /// The layer of so many triples done.
 pub fn layer_at(layers: &[Items<State>], done: usize) -> &[State]
     requires { done < length layers.now }
     ensures { slice_get layers.now done ≡ Some result.now }
 {
     layers[done].as_slice()
+}
+
+/// The places of the triple with so many triples before it.
+pub fn places_at(lists: &[Items<Place>], done: usize) -> &[Place]
+    requires { done < length lists.now }
+    ensures { slice_get lists.now done ≡ Some result.now }
+{
+    lists[done].as_slice()
 }
 
 impl<J: Judge> Question<'_, J> {
@@ -100,9 +102,9 @@ impl<J: Judge> Question<'_, J> {
         ensures least { IfOk result (λ v. steps.old + length v.items ≤ steps.new) }
         ensures most { steps.new ≤ steps.old + 1 }
     {
+        let mut states = Vec::new(alloc);
         let counts = zeros(alloc, self.shape.occs.as_slice().len())?;
         steps.tick();
-        let mut states = Vec::new(alloc);
         if is_dead(self.shape, counts.as_slice(), left) {
             return Ok(states);
         }
@@ -117,15 +119,16 @@ impl<J: Judge> Question<'_, J> {
         alloc: Global,
         done: usize,
         layer: &[State],
+        places: &[Place],
         left: &[u32],
         steps: &mut Steps<L>,
     ) -> Result<Vec<State>, AllocError>
-        requires ready { J.ready self.now.judge.now }
         requires body { BodyOk self.now.shape.now.occs self.now.shape.now.body }
         requires few { length self.now.triples.now < 2 ^ 31 }
         requires few_occurrences { length self.now.shape.now.occs ≤ 256 }
         requires within { done < length self.now.triples.now }
         requires layer { IsLayer (J.hold self.now.judge.now) (J.fail self.now.judge.now) self.now.shape.now self.now.node self.now.triples.now done layer.now }
+        requires places { (t : Triple) → slice_get self.now.triples.now done ≡ Some t → ArePlacesFor (J.hold self.now.judge.now) (J.fail self.now.judge.now) self.now.shape.now self.now.node t places.now }
         requires left { AreLeft self.now.shape.now.occs self.now.node (drop (done + 1) self.now.triples.now) left.now }
         ensures layer { IfOk result (λ v. IsLayer (J.hold self.now.judge.now) (J.fail self.now.judge.now) self.now.shape.now self.now.node self.now.triples.now (done + 1) v.items) }
         ensures least { IfOk result (λ v. steps.old + length v.items ≤ steps.new) }
@@ -134,20 +137,34 @@ impl<J: Judge> Question<'_, J> {
         if layer.is_empty() {
             return Ok(Vec::new(alloc));
         }
-        let triple = self.triples[done];
-        let places = allowed_places(alloc, self.judge, self.shape, self.node, triple)?;
         let occurrences = self.shape.occs.as_slice().len();
-        let found = successors(alloc, layer, places.as_slice(), occurrences)?;
+        let found = successors(alloc, layer, places, occurrences)?;
         living(alloc, self.shape, (done + 1) as u32, found, left, steps)
     }
 
-    /// The layers, one for each number of triples done.
+    /// The places that are allowed for each triple.
+    pub fn offered(&self, alloc: Global) -> Result<Vec<Items<Place>>, AllocError>
+        requires ready { J.ready self.now.judge.now }
+        requires few_occurrences { length self.now.shape.now.occs ≤ 256 }
+        ensures { IfOk result (λ v. AreOffered (J.hold self.now.judge.now) (J.fail self.now.judge.now) self.now.shape.now self.now.node self.now.triples.now (length self.now.triples.now) v.items) }
+    {
+        let mut lists = Vec::new(alloc);
+        for i in 0..self.triples.len() {
+            let triple = self.triples.at(i);
+            let places = allowed_places(alloc, self.judge, self.shape, self.node, triple)?;
+            lists.push(Items::of(places))?;
+        }
+        Ok(lists)
+    }
+
+    /// The layers, one for each number of triples done, where the lists are the places that are allowed for each triple.
     pub fn layers<L: Ledger>(
         &self,
         alloc: Global,
+        offered: &[Items<Place>],
         steps: &mut Steps<L>,
     ) -> Result<Vec<Items<State>>, AllocError>
-        requires ready { J.ready self.now.judge.now }
+        requires offered { AreOffered (J.hold self.now.judge.now) (J.fail self.now.judge.now) self.now.shape.now self.now.node self.now.triples.now (length self.now.triples.now) offered.now }
         requires body { BodyOk self.now.shape.now.occs self.now.shape.now.body }
         requires few { length self.now.triples.now < 2 ^ 31 }
         requires few_occurrences { length self.now.shape.now.occs ≤ 256 }
@@ -161,9 +178,10 @@ impl<J: Judge> Question<'_, J> {
         let first = self.first(alloc, left.as_slice(), steps)?;
         layers.push(Items::of(first))?;
         for done in 0..self.triples.len() {
-            pass_first(&mut left, occs, self.node, later(self.triples, done));
+            pass_next(&mut left, occs, self.node, self.triples, done);
             let layer = layer_at(layers.as_slice(), done);
-            let next = self.next(alloc, done, layer, left.as_slice(), steps)?;
+            let places = places_at(offered, done);
+            let next = self.next(alloc, done, layer, places, left.as_slice(), steps)?;
             layers.push(Items::of(next))?;
         }
         Ok(layers)

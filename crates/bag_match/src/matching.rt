@@ -56,11 +56,13 @@ impl<J: Judge> Question<'_, J> {
         ensures most { (bound : ℕ) → IsBound (J.hold self.now.judge.now) (J.fail self.now.judge.now) self.now.shape.now self.now.node self.now.triples.now bound → steps.new ≤ steps.old + (length self.now.triples.now + 1) * bound }
     {
         let last = self.triples.len();
-        let layers = self.layers(alloc, steps)?;
+        let offered = self.offered(alloc)?;
+        let layers = self.layers(alloc, offered.as_slice(), steps)?;
         if layer_at(layers.as_slice(), last).is_empty() {
             Ok(Outcome::Never(Items::of(joined(alloc, layers)?)))
         } else {
-            Ok(Outcome::Placed(Items::of(self.least_places(alloc, layers.as_slice())?)))
+            let places = self.least_places(alloc, offered.as_slice(), layers)?;
+            Ok(Outcome::Placed(Items::of(places)))
         }
     }
 }
@@ -104,7 +106,7 @@ pub fn match_pair<V: View, L: Ledger>(
     let question = Question {
         shape,
         node,
-        triples: triples.as_slice(),
+        triples: &triples,
         judge: &judge,
     };
     question.outcome(alloc, steps)

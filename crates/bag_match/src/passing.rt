@@ -9,11 +9,18 @@ ghost use Rattle.bag_match.specs.Later.{IsDeadOf, IsStateOf, is_kept};
 
 use crate::arcs::fits_any;
 use crate::dying::is_dead_before;
-use crate::layers::later;
 use graph_index::graph::Graph;
 use rdf_terms::terms::{TermId, Triple};
 use schema_tree::schema::{Occurrence, Pair, Schema};
 use schema_tree::verdicts::State;
+
+/// The triples after the first so many.
+fn later(triples: &[Triple], done: usize) -> &[Triple]
+    requires { done ≤ length triples.now }
+    ensures { result.now ≡ drop done triples.now }
+{
+    &triples[done..]
+}
 
 /// A place among triples that are done in their order.
 #[derive(Clone, Copy)]

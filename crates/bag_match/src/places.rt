@@ -8,6 +8,7 @@ ghost use Rattle.schema_tree.specs.Relevant.{is_forward};
 ghost use Rattle.schema_tree.specs.declared.verdicts.Place.TheVariants.{At};
 ghost use Rattle.bag_match.specs.Least.{ArePlacesFor, PushesAllowed};
 
+use crate::arcs::RelevantTriples;
 use rdf_terms::table::TermTable;
 use rdf_terms::terms::{TermId, Triple};
 use schema_tree::schema::{ExprId, Occurrence, Schema, Shape};
@@ -259,7 +260,7 @@ pub fn are_allowed<J: Judge>(
     judge: &J,
     shape: &Shape,
     node: TermId,
-    triples: &[Triple],
+    triples: &RelevantTriples<'_>,
     places: &[Place],
 ) -> Result<bool, AllocError>
     requires { J.ready judge.now }
@@ -269,7 +270,7 @@ pub fn are_allowed<J: Judge>(
         return Ok(false);
     }
     for i in 0..triples.len() {
-        if !is_allowed(alloc, judge, shape, node, triples[i], places[i])? {
+        if !is_allowed(alloc, judge, shape, node, triples.at(i), places[i])? {
             return Ok(false);
         }
     }

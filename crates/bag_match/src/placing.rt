@@ -1,163 +1,178 @@
 //! The least places, from the layers of a match.
 
-ghost use Rattle.std.specs.Prelude.{◌≡◌, ◌↔◌, ◌<◌, ◌≤◌, ◌+◌, ◌^◌, ℕ, List, Contains, IfOk, IsTrue, Some, length, map, slice_get, slice_index};
-ghost use Rattle.rdf_terms.specs.declared.terms.Triple.{Triple};
+ghost use Rattle.std.specs.Prelude.{◌≡◌, ◌↔◌, ◌<◌, ◌≤◌, ◌+◌, ◌^◌, ◌++◌, ◌∷◌, [], Contains, IfOk, IsTrue, length, slice_index};
+ghost use Rattle.std.specs.Cmp.Lexicographic.{slice_cmp};
+ghost use Rattle.std.specs.Ordering.{nat_cmp};
 ghost use Rattle.schema_tree.specs.declared.verdicts.State.{State};
 ghost use Rattle.schema_tree.specs.Loaded.{BodyOk};
-ghost use Rattle.bag_match.specs.Counts.{ArePlacesOf, HasCounts, raised};
-ghost use Rattle.bag_match.specs.Layers.{AreAllFinishing, AreFinishing, AreLayers, LeadsFirst, LeadsOn};
-ghost use Rattle.bag_match.specs.Least.{AreLeast, IsPlaceBefore};
-ghost use Rattle.schema_tree.specs.Rising.{AreRising};
+ghost use Rattle.schema_tree.specs.Rising.{AreRising, IsLess};
+ghost use Rattle.schema_tree.specs.States.{IsStateBefore};
+ghost use Rattle.bag_match.specs.Counts.{ArePlacesOf, raised};
+ghost use Rattle.bag_match.specs.Layers.{AreAllFinishing, AreLayers, AreLeading, LeadsFirst, LeadsOn, counts_of};
+ghost use Rattle.bag_match.specs.Least.{AreLeast, AreOffered, IsPlaceBefore};
 ghost use Rattle.bag_match.specs.Reached.{IsReachedAt};
-ghost use Rattle.bag_match.specs.Sets.{lists_of};
 
-use crate::layers::{Question, layer_at};
-use crate::places::{Judge, allowed_places};
-use crate::raising::{copied, has, put, raised, zeros};
+use crate::layers::{Question, layer_at, places_at};
+use crate::places::Judge;
+use crate::raising::{raise, zeros};
 use rdf_terms::items::Items;
 use schema_tree::verdicts::{Place, State};
 use std::alloc::{AllocError, Global};
-use std::collections::BTreeSet;
+use std::cmp::Ordering;
 use tally::laws::interval_has_copies;
 
-/// The first of the places that leads to counts of the set.
-fn first_leading(
-    alloc: Global,
-    counts: &[u32],
-    places: &[Place],
-    ahead: &BTreeSet<Vec<u32>>,
-) -> Result<Option<Place>, AllocError>
-    requires small { (i : ℕ) → slice_index counts.now i < 2 ^ 31 }
-    requires there { ArePlacesOf (length counts.now) places.now }
+/// A count after one more triple has taken its place.
+fn raised_at(counts: &[u32], place: Place, k: usize) -> u64
+    requires { k < length counts.now }
+    ensures { result ≡ slice_index (raised counts.now place) k }
+{
+    let count = u64::from(counts[k]);
+    if let Place::At(i) = place {
+        if i as usize == k {
+            return count + 1;
+        }
+    }
+    count
+}
+
+/// Compares counts with others after one more triple has taken its place.
+fn compare_raised(held: &[u32], counts: &[u32], place: Place) -> Ordering
+    ensures { result ≡ slice_cmp nat_cmp held.now (raised counts.now place) }
+{
+    for k in 0..held.len() {
+        if k == counts.len() {
+            return Ordering::Greater;
+        }
+        match u64::from(held[k]).cmp(&raised_at(counts, place, k)) {
+            Ordering::Equal => {}
+            other => return other,
+        }
+    }
+    held.len().cmp(&counts.len())
+}
+
+/// Whether the place leads to the counts of one of the states, by halving.
+fn leads(ahead: &[State], counts: &[u32], place: Place) -> bool
+    requires { AreRising IsLess (counts_of ahead.now) }
+    ensures { IsTrue result ↔ Contains (counts_of ahead.now) (raised counts.now place) }
+{
+    match ahead.binary_search_by(|state| compare_raised(state.counts.as_slice(), counts, place)) {
+        Ok(_) => true,
+        Err(_) => false,
+    }
+}
+
+/// The first of the places that leads to the counts of one of the states.
+fn first_leading(counts: &[u32], places: &[Place], ahead: &[State]) -> Option<Place>
     requires rising { AreRising IsPlaceBefore places.now }
-    ensures { IfOk result (LeadsFirst counts.now places.now (lists_of ahead.now)) }
+    requires ahead { AreRising IsLess (counts_of ahead.now) }
+    ensures { LeadsFirst counts.now places.now (counts_of ahead.now) result }
 {
     for place in places {
-        let counts = raised(alloc, counts, *place)?;
-        if has(ahead, &counts) {
-            return Ok(Some(*place));
+        if leads(ahead, counts, *place) {
+            return Some(*place);
         }
     }
-    Ok(None)
+    None
 }
 
-/// Whether some place leads to counts of the set.
-fn leads_on(
-    alloc: Global,
-    counts: &[u32],
-    places: &[Place],
-    ahead: &BTreeSet<Vec<u32>>,
-) -> Result<bool, AllocError>
-    requires small { (i : ℕ) → slice_index counts.now i < 2 ^ 31 }
-    requires there { ArePlacesOf (length counts.now) places.now }
+/// Whether some place leads to the counts of one of the states.
+fn leads_on(counts: &[u32], places: &[Place], ahead: &[State]) -> bool
     requires rising { AreRising IsPlaceBefore places.now }
-    ensures { IfOk result (λ b. IsTrue b ↔ LeadsOn counts.now places.now (lists_of ahead.now)) }
+    requires ahead { AreRising IsLess (counts_of ahead.now) }
+    ensures { IsTrue result ↔ LeadsOn counts.now places.now (counts_of ahead.now) }
 {
-    match first_leading(alloc, counts, places, ahead)? {
-        Some(_) => Ok(true),
-        None => Ok(false),
+    match first_leading(counts, places, ahead) {
+        Some(_) => true,
+        None => false,
     }
 }
 
-/// The counts of those states from which some place leads to counts of the set.
+/// The states from which some place leads to the counts of one of the states ahead.
 fn leading(
     alloc: Global,
-    states: &[State],
+    states: Vec<State>,
     places: &[Place],
-    ahead: &BTreeSet<Vec<u32>>,
-    occurrences: usize,
-) -> Result<BTreeSet<Vec<u32>>, AllocError>
-    requires there { ArePlacesOf occurrences places.now }
+    ahead: &[State],
+) -> Result<Vec<State>, AllocError>
+    requires states { AreRising IsStateBefore states.items }
     requires rising { AreRising IsPlaceBefore places.now }
-    requires shaped { (x : State) → Contains states.now x → HasCounts occurrences x }
-    ensures { IfOk result (λ s. (c : List ℕ) → Contains (lists_of s) c ↔ ((x : State) × Contains states.now x × ((x.counts ≡ c) × LeadsOn x.counts places.now (lists_of ahead.now)))) }
+    requires ahead { AreRising IsLess (counts_of ahead.now) }
+    ensures { IfOk result (λ v. AreLeading states.items places.now (counts_of ahead.now) v.items) }
 {
-    let mut found = BTreeSet::new(alloc);
+    let mut found = Vec::new(alloc);
     for state in states {
-        let counts = state.counts.as_slice();
-        if leads_on(alloc, counts, places, ahead)? {
-            put(&mut found, copied(alloc, counts)?)?;
+        if leads_on(state.counts.as_slice(), places, ahead) {
+            found.push(state)?;
         }
     }
     Ok(found)
 }
 
-/// The counts of the states.
-fn counts_of(alloc: Global, states: &[State]) -> Result<BTreeSet<Vec<u32>>, AllocError>
-    ensures { IfOk result (λ s. (c : List ℕ) → Contains (lists_of s) c ↔ ((x : State) × Contains states.now x × (x.counts ≡ c))) }
+/// Takes the last layer away.
+fn last_of(layers: &mut Vec<Items<State>>) -> Items<State>
+    requires { 0 < length layers.old.items }
+    ensures { layers.old.items ≡ layers.new.items ++ result ∷ [] }
 {
-    let mut found = BTreeSet::new(alloc);
-    for state in states {
-        put(&mut found, copied(alloc, state.counts.as_slice())?)?;
+    match layers.pop() {
+        Some(states) => states,
+        None => unreachable!(),
     }
-    Ok(found)
-}
-
-/// The set of this number.
-fn set_at(sets: &[BTreeSet<Vec<u32>>], k: usize) -> &BTreeSet<Vec<u32>>
-    requires { k < length sets.now }
-    ensures { slice_get (map lists_of sets.now) k ≡ Some (lists_of result.now) }
-{
-    &sets[k]
 }
 
 impl<J: Judge> Question<'_, J> {
-    /// The counts from which places finish the match, layer by layer from the last.
+    /// The states from which places finish the match, layer by layer from the last.
     fn finishing(
         &self,
         alloc: Global,
-        layers: &[Items<State>],
-    ) -> Result<Vec<BTreeSet<Vec<u32>>>, AllocError>
-        requires ready { J.ready self.now.judge.now }
+        offered: &[Items<Place>],
+        layers: Vec<Items<State>>,
+    ) -> Result<Vec<Items<State>>, AllocError>
+        requires offered { AreOffered (J.hold self.now.judge.now) (J.fail self.now.judge.now) self.now.shape.now self.now.node self.now.triples.now (length self.now.triples.now) offered.now }
         requires body { BodyOk self.now.shape.now.occs self.now.shape.now.body }
-        requires few { length self.now.triples.now < 2 ^ 31 }
-        requires few_occurrences { length self.now.shape.now.occs ≤ 256 }
-        requires layers { AreLayers (J.hold self.now.judge.now) (J.fail self.now.judge.now) self.now.shape.now self.now.node self.now.triples.now (length self.now.triples.now) layers.now }
-        ensures { IfOk result (λ v. AreAllFinishing (J.hold self.now.judge.now) (J.fail self.now.judge.now) self.now.shape.now self.now.node self.now.triples.now (length self.now.triples.now) (length self.now.triples.now + 1) (map lists_of v.items)) }
+        requires layers { AreLayers (J.hold self.now.judge.now) (J.fail self.now.judge.now) self.now.shape.now self.now.node self.now.triples.now (length self.now.triples.now) layers.items }
+        ensures { IfOk result (λ v. AreAllFinishing (J.hold self.now.judge.now) (J.fail self.now.judge.now) self.now.shape.now self.now.node self.now.triples.now (length self.now.triples.now) (length self.now.triples.now + 1) v.items) }
     {
         interval_has_copies();
-        let last = self.triples.len();
-        let occurrences = self.shape.occs.as_slice().len();
+        let mut layers = layers;
         let mut finishing = Vec::new(alloc);
-        finishing.push(counts_of(alloc, layer_at(layers, last))?)?;
+        finishing.push(last_of(&mut layers))?;
+        let last = self.triples.len();
         for k in 0..last {
-            let done = last - 1 - k;
-            let triple = self.triples[done];
-            let places = allowed_places(alloc, self.judge, self.shape, self.node, triple)?;
-            let states = layer_at(layers, done);
-            let ahead = set_at(finishing.as_slice(), k);
-            let found = leading(alloc, states, places.as_slice(), ahead, occurrences)?;
-            finishing.push(found)?;
+            let places = places_at(offered, last - 1 - k);
+            let states = last_of(&mut layers);
+            let ahead = layer_at(finishing.as_slice(), k);
+            let found = leading(alloc, states.into_vec(), places, ahead)?;
+            finishing.push(Items::of(found))?;
         }
         Ok(finishing)
     }
 
-    /// The least places, where the last layer has a state.
+    /// The least places, where the last layer has a state and the lists are the places that are allowed for each triple.
     pub fn least_places(
         &self,
         alloc: Global,
-        layers: &[Items<State>],
+        offered: &[Items<Place>],
+        layers: Vec<Items<State>>,
     ) -> Result<Vec<Place>, AllocError>
-        requires ready { J.ready self.now.judge.now }
+        requires offered { AreOffered (J.hold self.now.judge.now) (J.fail self.now.judge.now) self.now.shape.now self.now.node self.now.triples.now (length self.now.triples.now) offered.now }
         requires body { BodyOk self.now.shape.now.occs self.now.shape.now.body }
         requires few { length self.now.triples.now < 2 ^ 31 }
-        requires few_occurrences { length self.now.shape.now.occs ≤ 256 }
-        requires layers { AreLayers (J.hold self.now.judge.now) (J.fail self.now.judge.now) self.now.shape.now self.now.node self.now.triples.now (length self.now.triples.now) layers.now }
+        requires layers { AreLayers (J.hold self.now.judge.now) (J.fail self.now.judge.now) self.now.shape.now self.now.node self.now.triples.now (length self.now.triples.now) layers.items }
         requires some { (x : State) × IsReachedAt (J.hold self.now.judge.now) (J.fail self.now.judge.now) self.now.shape.now self.now.node self.now.triples.now (length self.now.triples.now) x }
         ensures { IfOk result (λ v. AreLeast (J.hold self.now.judge.now) (J.fail self.now.judge.now) self.now.shape.now self.now.node self.now.triples.now v.items) }
     {
         interval_has_copies();
         let last = self.triples.len();
-        let finishing = self.finishing(alloc, layers)?;
+        let finishing = self.finishing(alloc, offered, layers)?;
         let mut counts = zeros(alloc, self.shape.occs.as_slice().len())?;
         let mut places = Vec::new(alloc);
         for done in 0..last {
-            let triple = self.triples[done];
-            let allowed = allowed_places(alloc, self.judge, self.shape, self.node, triple)?;
-            let ahead = set_at(finishing.as_slice(), last - 1 - done);
-            match first_leading(alloc, counts.as_slice(), allowed.as_slice(), ahead)? {
+            let allowed = places_at(offered, done);
+            let ahead = layer_at(finishing.as_slice(), last - 1 - done);
+            match first_leading(counts.as_slice(), allowed, ahead) {
                 Some(place) => {
-                    counts = raised(alloc, counts.as_slice(), place)?;
+                    raise(&mut counts, place);
                     places.push(place)?;
                 }
                 None => unreachable!(),

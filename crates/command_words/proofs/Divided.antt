@@ -1,5 +1,5 @@
 -- Where the last `=` of a word stands.
-use Rattle.std.proofs.Common.{◌≡◌, ◌≢◌, ◌∙◌, ◌<◌, ◌==◌, [], ◌∷◌, ◌++◌, sym, ap, subst, take, drop, length, get_or, refl, arith, lit<, None, Bool, true, false, true≢false, eq-eqb}
+use Rattle.std.proofs.Common.{◌≡◌, ◌≢◌, ◌∙◌, ◌==◌, [], ◌∷◌, ◌++◌, sym, ap, subst, take, drop, length, get_or, refl, arith, lit<, None, Bool, true, false, true≢false, eq-eqb}
 use Rattle.std.specs.Str.{NoCharPasses}
 use Rattle.std.specs.Str.Pattern.{RFindsChar, SplitsAroundMatch}
 use Rattle.std.proofs.lemmas.Bool.{eqb-true}

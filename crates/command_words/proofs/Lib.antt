@@ -3,7 +3,7 @@ pub mod Divided
 pub mod Found
 pub mod Going
 pub mod Named
-pub mod Decimals
+pub mod Budgets
 pub mod Once
 pub mod Requested
 pub mod Seen

@@ -5,7 +5,7 @@ use Rattle.std.proofs.lemmas.Fmt.{digits_value-decimal}
 use Rattle.std.proofs.lemmas.Str.Parse.{IsNumeralModel, numerals_by_value, tells_digits}
 use Rattle.std.specs.Str.Parse.{AllDigits, digits_value}
 use Rattle.clap.specs.Words.{App, Row, Text}
-use Rattle.command_words.specs.Commands.{check, rows, validate}
+use Rattle.command_words.specs.Commands.{rows}
 use Rattle.command_words.specs.Requests.{Asks, IsBudget, IsGiven, IsTask, Request, Task, checking, command_for, name_of, validation}
 
 pub own : IsNumeralModel (AllDigits 10) (digits_value 10)

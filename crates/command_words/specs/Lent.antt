@@ -1,5 +1,6 @@
 -- The commands and the errors as they are lent from the words.
-use Rattle.std.specs.Prelude.{map, option_map, ⊤}
+use Rattle.std.specs.Prelude.{codes, map, option_map, ⊤}
+use Rattle.clap.specs.Words.{Text}
 use Rattle.command_words.specs.declared.command.Command.{Command as LentCommand}
 use Rattle.command_words.specs.declared.command.Command.TheVariants as Lent
 use Rattle.command_words.specs.declared.command.Import.{Import as LentImport}
@@ -11,7 +12,7 @@ use Rattle.command_words.specs.declared.requests.Task.{Task as LentTask}
 use Rattle.command_words.specs.declared.requests.Task.TheVariants as Tasks
 use Rattle.command_words.specs.Requests.{Request, Task, checking, validation}
 use Rattle.command_words.specs.Checks.{Fault, Import, arguments, base, ending, import_word, same}
-use Rattle.command_words.specs.Asked.{Command}
+use Rattle.command_words.specs.Asked.{Command, fault_text}
 
 abbrev pub import_of : LentImport → Import
 import_of i = record { iri = i.iri.now; file = i.file.now }
@@ -53,3 +54,12 @@ Because P (Error.Import word) = P (import_word word.now)
 Because P (Error.Base iri) = P (base iri.now)
 Because P (Error.Same name) = P (same name.now)
 Because P Error.Memory = ⊤
+
+-- an error as it is printed: as the fault that it names; nothing is printed for want of memory, which has its name here too
+abbrev pub words_text : WordsError → Text
+words_text Error.Arguments = fault_text arguments
+words_text (Error.Ending name) = fault_text (ending name.now)
+words_text (Error.Import word) = fault_text (import_word word.now)
+words_text (Error.Base iri) = fault_text (base iri.now)
+words_text (Error.Same name) = fault_text (same name.now)
+words_text Error.Memory = codes "Memory"

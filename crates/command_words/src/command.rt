@@ -54,3 +54,19 @@ pub enum Command<'a> {
     /// To check a proof.
     Check(Checking<'a>),
 }
+
+impl<'a> Command<'a> {
+    ghost use Rattle.std.specs.Prelude.{◌≡◌};
+    ghost use Rattle.command_words.specs.Lent.{command_of, command_with};
+    ghost use Rattle.command_words.specs.Requests.{Task};
+
+    /// What the command is given, whichever it is.
+    pub fn inputs<'b>(&'b self) -> &'b Inputs<'a>
+        ensures { (task : Task) × (command_of self.entry.now ≡ command_with result.now task) }
+    {
+        match self {
+            Command::Validate(validation) => &validation.inputs,
+            Command::Check(checking) => &checking.inputs,
+        }
+    }
+}

@@ -13,6 +13,6 @@ mod requests;
 mod words;
 
 pub use command::{Checking, Command, Import, Inputs, Validation};
-pub use error::{WordsError, text};
+pub use error::WordsError;
 pub use laws::{answers_are_one, bases_are_lines};
 pub use words::read;

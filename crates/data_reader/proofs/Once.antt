@@ -1,5 +1,5 @@
 -- Bytes are one document at most.
-use Rattle.std.proofs.Common.{◌≡◌, ◌∙◌, List, sym, ap}
+use Rattle.std.proofs.Common.{◌∙◌, List, sym, ap}
 use Rattle.graph_index.specs.declared.loading.TermTriple.{TermTriple}
 use Rattle.nt_reader.specs.Endings.{ShortDocumentsAreOne}
 use Rattle.turtle_reader.specs.Documents.{LimitedDocumentsAreOne}

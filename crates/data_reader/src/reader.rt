@@ -38,10 +38,7 @@ fn read_n_triples(
 {
     graph_index::laws::loading_keeps();
     let held = graph.len();
-    match nt_reader::read(alloc, source, terms, graph) {
-        Ok(()) => (),
-        Err(error) => return Err(error),
-    }
+    nt_reader::read(alloc, source, terms, graph)?;
     match Prefixes::new(alloc, base) {
         Ok(prefixes) => Ok(prefixes),
         Err(_) => {

@@ -1,19 +1,7 @@
-//! Graphs, data in both formats and shape maps, called as the crates above call them. The crates themselves have no tests, since one with tests is proved twice.
+//! Graphs and data in both formats, called as the crates above call them, where no row of `shex_rows` can. The crates themselves have no tests, since one with tests is proved twice.
 #![tactic(auto)]
 
 #[cfg(test)]
-mod formats;
+mod documents;
 #[cfg(test)]
 mod graphs;
-#[cfg(test)]
-mod loads;
-#[cfg(test)]
-mod maps;
-#[cfg(test)]
-mod n_triples;
-#[cfg(test)]
-mod result_maps;
-#[cfg(test)]
-mod selections;
-#[cfg(test)]
-mod turtle;

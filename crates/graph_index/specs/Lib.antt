@@ -1,6 +1,7 @@
 pub mod Contents
 pub mod Laws
 pub mod Loading
+pub mod Messages
 pub mod Numbers
 pub mod Places
 pub mod Rows

@@ -108,3 +108,7 @@ behind_there (y ∷ ys) first x at h = is_later y ys x (subst (λ zs. Contains z
 -- what was given of a list, and what is left, when one more is given
 pub yields_on : {X : Type 0} (all yielded rest behind : List X) (x : X) → all ≡ yielded ++ rest → rest ≡ x ∷ behind → all ≡ (yielded ++ x ∷ []) ++ behind
 yields_on all yielded rest behind x e f = e ∙ ap (λ (v : List _). yielded ++ v) f ∙ sym (append_assoc yielded (x ∷ []) behind)
+
+-- and that item is of the list
+pub yields_there : {X : Type 0} (all yielded rest behind : List X) (x : X) → all ≡ yielded ++ rest → rest ≡ x ∷ behind → Contains all x
+yields_there all yielded rest behind x e f = subst (λ zs. Contains zs x) (sym e) (Contains-append_right yielded rest x (subst (λ zs. Contains zs x) (sym f) (is_first x behind)))

@@ -1,7 +1,6 @@
 -- A constraint is sound, or one cause refuses it.
-use Rattle.std.proofs.Common.{◌≡◌, ◌≢◌, ℕ, ◌<◌, ◌≤◌, ◌⊎◌, inl, inr, Bool, true, false, true≢false, List, [], ◌∷◌, ◌++◌, refl, sym, arith, Option, Some, None, IsTrue}
-use Rattle.std.specs.List.{AllByRecursion, Any}
-use Rattle.std.specs.Option.{IsSomeAnd}
+use Rattle.std.proofs.Common.{◌≢◌, ℕ, ◌<◌, ◌≤◌, ◌⊎◌, inl, inr, Bool, true, false, true≢false, List, [], ◌∷◌, refl, sym, arith, Option, IsTrue}
+use Rattle.std.specs.List.{AllByRecursion}
 use Rattle.xs_text.specs.Decimal.{is_decimal}
 use Rattle.std.specs.Prelude.{encode_utf8_all}
 use Rattle.value_sets.proofs.Deciding.{decide_text}
@@ -14,7 +13,7 @@ use Rattle.xs_pattern.specs.Regex.{Regex}
 use Rattle.node_constraint.proofs.Spelled.{decide_spelling}
 use Rattle.node_constraint.specs.Constraint.{Constraint}
 use Rattle.rdf_terms.specs.Vocabulary.{xsd_double, xsd_float}
-use Rattle.node_constraint.specs.Making.{range_value, IsNumeric, is_double, IsDecimal, IsFloat, IsFloatFacet, HasFloatFacet, HasOtherNumber, PatternText, patterns_in, IsReadable, IsRefused, IsFirstRefusal, IsSound, Causes}
+use Rattle.node_constraint.specs.Making.{range_value, IsNumeric, is_double, IsFloat, IsFloatFacet, HasFloatFacet, HasOtherNumber, PatternText, patterns_in, IsReadable, IsRefused, IsFirstRefusal, IsSound, Causes}
 use Rattle.node_constraint.specs.declared.facet.Facet.{Facet}
 use Rattle.node_constraint.specs.declared.facet.Facet.TheVariants as Facets
 use Rattle.node_constraint.specs.declared.make_error.MakeError.{MakeError}

@@ -1,5 +1,5 @@
 -- The terms of N-Triples can stand on one line.
-use Rattle.std.proofs.Common.{◌≡◌, ℕ, Bool, true, false, List, sym, subst, inl, inr, Contains}
+use Rattle.std.proofs.Common.{◌≡◌, ℕ, Bool, true, false, List, sym, subst, inl, inr}
 use Rattle.std.specs.List.{AllByRecursion}
 use Rattle.rdf_cursor.specs.Ahead.{Ahead}
 use Rattle.rdf_cursor.specs.Marks.{Mark}

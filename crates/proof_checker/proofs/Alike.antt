@@ -1,7 +1,7 @@
 -- Views that answer alike judge places and states alike.
-use Rattle.std.proofs.Common.{◌≡◌, ℕ, ◌<◌, ◌⊎◌, inl, inr, List, [], ◌∷◌, Bool, true, false, filter}
-use Rattle.std.specs.Prelude.{Contains, Option, Some, None, ◌↔◌, slice_get, ⊤}
-use Rattle.std.specs.List.{AllByRecursion, list_any}
+use Rattle.std.proofs.Common.{List, [], ◌∷◌, Bool, true, false, filter}
+use Rattle.std.specs.Prelude.{Option, Some, None, ◌↔◌, slice_get}
+use Rattle.std.specs.List.{list_any}
 use Rattle.rdf_terms.specs.declared.terms.TermId.{TermId}
 use Rattle.rdf_terms.specs.declared.terms.Term.{Term}
 use Rattle.rdf_terms.specs.declared.terms.Triple.{Triple}
@@ -20,7 +20,7 @@ use Rattle.schema_tree.specs.declared.verdicts.Place.TheVariants.{At, Rest}
 use Rattle.schema_tree.specs.declared.verdicts.State.{State}
 use Rattle.schema_tree.specs.Laws.{SureFollowsAnswers}
 use Rattle.schema_tree.specs.Loaded.{IsLoaded}
-use Rattle.schema_tree.specs.Matches.{fits, other_end}
+use Rattle.schema_tree.specs.Matches.{other_end}
 use Rattle.schema_tree.specs.Places.{AreAllowed, IsAllowed, MayFail, MayHold, MayStay, MayStayOut, MayTake}
 use Rattle.schema_tree.specs.Relevant.{is_forward}
 use Rattle.schema_tree.specs.Sure.{Known, PairIs}

@@ -1,8 +1,8 @@
 -- What the check of a whole proof rests on.
-use Rattle.std.proofs.Common.{◌≡◌, ℕ, suc, ◌+◌, ◌^◌, ◌<◌, ◌≤◌, length, get_or, take, map, List, [], ◌∷◌, ◌++◌, refl, arith, ap, sym, subst, ◌∙◌}
-use Rattle.std.proofs.lemmas.List.{map-append, take_more, length-append}
+use Rattle.std.proofs.Common.{◌≡◌, ℕ, suc, ◌^◌, ◌<◌, ◌≤◌, length, map, List, [], ◌∷◌, ◌++◌, refl, arith, ap, sym, subst, ◌∙◌}
+use Rattle.std.proofs.lemmas.List.{map-append, length-append}
 use Rattle.std.specs.Prelude.{All, Contains, Option, Some, None, slice_get, option_map}
-use Rattle.std.specs.List.{AllByRecursion, flat_map}
+use Rattle.std.specs.List.{flat_map}
 use Rattle.rdf_terms.specs.declared.terms.TermId.{TermId}
 use Rattle.rdf_terms.specs.declared.terms.Term.{Term}
 use Rattle.rdf_terms.specs.declared.terms.Triple.{Triple}
@@ -22,7 +22,6 @@ use Rattle.proof_file.specs.declared.Proof.{Proof}
 use Rattle.proof_file.specs.Accepts.{AreAccepted, IsAccepted, Setting, in_section, is_claim, items_of, setting_of}
 use Rattle.proof_file.specs.Laws.{LinesAreFew}
 use Rattle.proof_file.specs.Text.{IsKind, IsLine, ProofText, lines_of, section_lines}
-use Rattle.proof_file.specs.declared.line.Line.{Line}
 use Rattle.proof_file.specs.declared.line.Line.TheVariants as Lines
 use Rattle.proof_checker.specs.declared.items.Fault.{Fault}
 use Rattle.proof_checker.specs.Checks.{IsReadAs, IsRejectedAs, KeepsTerms}
@@ -30,11 +29,10 @@ use Rattle.proof_file.specs.Answers.{AreClaimed, answer_with}
 use Rattle.proof_checker.specs.Faults.{AreRising, FirstFault, StatesRise, proof_of, section_items}
 use Rattle.proof_checker.proofs.Found.{fault_none, fault_some, map_long}
 
-pub answers_push : (nodes : List TermId) (claims : List Claim) (i : ℕ) (claim : Claim) (given : List Answer) (a : Answer) → i < length claims → claim ≡ get_or claims i claim →
-    option_map (answer_with claim) (slice_get nodes claim.node) ≡ Some a → AreClaimed nodes (take i claims) given → AreClaimed nodes (take (i + 1) claims) (given ++ a ∷ [])
-answers_push nodes claims i claim given a within is own before =
-    ap (λ zs. map (λ c. option_map (answer_with c) (slice_get nodes c.node)) zs) (take_more claims i claim within ∙ ap (λ z. take i claims ++ z ∷ []) (sym is))
-    ∙ map-append (λ c. option_map (answer_with c) (slice_get nodes c.node)) (take i claims) (claim ∷ [])
+pub answers_push : (nodes : List TermId) (claims : List Claim) (claim : Claim) (given : List Answer) (a : Answer) →
+    option_map (answer_with claim) (slice_get nodes claim.node) ≡ Some a → AreClaimed nodes claims given → AreClaimed nodes (claims ++ claim ∷ []) (given ++ a ∷ [])
+answers_push nodes claims claim given a own before =
+    map-append (λ c. option_map (answer_with c) (slice_get nodes c.node)) claims (claim ∷ [])
     ∙ ap (λ zs. zs ++ option_map (answer_with claim) (slice_get nodes claim.node) ∷ []) before
     ∙ ap (λ o. map (λ z. Some z) given ++ o ∷ []) own ∙ sym (map-append (λ z. Some z) given (a ∷ []))
 

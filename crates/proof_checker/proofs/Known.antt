@@ -1,23 +1,22 @@
 -- What the standings let a reader use is what the records let it use.
-use Rattle.std.proofs.Common.{◌≡◌, ℕ, suc, ◌≤◌, ◌<◌, ◌⊎◌, inl, inr, List, [], ◌∷◌, refl, arith, ap, sym, subst, ◌∙◌, Bool, true, false, true≢false, cond, map, filter}
-use Rattle.std.proofs.lemmas.Bool.{cases_lt, and_from, and_parts}
+use Rattle.std.proofs.Common.{◌≡◌, ℕ, ◌≤◌, List, [], ◌∷◌, refl, arith, ap, sym, subst, ◌∙◌, Bool, true, false, true≢false, cond, map, filter}
+use Rattle.std.proofs.lemmas.Bool.{and_from, and_parts}
 use Rattle.std.proofs.lemmas.Bool.Decides.{nat_tests}
 use Rattle.std.specs.Map.{lookup}
-use Rattle.std.specs.Prelude.{Contains, Option, Some, None, nat_lt, nat_eq, slice_index, ◌&&◌, ◌||◌, ◌↔◌, unwrap_or}
+use Rattle.std.specs.Prelude.{Contains, Option, Some, None, nat_lt, ◌&&◌, ◌↔◌, unwrap_or}
 use Rattle.schema_tree.specs.declared.schema.Pair.{Pair}
 use Rattle.schema_tree.specs.declared.verdicts.Verdict.{Verdict}
 use Rattle.schema_tree.specs.declared.verdicts.Verdict.TheVariants.{Yes, No, Unknown}
 use Rattle.schema_tree.specs.Edges.{level}
 use Rattle.schema_tree.specs.Sure.{Known, PairIs}
-use Rattle.schema_tree.specs.Typings.{below}
 use Rattle.lists.proofs.Filters.{in_filter, filter_has}
-use Rattle.lists.proofs.Members.{in_map, from_map, is_first, is_later, not_in_none}
-use Rattle.proof_file.specs.Views.{Refuted, is_before, pairs_of}
+use Rattle.lists.proofs.Members.{in_map, from_map, is_first, is_later}
+use Rattle.proof_file.specs.Views.{Refuted, pairs_of}
 use Rattle.proof_checker.specs.declared.standings.Standing.{Standing}
 use Rattle.proof_checker.specs.declared.standings.Reader.{Reader}
 use Rattle.proof_checker.specs.declared.standings.Reader.TheVariants.{Confirms, Refutes, Claims}
-use Rattle.proof_checker.specs.Standings.{AreStandings, IsAtMost, IsStanding, is_minus, is_plus, known_from, same_pair, sees_minus, sees_plus, sees_rank, standing_in, unsaid, view_of}
-use Rattle.proof_checker.proofs.Noted.{pair_is, pair_same}
+use Rattle.proof_checker.specs.Standings.{AreStandings, IsAtMost, is_minus, is_plus, known_from, same_pair, sees_minus, sees_plus, sees_rank, standing_in, unsaid, view_of}
+use Rattle.proof_checker.proofs.Noted.{pair_is}
 
 -- a pair of which something is said is among the keys
 key_there : (q : Pair) (es : List (Pair × Standing)) → (¬ (standing_in es q ≡ unsaid)) → Contains (map (λ e. e.0) es) q

@@ -1,27 +1,25 @@
 -- States and their counts, one at a time.
-use Rattle.std.proofs.Common.{◌≡◌, ℕ, zero, suc, ◌+◌, ◌<◌, ◌≤◌, ◌⊎◌, inl, inr, length, get_or, drop, List, [], ◌∷◌, ◌++◌, refl, arith, ap, sym, subst, ◌∙◌, Bool, true, false, cond, slice_index, replicate, map, take, true≢false, ◌^◌, ◌≢◌}
-use Rattle.std.proofs.lemmas.List.{drop_more, drop_all, take_all, take_more, get_or_append_left, get_or_past, get_or_push, get_or-set_other, get_or-set_same, length-append, length-set}
+use Rattle.std.proofs.Common.{◌≡◌, ℕ, suc, ◌+◌, ◌<◌, ◌≤◌, ◌⊎◌, inl, inr, length, get_or, List, [], ◌∷◌, refl, arith, ap, sym, subst, ◌∙◌, Bool, true, false, take, true≢false}
+use Rattle.std.proofs.lemmas.List.{take_all, take_more}
 use Rattle.std.proofs.lemmas.Bool.{cases_lt}
 use Rattle.std.proofs.lemmas.List.Elements.{Contains-append_cases}
-use Rattle.std.proofs.lemmas.Option.{slice_get-get_or, slice_get_past}
-use Rattle.std.specs.Prelude.{Contains, IfOk, IsTrue, Result, Ok, Err, Option, Some, None, ◌↔◌, slice_get}
+use Rattle.std.proofs.lemmas.Option.{slice_get-get_or}
+use Rattle.std.specs.Prelude.{Contains, IfOk, IsTrue, Result, Ok, Err, Option, Some, ◌↔◌, slice_get}
 use Rattle.rdf_terms.specs.declared.terms.TermId.{TermId}
 use Rattle.rdf_terms.specs.declared.terms.Triple.{Triple}
-use Rattle.schema_tree.specs.declared.schema.Occurrence.{Occurrence}
-use Rattle.schema_tree.specs.Matches.{fits}
 use Rattle.schema_tree.specs.declared.schema.ExprId.{ExprId}
 use Rattle.schema_tree.specs.declared.schema.Shape.{Shape}
 use Rattle.schema_tree.specs.declared.verdicts.Place.{Place}
 use Rattle.schema_tree.specs.declared.verdicts.Place.TheVariants.{At, Rest}
 use Rattle.schema_tree.specs.declared.verdicts.State.{State}
-use Rattle.schema_tree.specs.Places.{IsAllowed, MayTake}
-use Rattle.schema_tree.specs.States.{AreClosed, IsCovered, IsDead, IsDeadBody, after, count_fits, fitting, opening}
+use Rattle.schema_tree.specs.Places.{IsAllowed}
+use Rattle.schema_tree.specs.States.{IsCovered, IsDead, after, opening}
 use Rattle.proof_file.specs.Accepts.{AreStates}
-use Rattle.bag_match.specs.Counts.{IsPlaceOf, raised, state_of}
+use Rattle.bag_match.specs.Counts.{raised, state_of}
 use Rattle.proof_checker.specs.Stated.{AreShaped, IsSettled, LeadsOn}
 use Rattle.bag_match.proofs.Stepping.{after_is as after_place}
 use Rattle.bag_match.proofs.Offered.{allowed_there}
-use Rattle.lists.proofs.Members.{in_one, in_rest, is_first, is_later, not_in_none}
+use Rattle.lists.proofs.Members.{in_one}
 
 suc-add_one : (k : ℕ) → suc k ≡ k + 1
 suc-add_one k = omega arith

@@ -1,14 +1,14 @@
 -- Tables that take up terms, one after another.
-use Rattle.std.proofs.Common.{◌≡◌, ℕ, zero, suc, ◌+◌, ◌<◌, ◌≤◌, ◌⊎◌, inl, inr, length, map, List, [], ◌∷◌, ◌++◌, refl, arith, ap, sym, subst, ◌∙◌}
+use Rattle.std.proofs.Common.{◌≡◌, ℕ, zero, suc, ◌<◌, ◌≤◌, ◌⊎◌, inl, inr, length, map, List, [], ◌∷◌, ◌++◌, refl, arith, ap, sym, subst, ◌∙◌}
 use Rattle.std.proofs.lemmas.List.{append_assoc, map-append}
 use Rattle.std.proofs.lemmas.List.Elements.{Contains-append_cases, Contains-append_left, Contains-append_right}
-use Rattle.std.proofs.lemmas.Option.{slice_get-get_or, slice_get_within}
-use Rattle.std.specs.Prelude.{Contains, Option, Some, None, slice_get, unwrap_or}
+use Rattle.std.proofs.lemmas.Option.{slice_get-get_or}
+use Rattle.std.specs.Prelude.{Contains, Some, slice_get, unwrap_or}
 use Rattle.lists.specs.Distinct.{AreDistinct}
 use Rattle.lists.specs.Additions.{Adds}
 use Rattle.rdf_terms.specs.declared.terms.TermId.{TermId}
 use Rattle.rdf_terms.specs.declared.terms.Term.{Term}
-use Rattle.lists.proofs.Members.{in_one, in_rest, is_first, is_later, not_in_none, got_in}
+use Rattle.lists.proofs.Members.{in_rest, is_first, is_later, got_in}
 use Rattle.proof_file.specs.Accepts.{AreNumbers}
 use Rattle.proof_checker.specs.Checks.{CannotTake, KeepsTerms, TakesUp}
 use Rattle.rdf_terms.specs.Tables.{max_terms}

@@ -1,5 +1,5 @@
 -- The first check that fails, and the first item that is not accepted.
-use Rattle.std.specs.Prelude.{ℕ, List, [], ◌∷◌, ◌^◌, ◌<◌, map, take, length, Contains, Option, Some, None, slice_get, ⊤}
+use Rattle.std.specs.Prelude.{List, [], ◌^◌, ◌<◌, map, take, length, Contains, Option, Some, None, slice_get, ⊤}
 use Rattle.std.specs.List.{AllByRecursion, flat_map}
 use Rattle.proof_file.specs.declared.Record.{Record}
 use Rattle.proof_file.specs.declared.RecordKind.{RecordKind}

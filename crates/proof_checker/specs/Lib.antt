@@ -2,3 +2,4 @@ pub mod Standings
 pub mod Checks
 pub mod Stated
 pub mod Faults
+pub mod Messages

@@ -1,8 +1,7 @@
 -- What the records of a proof say of a pair, and what of it a record or a claim may use (own).
-use Rattle.std.specs.Prelude.{ℕ, suc, Bool, true, false, List, [], ◌∷◌, ◌&&◌, ◌≡◌, ◌≤◌, ◌↔◌, map, filter, min, nat_lt, nat_eq, nat_le, Option, Some, None, Contains, if◌then◌else◌, unwrap_or, ◌||◌}
+use Rattle.std.specs.Prelude.{ℕ, suc, Bool, true, false, List, ◌&&◌, ◌≡◌, ◌≤◌, map, filter, min, nat_lt, nat_eq, Option, Some, None, Contains, unwrap_or, ◌||◌}
 use Rattle.std.specs.List.{flat_map}
 use Rattle.std.specs.Map.{lookup}
-use Rattle.rdf_terms.specs.declared.terms.TermId.{TermId}
 use Rattle.schema_tree.specs.declared.schema.Pair.{Pair}
 use Rattle.schema_tree.specs.Edges.{level}
 use Rattle.schema_tree.specs.Sure.{Known}

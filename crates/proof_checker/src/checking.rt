@@ -24,28 +24,43 @@ use rdf_terms::table::{PutError, TermTable};
 use rdf_terms::terms::TermId;
 use schema_tree::schema::Schema;
 use std::alloc::{AllocError, Global};
+use std::error::Error;
+use std::fmt;
 use strata::list::StrataError;
 use strata::strata::strata;
-use thiserror::Error;
 
-/// Why bytes are not accepted as a proof.
-#[derive(Debug, Drop, Error)]
+/// Why bytes are not accepted as a proof. It shows the text that a program prints for it.
+#[derive(Debug, Drop, PartialEq, Eq)]
 pub enum CheckError {
     /// They are no text of a proof: the place of the first line for which the lines up to it begin none, or their length
     /// where they end before the last line.
-    #[error("Syntax({0})")]
     Syntax(u64),
     /// They are the text of a proof with an item that is not accepted: its number, from 0 over records and claims, and
     /// the first check that it fails.
-    #[error("Rejected({0},{1:?})")]
     Rejected(u64, Why),
     /// They are the text of a proof, and the table cannot take up all terms of its node lines.
-    #[error("Full")]
     Full,
     /// Memory ran out.
-    #[error("Memory")]
     Memory,
 }
+
+impl fmt::Display for CheckError {
+    ghost use Rattle.std.specs.Prelude.{Some};
+    ghost use Rattle.proof_checker.specs.Messages.{check_text};
+
+    ghost output = { λ e. Some (check_text e) };
+
+    fn fmt<W: fmt::Write>(&self, f: &mut fmt::Formatter<W>) -> fmt::Result {
+        match self {
+            CheckError::Syntax(at) => write!(f, "Syntax({at})"),
+            CheckError::Rejected(number, why) => write!(f, "Rejected({number},{why})"),
+            CheckError::Full => f.write_str("Full"),
+            CheckError::Memory => f.write_str("Memory"),
+        }
+    }
+}
+
+impl Error for CheckError {}
 
 impl From<AllocError> for CheckError {
     ghost use Rattle.std.specs.Prelude.{◌≡◌};
@@ -133,12 +148,21 @@ fn checked(
         Err(PutError::Full) => return Err(CheckError::Full),
         Err(PutError::Memory) => return Err(CheckError::Memory),
     };
-    let (nodes, sections, claims) = (nodes.as_slice(), sections.as_slice(), claims.as_slice());
-    let fault = first_fault(alloc, schema, strata, graph, terms, nodes, sections, claims)?;
+    let (nodes, sections) = (nodes.as_slice(), sections.as_slice());
+    let fault = first_fault(
+        alloc,
+        schema,
+        strata,
+        graph,
+        terms,
+        nodes,
+        sections,
+        claims.as_slice(),
+    )?;
     if let Some(fault) = fault {
         return Err(CheckError::Rejected(fault.item as u64, fault.why));
     }
-    Ok(Claims::of(answers(alloc, nodes, claims)?))
+    Ok(Claims::of(answers(alloc, nodes, claims.into_vec())?))
 }
 
 /// Checks bytes that are given as a proof, against a loaded schema in which no cycle of edges has a negative one, and a

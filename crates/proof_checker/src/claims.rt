@@ -1,7 +1,7 @@
 //! The claims of a proof that is accepted.
 
 ghost use Rattle.std.specs.Prelude.{◌<◌, ◌≡◌, Contains, IfOk, Some, length, option_map, slice_get};
-ghost use Rattle.proof_file.specs.declared.Claim.{Claim};
+ghost use Rattle.proof_file.specs.declared.Claim.{Claim as Given};
 ghost use Rattle.proof_file.specs.Answers.{AreClaimed, answer_with};
 
 use proof_file::Claim;
@@ -42,31 +42,29 @@ impl Claims {
 }
 
 /// The answer that a claim gives, whose node has a line.
-fn answer(alloc: Global, nodes: &[TermId], claim: &Claim) -> Result<Answer, AllocError>
-    requires { claim.now.node < length nodes.now }
-    ensures { IfOk result (λ a. option_map (answer_with claim.now) (slice_get nodes.now claim.now.node) ≡ Some a) }
+fn answer(nodes: &[TermId], claim: Claim) -> Answer
+    requires { claim.node < length nodes.now }
+    ensures { option_map (answer_with claim) (slice_get nodes.now claim.node) ≡ Some result }
 {
-    let target = claim.target.try_clone(alloc)?;
-    Ok(Answer {
+    Answer {
         node: nodes[claim.node as usize],
-        target,
+        target: claim.target,
         holds: claim.holds,
-    })
+    }
 }
 
 /// The answers that the claims give, each of whose nodes has a line.
 pub(crate) fn answers(
     alloc: Global,
     nodes: &[TermId],
-    claims: &[Claim],
+    claims: Vec<Claim>,
 ) -> Result<Vec<Answer>, AllocError>
-    requires { (c : Claim) → Contains claims.now c → c.node < length nodes.now }
-    ensures { IfOk result (λ v. AreClaimed nodes.now claims.now v.items) }
+    requires { (c : Given) → Contains claims.items c → c.node < length nodes.now }
+    ensures { IfOk result (λ v. AreClaimed nodes.now claims.items v.items) }
 {
     let mut answers = Vec::with_capacity(alloc, claims.len())?;
     for claim in claims {
-        let given = answer(alloc, nodes, claim)?;
-        answers.push(given)?;
+        answers.push(answer(nodes, claim))?;
     }
     Ok(answers)
 }

@@ -16,13 +16,13 @@ ghost use Rattle.proof_checker.specs.declared.standings.Reader.TheVariants.{Refu
 
 use crate::standings::{Reader, RecordView, Standings, stratum_of};
 use crate::states::Listing;
-use bag_match::arcs::{is_shut, relevant};
+use bag_match::arcs::{RelevantTriples, is_shut, relevant};
 use bag_match::counts::have_counts;
 use bag_match::places::{Form, Values, are_allowed};
 use graph_index::graph::Graph;
 use proof_file::{Claim, Record, RecordKind, Section, Why};
 use rdf_terms::table::TermTable;
-use rdf_terms::terms::{TermId, Triple};
+use rdf_terms::terms::TermId;
 use schema_tree::laws::layers_are_meanings;
 use schema_tree::schema::{ExprId, Schema, Shape, ShapeId};
 use schema_tree::sure::sure;
@@ -67,7 +67,7 @@ impl Held<'_> {
         stratum: u32,
         shape: &Shape,
         node: TermId,
-        triples: &[Triple],
+        triples: &RelevantTriples<'_>,
         places: &[Place],
     ) -> Result<bool, AllocError>
         requires ready { IsReady self.now }
@@ -96,7 +96,7 @@ impl Held<'_> {
         rank: u32,
         shape: &Shape,
         node: TermId,
-        triples: &[Triple],
+        triples: &RelevantTriples<'_>,
         states: &[State],
     ) -> Result<bool, AllocError>
         requires ready { IsReady self.now }
@@ -145,11 +145,10 @@ impl Held<'_> {
             return Ok(Some(Why::Places));
         }
         let triples = relevant(alloc, self.graph, shape, node)?;
-        let triples = triples.as_slice();
-        if !are_allowed(alloc, &Form, shape, node, triples, places)? {
+        if !are_allowed(alloc, &Form, shape, node, &triples, places)? {
             return Ok(Some(Why::Places));
         }
-        if !self.values_fit(alloc, stratum, shape, node, triples, places)? {
+        if !self.values_fit(alloc, stratum, shape, node, &triples, places)? {
             return Ok(Some(Why::Value));
         }
         if have_counts(alloc, shape, places)? {
@@ -178,15 +177,7 @@ impl Held<'_> {
             return Ok(None);
         }
         let triples = relevant(alloc, self.graph, shape, node)?;
-        if self.states_refute(
-            alloc,
-            stratum,
-            rank,
-            shape,
-            node,
-            triples.as_slice(),
-            states,
-        )? {
+        if self.states_refute(alloc, stratum, rank, shape, node, &triples, states)? {
             Ok(None)
         } else {
             Ok(Some(Why::States))

@@ -10,10 +10,11 @@ ghost use Rattle.proof_file.specs.Accepts.{AreStates};
 ghost use Rattle.schema_tree.specs.Rising.{Rises};
 ghost use Rattle.proof_checker.specs.Stated.{AreShaped, AreShapedBy, IsListed, IsSettled, IsShaped, IsShapedBy, LeadsOn, compare_states};
 
+use bag_match::arcs::RelevantTriples;
 use bag_match::dying::is_dead_after;
 use bag_match::places::{Judge, is_allowed, occurrence};
 use bag_match::raising::{raised, zeros};
-use rdf_terms::terms::{TermId, Triple};
+use rdf_terms::terms::TermId;
 use schema_tree::schema::Shape;
 use schema_tree::verdicts::{Place, State};
 use std::alloc::{AllocError, Global};
@@ -83,7 +84,7 @@ pub struct Listing<'a, J> {
     /// The node.
     pub node: TermId,
     /// The relevant triples.
-    pub triples: &'a [Triple],
+    pub triples: &'a RelevantTriples<'a>,
     /// The states.
     pub states: &'a [State],
     /// What judges values.
@@ -121,7 +122,7 @@ impl<J: Judge> Listing<'_, J> {
         ensures { IfOk result (λ b. (t : Triple) → slice_get self.now.triples.now done ≡ Some t →
             IsTrue b ↔ LeadsOn (J.hold self.now.judge.now) (J.fail self.now.judge.now) self.now.shape.now self.now.node self.now.triples.now self.now.states.now (state_of done counts.now) t place) }
     {
-        let triple = self.triples[done];
+        let triple = self.triples.at(done);
         if !is_allowed(alloc, self.judge, self.shape, self.node, triple, place)? {
             return Ok(true);
         }

@@ -7,3 +7,4 @@ pub mod Reading
 pub mod Reader
 pub mod Faults
 pub mod Drafts
+pub mod Messages

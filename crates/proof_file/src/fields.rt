@@ -12,6 +12,7 @@ use rdf_terms::items::Items;
 use schema_tree::verdicts::{Place, State};
 use std::alloc::{AllocError, Global};
 use std::cmp::Ordering;
+use xs_text::unsigned_long;
 
 /// Why nothing is read.
 #[derive(Clone, Copy, Debug, PartialEq, Eq)]
@@ -48,15 +49,9 @@ pub(crate) fn cut(text: &str, separator: char) -> (&str, Option<&str>)
 pub(crate) fn number(field: &str) -> Result<u32, Stop>
     ensures { Reads decimal IsNumber field.now result }
 {
-    if field.starts_with('+') {
-        return Err(Stop::Bad);
-    }
-    if field.len() > 1 && field.starts_with('0') {
-        return Err(Stop::Bad);
-    }
-    match field.parse() {
-        Ok(n) => Ok(n),
-        Err(_) => Err(Stop::Bad),
+    match unsigned_long(field) {
+        Some(n) if n <= u64::from(u32::MAX) => Ok(n as u32),
+        _ => Err(Stop::Bad),
     }
 }
 

@@ -14,6 +14,7 @@ use rdf_terms::items::Items;
 use rdf_terms::terms::Term;
 use schema_tree::schema::Target;
 use schema_tree::verdicts::{Place, State};
+use std::fmt;
 
 /// What a record says of its pair, and what shows it.
 #[derive(Debug, Drop)]
@@ -66,7 +67,7 @@ pub struct Proof {
     pub claims: Items<Claim>,
 }
 
-/// The checks that an item of a proof has to pass.
+/// The checks that an item of a proof has to pass. It shows the name of the check.
 #[derive(Clone, Copy, Debug, PartialEq, Eq)]
 pub enum Why {
     /// The number of the node is that of a node line.
@@ -85,6 +86,26 @@ pub enum Why {
     States,
     /// The claim is sure by all records.
     Claim,
+}
+
+impl fmt::Display for Why {
+    ghost use Rattle.std.specs.Prelude.{Some};
+    ghost use Rattle.proof_file.specs.Messages.{why_text};
+
+    ghost output = { λ why. Some (why_text why) };
+
+    fn fmt<W: fmt::Write>(&self, f: &mut fmt::Formatter<W>) -> fmt::Result {
+        match self {
+            Why::Node => f.write_str("Node"),
+            Why::Shape => f.write_str("Shape"),
+            Why::Stratum => f.write_str("Stratum"),
+            Why::Places => f.write_str("Places"),
+            Why::Value => f.write_str("Value"),
+            Why::Counts => f.write_str("Counts"),
+            Why::States => f.write_str("States"),
+            Why::Claim => f.write_str("Claim"),
+        }
+    }
 }
 
 /// Claims that what an accepted proof says is true of every complete typing over terms that hold its node lines.

@@ -13,19 +13,33 @@ use crate::{Claim, Proof, Record, Section};
 use rdf_terms::items::Items;
 use rdf_terms::terms::Term;
 use std::alloc::{AllocError, Global};
-use std::mem;
-use thiserror::Error;
+use std::error::Error;
+use std::{fmt, mem};
 
-/// Why bytes give no proof.
-#[derive(Debug, Drop, Error)]
+/// Why bytes give no proof. It shows the text that a program prints for it.
+#[derive(Debug, Drop, PartialEq, Eq)]
 pub enum ReadError {
     /// The bytes are the text of no proof, and cease to be one at this place, counted in bytes from 0.
-    #[error("no proof from byte {0} on")]
     Syntax(u64),
     /// Memory ran out.
-    #[error("memory ran out")]
     Memory,
 }
+
+impl fmt::Display for ReadError {
+    ghost use Rattle.std.specs.Prelude.{Some};
+    ghost use Rattle.proof_file.specs.Messages.{unread_text};
+
+    ghost output = { λ e. Some (unread_text e) };
+
+    fn fmt<W: fmt::Write>(&self, f: &mut fmt::Formatter<W>) -> fmt::Result {
+        match self {
+            ReadError::Syntax(at) => write!(f, "Syntax({at})"),
+            ReadError::Memory => f.write_str("Memory"),
+        }
+    }
+}
+
+impl Error for ReadError {}
 
 impl From<AllocError> for ReadError {
     ghost use Rattle.std.specs.Prelude.{◌≡◌};

@@ -56,9 +56,13 @@ pub alone_fits : Fits 1 (symbol 0)
 unfolding IsDistinct IsSound
 alone_fits = (tt, tt, low_one, one_low)
 
-pub thrice_fits : Fits 1 (many 3 (Upto 3) (many 0 Free (symbol 0)))
+pub nested_fits : (times least : ℕ) → Fits 1 (many times (Upto times) (many least Free (symbol 0)))
 unfolding IsDistinct IsSound
-thrice_fits = (tt, (omega arith, (tt, tt)), low_one, one_low)
+nested_fits times least = (tt, (omega arith, (tt, tt)), low_one, one_low)
+
+pub none_fits : Fits 1 (many 0 (Upto 0) (symbol 0))
+unfolding IsDistinct IsSound
+none_fits = (tt, (omega arith, tt), low_one, one_low)
 
 pub both_fits : Fits 2 (each (more_plans (symbol 0) (more_plans (symbol 1) no_plans)))
 unfolding IsDistinct AreApart IsSound AreSound
@@ -67,6 +71,10 @@ both_fits = ((tt, (tt, tt, λ i h. refl), apart), (tt, (tt, tt)), low_two, two_l
 pub either_fits : Fits 2 (one (more_plans (symbol 0) (more_plans (symbol 1) no_plans)))
 unfolding IsDistinct AreApart IsSound AreSound
 either_fits = ((tt, (tt, tt, λ i h. refl), apart), (tt, (tt, tt)), low_two, two_low)
+
+pub either_twice_fits : Fits 2 (many 2 (Upto 2) (one (more_plans (symbol 0) (more_plans (symbol 1) no_plans))))
+unfolding IsDistinct AreApart IsSound AreSound
+either_twice_fits = ((tt, (tt, tt, λ i h. refl), apart), (omega arith, (tt, (tt, tt))), low_two, two_low)
 
 pub group_fits : Fits 2 (many 2 (Upto 2) (each (more_plans (symbol 0) (more_plans (many 0 (Upto 1) (symbol 1)) no_plans))))
 unfolding IsDistinct AreApart IsSound AreSound
@@ -92,12 +100,15 @@ two_plans = λ i. more_plans (first_plan i) (more_plans (second_plan i) no_plans
 pub alone_body : (b : Plan) → b ≡ symbol 0 → (o : Occurrence) → BodyOk (o ∷ []) (Some b)
 alone_body b is o = bodied (o ∷ []) b (symbol 0) is alone_fits
 
-pub thrice_body :
-    (any c : Count) (b : Plan) → plan_of any ≡ many 0 Free (plan_of (Sym 0)) → plan_of c ≡ many 3 (Upto 3) (plan_of any) → b ≡ plan_of c →
+pub nested_body :
+    (times least : ℕ) (any c : Count) (b : Plan) → plan_of any ≡ many least Free (plan_of (Sym 0)) → plan_of c ≡ many times (Upto times) (plan_of any) → b ≡ plan_of c →
     (o : Occurrence) → BodyOk (o ∷ []) (Some b)
-thrice_body any c b inner outer is o =
-    bodied (o ∷ []) b (many 3 (Upto 3) (many 0 Free (symbol 0)))
-    (is ∙ outer ∙ ap (λ p. many 3 (Upto 3) p) (inner ∙ ap (λ p. many 0 Free p) first_plan)) thrice_fits
+nested_body times least any c b inner outer is o =
+    bodied (o ∷ []) b (many times (Upto times) (many least Free (symbol 0)))
+    (is ∙ outer ∙ ap (λ p. many times (Upto times) p) (inner ∙ ap (λ p. many least Free p) first_plan)) (nested_fits times least)
+
+pub none_body : (c : Count) (b : Plan) → plan_of c ≡ many 0 (Upto 0) (plan_of (Sym 0)) → b ≡ plan_of c → (o : Occurrence) → BodyOk (o ∷ []) (Some b)
+none_body c b counted is o = bodied (o ∷ []) b (many 0 (Upto 0) (symbol 0)) (is ∙ counted ∙ ap (λ p. many 0 (Upto 0) p) first_plan) none_fits
 
 pub both_body : (v : Vec Count Global) (b : Plan) → plans_of v.items ≡ two → b ≡ plan_of (Each v) → (o p : Occurrence) → BodyOk (o ∷ p ∷ []) (Some b)
 both_body v b are is o p =
@@ -109,6 +120,12 @@ either_body v b are is o p =
     bodied (o ∷ p ∷ []) b (one (more_plans (symbol 0) (more_plans (symbol 1) no_plans)))
     (is ∙ is_one (One v) v v.items refl refl ∙ ap one (are ∙ two_plans)) either_fits
 
+pub either_twice_body :
+    (v : Vec Count Global) (c : Count) (b : Plan) → plans_of v.items ≡ two → plan_of c ≡ many 2 (Upto 2) (plan_of (One v)) → b ≡ plan_of c → (o p : Occurrence) → BodyOk (o ∷ p ∷ []) (Some b)
+either_twice_body v c b are outer is o p =
+    bodied (o ∷ p ∷ []) b (many 2 (Upto 2) (one (more_plans (symbol 0) (more_plans (symbol 1) no_plans))))
+    (is ∙ outer ∙ ap (λ q. many 2 (Upto 2) q) (is_one (One v) v v.items refl refl ∙ ap one (are ∙ two_plans))) either_twice_fits
+
 pub group_body :
     (maybe c : Count) (v : Vec Count Global) (b : Plan) → plan_of maybe ≡ many 0 (Upto 1) (plan_of (Sym 1)) →
     plans_of v.items ≡ more_plans (plan_of (Sym 0)) (more_plans (plan_of maybe) no_plans) → plan_of c ≡ many 2 (Upto 2) (plan_of (Each v)) → b ≡ plan_of c →
@@ -119,18 +136,19 @@ group_body maybe c v b optional are outer is o p =
     bodied (o ∷ p ∷ []) b (many 2 (Upto 2) (each (more_plans (symbol 0) (more_plans (many 0 (Upto 1) (symbol 1)) no_plans))))
     (is ∙ outer ∙ ap (λ q. many 2 (Upto 2) q) (is_each (Each v) v v.items refl refl ∙ ap each (are ∙ members))) group_fits
 
--- ---- a schema with one Shape and two node constraints
-module _ (s : Schema) (c d : Constraint) (sh : Shape) (exprs : s.exprs ≡ Exprs.Node c ∷ Exprs.Node d ∷ []) (shapes : s.shapes ≡ sh ∷ []) (body : BodyOk sh.occs sh.body)
-    (low : (o : Occurrence) → Contains sh.occs o → (e : ExprId) → o.value ≡ Some e → e.0 < 2) (few : length sh.occs ≤ 256) where
+-- ---- a schema with one Shape and three expressions
+module _ (s : Schema) (c d : Constraint) (sh : Shape) (exprs : s.exprs ≡ Exprs.Node c ∷ Exprs.Node d ∷ Exprs.Shape (record { 0 = 0 }) ∷ []) (shapes : s.shapes ≡ sh ∷ []) (body : BodyOk sh.occs sh.body)
+    (low : (o : Occurrence) → Contains sh.occs o → (e : ExprId) → o.value ≡ Some e → e.0 < 3) (few : length sh.occs ≤ 256) where
   abbrev made : Schema
-  made = record { exprs = Exprs.Node c ∷ Exprs.Node d ∷ []; shapes = sh ∷ []; labels = s.labels; start = s.start }
+  made = record { exprs = Exprs.Node c ∷ Exprs.Node d ∷ Exprs.Shape (record { 0 = 0 }) ∷ []; shapes = sh ∷ []; labels = s.labels; start = s.start }
 
-  refers : (k : ℕ) (x : Expr) → slice_get (Exprs.Node c ∷ Exprs.Node d ∷ []) k ≡ Some x → RefersBelow made k x
+  refers : (k : ℕ) (x : Expr) → slice_get (Exprs.Node c ∷ Exprs.Node d ∷ Exprs.Shape (record { 0 = 0 }) ∷ []) k ≡ Some x → RefersBelow made k x
   refers zero x h = let own : Exprs.Node c ≡ x = cc in subst (λ y. RefersBelow made 0 y) own tt
   refers (suc zero) x h = let own : Exprs.Node d ≡ x = cc in subst (λ y. RefersBelow made 1 y) own tt
-  refers (suc (suc k)) x h = cc
+  refers (suc (suc zero)) x h = let own : Exprs.Shape (record { 0 = 0 }) ≡ x = cc in subst (λ y. RefersBelow made 2 y) own (omega arith)
+  refers (suc (suc (suc k))) x h = cc
 
-  there : (v : Option ExprId) → ((e : ExprId) → v ≡ Some e → e.0 < 2) → IsEntryIfAny made v
+  there : (v : Option ExprId) → ((e : ExprId) → v ≡ Some e → e.0 < 3) → IsEntryIfAny made v
   there None h = tt
   there (Some e) h = h e refl
 

@@ -110,41 +110,6 @@ module _ (c : Constraint) (labels : List (Label × ExprId)) (once : AreDistinct 
   pub sample_simple : (s : Schema) → s ≡ sample → IsSimpleSchema s
   sample_simple s made = subst IsSimpleSchema (sym made) simple
 
--- ---- a node constraint alone
-
-abbrev pub lone : Constraint → List (Label × ExprId) → Schema
-lone c labels = record { exprs = Exprs.Node c ∷ []; shapes = []; labels = labels; start = None }
-
-pub lone_is : (c : Constraint) (labels : List (Label × ExprId)) (exprs : List Expr) (shapes : List Shape) → exprs ≡ Exprs.Node c ∷ [] → shapes ≡ [] →
-    record { exprs = exprs; shapes = shapes; labels = labels; start = None } ≡ lone c labels
-lone_is c labels exprs shapes p q = λ i. record { exprs = p i; shapes = q i; labels = labels; start = None }
-
-module _ (c : Constraint) (labels : List (Label × ExprId)) where
-  lone_refers : (k : ℕ) (x : Expr) → slice_get (Exprs.Node c ∷ []) k ≡ Some x → RefersBelow (lone c labels) k x
-  lone_refers zero x h = let own : Exprs.Node c ≡ x = cc in subst (λ y. RefersBelow (lone c labels) 0 y) own tt
-  lone_refers (suc k) x h = cc
-
-  lone_shape : (k : ℕ) (sh : Shape) → slice_get [] k ≡ Some sh → ⊥
-  lone_shape k sh h = cc
-
-  lone_plain : (k : ℕ) (x : Expr) → slice_get (Exprs.Node c ∷ []) k ≡ Some x → IsPlain x
-  lone_plain zero x h = let own : Exprs.Node c ≡ x = cc in subst IsPlain own tt
-  lone_plain (suc k) x h = cc
-
-  -- the same of a schema that is made of a node constraint alone
-  pub lone_loaded : AreDistinct (labels_of labels) → ((l : Label) (e : ExprId) → Contains labels (l, e) → e.0 < 1) → (s : Schema) → s ≡ lone c labels → IsLoaded s
-  lone_loaded once low s made = subst IsLoaded (sym made) (record {
-    refers = λ e x at. lone_refers e.0 x at;
-    labels = low;
-    once = once;
-    start = tt;
-    shapes = λ i sh at. absurd (lone_shape i.0 sh at);
-    few = omega arith;
-  })
-
-  pub lone_simple : (s : Schema) → s ≡ lone c labels → IsSimpleSchema s
-  lone_simple s made = subst IsSimpleSchema (sym made) (record { shapes = λ i sh at. absurd (lone_shape i.0 sh at); plain = λ e x at. lone_plain e.0 x at })
-
 -- ---- line feeds
 
 or_true : (b : Bool) → (b || true) ≡ true

@@ -5,6 +5,7 @@ ghost use Rattle.tally.specs.Span.{IsOrdered};
 
 use std::alloc::{AllocError, Global};
 use std::marker::Brand;
+use std::process::Abort;
 use std::sync::ledger::{Blank, Ledger};
 use std::test::Fail;
 use tally::counting::interval;
@@ -113,6 +114,8 @@ fn repetitions_divide_both_ends(rt: HostRuntime) -> Result<(), Fail> {
     Ok(())
 }
 
+/// Members of an EachOf intersect, those of a OneOf add; a group repeats as a whole; an empty member empties the whole, so that
+/// one `<a>`, which is no number of copies of `<a> . {2}`, has none whatever `<b>` has.
 #[test]
 fn members_intersect_or_add(rt: HostRuntime) -> Result<(), Fail> {
     let cases = [
@@ -126,36 +129,36 @@ fn members_intersect_or_add(rt: HostRuntime) -> Result<(), Fail> {
         assert_eq!(rt; found.0, each, "EachOf at {low:?} to {high:?}");
         assert_eq!(rt; found.1, one, "OneOf at {low:?} to {high:?}");
     }
-    Ok(())
+    check_members(&rt)
 }
 
-#[test]
-fn groups_repeat_as_a_whole(rt: HostRuntime) -> Result<(), Fail> {
-    let cases = [
-        ([2, 0], between(1, 1)),
-        ([2, 2], between(1, 1)),
-        ([2, 3], None),
-        ([1, 1], None),
-    ];
-    for (counts, want) in cases {
-        let found = group(rt.alloc(), &counts)?;
-        assert_eq!(rt; found, want, "at {counts:?}");
+/// Groups that repeat, and a choice with a member that may be empty.
+fn check_members(rt: &(impl Abort + AllocGlobal)) -> Result<(), Fail> {
+    for (counts, grouped, chosen) in [
+        ([2, 0], between(1, 1), between(1, 1)),
+        ([2, 1], between(1, 1), between(2, 2)),
+        ([2, 2], between(1, 1), between(3, 3)),
+        ([2, 3], None, between(4, 4)),
+        ([1, 1], None, None),
+    ] {
+        assert_eq!(rt;
+            group(rt.alloc(), &counts)?,
+            grouped,
+            "a group at {counts:?}"
+        );
+        assert_eq!(rt;
+            choice(rt.alloc(), &counts)?,
+            chosen,
+            "a choice at {counts:?}"
+        );
     }
     Ok(())
 }
 
-/// One `<a>` is no number of copies of `<a> . {2}`, so the whole has none, whatever `<b>` has.
+/// No members have all copies or none, an interval contains its ends, and a counter can be made.
 #[test]
-fn an_empty_member_empties_the_whole(rt: HostRuntime) -> Result<(), Fail> {
-    for (counts, want) in [([1, 1], None), ([2, 1], between(2, 2))] {
-        let found = choice(rt.alloc(), &counts)?;
-        assert_eq!(rt; found, want, "at {counts:?}");
-    }
-    Ok(())
-}
-
-#[test]
-fn no_members_have_all_copies_or_none(rt: HostRuntime) {
+fn the_least_calls_answer(rt: HostRuntime) {
+    count_from_a_fresh_blank();
     assert_eq!(rt;
         interval(&Count::Each(Vec::new(rt.alloc())), &[], &[]),
         from(0)
@@ -164,10 +167,6 @@ fn no_members_have_all_copies_or_none(rt: HostRuntime) {
         interval(&Count::One(Vec::new(rt.alloc())), &[], &[]),
         between(0, 0)
     );
-}
-
-#[test]
-fn an_interval_contains_its_ends(rt: HostRuntime) {
     let some = Interval { lo: 2, hi: Some(4) };
     for (k, want) in [(1, false), (2, true), (4, true), (5, false)] {
         assert_eq!(rt; some.contains(k), want, "{k}");
@@ -192,7 +191,6 @@ fn count_two<L: Ledger>(blank: Blank)
 }
 
 /// Whoever counts nothing makes a counter of a fresh blank.
-#[test]
-fn a_counter_is_made_of_a_fresh_blank() {
+fn count_from_a_fresh_blank() {
     count_two::<Brand>(Blank::new(1));
 }

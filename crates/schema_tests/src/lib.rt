@@ -7,15 +7,9 @@ mod counts;
 #[cfg(test)]
 mod documents;
 #[cfg(test)]
-mod labels;
-#[cfg(test)]
 mod levels;
 #[cfg(test)]
 mod matches;
-#[cfg(test)]
-mod proof_texts;
-#[cfg(test)]
-mod targets;
 #[cfg(test)]
 mod typings;
 #[cfg(test)]

@@ -5,6 +5,7 @@ ghost use Rattle.graph_index.specs.Contents.{IsSealedWith};
 ghost use Rattle.schema_tree.specs.Loaded.{BodyOk, IsLoaded};
 ghost use Rattle.schema_tree.specs.declared.schema.ExprId.{ExprId as Id};
 ghost use Rattle.schema_tree.specs.declared.schema.Occurrence.{Occurrence as Occ};
+ghost use Rattle.schema_tree.specs.declared.schema.Expr.TheVariants as Exprs;
 ghost use Rattle.tally.specs.Plan.{many, more_plans, no_plans, plan_of, plans_of};
 
 use bag_match::{Outcome, dead, match_pair, width};
@@ -97,9 +98,9 @@ fn single(
     o: Occurrence,
 ) -> Result<Shape, AllocError>
     requires body { BodyOk (o ∷ []) (Some body) }
-    requires low { (e : Id) → o.value ≡ Some e → e.0 < 2 }
+    requires low { (e : Id) → o.value ≡ Some e → e.0 < 3 }
     ensures body { IfOk result (λ sh. BodyOk sh.occs sh.body) }
-    ensures low { IfOk result (λ sh. (x : Occ) → Contains sh.occs x → (e : Id) → x.value ≡ Some e → e.0 < 2) }
+    ensures low { IfOk result (λ sh. (x : Occ) → Contains sh.occs x → (e : Id) → x.value ≡ Some e → e.0 < 3) }
     ensures few { IfOk result (λ sh. length sh.occs ≤ 256) }
 {
     Ok(Shape {
@@ -119,10 +120,10 @@ fn double(
     second: Occurrence,
 ) -> Result<Shape, AllocError>
     requires body { BodyOk (first ∷ second ∷ []) (Some body) }
-    requires first { (e : Id) → first.value ≡ Some e → e.0 < 2 }
-    requires second { (e : Id) → second.value ≡ Some e → e.0 < 2 }
+    requires first { (e : Id) → first.value ≡ Some e → e.0 < 3 }
+    requires second { (e : Id) → second.value ≡ Some e → e.0 < 3 }
     ensures body { IfOk result (λ sh. BodyOk sh.occs sh.body) }
-    ensures low { IfOk result (λ sh. (x : Occ) → Contains sh.occs x → (e : Id) → x.value ≡ Some e → e.0 < 2) }
+    ensures low { IfOk result (λ sh. (x : Occ) → Contains sh.occs x → (e : Id) → x.value ≡ Some e → e.0 < 3) }
     ensures two { IfOk result (λ sh. length sh.occs ≡ 2) }
 {
     Ok(Shape {
@@ -154,12 +155,19 @@ fn pair(alloc: Global, first: Count, second: Count) -> Result<Vec<Count>, AllocE
     Ok(vec![in alloc; first, second]?)
 }
 
-/// `<a> .* {3}`, an expression that is repeated within its repetition.
-fn thrice(alloc: Global) -> Result<Body, AllocError>
+/// `( <a> .{least,*} ){times}`, an expression that is repeated within its repetition.
+fn nested(alloc: Global, times: u32, least: u32) -> Result<Body, AllocError>
     ensures { IfOk result (λ b. (o : Occ) → BodyOk (o ∷ []) (Some b)) }
 {
-    let any = repeat(alloc, 0, Bound::Free, Count::Sym(0))?;
-    Ok(Body::of(repeat(alloc, 3, Bound::Upto(3), any)?))
+    let any = repeat(alloc, least, Bound::Free, Count::Sym(0))?;
+    Ok(Body::of(repeat(alloc, times, Bound::Upto(times), any)?))
+}
+
+/// `<a> .{0}`.
+fn none(alloc: Global) -> Result<Body, AllocError>
+    ensures { IfOk result (λ b. (o : Occ) → BodyOk (o ∷ []) (Some b)) }
+{
+    Ok(Body::of(repeat(alloc, 0, Bound::Upto(0), Count::Sym(0))?))
 }
 
 /// Both occurrences, once each.
@@ -178,6 +186,14 @@ fn either(alloc: Global) -> Result<Body, AllocError>
     Ok(Body::of(Count::One(members)))
 }
 
+/// `( <a> . | <b> . ){2}`.
+fn either_twice(alloc: Global) -> Result<Body, AllocError>
+    ensures { IfOk result (λ b. (o p : Occ) → BodyOk (o ∷ p ∷ []) (Some b)) }
+{
+    let members = pair(alloc, Count::Sym(0), Count::Sym(1))?;
+    Ok(Body::of(repeat(alloc, 2, Bound::Upto(2), Count::One(members))?))
+}
+
 /// `(<a> . ; <b> .?){2}`.
 fn group(alloc: Global) -> Result<Body, AllocError>
     ensures { IfOk result (λ b. (o p : Occ) → BodyOk (o ∷ p ∷ []) (Some b)) }
@@ -187,10 +203,25 @@ fn group(alloc: Global) -> Result<Body, AllocError>
     Ok(Body::of(repeat(alloc, 2, Bound::Upto(2), each)?))
 }
 
-/// A schema with the Shape and two node constraints: a literal, and any term.
+/// Two node constraints, and the Shape.
+fn exprs(
+    alloc: Global,
+    literal: NodeConstraint,
+    any: NodeConstraint,
+) -> Result<Vec<Expr>, AllocError>
+    ensures { IfOk result (λ v. v.items ≡ Exprs.Node literal ∷ Exprs.Node any ∷ Exprs.Shape (record { 0 = 0 }) ∷ []) }
+{
+    Ok(vec![in alloc;
+        Expr::Node(literal),
+        Expr::Node(any),
+        Expr::Shape(ShapeId(0)),
+    ]?)
+}
+
+/// A schema with the Shape and three expressions: a literal, any term, and the Shape.
 fn schema(alloc: Global, shape: Shape) -> Result<Schema, Fail>
     requires body { BodyOk shape.occs shape.body }
-    requires low { (x : Occ) → Contains shape.occs x → (e : Id) → x.value ≡ Some e → e.0 < 2 }
+    requires low { (x : Occ) → Contains shape.occs x → (e : Id) → x.value ≡ Some e → e.0 < 3 }
     requires few { length shape.occs ≤ 256 }
     ensures loaded { IfOk result IsLoaded }
     ensures shapes { IfOk result (λ s. s.shapes ≡ shape ∷ []) }
@@ -200,7 +231,7 @@ fn schema(alloc: Global, shape: Shape) -> Result<Schema, Fail>
     let labels = Labels::new(alloc);
     let _none = labels.len();
     Ok(Schema {
-        exprs: Items::of(vec![in alloc; Expr::Node(literal), Expr::Node(any)]?),
+        exprs: Items::of(exprs(alloc, literal, any)?),
         shapes: Items::of(vec![in alloc; shape]?),
         labels,
         start: None,
@@ -259,13 +290,13 @@ fn answered<L: Ledger>(
     schema: &Schema,
     graph: &Graph,
     terms: &TermTable,
+    lean: Lean,
     pair: Pair,
     steps: &mut Steps<L>,
 ) -> Result<(Vec<u8>, u64), Fail>
     requires loaded { IsLoaded schema.now }
     requires sealed { IsSealedWith terms.now graph.now }
 {
-    let lean = Lean::Impossible;
     let outcome = match_pair(alloc, schema, graph, terms, &Unsaid, lean, pair, steps)?;
     let width = width(alloc, schema, graph, terms, pair)?;
     Ok((shown(alloc, &outcome)?, width))
@@ -276,17 +307,19 @@ fn counted<L: Ledger>(
     alloc: Global,
     shape: Shape,
     triples: &[(u32, u32, u32)],
+    lean: Lean,
     steps: &mut Steps<L>,
 ) -> Result<(Vec<u8>, u64), Fail>
     requires body { BodyOk shape.occs shape.body }
-    requires low { (x : Occ) → Contains shape.occs x → (e : Id) → x.value ≡ Some e → e.0 < 2 }
+    requires low { (x : Occ) → Contains shape.occs x → (e : Id) → x.value ≡ Some e → e.0 < 3 }
     requires few { length shape.occs ≤ 256 }
 {
     let terms = table(alloc)?;
     let graph = sealed(alloc, &terms, triples)?;
     let schema = schema(alloc, shape)?;
     let (node, shape) = (TermId(0), ShapeId(0));
-    answered(alloc, &schema, &graph, &terms, Pair { node, shape }, steps)
+    let pair = Pair { node, shape };
+    answered(alloc, &schema, &graph, &terms, lean, pair, steps)
 }
 
 /// The same with a counter of its own.
@@ -294,17 +327,18 @@ fn matched<L: Ledger>(
     alloc: Global,
     shape: Shape,
     triples: &[(u32, u32, u32)],
+    lean: Lean,
     blank: Blank,
 ) -> Result<(Vec<u8>, u64), Fail>
     requires body { BodyOk shape.occs shape.body }
-    requires low { (x : Occ) → Contains shape.occs x → (e : Id) → x.value ≡ Some e → e.0 < 2 }
+    requires low { (x : Occ) → Contains shape.occs x → (e : Id) → x.value ≡ Some e → e.0 < 3 }
     requires few { length shape.occs ≤ 256 }
     requires name { blank.name ≡ L.name }
     requires parts { blank.parts ≡ L.parts }
     requires some { 0 < blank.parts }
 {
     let mut steps = Steps::<L>::new(blank);
-    counted(alloc, shape, triples, &mut steps)
+    counted(alloc, shape, triples, lean, &mut steps)
 }
 
 /// Whether the outcome is so shown, and the Width is this.
@@ -316,10 +350,11 @@ fn has_outcome(
     width: u64,
 ) -> Result<bool, Fail>
     requires body { BodyOk shape.occs shape.body }
-    requires low { (x : Occ) → Contains shape.occs x → (e : Id) → x.value ≡ Some e → e.0 < 2 }
+    requires low { (x : Occ) → Contains shape.occs x → (e : Id) → x.value ≡ Some e → e.0 < 3 }
     requires few { length shape.occs ≤ 256 }
 {
-    let (shown, count) = matched::<Brand>(alloc, shape, triples, Blank::new(1))?;
+    let lean = Lean::Impossible;
+    let (shown, count) = matched::<Brand>(alloc, shape, triples, lean, Blank::new(1))?;
     Ok(shown.as_slice() == text.as_bytes() && count == width)
 }
 
@@ -330,6 +365,8 @@ const LITERAL: Option<ExprId> = Some(ExprId(0));
 
 const ANY: Option<ExprId> = Some(ExprId(1));
 
+const SHAPE: Option<ExprId> = Some(ExprId(2));
+
 /// `EXTRA` or not: two occurrences of one predicate, the first a literal, the second as given.
 fn two_values(
     alloc: Global,
@@ -337,7 +374,7 @@ fn two_values(
     second: Option<ExprId>,
     text: &str,
 ) -> Result<bool, Fail>
-    requires { (e : Id) → second ≡ Some e → e.0 < 2 }
+    requires { (e : Id) → second ≡ Some e → e.0 < 3 }
 {
     let body = both(alloc)?;
     let second = arc(false, 1, second);
@@ -365,7 +402,7 @@ fn one_taken(alloc: Global, done: u32) -> Result<State, AllocError>
 /// Whether the state with so many of two triples done, one of them with the second occurrence, is dead.
 fn is_dead(alloc: Global, shape: Shape, done: u32) -> Result<bool, Fail>
     requires body { BodyOk shape.occs shape.body }
-    requires low { (x : Occ) → Contains shape.occs x → (e : Id) → x.value ≡ Some e → e.0 < 2 }
+    requires low { (x : Occ) → Contains shape.occs x → (e : Id) → x.value ≡ Some e → e.0 < 3 }
     requires two { length shape.occs ≡ 2 }
 {
     let terms = table(alloc)?;
@@ -400,11 +437,54 @@ fn extra_values_stay(rt: HostRuntime) -> Result<(), Fail> {
     Ok(())
 }
 
+/// One occurrence of the predicate 1, repeated as the body says.
+fn one_predicate(
+    alloc: Global,
+    body: Body,
+    triples: &[(u32, u32, u32)],
+    text: &str,
+) -> Result<bool, Fail>
+    requires { (o : Occ) → BodyOk (o ∷ []) (Some body) }
+{
+    let shape = single(alloc, false, false, body, arc(false, 1, None))?;
+    has_outcome(alloc, shape, triples, text, 1)
+}
+
+/// A closed Shape without an expression, at a node with an arc.
+fn closed_nothing(alloc: Global, text: &str) -> Result<bool, Fail> {
+    let shape = Shape {
+        closed: true,
+        extra: extra(alloc, false)?,
+        body: None,
+        occs: Items::of(Vec::new(alloc)),
+    };
+    has_outcome(alloc, shape, &[(0, 1, 3)], text, 1)
+}
+
 #[test]
-fn nothing_is_three_empty_sets(rt: HostRuntime) -> Result<(), Fail> {
+fn cardinalities_are_counted(rt: HostRuntime) -> Result<(), Fail> {
     let alloc = rt.alloc();
-    let shape = single(alloc, false, false, thrice(alloc)?, arc(false, 1, None))?;
-    assert!(rt; has_outcome(alloc, shape, &[], "", 1)?);
+    assert!(rt; one_predicate(alloc, nested(alloc, 3, 0)?, &[], "")?);
+    assert!(rt; one_predicate(alloc, nested(alloc, 2, 1)?, &[(0, 1, 3)], "-")?);
+    assert!(rt; one_predicate(alloc, nested(alloc, 2, 1)?, &TWO, "00")?);
+    assert!(rt; one_predicate(alloc, none(alloc)?, &[(0, 1, 3)], "- 0:0")?);
+    assert!(rt; closed_nothing(alloc, "-")?);
+    Ok(())
+}
+
+/// The outcome at an arc whose value is a Shape, of which nothing is known, where that counts as `lean` says.
+fn unknown_value(alloc: Global, lean: Lean, text: &str) -> Result<bool, Fail> {
+    let shape = single(alloc, false, false, alone(), arc(false, 1, SHAPE))?;
+    let triples = [(0, 1, 4)];
+    let (shown, _) = matched::<Brand>(alloc, shape, &triples, lean, Blank::new(1))?;
+    Ok(shown.as_slice() == text.as_bytes())
+}
+
+#[test]
+fn what_is_unknown_counts_as_the_lean_says(rt: HostRuntime) -> Result<(), Fail> {
+    let alloc = rt.alloc();
+    assert!(rt; unknown_value(alloc, Lean::Possible, "0")?);
+    assert!(rt; unknown_value(alloc, Lean::Impossible, "- 0:0")?);
     Ok(())
 }
 
@@ -435,6 +515,7 @@ fn choices_add(rt: HostRuntime) -> Result<(), Fail> {
     let alloc = rt.alloc();
     let triples = [(0, 1, 3), (0, 2, 3)];
     assert!(rt; two_predicates(alloc, either(alloc)?, &triples, "- 0:00 1:10")?);
+    assert!(rt; two_predicates(alloc, either_twice(alloc)?, &triples, "01")?);
     Ok(())
 }
 

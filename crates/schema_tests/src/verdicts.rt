@@ -17,6 +17,7 @@ use schema_tree::schema::{Expr, ExprId, Pair, Schema, Shape, ShapeId};
 use schema_tree::sure::{View, may_fail, may_hold, sure};
 use schema_tree::verdicts::{Lean, Verdict};
 use std::alloc::{AllocError, Global};
+use std::process::Abort;
 use std::test::Fail;
 
 /// Of two pairs it is told that one is satisfied and one is not.
@@ -199,14 +200,30 @@ fn node_and_view(alloc: Global, terms: &mut TermTable) -> Result<(TermId, Told),
     Ok((node, Told { yes, no }))
 }
 
-#[test]
-fn each_kind_has_its_verdict(rt: HostRuntime) -> Result<(), Fail> {
+/// Whether each of the expressions has its verdict.
+fn have_verdicts(
+    rt: &(impl Abort + AllocGlobal),
+    schema: &Schema,
+    verdicts: &[(u32, Verdict)],
+) -> Result<(), Fail>
+    requires { IsLoaded schema.now }
+{
     let alloc = rt.alloc();
-    let schema = every_kind(alloc)?;
-    assert!(rt; is_loaded(&schema));
     let mut terms = TermTable::new(alloc);
     let (node, view) = node_and_view(alloc, &mut terms)?;
-    for (expr, wanted) in [
+    for (expr, wanted) in verdicts {
+        let verdict = sure(alloc, schema, &terms, node, ExprId(*expr), &view)?;
+        assert_eq!(rt; verdict, *wanted, "expression {expr}");
+    }
+    Ok(())
+}
+
+/// Expressions of each kind, and one whose members are shared forty times over, which are asked once.
+#[test]
+fn each_kind_has_its_verdict(rt: HostRuntime) -> Result<(), Fail> {
+    let schema = every_kind(rt.alloc())?;
+    assert!(rt; is_loaded(&schema));
+    let verdicts = [
         (0, Verdict::Yes),
         (1, Verdict::No),
         (2, Verdict::Yes),
@@ -224,23 +241,11 @@ fn each_kind_has_its_verdict(rt: HostRuntime) -> Result<(), Fail> {
         (14, Verdict::Yes),
         (15, Verdict::No),
         (16, Verdict::No),
-    ] {
-        let verdict = sure(alloc, &schema, &terms, node, ExprId(expr), &view)?;
-        assert_eq!(rt; verdict, wanted, "expression {expr}");
-    }
-    Ok(())
-}
-
-#[test]
-fn shared_members_are_asked_once(rt: HostRuntime) -> Result<(), Fail> {
-    let alloc = rt.alloc();
-    let schema = diamonds(alloc, 40)?;
-    assert!(rt; is_loaded(&schema));
-    let mut terms = TermTable::new(alloc);
-    let (node, view) = node_and_view(alloc, &mut terms)?;
-    let verdict = sure(alloc, &schema, &terms, node, ExprId(40), &view)?;
-    assert_eq!(rt; verdict, Verdict::Unknown);
-    Ok(())
+    ];
+    have_verdicts(&rt, &schema, &verdicts)?;
+    let shared = diamonds(rt.alloc(), 40)?;
+    assert!(rt; is_loaded(&shared));
+    have_verdicts(&rt, &shared, &[(40, Verdict::Unknown)])
 }
 
 #[test]

@@ -15,7 +15,7 @@ use Rattle.shape_map.specs.declared.items.Item.{Item}
 use Rattle.rdf_cursor.specs.declared.symbols.Symbol.{Symbol}
 use Rattle.rdf_cursor.specs.declared.symbols.Symbol.TheVariants as symbol
 use Rattle.term_tokens.specs.Scopes.{Scope}
-use Rattle.term_tokens.specs.Terms.{name_in, iri_ref_of, iri_of, tagged_of, at_name_of, string_of, typed_of, shorthand_of, resolved, lexical, shorthands}
+use Rattle.term_tokens.specs.Terms.{name_in, iri_ref_of, iri_of, tagged_of, at_name_of, string_of, typed_of, shorthand_of, resolved, shorthands}
 use Rattle.shape_map.specs.Meanings.{node_tags, node_tagged_of, blank_of, blank_target_of}
 use Rattle.shape_map.specs.Reading.{iri, literal, resource, node, verb, or_any, of_subjects, of_objects, pattern, triples, selector, target, wish, asked, item, added, behind, items, all_items, shape_map}
 use Rattle.rdf_cursor.specs.Marks.{mark}

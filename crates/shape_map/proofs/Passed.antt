@@ -7,7 +7,6 @@ use Rattle.rdf_cursor.specs.Phrases.{Is}
 use Rattle.rdf_cursor.specs.Readers.{Answer, and_then, ◌>>=◌, give, taken, one, either, loop_within, loop, finish}
 use Rattle.rdf_cursor.proofs.Answers.{apart, err_is, ok_is}
 use Rattle.rdf_cursor.proofs.Locality.{prepend-append}
-use Rattle.rdf_lex.specs.declared.kinds.Mode.TheVariants.{Map}
 use Rattle.rdf_lex.specs.Tokens.{Spelled}
 use Rattle.term_tokens.specs.Meanings.{text_of}
 use Rattle.rdf_cursor.specs.declared.stops.Fault.{Fault}

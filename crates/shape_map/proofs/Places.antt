@@ -1,5 +1,5 @@
 -- Each rule looks no further than the next token, and takes one where it has to.
-use Rattle.std.proofs.Common.{ℕ, false, List, []}
+use Rattle.std.proofs.Common.{false, List, []}
 use Rattle.rdf_cursor.specs.Properties.{IsLocal, Consumes}
 use Rattle.rdf_cursor.proofs.Consuming.{consumes_one, consumes_bind}
 use Rattle.rdf_cursor.proofs.Locality.{local_give, local_one, local_bind, local_either, local_finish}

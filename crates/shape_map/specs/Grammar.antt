@@ -4,7 +4,7 @@ use Rattle.std.specs.Prelude.{◌≡◌, ℕ, Bool, true, false, List, [], ◌�
 use Rattle.rdf_cursor.specs.Ahead.{Ahead, finished}
 use Rattle.rdf_cursor.specs.Phrases.{Phrase, Is, Nothing, ◌⨾◌, Many}
 use Rattle.rdf_cursor.specs.Marks.{Mark}
-use Rattle.rdf_terms.specs.Vocabulary.{xsd_string, rdf_type}
+use Rattle.rdf_terms.specs.Vocabulary.{rdf_type}
 use Rattle.rdf_terms.specs.declared.terms.Term.{Term}
 use Rattle.rdf_lex.specs.Tokens.{Spelled}
 use Rattle.schema_tree.specs.declared.schema.Target as goal
@@ -14,13 +14,11 @@ use Rattle.shape_map.specs.declared.items.TriplePattern.{TriplePattern}
 use Rattle.shape_map.specs.declared.items.Selector as kind
 use Rattle.shape_map.specs.declared.items.Selector.TheVariants as selector
 use Rattle.shape_map.specs.declared.items.Item as whole
-use Rattle.rdf_cursor.specs.declared.symbols.Symbol.{Symbol}
 use Rattle.rdf_cursor.specs.declared.symbols.Symbol.TheVariants as symbol
 use Rattle.term_tokens.specs.Scopes.{Scope}
 use Rattle.term_tokens.specs.Literals as any
-use Rattle.term_tokens.specs.Terms.{iri_of, at_name_of, iri_term, string_of, typed, typed_of, shorthand_of}
+use Rattle.term_tokens.specs.Terms.{iri_of, at_name_of, iri_term, string_of, typed_of, shorthand_of}
 use Rattle.shape_map.specs.Meanings.{node_tagged_of, blank_of, blank_target_of, iri_target}
-use Rattle.rdf_cursor.specs.Symbols.{of_symbol}
 
 -- nodes, by the base and the prefixes of the data
 module _ (v : Scope) where

@@ -2,7 +2,7 @@
 use Rattle.std.specs.Prelude.{Bool, true, false, ℕ, List, [], ◌∷◌, ◌++◌, Option, Some, None}
 use Rattle.rdf_cursor.specs.Marks.{mark}
 use Rattle.rdf_cursor.specs.Readers.{Reader, ◌>>=◌, give, one, either, loop, finish}
-use Rattle.rdf_terms.specs.Vocabulary.{xsd_string, rdf_type}
+use Rattle.rdf_terms.specs.Vocabulary.{rdf_type}
 use Rattle.rdf_terms.specs.declared.terms.Term.{Term}
 use Rattle.rdf_lex.specs.Tokens.{Spelled}
 use Rattle.schema_tree.specs.declared.schema.Target.{Target}
@@ -14,13 +14,12 @@ use Rattle.shape_map.specs.declared.items.TriplePattern.{TriplePattern}
 use Rattle.shape_map.specs.declared.items.Selector.{Selector}
 use Rattle.shape_map.specs.declared.items.Selector.TheVariants as selectors
 use Rattle.shape_map.specs.declared.items.Item.{Item}
-use Rattle.rdf_cursor.specs.declared.symbols.Symbol.{Symbol}
 use Rattle.rdf_cursor.specs.declared.symbols.Symbol.TheVariants as symbol
 use Rattle.term_tokens.specs.Scopes.{Scope}
 use Rattle.term_tokens.specs.Literals.{literal_by, resource_by}
-use Rattle.term_tokens.specs.Terms.{iri_of, at_name_of, iri_term, string_of, typed, typed_of, shorthand_of, shorthands}
+use Rattle.term_tokens.specs.Terms.{iri_of, at_name_of, iri_term, string_of, typed_of, shorthand_of, shorthands}
 use Rattle.shape_map.specs.Meanings.{node_tags, node_tagged_of, blank_of, blank_target_of, iri_target}
-use Rattle.rdf_cursor.specs.Symbols.{of_symbol, is_symbol, is_among, is_any}
+use Rattle.rdf_cursor.specs.Symbols.{is_symbol, is_among, is_any}
 
 abbrev pub R : Type 0 → Type 0
 R A = Reader Spelled Fault A

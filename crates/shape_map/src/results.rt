@@ -1,6 +1,6 @@
 //! The text of answers.
 
-ghost use Rattle.std.specs.Prelude.{◌≡◌, ◌++◌, ◌<◌, length, codes, encode_utf8_all, Contains, IfOk, OnOk, OnErr};
+ghost use Rattle.std.specs.Prelude.{◌≡◌, ◌++◌, ◌<◌, ℕ, List, length, codes, encode_utf8_all, Contains, OnOk, OnErr};
 ghost use Rattle.std.specs.List.{flat_map};
 ghost use Rattle.schema_tree.specs.declared.schema.Answer.{Answer as Given};
 ghost use Rattle.shape_map.specs.Results.{answer_text, mark, result_text};
@@ -25,7 +25,8 @@ fn push_answer(
     out: &mut Vec<u8>,
 ) -> Result<(), AllocError>
     requires { answer.now.node.0 < length terms.now }
-    ensures { OnOk result (out.new.items ≡ out.old.items ++ answer_text terms.now answer.now) }
+    ensures written { OnOk result (out.new.items ≡ out.old.items ++ answer_text terms.now answer.now) }
+    ensures grown { (more : List ℕ) × (out.new.items ≡ out.old.items ++ more) }
 {
     write_term(alloc, terms.get(answer.node), out)?;
     out.extend_from_slice(mark(answer.holds))?;
@@ -41,7 +42,8 @@ fn push_more(
     out: &mut Vec<u8>,
 ) -> Result<(), AllocError>
     requires { (a : Given) → Contains answers.now a → a.node.0 < length terms.now }
-    ensures { OnOk result (out.new.items ≡ out.old.items ++ flat_map (λ a. codes ",\n" ++ answer_text terms.now a) answers.now) }
+    ensures written { OnOk result (out.new.items ≡ out.old.items ++ flat_map (λ a. codes ",\n" ++ answer_text terms.now a) answers.now) }
+    ensures grown { (more : List ℕ) × (out.new.items ≡ out.old.items ++ more) }
 {
     for answer in answers {
         out.extend_from_slice(b",\n")?;
@@ -50,19 +52,24 @@ fn push_more(
     Ok(())
 }
 
-/// The text of the answers.
-fn result_map(alloc: Global, terms: &TermTable, answers: &[Answer]) -> Result<Vec<u8>, AllocError>
+/// Appends the text of the answers.
+fn push_answers(
+    alloc: Global,
+    terms: &TermTable,
+    answers: &[Answer],
+    out: &mut Vec<u8>,
+) -> Result<(), AllocError>
     requires { (a : Given) → Contains answers.now a → a.node.0 < length terms.now }
-    ensures { IfOk result (λ v. v.items ≡ result_text terms.now answers.now) }
+    ensures written { OnOk result (out.new.items ≡ out.old.items ++ result_text terms.now answers.now) }
+    ensures grown { (more : List ℕ) × (out.new.items ≡ out.old.items ++ more) }
 {
-    let mut out = Vec::new(alloc);
     let Some(first) = answers.first() else {
-        return Ok(out);
+        return Ok(());
     };
-    push_answer(alloc, terms, first, &mut out)?;
-    push_more(alloc, terms, &answers[1..], &mut out)?;
+    push_answer(alloc, terms, first, out)?;
+    push_more(alloc, terms, &answers[1..], out)?;
     out.push(b'\n')?;
-    Ok(out)
+    Ok(())
 }
 
 /// Appends the answers as a result shape map (ShapeMap Structure and Language, section 4): of each the text of its node,
@@ -78,6 +85,10 @@ pub fn write_result(
     ensures written { OnOk result (out.new.items ≡ out.old.items ++ result_text terms.now items.now) }
     ensures err { OnErr result (out.new.items ≡ out.old.items) }
 {
-    let text = result_map(alloc, terms, items)?;
-    out.extend_from_slice(text.as_slice())
+    let held = out.len();
+    let written = push_answers(alloc, terms, items, out);
+    if written.is_err() {
+        out.truncate(held);
+    }
+    written
 }

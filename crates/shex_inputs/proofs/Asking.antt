@@ -1,6 +1,6 @@
 -- Bytes that are no map are said so, and what is refused but for want of memory.
 use Rattle.std.proofs.Common.{◌≢◌, ℕ, List, refl}
-use Rattle.std.specs.Prelude.{Err}
+use Rattle.std.specs.Prelude.{Err, IfErr, Ok, Result}
 use Rattle.shape_map.specs.declared.error.MapError.{MapError}
 use Rattle.shape_map.specs.declared.error.MapError.TheVariants as error
 use Rattle.shape_map.specs.declared.items.Item.{Item}
@@ -31,5 +31,6 @@ not_read error.Many items apart h = h
 not_read error.Memory items apart h = apart refl
 not_read error.Full items apart h = h
 
-pub map_stops : (nodes labels : Scope) (bytes : List ℕ) (e : MapError) → MapExplains nodes labels e bytes → ((items : List Item) → IsMap nodes labels bytes items → ReadsAs (Err e) items) → MapStops nodes labels bytes e
-map_stops nodes labels bytes e cause complete = λ apart. (cause, λ items is. not_read e items apart (complete items is))
+pub map_stops : (nodes labels : Scope) (bytes : List ℕ) (r : Result (List Item) MapError) → IfErr r (λ e. MapExplains nodes labels e bytes) → ((items : List Item) → IsMap nodes labels bytes items → ReadsAs r items) → IfErr r (MapStops nodes labels bytes)
+map_stops nodes labels bytes (Ok items) cause complete = tt
+map_stops nodes labels bytes (Err e) cause complete = λ apart. (cause, λ items is. not_read e items apart (complete items is))

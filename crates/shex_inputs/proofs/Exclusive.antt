@@ -1,7 +1,6 @@
 -- Where contents are told, a file of the inputs is taken, refused or absent, and not two of these.
-use Rattle.std.proofs.Common.{◌≡◌, ◌≤◌, ◌<◌, ◌∙◌, ap, sym, subst, refl, List, ℕ, [], inl, inr, arith, length, true, false, true≢false}
+use Rattle.std.proofs.Common.{◌≡◌, ◌≤◌, ◌<◌, ◌∙◌, ap, sym, subst, refl, List, ℕ, [], inl, inr, arith, length, true≢false}
 use Rattle.std.specs.Prelude.{Option, Some, None}
-use Rattle.clap.specs.Words.{Text}
 use Rattle.shex_io.specs.Files.{Lacks, Told}
 use Rattle.rdf_terms.specs.declared.terms.Term.{Term}
 use Rattle.graph_index.specs.declared.read_error.ReadError.{ReadError}
@@ -10,18 +9,15 @@ use Rattle.schema_documents.specs.declared.error.SchemaError.{SchemaError}
 use Rattle.shexj_reader.specs.Bytes.{IsDocumentText}
 use Rattle.shexj_reader.specs.Laws.{DocumentsAreOne}
 use Rattle.graph_index.specs.declared.loading.TermTriple.{TermTriple}
-use Rattle.lists.specs.Additions.{none}
 use Rattle.data_reader.specs.Documents.{Context, IsData}
 use Rattle.data_reader.specs.Endings.{DataAreOne}
 use Rattle.data_reader.specs.Formats.{format_of}
-use Rattle.schema_tree.specs.declared.schema.Schema.{Schema}
 use Rattle.shape_map.specs.declared.error.MapError.{MapError}
 use Rattle.shape_map.specs.declared.items.Item.{Item}
 use Rattle.shape_map.specs.declared.resolve.Association.{Association}
 use Rattle.shape_map.specs.Maps.{IsMap, MapsAreOne}
 use Rattle.shape_map.specs.Selection.{Outcome, refused, selected}
 use Rattle.shape_map.proofs.Resolved.{resolves_one}
-use Rattle.command_words.specs.Asked.{Command}
 use Rattle.shex_inputs.specs.declared.error.Refusal.{Refusal}
 use Rattle.shex_inputs.specs.declared.error.Refusal.TheVariants as Refusals
 use Rattle.shex_inputs.specs.declared.error.Source.{Source}
@@ -29,7 +25,7 @@ use Rattle.shex_inputs.specs.declared.error.Source.TheVariants.{Schema as Schema
 use Rattle.shex_inputs.specs.Asked.{EndsAs, HoldsMap, IsAskedOf, Question, label_names, node_names}
 use Rattle.shex_inputs.specs.Held.{Held, HoldsData, HoldsSchema, IsHolding, IsTaken}
 use Rattle.shex_inputs.specs.Laws.{AskedIsNotLeft, HeldIsOne, InputsAreOne, LeftIsOne, QuestionIsOne, TakenIsNotLeft}
-use Rattle.shex_inputs.specs.Named.{IsFile, IsTooLong, map_name, max_file, source_name, source_of}
+use Rattle.shex_inputs.specs.Named.{Inputs, IsFile, IsTooLong, max_file, source_name, source_of}
 use Rattle.shex_inputs.specs.Outcomes.{IsAbsent}
 use Rattle.shex_inputs.specs.Refusals.{AreUnread, IsNoMap, IsNoSchema, IsRefused, IsUnresolved, Reaches}
 use Rattle.shex_inputs.proofs.Based.{one_holding}
@@ -46,7 +42,7 @@ table_in (refused e) = []
 
 -- ---- one thing is held
 
-module _ (contents : List ℕ → Option (List ℕ)) (c : Command) (one_text : DocumentsAreOne) (one_data : DataAreOne) (one_map : MapsAreOne) where
+module _ (contents : List ℕ → Option (List ℕ)) (i : Inputs) (one_text : DocumentsAreOne) (one_data : DataAreOne) (one_map : MapsAreOne) where
   abbrev told : Told
   told = Some contents
 
@@ -64,15 +60,15 @@ module _ (contents : List ℕ → Option (List ℕ)) (c : Command) (one_text : D
       let above : max_file < length long.bytes = long.above in
       absurd (omega (arith, same, within, above))
 
-  one_schema : (a b : Document) → HoldsSchema told c a → HoldsSchema told c b → a ≡ b
-  one_schema a b h k = one_text h.bytes a b h.spelled (subst (λ bs. IsDocumentText b bs) (same_bytes c.schema k.bytes h.bytes k.file.held h.file.held) k.spelled)
+  one_schema : (a b : Document) → HoldsSchema told i a → HoldsSchema told i b → a ≡ b
+  one_schema a b h k = one_text h.bytes a b h.spelled (subst (λ bs. IsDocumentText b bs) (same_bytes i.schema k.bytes h.bytes k.file.held h.file.held) k.spelled)
 
-  one_source : (v w : Context) (a b : List TermTriple) → HoldsData told c v a → HoldsData told c w b → Path (Context × List TermTriple) (v, a) (w, b)
+  one_source : (v w : Context) (a b : List TermTriple) → HoldsData told i v a → HoldsData told i w b → Path (Context × List TermTriple) (v, a) (w, b)
   one_source v w a b h k =
-      one_data (format_of c.data_file) c.data_base h.bytes (v, a) (w, b) h.spelled
-      (subst (λ bs. IsData (format_of c.data_file) c.data_base (w, b) bs) (same_bytes c.data_file k.bytes h.bytes k.file.held h.file.held) k.spelled)
+      one_data (format_of i.data_file) i.data_base h.bytes (v, a) (w, b) h.spelled
+      (subst (λ bs. IsData (format_of i.data_file) i.data_base (w, b) bs) (same_bytes i.data_file k.bytes h.bytes k.file.held h.file.held) k.spelled)
 
-  pub held_one : HeldIsOne contents c
+  pub held_one : HeldIsOne contents i
   held_one h k x y =
       let docs : x.doc ≡ y.doc = one_schema x.doc y.doc x.holds_schema y.holds_schema in
       let whole = one_source h.names k.names x.triples y.triples x.holds_data y.holds_data in
@@ -80,29 +76,29 @@ module _ (contents : List ℕ → Option (List ℕ)) (c : Command) (one_text : D
       let triples : x.triples ≡ y.triples = ap (λ (p : Context × List TermTriple). p.1) whole in
       one_holding y.doc y.triples h k (subst (λ ts. IsHolding y.doc ts h) triples (subst (λ d. IsHolding d x.triples h) docs x.holding)) y.holding names
 
-  one_items : (names : Context) (name : Text) (a b : List Item) → HoldsMap told c names name a → HoldsMap told c names name b → a ≡ b
-  one_items names name a b h k =
-      one_map (node_names names) (label_names c) h.bytes a b h.spelled
-      (subst (λ bs. IsMap (node_names names) (label_names c) bs b) (same_bytes name k.bytes h.bytes k.file.held h.file.held) k.spelled)
+  one_items : (names : Context) (a b : List Item) → HoldsMap told i names a → HoldsMap told i names b → a ≡ b
+  one_items names a b h k =
+      one_map (node_names names) (label_names i) h.bytes a b h.spelled
+      (subst (λ bs. IsMap (node_names names) (label_names i) bs b) (same_bytes i.map_file k.bytes h.bytes k.file.held h.file.held) k.spelled)
 
   -- what is asked of what is held
-  record Stands (h : Held) (name : Text) (items : List Item) (o : Outcome) : Type 0 where
-    holds_map : HoldsMap told c h.names name items
+  record Stands (h : Held) (items : List Item) (o : Outcome) : Type 0 where
+    holds_map : HoldsMap told i h.names items
     ends : EndsAs h items o
 
-  stands_one : (h k : Held) → IsTaken told c h → IsTaken told c k → (name : Text) (is js : List Item) (o p : Outcome) → Stands h name is o → Stands k name js p → o ≡ p
-  stands_one h k x y name is js o p s t =
-      let s' : Stands k name is o = subst (λ v. Stands v name is o) (held_one h k x y) s in
-      let items : is ≡ js = one_items k.names name is js s'.holds_map t.holds_map in
+  stands_one : (h k : Held) → IsTaken told i h → IsTaken told i k → (is js : List Item) (o p : Outcome) → Stands h is o → Stands k js p → o ≡ p
+  stands_one h k x y is js o p s t =
+      let s' : Stands k is o = subst (λ v. Stands v is o) (held_one h k x y) s in
+      let items : is ≡ js = one_items k.names is js s'.holds_map t.holds_map in
       resolves_one k.schema k.graph y.holding.stands.loaded.once k.terms y.holding.distinct js o p (subst (λ v. EndsAs k v o) items s'.ends) t.ends
 
-  asked_stands : (name : Text) (q : Question) (x : IsAskedOf told c name q) → Stands q.held name x.items (selected q.associations q.terms)
-  asked_stands name q x = record { holds_map = x.holds_map; ends = x.ends }
+  asked_stands : (q : Question) (x : IsAskedOf told i q) → Stands q.held x.items (selected q.associations q.terms)
+  asked_stands q x = record { holds_map = x.holds_map; ends = x.ends }
 
-  pub question_one : QuestionIsOne contents c
-  question_one name p q x y =
+  pub question_one : QuestionIsOne contents i
+  question_one p q x y =
       let held : p.held ≡ q.held = held_one p.held q.held x.taken y.taken in
-      let same = stands_one p.held q.held x.taken y.taken name x.items y.items (selected p.associations p.terms) (selected q.associations q.terms) (asked_stands name p x) (asked_stands name q y) in
+      let same = stands_one p.held q.held x.taken y.taken x.items y.items (selected p.associations p.terms) (selected q.associations q.terms) (asked_stands p x) (asked_stands q y) in
       let tables : p.terms ≡ q.terms = ap table_in same in
       let associations : p.associations ≡ q.associations = ap associations_in same in
       λ i. record { held = held i; terms = tables i; associations = associations i }
@@ -110,45 +106,45 @@ module _ (contents : List ℕ → Option (List ℕ)) (c : Command) (one_text : D
   -- ---- what is taken is not refused
 
   abbrev IsPassed : Source → Type 0
-  IsPassed SchemaFile = (doc : Document) × HoldsSchema told c doc
-  IsPassed Data = (h : Held) × IsTaken told c h
-  IsPassed Map = (q : Question) × IsAskedOf told c (map_name c.task) q
+  IsPassed SchemaFile = (doc : Document) × HoldsSchema told i doc
+  IsPassed Data = (h : Held) × IsTaken told i h
+  IsPassed Map = (q : Question) × IsAskedOf told i q
 
   -- it is there
-  passed_there : (source : Source) → IsPassed source → Lacks told (source_name c source) → ⊥
-  passed_there SchemaFile (doc, h) lacks = held_there c.schema h.bytes h.file.held lacks
-  passed_there Data (h, x) lacks = held_there c.data_file x.holds_data.bytes x.holds_data.file.held lacks
-  passed_there Map (q, x) lacks = held_there (map_name c.task) x.holds_map.bytes x.holds_map.file.held lacks
+  passed_there : (source : Source) → IsPassed source → Lacks told (source_name i source) → ⊥
+  passed_there SchemaFile (doc, h) lacks = held_there i.schema h.bytes h.file.held lacks
+  passed_there Data (h, x) lacks = held_there i.data_file x.holds_data.bytes x.holds_data.file.held lacks
+  passed_there Map (q, x) lacks = held_there i.map_file x.holds_map.bytes x.holds_map.file.held lacks
 
   -- it is not too long
-  passed_short : (source : Source) → IsPassed source → IsTooLong told (source_name c source) → ⊥
-  passed_short SchemaFile (doc, h) long = not_too_long c.schema h.bytes h.file long
-  passed_short Data (h, x) long = not_too_long c.data_file x.holds_data.bytes x.holds_data.file long
-  passed_short Map (q, x) long = not_too_long (map_name c.task) x.holds_map.bytes x.holds_map.file long
+  passed_short : (source : Source) → IsPassed source → IsTooLong told (source_name i source) → ⊥
+  passed_short SchemaFile (doc, h) long = not_too_long i.schema h.bytes h.file long
+  passed_short Data (h, x) long = not_too_long i.data_file x.holds_data.bytes x.holds_data.file long
+  passed_short Map (q, x) long = not_too_long i.map_file x.holds_map.bytes x.holds_map.file long
 
-  schema_read : (doc : Document) → HoldsSchema told c doc → (e : SchemaError) → IsNoSchema told c e → ⊥
-  schema_read doc h e u = u.none doc (subst (λ bs. IsDocumentText doc bs) (same_bytes c.schema h.bytes u.bytes h.file.held u.file.held) h.spelled)
+  schema_read : (doc : Document) → HoldsSchema told i doc → (e : SchemaError) → IsNoSchema told i e → ⊥
+  schema_read doc h e u = u.none doc (subst (λ bs. IsDocumentText doc bs) (same_bytes i.schema h.bytes u.bytes h.file.held u.file.held) h.spelled)
 
-  data_are_read : (h : Held) → IsTaken told c h → (e : ReadError) → AreUnread told c e → ⊥
+  data_are_read : (h : Held) → IsTaken told i h → (e : ReadError) → AreUnread told i e → ⊥
   data_are_read h x e u =
       u.none h.names x.triples
-      (subst (λ bs. IsData (format_of c.data_file) c.data_base (h.names, x.triples) bs) (same_bytes c.data_file x.holds_data.bytes u.bytes x.holds_data.file.held u.file.held) x.holds_data.spelled) h
+      (subst (λ bs. IsData (format_of i.data_file) i.data_base (h.names, x.triples) bs) (same_bytes i.data_file x.holds_data.bytes u.bytes x.holds_data.file.held u.file.held) x.holds_data.spelled) h
       (subst (λ d. IsHolding d x.triples h) (one_schema x.doc u.doc x.holds_schema u.holds_schema) x.holding)
 
-  map_is_read : (q : Question) → IsAskedOf told c (map_name c.task) q → (e : MapError) → IsNoMap told c e → ⊥
+  map_is_read : (q : Question) → IsAskedOf told i q → (e : MapError) → IsNoMap told i e → ⊥
   map_is_read q x e u =
-      let m : HoldsMap told c u.held.names (map_name c.task) x.items = subst (λ v. HoldsMap told c v.names (map_name c.task) x.items) (held_one q.held u.held x.taken u.taken) x.holds_map in
-      u.none x.items (subst (λ bs. IsMap (node_names u.held.names) (label_names c) bs x.items) (same_bytes (map_name c.task) m.bytes u.bytes m.file.held u.file.held) m.spelled)
+      let m : HoldsMap told i u.held.names x.items = subst (λ v. HoldsMap told i v.names x.items) (held_one q.held u.held x.taken u.taken) x.holds_map in
+      u.none x.items (subst (λ bs. IsMap (node_names u.held.names) (label_names i) bs x.items) (same_bytes i.map_file m.bytes u.bytes m.file.held u.file.held) m.spelled)
 
   not_both : (xs : List Association) (new : List Term) (e : MapError) → selected xs new ≡ refused e → ⊥
   not_both xs new e h = cc
 
-  map_is_resolved : (q : Question) → IsAskedOf told c (map_name c.task) q → (e : MapError) → IsUnresolved told c e → ⊥
+  map_is_resolved : (q : Question) → IsAskedOf told i q → (e : MapError) → IsUnresolved told i e → ⊥
   map_is_resolved q x e u =
       not_both q.associations q.terms e
-      (stands_one q.held u.held x.taken u.taken (map_name c.task) x.items u.items (selected q.associations q.terms) (refused e) (asked_stands (map_name c.task) q x) (record { holds_map = u.holds_map; ends = u.ends }))
+      (stands_one q.held u.held x.taken u.taken x.items u.items (selected q.associations q.terms) (refused e) (asked_stands q x) (record { holds_map = u.holds_map; ends = u.ends }))
 
-  passed_taken : (refusal : Refusal) → IsPassed (source_of refusal) → IsRefused told c refusal → ⊥
+  passed_taken : (refusal : Refusal) → IsPassed (source_of refusal) → IsRefused told i refusal → ⊥
   passed_taken (Refusals.Size source) passed (there, long) = passed_short source passed long
   passed_taken Refusals.NotBuilt (doc, h) u = true≢false (sym u.compact ∙ h.in_json)
   passed_taken (Refusals.Schema e) (doc, h) u = schema_read doc h e u
@@ -158,7 +154,7 @@ module _ (contents : List ℕ → Option (List ℕ)) (c : Command) (one_text : D
 
   -- ---- one file is left
 
-  reached : (refusal : Refusal) → IsRefused told c refusal → Reaches told c (source_of refusal)
+  reached : (refusal : Refusal) → IsRefused told i refusal → Reaches told i (source_of refusal)
   reached (Refusals.Size source) (there, long) = there
   reached Refusals.NotBuilt u = tt
   reached (Refusals.Schema e) u = tt
@@ -167,21 +163,21 @@ module _ (contents : List ℕ → Option (List ℕ)) (c : Command) (one_text : D
   reached (Refusals.Map e) (inr u) = (u.held, u.taken)
 
   -- what is refused is there
-  refused_there : (refusal : Refusal) → IsRefused told c refusal → Lacks told (source_name c (source_of refusal)) → ⊥
-  refused_there (Refusals.Size source) (there, long) lacks = held_there (source_name c source) long.bytes long.held lacks
-  refused_there Refusals.NotBuilt u lacks = held_there c.schema u.bytes u.file.held lacks
-  refused_there (Refusals.Schema e) u lacks = held_there c.schema u.bytes u.file.held lacks
-  refused_there (Refusals.Data e) u lacks = held_there c.data_file u.bytes u.file.held lacks
-  refused_there (Refusals.Map e) (inl u) lacks = held_there (map_name c.task) u.bytes u.file.held lacks
-  refused_there (Refusals.Map e) (inr u) lacks = held_there (map_name c.task) u.holds_map.bytes u.holds_map.file.held lacks
+  refused_there : (refusal : Refusal) → IsRefused told i refusal → Lacks told (source_name i (source_of refusal)) → ⊥
+  refused_there (Refusals.Size source) (there, long) lacks = held_there (source_name i source) long.bytes long.held lacks
+  refused_there Refusals.NotBuilt u lacks = held_there i.schema u.bytes u.file.held lacks
+  refused_there (Refusals.Schema e) u lacks = held_there i.schema u.bytes u.file.held lacks
+  refused_there (Refusals.Data e) u lacks = held_there i.data_file u.bytes u.file.held lacks
+  refused_there (Refusals.Map e) (inl u) lacks = held_there i.map_file u.bytes u.file.held lacks
+  refused_there (Refusals.Map e) (inr u) lacks = held_there i.map_file u.holds_map.bytes u.holds_map.file.held lacks
 
   -- of two files one comes first, and the steps to the other pass it
   data OneFirst (a b : Source) : Type 0 where
     is_one : a ≡ b → OneFirst a b
-    comes_before : (Reaches told c b → IsPassed a) → OneFirst a b
-    comes_behind : (Reaches told c a → IsPassed b) → OneFirst a b
+    comes_before : (Reaches told i b → IsPassed a) → OneFirst a b
+    comes_behind : (Reaches told i a → IsPassed b) → OneFirst a b
 
-  with_schema : ((h : Held) × IsTaken told c h) → IsPassed SchemaFile
+  with_schema : ((h : Held) × IsTaken told i h) → IsPassed SchemaFile
   with_schema (h, x) = (x.doc, x.holds_schema)
 
   one_first : (a b : Source) → OneFirst a b
@@ -195,38 +191,38 @@ module _ (contents : List ℕ → Option (List ℕ)) (c : Command) (one_text : D
   one_first Map Data = comes_behind (λ r. r)
   one_first Map Map = is_one refl
 
-  pub left_one : LeftIsOne contents c
+  pub left_one : LeftIsOne contents i
   left_one refusal h = (λ other k. refused_one other k (one_first (source_of refusal) (source_of other)), λ b absent. absent_none b absent (one_first (source_of refusal) b))
     where
-      refused_one : (other : Refusal) → IsRefused told c other → OneFirst (source_of refusal) (source_of other) → source_of refusal ≡ source_of other
+      refused_one : (other : Refusal) → IsRefused told i other → OneFirst (source_of refusal) (source_of other) → source_of refusal ≡ source_of other
       refused_one other k (is_one e) = e
       refused_one other k (comes_before pass) = absurd (passed_taken refusal (pass (reached other k)) h)
       refused_one other k (comes_behind pass) = absurd (passed_taken other (pass (reached refusal h)) k)
 
-      absent_none : (b : Source) → IsAbsent told c b → OneFirst (source_of refusal) b → ⊥
-      absent_none b absent (is_one e) = refused_there refusal h (subst (λ s. Lacks told (source_name c s)) (sym e) absent.1)
+      absent_none : (b : Source) → IsAbsent told i b → OneFirst (source_of refusal) b → ⊥
+      absent_none b absent (is_one e) = refused_there refusal h (subst (λ s. Lacks told (source_name i s)) (sym e) absent.1)
       absent_none b absent (comes_before pass) = passed_taken refusal (pass absent.0) h
       absent_none b absent (comes_behind pass) = passed_there b (pass (reached refusal h)) absent.1
 
-  passed_not_left : (source : Source) → IsPassed source → ((refusal : Refusal) → source_of refusal ≡ source → ¬ IsRefused told c refusal) × (¬ IsAbsent told c source)
+  passed_not_left : (source : Source) → IsPassed source → ((refusal : Refusal) → source_of refusal ≡ source → ¬ IsRefused told i refusal) × (¬ IsAbsent told i source)
   passed_not_left source passed = (λ refusal is h. passed_taken refusal (subst (λ s. IsPassed s) (sym is) passed) h, λ absent. passed_there source passed absent.1)
 
-  pub taken_not_left : TakenIsNotLeft contents c
+  pub taken_not_left : TakenIsNotLeft contents i
   taken_not_left h SchemaFile x other = passed_not_left SchemaFile (x.doc, x.holds_schema)
   taken_not_left h Data x other = passed_not_left Data (h, x)
   taken_not_left h Map x other = absurd (other refl)
 
   -- where a map asks something, all files are passed
-  asked_passed : (q : Question) → IsAskedOf told c (map_name c.task) q → (source : Source) → IsPassed source
+  asked_passed : (q : Question) → IsAskedOf told i q → (source : Source) → IsPassed source
   asked_passed q x SchemaFile = (x.taken.doc, x.taken.holds_schema)
   asked_passed q x Data = (q.held, x.taken)
   asked_passed q x Map = (q, x)
 
-  pub asked_not_left : AskedIsNotLeft contents c
+  pub asked_not_left : AskedIsNotLeft contents i
   asked_not_left q x = (λ refusal h. passed_taken refusal (asked_passed q x (source_of refusal)) h, λ source absent. passed_there source (asked_passed q x source) absent.1)
 
 pub inputs_one : DocumentsAreOne → DataAreOne → MapsAreOne → InputsAreOne
-inputs_one one_text one_data one_map contents c = (
-  held_one contents c one_text one_data one_map,
-  (question_one contents c one_text one_data one_map, (taken_not_left contents c one_text one_data one_map, (asked_not_left contents c one_text one_data one_map, left_one contents c one_text one_data one_map))),
+inputs_one one_text one_data one_map contents i = (
+  held_one contents i one_text one_data one_map,
+  (question_one contents i one_text one_data one_map, (taken_not_left contents i one_text one_data one_map, (asked_not_left contents i one_text one_data one_map, left_one contents i one_text one_data one_map))),
 )

@@ -11,7 +11,6 @@ use Rattle.data_reader.specs.Documents.{Context, IsData}
 use Rattle.data_reader.specs.Endings.{Explains as DataExplains}
 use Rattle.shex_io.specs.Files.{Told}
 use Rattle.shex_io.specs.declared.files.Act.{Act}
-use Rattle.command_words.specs.Asked.{Command}
 use Rattle.shex_inputs.specs.declared.error.InputError.{InputError}
 use Rattle.shex_inputs.specs.declared.error.Refusal.{Refusal}
 use Rattle.shex_inputs.specs.declared.error.Refusal.TheVariants as Refusals
@@ -40,7 +39,7 @@ use Rattle.command_words.specs.Checks.{is_base}
 use Rattle.shex_inputs.specs.Asked.{EndsAs, HoldsMap, base_alone, label_names, node_names}
 use Rattle.shex_inputs.specs.Held.{Held, HoldsSchema, IsHolding, IsTaken}
 use Rattle.shex_inputs.specs.Loading.{IsLoadable, IsLoadableExpr, IsLoadableExpression, IsLoadableTriple, IsLoadableValue}
-use Rattle.shex_inputs.specs.Named.{IsFile, is_compact, map_name, source_name, source_of}
+use Rattle.shex_inputs.specs.Named.{Inputs, IsFile, is_compact, source_name, source_of}
 use Rattle.shex_inputs.specs.Outcomes.{Explains, FaultsAs, IsBeforeMap, IsRefusalOf}
 use Rattle.shex_inputs.specs.Refusals.{AreUnread, IsRefused, Reaches}
 use Rattle.shex_inputs.specs.Stops.{AreUnreadable, FetchStops, LoadingStops, MapStops, ReadingStops, SchemaStops}
@@ -66,15 +65,15 @@ by_refusal memory refusal e stop P (inl (is, made)) wanting to = subst P (sym ma
 by_refusal memory refusal e stop P (inr (apart, made)) wanting to = subst P (sym made) (to apart)
 
 -- a fetch that stops
-pub fetch_explains : (told : Told) (c : Command) (source : Source) (before after : ℕ) (blame : List ℕ) (act : Act) (e : InputError) → Reaches told c source → FetchStops told (source_name c source) source before after blame act e → Explains told c e
-fetch_explains told c source before after blame act (Refused refusal) reached (size, long, stay) = subst (λ r. IsRefused told c r) (sym size) (reached, long)
-fetch_explains told c source before after blame act (Failed other) reached (same, faults) = subst (λ s. Reaches told c s) (sym same) reached
-fetch_explains told c source before after blame act Memory reached stay = tt
+pub fetch_explains : (told : Told) (i : Inputs) (source : Source) (before after : ℕ) (blame : List ℕ) (act : Act) (e : InputError) → Reaches told i source → FetchStops told (source_name i source) source before after blame act e → Explains told i e
+fetch_explains told i source before after blame act (Refused refusal) reached (size, long, stay) = subst (λ r. IsRefused told i r) (sym size) (reached, long)
+fetch_explains told i source before after blame act (Failed other) reached (same, faults) = subst (λ s. Reaches told i s) (sym same) reached
+fetch_explains told i source before after blame act Memory reached stay = tt
 
-pub fetch_faults : (told : Told) (c : Command) (source : Source) (before after : ℕ) (blame : List ℕ) (act : Act) (e : InputError) → FetchStops told (source_name c source) source before after blame act e → FaultsAs c before after blame act e
-fetch_faults told c source before after blame act (Refused refusal) (size, long, stay) = stay
-fetch_faults told c source before after blame act (Failed other) (same, faults) = subst (λ s. FaultsAs c before after blame act (Failed s)) (sym same) faults
-fetch_faults told c source before after blame act Memory stay = stay
+pub fetch_faults : (told : Told) (i : Inputs) (source : Source) (before after : ℕ) (blame : List ℕ) (act : Act) (e : InputError) → FetchStops told (source_name i source) source before after blame act e → FaultsAs i before after blame act e
+fetch_faults told i source before after blame act (Refused refusal) (size, long, stay) = stay
+fetch_faults told i source before after blame act (Failed other) (same, faults) = subst (λ s. FaultsAs i before after blame act (Failed s)) (sym same) faults
+fetch_faults told i source before after blame act Memory stay = stay
 
 pub fetch_before_map : (told : Told) (name : List ℕ) (source : Source) (before after : ℕ) (blame : List ℕ) (act : Act) (e : InputError) → source ≢ Sources.Map → FetchStops told name source before after blame act e → IsBeforeMap e
 fetch_before_map told name source before after blame act (Refused refusal) other (size, long, stay) = λ is. other (ap source_of (sym size) ∙ is)
@@ -130,19 +129,19 @@ loadable doc bytes h = record {
 }
 
 -- a stop that is no fault of the files
-pub refused_faults : {E : Type 0} (memory : E) (refusal : E → Refusal) (e : E) (stop : InputError) (c : Command) (before after : ℕ) (blame : List ℕ) (act : Act) → IsRefusalOf memory refusal e stop → after ≡ before → FaultsAs c before after blame act stop
-refused_faults memory refusal e stop c before after blame act made stay = by_refusal memory refusal e stop (λ z. FaultsAs c before after blame act z) made stay (λ apart. stay)
+pub refused_faults : {E : Type 0} (memory : E) (refusal : E → Refusal) (e : E) (stop : InputError) (i : Inputs) (before after : ℕ) (blame : List ℕ) (act : Act) → IsRefusalOf memory refusal e stop → after ≡ before → FaultsAs i before after blame act stop
+refused_faults memory refusal e stop i before after blame act made stay = by_refusal memory refusal e stop (λ z. FaultsAs i before after blame act z) made stay (λ apart. stay)
 
 pub refused_before_map : {E : Type 0} (memory : E) (refusal : E → Refusal) (e : E) (stop : InputError) → IsRefusalOf memory refusal e stop → source_of (refusal e) ≢ Sources.Map → IsBeforeMap stop
 refused_before_map memory refusal e stop made other = by_refusal memory refusal e stop IsBeforeMap made tt (λ apart. other)
 
 -- a schema that is not read
-pub schema_explains : (told : Told) (c : Command) (bytes text : List ℕ) (e : SchemaError) (stop : InputError) → IsFile told c.schema bytes → is_compact c.schema ≡ false → text ≡ bytes → SchemaStops text e →
-    IsRefusalOf SchemaErrors.Memory (λ x. Refusals.Schema x) e stop → Explains told c stop
-schema_explains told c bytes text e stop file json same stops made =
-    by_refusal SchemaErrors.Memory (λ x. Refusals.Schema x) e stop (λ z. Explains told c z) made tt (λ apart. record {
+pub schema_explains : (told : Told) (i : Inputs) (bytes text : List ℕ) (e : SchemaError) (stop : InputError) → IsFile told i.schema bytes → is_compact i.schema ≡ false → text ≡ bytes → SchemaStops text e →
+    IsRefusalOf SchemaErrors.Memory (λ x. Refusals.Schema x) e stop → Explains told i stop
+schema_explains told i bytes text e stop file json same stops made =
+    by_refusal SchemaErrors.Memory (λ x. Refusals.Schema x) e stop (λ z. Explains told i z) made tt (λ apart. record {
       bytes = text;
-      file = subst (IsFile told c.schema) (sym same) file;
+      file = subst (IsFile told i.schema) (sym same) file;
       in_json = json;
       apart = apart;
       cause = (stops apart).0;
@@ -150,42 +149,42 @@ schema_explains told c bytes text e stop file json same stops made =
     })
 
 -- data that are not read
-explained : (told : Told) (c : Command) (doc : Document) (bytes text : List ℕ) (e : ReadError) → HoldsSchema told c doc → IsFile told c.data_file bytes → text ≡ bytes → LoadingStops (format_of c.data_file) c.data_base doc text e → e ≢ Errors.Memory → AreUnread told c e
-explained told c doc bytes text e holds file same stops apart = record {
+explained : (told : Told) (i : Inputs) (doc : Document) (bytes text : List ℕ) (e : ReadError) → HoldsSchema told i doc → IsFile told i.data_file bytes → text ≡ bytes → LoadingStops (format_of i.data_file) i.data_base doc text e → e ≢ Errors.Memory → AreUnread told i e
+explained told i doc bytes text e holds file same stops apart = record {
   doc = doc;
   holds_schema = holds;
   bytes = text;
-  file = subst (IsFile told c.data_file) (sym same) file;
+  file = subst (IsFile told i.data_file) (sym same) file;
   apart = apart;
   cause = (stops apart).0;
   none = (stops apart).1;
 }
 
-pub data_explains : (told : Told) (c : Command) (format : Format) (doc : Document) (bytes text : List ℕ) (e : ReadError) (stop : InputError) → HoldsSchema told c doc → IsFile told c.data_file bytes → format ≡ format_of c.data_file → text ≡ bytes → LoadingStops format c.data_base doc text e →
-    IsRefusalOf Errors.Memory (λ x. Refusals.Data x) e stop → Explains told c stop
-data_explains told c format doc bytes text e stop holds file is same stops made =
-    by_refusal Errors.Memory (λ x. Refusals.Data x) e stop (λ z. Explains told c z) made tt
-    (explained told c doc bytes text e holds file same (subst (λ f. LoadingStops f c.data_base doc text e) is stops))
+pub data_explains : (told : Told) (i : Inputs) (format : Format) (doc : Document) (bytes text : List ℕ) (e : ReadError) (stop : InputError) → HoldsSchema told i doc → IsFile told i.data_file bytes → format ≡ format_of i.data_file → text ≡ bytes → LoadingStops format i.data_base doc text e →
+    IsRefusalOf Errors.Memory (λ x. Refusals.Data x) e stop → Explains told i stop
+data_explains told i format doc bytes text e stop holds file is same stops made =
+    by_refusal Errors.Memory (λ x. Refusals.Data x) e stop (λ z. Explains told i z) made tt
+    (explained told i doc bytes text e holds file same (subst (λ f. LoadingStops f i.data_base doc text e) is stops))
 
 -- a map that is not read
-pub map_explains : (told : Told) (c : Command) (h : Held) (bytes text : List ℕ) (e : MapError) (stop : InputError) → IsTaken told c h → IsFile told (map_name c.task) bytes → text ≡ bytes → MapStops (node_names h.names) (label_names c) text e →
-    IsRefusalOf MapErrors.Memory (λ x. Refusals.Map x) e stop → Explains told c stop
-map_explains told c h bytes text e stop taken file same stops made =
-    by_refusal MapErrors.Memory (λ x. Refusals.Map x) e stop (λ z. Explains told c z) made tt (λ apart. inl (record {
+pub map_explains : (told : Told) (i : Inputs) (h : Held) (bytes text : List ℕ) (e : MapError) (stop : InputError) → IsTaken told i h → IsFile told i.map_file bytes → text ≡ bytes → MapStops (node_names h.names) (label_names i) text e →
+    IsRefusalOf MapErrors.Memory (λ x. Refusals.Map x) e stop → Explains told i stop
+map_explains told i h bytes text e stop taken file same stops made =
+    by_refusal MapErrors.Memory (λ x. Refusals.Map x) e stop (λ z. Explains told i z) made tt (λ apart. inl (record {
       held = h;
       taken = taken;
       bytes = text;
-      file = subst (IsFile told (map_name c.task)) (sym same) file;
+      file = subst (IsFile told i.map_file) (sym same) file;
       apart = apart;
       cause = (stops apart).0;
       none = (stops apart).1;
     }))
 
 -- a map whose associations are refused
-pub asking_explains : (told : Told) (c : Command) (h : Held) (items : List Item) (e : MapError) (stop : InputError) → IsTaken told c h → HoldsMap told c h.names (map_name c.task) items → UnlessMemory e (EndsAs h items (refused e)) →
-    IsRefusalOf MapErrors.Memory (λ x. Refusals.Map x) e stop → Explains told c stop
-asking_explains told c h items e stop taken holds ends made =
-    by_refusal MapErrors.Memory (λ x. Refusals.Map x) e stop (λ z. Explains told c z) made tt
+pub asking_explains : (told : Told) (i : Inputs) (h : Held) (items : List Item) (e : MapError) (stop : InputError) → IsTaken told i h → HoldsMap told i h.names items → UnlessMemory e (EndsAs h items (refused e)) →
+    IsRefusalOf MapErrors.Memory (λ x. Refusals.Map x) e stop → Explains told i stop
+asking_explains told i h items e stop taken holds ends made =
+    by_refusal MapErrors.Memory (λ x. Refusals.Map x) e stop (λ z. Explains told i z) made tt
     (λ apart. inr (record { held = h; taken = taken; items = items; holds_map = holds; ends = unless_memory e (EndsAs h items (refused e)) apart ends }))
 
 -- a base that passed its check has a scheme
@@ -194,13 +193,13 @@ unfolding is_base
 base_scheme text h = (and_parts _ _ h).0
 
 -- what is read is taken
-pub are_taken : (told : Told) (c : Command) (h : Held) (format : Format) (doc : Document) (bytes text : List ℕ) (triples : List TermTriple) → HoldsSchema told c doc → IsFile told c.data_file bytes → format ≡ format_of c.data_file → text ≡ bytes
-    → IsData format c.data_base (h.names, triples) text → IsHolding doc triples h → IsTaken told c h
-are_taken told c h format doc bytes text triples holds file is same spelled holding = record {
+pub are_taken : (told : Told) (i : Inputs) (h : Held) (format : Format) (doc : Document) (bytes text : List ℕ) (triples : List TermTriple) → HoldsSchema told i doc → IsFile told i.data_file bytes → format ≡ format_of i.data_file → text ≡ bytes
+    → IsData format i.data_base (h.names, triples) text → IsHolding doc triples h → IsTaken told i h
+are_taken told i h format doc bytes text triples holds file is same spelled holding = record {
   doc = doc;
   holds_schema = holds;
   triples = triples;
-  holds_data = record { bytes = bytes; file = file; spelled = subst (λ bs. IsData (format_of c.data_file) c.data_base (h.names, triples) bs) same (subst (λ f. IsData f c.data_base (h.names, triples) text) is spelled) };
+  holds_data = record { bytes = bytes; file = file; spelled = subst (λ bs. IsData (format_of i.data_file) i.data_base (h.names, triples) bs) same (subst (λ f. IsData f i.data_base (h.names, triples) text) is spelled) };
   holding = holding;
 }
 

@@ -9,9 +9,8 @@ use Rattle.shape_map.specs.declared.resolve.Association.{Association}
 use Rattle.shape_map.specs.Maps.{IsMap}
 use Rattle.term_tokens.specs.Scopes.{Scope}
 use Rattle.shape_map.specs.Selection.{Outcome, Resolves, selected}
-use Rattle.command_words.specs.Asked.{Command}
 use Rattle.shex_inputs.specs.Held.{Held, IsTaken}
-use Rattle.shex_inputs.specs.Named.{IsFile}
+use Rattle.shex_inputs.specs.Named.{Inputs, IsFile}
 
 -- the nodes and the predicates of a map have the base and the prefixes at the end of the data
 abbrev pub node_names : Context → Scope
@@ -22,14 +21,14 @@ abbrev pub base_alone : Text → Scope
 base_alone base = record { base = base; prefixes = λ prefix. None }
 
 -- its targets have the base of the schema, and no prefix, since ShExJ declares none
-abbrev pub label_names : Command → Scope
-label_names c = base_alone c.schema_base
+abbrev pub label_names : Inputs → Scope
+label_names i = base_alone i.schema_base
 
--- the file of this name holds a map of these items (ShapeMap, section 3)
-pub record HoldsMap (told : Told) (c : Command) (names : Context) (name : Text) (items : List Item) : Type 0 where
+-- the map file holds a map of these items (ShapeMap, section 3)
+pub record HoldsMap (told : Told) (i : Inputs) (names : Context) (items : List Item) : Type 0 where
   pub bytes : List ℕ
-  pub file : IsFile told name bytes
-  pub spelled : IsMap (node_names names) (label_names c) bytes items
+  pub file : IsFile told i.map_file bytes
+  pub spelled : IsMap (node_names names) (label_names i) bytes items
 
 -- how the map is resolved over what is held (ShapeMap, section 4)
 abbrev pub EndsAs : Held → List Item → Outcome → Type 0
@@ -41,9 +40,9 @@ pub record Question : Type 0 where
   pub terms : List Term
   pub associations : List Association
 
--- the files hold these for the command, whose map has this name
-pub record IsAskedOf (told : Told) (c : Command) (name : Text) (q : Question) : Type 0 where
-  pub taken : IsTaken told c q.held
+-- the files hold these for the inputs
+pub record IsAskedOf (told : Told) (i : Inputs) (q : Question) : Type 0 where
+  pub taken : IsTaken told i q.held
   pub items : List Item
-  pub holds_map : HoldsMap told c q.held.names name items
+  pub holds_map : HoldsMap told i q.held.names items
   pub ends : EndsAs q.held items (selected q.associations q.terms)

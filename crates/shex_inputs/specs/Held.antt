@@ -23,10 +23,9 @@ use Rattle.schema_documents.specs.Tree.{Declaration, Document, MaybeShapeExpr, M
 use Rattle.schema_tree.specs.Entries.{entry}
 use Rattle.schema_tree.specs.Loaded.{IsLoaded}
 use Rattle.shexj_reader.specs.Bytes.{IsDocumentText}
-use Rattle.command_words.specs.Asked.{Command}
 use Rattle.shex_inputs.specs.declared.holding.Holding.{Holding}
 use Rattle.shex_inputs.specs.Loading.{IsBuilt, predicates_of}
-use Rattle.shex_inputs.specs.Named.{IsFile, is_compact}
+use Rattle.shex_inputs.specs.Named.{Inputs, IsFile, is_compact}
 
 -- a schema and a graph in the numbers of one table of terms, and the base and the prefixes at the end of the data
 pub record Held : Type 0 where
@@ -40,18 +39,18 @@ abbrev pub held_by : Holding → Held
 held_by b = record { schema = b.schema; terms = b.terms; graph = b.graph.triples; names = context_of b.names }
 
 -- the schema file, whose name is none of ShExC, holds the text of this document
-pub record HoldsSchema (told : Told) (c : Command) (doc : Document) : Type 0 where
+pub record HoldsSchema (told : Told) (i : Inputs) (doc : Document) : Type 0 where
   pub bytes : List ℕ
-  pub file : IsFile told c.schema bytes
-  pub in_json : is_compact c.schema ≡ false
+  pub file : IsFile told i.schema bytes
+  pub in_json : is_compact i.schema ≡ false
   pub spelled : IsDocumentText doc bytes
 
 -- the data file holds a document of these triples, in the format of the file's name and under the base of the data, with these
 -- base and prefixes at its end
-pub record HoldsData (told : Told) (c : Command) (last : Context) (triples : List TermTriple) : Type 0 where
+pub record HoldsData (told : Told) (i : Inputs) (last : Context) (triples : List TermTriple) : Type 0 where
   pub bytes : List ℕ
-  pub file : IsFile told c.data_file bytes
-  pub spelled : IsData (format_of c.data_file) c.data_base (last, triples) bytes
+  pub file : IsFile told i.data_file bytes
+  pub spelled : IsData (format_of i.data_file) i.data_base (last, triples) bytes
 
 -- the entry is the shape expression, a node constraint
 abbrev pub IsNodeOf : Schema → ShapeExpr → ExprId → Type 0
@@ -133,10 +132,10 @@ pub record HasRoom (h : Held) : Type 0 where
   pub terms : length h.terms < max_terms
   pub graph : length h.graph < 2 ^ 31
 
--- the schema file and the data file hold these schema and graph for the command
-pub record IsTaken (told : Told) (c : Command) (h : Held) : Type 0 where
+-- the schema file and the data file hold these schema and graph
+pub record IsTaken (told : Told) (i : Inputs) (h : Held) : Type 0 where
   pub doc : Document
-  pub holds_schema : HoldsSchema told c doc
+  pub holds_schema : HoldsSchema told i doc
   pub triples : List TermTriple
-  pub holds_data : HoldsData told c h.names triples
+  pub holds_data : HoldsData told i h.names triples
   pub holding : IsHolding doc triples h

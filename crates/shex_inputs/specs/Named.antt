@@ -1,10 +1,9 @@
--- The files that the words of a command name.
+-- The files of the inputs, by their names.
 use Rattle.std.specs.Prelude.{ℕ, Bool, List, codes, ◌≤◌, ◌<◌, length, nat_eq, Some}
 use Rattle.std.specs.List.{ends_with}
 use Rattle.clap.specs.Words.{Text}
 use Rattle.shex_io.specs.Files.{Told, Holds}
-use Rattle.command_words.specs.Asked.{Command}
-use Rattle.command_words.specs.Requests.{Task, checking, validation}
+use Rattle.command_words.specs.declared.command.Inputs.{Inputs as LentInputs}
 use Rattle.shex_inputs.specs.declared.error.Refusal.{Refusal}
 use Rattle.shex_inputs.specs.declared.error.Refusal.TheVariants as Refusals
 use Rattle.shex_inputs.specs.declared.error.Source.{Source}
@@ -14,16 +13,29 @@ use Rattle.shex_inputs.specs.declared.error.Source.TheVariants.{Schema, Data, Ma
 abbrev pub max_file : ℕ
 max_file = 67108864
 
--- the name of the map; a check has none
-abbrev pub map_name : Task → Text
-map_name (validation name proof_name steps) = name
-map_name (checking proof_name) = codes ""
+-- the names of the files, and the bases; where no map is asked for, its name is empty
+pub record Inputs : Type 0 where
+  pub schema : Text
+  pub data_file : Text
+  pub map_file : Text
+  pub schema_base : Text
+  pub data_base : Text
+
+-- the inputs that words name, and a map of this name
+abbrev pub inputs_with : LentInputs → Text → Inputs
+inputs_with lent map_name = record {
+  schema = lent.schema.now;
+  data_file = lent.data.now;
+  map_file = map_name;
+  schema_base = lent.schema_base.now;
+  data_base = lent.data_base.now;
+}
 
 -- the name of a file of the inputs
-abbrev pub source_name : Command → Source → List ℕ
-source_name c Schema = c.schema
-source_name c Data = c.data_file
-source_name c Map = map_name c.task
+abbrev pub source_name : Inputs → Source → List ℕ
+source_name i Schema = i.schema
+source_name i Data = i.data_file
+source_name i Map = i.map_file
 
 -- the file that is refused
 abbrev pub source_of : Refusal → Source

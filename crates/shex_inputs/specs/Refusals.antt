@@ -19,7 +19,6 @@ use Rattle.shape_map.specs.declared.error.MapError.TheVariants as MapErrors
 use Rattle.shape_map.specs.declared.items.Item.{Item}
 use Rattle.shape_map.specs.Maps.{Explains as MapExplains, IsMap}
 use Rattle.shape_map.specs.Selection.{refused}
-use Rattle.command_words.specs.Asked.{Command}
 use Rattle.shex_inputs.specs.declared.error.Refusal.{Refusal}
 use Rattle.shex_inputs.specs.declared.error.Refusal.TheVariants as Refusals
 use Rattle.shex_inputs.specs.declared.error.Source.{Source}
@@ -27,25 +26,25 @@ use Rattle.shex_inputs.specs.declared.error.Source.TheVariants as Sources
 use Rattle.shex_inputs.specs.Asked.{EndsAs, HoldsMap, label_names, node_names}
 use Rattle.shex_inputs.specs.Held.{Held, HoldsSchema, IsHolding, IsTaken}
 use Rattle.shex_inputs.specs.Loading.{predicates_of}
-use Rattle.shex_inputs.specs.Named.{IsFile, IsTooLong, is_compact, map_name, source_name}
+use Rattle.shex_inputs.specs.Named.{Inputs, IsFile, IsTooLong, is_compact, source_name}
 
 -- the steps come to a file of the inputs: those before it are taken
-abbrev pub Reaches : Told → Command → Source → Type 0
-Reaches told c Sources.Schema = ⊤
-Reaches told c Sources.Data = (doc : Document) × HoldsSchema told c doc
-Reaches told c Sources.Map = (h : Held) × IsTaken told c h
+abbrev pub Reaches : Told → Inputs → Source → Type 0
+Reaches told i Sources.Schema = ⊤
+Reaches told i Sources.Data = (doc : Document) × HoldsSchema told i doc
+Reaches told i Sources.Map = (h : Held) × IsTaken told i h
 
 -- the schema file's bytes, within the limit, are of a schema in ShExC, by its name
-pub record IsCompactFile (told : Told) (c : Command) : Type 0 where
+pub record IsCompactFile (told : Told) (i : Inputs) : Type 0 where
   pub bytes : List ℕ
-  pub file : IsFile told c.schema bytes
-  pub compact : is_compact c.schema ≡ true
+  pub file : IsFile told i.schema bytes
+  pub compact : is_compact i.schema ≡ true
 
 -- the schema file's bytes, within the limit, have this cause, and they spell no document that is read
-pub record IsNoSchema (told : Told) (c : Command) (e : SchemaError) : Type 0 where
+pub record IsNoSchema (told : Told) (i : Inputs) (e : SchemaError) : Type 0 where
   pub bytes : List ℕ
-  pub file : IsFile told c.schema bytes
-  pub in_json : is_compact c.schema ≡ false
+  pub file : IsFile told i.schema bytes
+  pub in_json : is_compact i.schema ≡ false
   pub apart : e ≢ SchemaErrors.Memory
   pub cause : IsCause bytes e
   pub none : (doc : Document) → ¬ IsDocumentText doc bytes
@@ -55,38 +54,38 @@ abbrev pub IsDataCause : Format → List ℕ → Document → List ℕ → ReadE
 IsDataCause format base doc bytes e = (first : List Term) × AddsAll [] (predicates_of doc) first × DataExplains format base e bytes first []
 
 -- the schema is taken, the data file's bytes, within the limit, have this cause, and no table and graph are made of them
-pub record AreUnread (told : Told) (c : Command) (e : ReadError) : Type 0 where
+pub record AreUnread (told : Told) (i : Inputs) (e : ReadError) : Type 0 where
   pub doc : Document
-  pub holds_schema : HoldsSchema told c doc
+  pub holds_schema : HoldsSchema told i doc
   pub bytes : List ℕ
-  pub file : IsFile told c.data_file bytes
+  pub file : IsFile told i.data_file bytes
   pub apart : e ≢ ReadErrors.Memory
-  pub cause : IsDataCause (format_of c.data_file) c.data_base doc bytes e
-  pub none : (last : Context) (triples : List TermTriple) → IsData (format_of c.data_file) c.data_base (last, triples) bytes → (h : Held) → ¬ IsHolding doc triples h
+  pub cause : IsDataCause (format_of i.data_file) i.data_base doc bytes e
+  pub none : (last : Context) (triples : List TermTriple) → IsData (format_of i.data_file) i.data_base (last, triples) bytes → (h : Held) → ¬ IsHolding doc triples h
 
 -- the schema and the data are taken, the map file's bytes, within the limit, have this cause, and they are no map
-pub record IsNoMap (told : Told) (c : Command) (e : MapError) : Type 0 where
+pub record IsNoMap (told : Told) (i : Inputs) (e : MapError) : Type 0 where
   pub held : Held
-  pub taken : IsTaken told c held
+  pub taken : IsTaken told i held
   pub bytes : List ℕ
-  pub file : IsFile told (map_name c.task) bytes
+  pub file : IsFile told i.map_file bytes
   pub apart : e ≢ MapErrors.Memory
-  pub cause : MapExplains (node_names held.names) (label_names c) e bytes
-  pub none : (items : List Item) → ¬ IsMap (node_names held.names) (label_names c) bytes items
+  pub cause : MapExplains (node_names held.names) (label_names i) e bytes
+  pub none : (items : List Item) → ¬ IsMap (node_names held.names) (label_names i) bytes items
 
 -- the schema, the data and the bytes of the map are taken, and the map ends with this refusal
-pub record IsUnresolved (told : Told) (c : Command) (e : MapError) : Type 0 where
+pub record IsUnresolved (told : Told) (i : Inputs) (e : MapError) : Type 0 where
   pub held : Held
-  pub taken : IsTaken told c held
+  pub taken : IsTaken told i held
   pub items : List Item
-  pub holds_map : HoldsMap told c held.names (map_name c.task) items
+  pub holds_map : HoldsMap told i held.names items
   pub ends : EndsAs held items (refused e)
 
 -- the file is the first of the inputs that is not taken, and this is why: too many bytes are refused unread, and each other refusal
 -- is by its bytes
-abbrev pub IsRefused : Told → Command → Refusal → Type 0
-IsRefused told c (Refusals.Size source) = Reaches told c source × IsTooLong told (source_name c source)
-IsRefused told c Refusals.NotBuilt = IsCompactFile told c
-IsRefused told c (Refusals.Schema e) = IsNoSchema told c e
-IsRefused told c (Refusals.Data e) = AreUnread told c e
-IsRefused told c (Refusals.Map e) = IsNoMap told c e ⊎ IsUnresolved told c e
+abbrev pub IsRefused : Told → Inputs → Refusal → Type 0
+IsRefused told i (Refusals.Size source) = Reaches told i source × IsTooLong told (source_name i source)
+IsRefused told i Refusals.NotBuilt = IsCompactFile told i
+IsRefused told i (Refusals.Schema e) = IsNoSchema told i e
+IsRefused told i (Refusals.Data e) = AreUnread told i e
+IsRefused told i (Refusals.Map e) = IsNoMap told i e ⊎ IsUnresolved told i e

@@ -44,10 +44,8 @@ fn read_data(
     // Their lengths tell contracts that they are within the limits.
     let _terms = terms.len();
     let _triples = graph.len();
-    match read {
-        Ok(names) => Ok((graph, names)),
-        Err(error) => Err(error),
-    }
+    let names = read?;
+    Ok((graph, names))
 }
 
 /// The schema of a document, and what a source in a format holds under a base.

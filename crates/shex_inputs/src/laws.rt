@@ -2,7 +2,7 @@
 
 ghost use Rattle.shex_inputs.specs.Laws.{InputsAreOne};
 
-/// What files that are told hold for a command is one thing: it is taken, or one file is refused or absent.
+/// What files that are told hold is one thing: it is taken, or one file is refused or absent.
 pub fn inputs_are_one()
     ensures { InputsAreOne }
 {

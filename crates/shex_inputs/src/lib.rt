@@ -1,4 +1,4 @@
-//! The inputs of a command: what the schema file, the data file and the shape map hold, in the numbers of one table of terms.
+//! The inputs: what the schema file, the data file and the shape map hold, in the numbers of one table of terms.
 #![tactic(auto)]
 
 mod data;

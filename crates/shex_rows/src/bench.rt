@@ -1,7 +1,10 @@
 //! The rows of a document, tried one after the other.
 
+use crate::asking::Asking;
 use crate::document::Entry;
-use crate::trial::{Failing, NamedFile, call};
+use crate::inputs::{NamedFile, file_of, numbers_of};
+use crate::questions::Named;
+use crate::trial::{Failing, call};
 use crate::verdict::Verdict;
 use anyhow::bail;
 use std::alloc::{AllocError, Global};
@@ -13,6 +16,7 @@ struct Row {
     files: Vec<NamedFile>,
     failing: Failing,
     verdict: Option<Verdict>,
+    asking: Asking,
     differences: String,
 }
 
@@ -27,42 +31,6 @@ pub struct Bench {
     report: String,
 }
 
-/// The bytes that stand in a text as hexadecimal digits, two and two.
-fn bytes_of(alloc: Global, text: &str) -> anyhow::Result<Vec<u8>> {
-    let mut bytes = Vec::new(alloc);
-    for digits in text.split_ascii_whitespace() {
-        bytes.push(u8::from_str_radix(digits, 16)?)?;
-    }
-    Ok(bytes)
-}
-
-/// The numbers in a text.
-fn numbers_of(alloc: Global, text: &str) -> anyhow::Result<Vec<u64>> {
-    let mut numbers = Vec::new(alloc);
-    for digits in text.split_ascii_whitespace() {
-        numbers.push(digits.parse::<u64>()?)?;
-    }
-    Ok(numbers)
-}
-
-/// A text as bytes of their own.
-fn copied(alloc: Global, text: &str) -> Result<Vec<u8>, AllocError> {
-    let mut bytes = Vec::new(alloc);
-    bytes.extend_from_slice(text.as_bytes())?;
-    Ok(bytes)
-}
-
-/// The file that a line gives with its text.
-fn file_of(alloc: Global, verb: &str, name: &str, text: &str) -> anyhow::Result<NamedFile> {
-    let bytes = match verb {
-        "bytes" => bytes_of(alloc, text)?,
-        "text" => copied(alloc, text.strip_suffix('\n').unwrap_or(text))?,
-        _ => copied(alloc, text)?,
-    };
-    let name = String::from_str(alloc, name)?;
-    Ok(NamedFile { name, bytes })
-}
-
 impl Row {
     /// A row that has called nothing.
     fn new(alloc: Global, title: &str) -> Result<Row, AllocError> {
@@ -71,6 +39,7 @@ impl Row {
             files: Vec::new(alloc),
             failing: Failing::none(alloc),
             verdict: None,
+            asking: Asking::new(),
             differences: String::new(alloc),
         })
     }
@@ -97,6 +66,13 @@ impl Row {
         Ok(())
     }
 
+    /// Asks single calls what a line with its text says, or compares the answer to what was asked.
+    fn ask(&mut self, alloc: Global, common: &[NamedFile], entry: &Entry) -> anyhow::Result<()> {
+        let own = self.files.as_slice();
+        let files = Named { common, own };
+        self.asking.obey(alloc, &mut self.differences, files, entry)
+    }
+
     /// Compares what is said of the last call.
     fn say(&mut self, alloc: Global, verb: &str, rest: &str, text: &str) -> anyhow::Result<()> {
         let Some(verdict) = &mut self.verdict else {
@@ -120,7 +96,8 @@ impl Row {
     /// The lines for the row.
     fn into_lines(mut self, alloc: Global) -> Result<String, AllocError> {
         self.end(alloc)?;
-        if self.verdict.is_none() {
+        self.asking.end(&mut self.differences)?;
+        if self.verdict.is_none() && !self.asking.has_asked() {
             self.differences.push_str("  nothing was called\n")?;
         }
         let mark = if self.differences.is_empty() {
@@ -179,9 +156,12 @@ impl Bench {
         };
         let common = self.common.as_slice();
         match verb {
-            "file" | "text" | "bytes" => row.files.push(file_of(alloc, verb, rest, text)?)?,
+            "file" | "text" | "bytes" | "times" => row
+                .files
+                .push(file_of(alloc, verb, rest, text)?)?,
             "fails" => row.fail(alloc, rest)?,
             "run" => row.run(alloc, common, rest)?,
+            "each" | "ask" | "hex" | "gives" => row.ask(alloc, common, entry)?,
             _ => {
                 if let (None, Some(words)) = (&row.verdict, &self.words) {
                     row.run(alloc, common, words.as_str())?;

@@ -1,17 +1,9 @@
 //! One call, and what it gave.
 
+use crate::inputs::NamedFile;
 use shex_io::{MemFiles, MemSink};
 use shex_run::run;
 use std::alloc::{AllocError, Global};
-
-/// A file in memory.
-#[derive(Drop)]
-pub struct NamedFile {
-    /// Its name.
-    pub name: String,
-    /// What it holds.
-    pub bytes: Vec<u8>,
-}
 
 /// Which calls fail, by their numbers from 0.
 #[derive(Drop)]

@@ -1,5 +1,6 @@
 //! What is said of a call, beside what it gave.
 
+use crate::differences::compare;
 use crate::trial::Trial;
 use anyhow::bail;
 use std::alloc::{AllocError, Global};
@@ -11,22 +12,6 @@ pub struct Verdict {
     has_status: bool,
     has_out: bool,
     has_err: bool,
-}
-
-/// Notes a difference where bytes are not those that are wanted.
-fn compare(
-    alloc: Global,
-    differences: &mut String,
-    what: &str,
-    found: &[u8],
-    wanted: &[u8],
-) -> Result<(), AllocError> {
-    if found == wanted {
-        return Ok(());
-    }
-    let found = String::from_utf8_lossy(alloc, found)?;
-    let line = format!(in alloc; "  {what} is not as wanted, but:\n{found}\n")?;
-    differences.push_str(line.as_str())
 }
 
 /// Notes a difference where a call has another status.

@@ -19,6 +19,8 @@ use Rattle.shex_inputs.specs.Named.{source_of}
 use Rattle.shex_inputs.specs.Outcomes.{IsBeforeMap, Explains as ExplainsInput, FaultsAs as FaultsAsInput}
 use Rattle.shex_run.specs.declared.stop.File.{File}
 use Rattle.shex_run.specs.declared.stop.File.TheVariants as Files
+use Rattle.proof_checker.specs.declared.checking.CheckError.TheVariants as CheckErrors
+use Rattle.shex_run.specs.declared.stop.Refusal.TheVariants as Refusals
 use Rattle.shex_run.specs.declared.stop.Stop.{Stop}
 use Rattle.shex_run.specs.declared.stop.Stop.TheVariants as Stops
 use Rattle.shex_run.specs.Checking.{ConfirmStops, Confirms, IsGiven}
@@ -27,7 +29,7 @@ use Rattle.shex_run.specs.Outcomes.{Reaches, ReachesProof}
 use Rattle.shex_run.specs.Proofs.{AreAnswers, IsCutStore, IsDueProof, IsStoredProofOf, Stores}
 use Rattle.shex_run.specs.Statuses.{status_of}
 use Rattle.shex_run.specs.Stopping.{Explains, FaultsAs, LeavesStored, ProofStops, stop_of}
-use Rattle.shex_run.specs.Tasks.{IsInputOf, IsToCheck, IsToValidate, act_of, name_of}
+use Rattle.shex_run.specs.Tasks.{IsInputOf, IsToCheck, IsToValidate, act_of, inputs_of, name_of}
 
 -- what a stop says of the cause, the faults and the store
 pub record Stopped (told after : Told) (c : Command) (before later : ℕ) (blame : List ℕ) (act : Act) (stop : Stop) : Type 0 where
@@ -61,7 +63,7 @@ base_of_task (checking name) (Errors.Refused refusal) before = no_map_of name (s
 base_of_task (checking name) (Errors.Failed source) before = no_map_of name source before
 base_of_task (checking name) Errors.Memory before = tt
 
-pub input_stopped : (told after : Told) (c : Command) (before later : ℕ) (blame : List ℕ) (act : Act) (e : InputError) → IsOfTask c.task e → ExplainsInput told c e → FaultsAsInput c before later blame act e → after ≡ told →
+pub input_stopped : (told after : Told) (c : Command) (before later : ℕ) (blame : List ℕ) (act : Act) (e : InputError) → IsOfTask c.task e → ExplainsInput told (inputs_of c) e → FaultsAsInput (inputs_of c) before later blame act e → after ≡ told →
     Stopped told after c before later blame act (stop_of e)
 input_stopped told after c before later blame act (Errors.Refused refusal) of cause still same = record { cause = (of, cause); faults = still; stored = same }
 input_stopped told after c before later blame act (Errors.Failed source) of cause rose same = record { cause = (of, cause); faults = rose; stored = inl same }
@@ -69,7 +71,7 @@ input_stopped told after c before later blame act Errors.Memory of cause still s
 
 -- ---- `validate`
 
-module _ (told : Told) (c : Command) (map_name : Text) (proof_name : Option Text) (task : IsToValidate c map_name proof_name) (q : Question) (answers : List Answer) (are : AreAnswers told c map_name q answers)
+module _ (told : Told) (c : Command) (map_name : Text) (proof_name : Option Text) (task : IsToValidate c map_name proof_name) (q : Question) (answers : List Answer) (are : AreAnswers told c q answers)
     (text : List ℕ) (status : ℕ) (text_is : text ≡ result_text q.terms answers) (status_is : status ≡ status_of q.associations answers) where
   -- without a name nothing is stored
   pub unstored : proof_name ≡ None → (after : Told) → after ≡ told → IsResponse told after c status text
@@ -112,8 +114,6 @@ module _ (told : Told) (c : Command) (map_name : Text) (proof_name : Option Text
 
     pub store_stopped : (after : Told) (before later : ℕ) (blame : List ℕ) (act : Act) (stop : Stop) → ProofStops name Acts.Store before later blame act stop → HoldsPart told after name bytes → KeepsOthers told after name → Stopped told after c before later blame act stop
     store_stopped after before later blame act (Stops.Refused refusal) h part others = absurd h
-    store_stopped after before later blame act Stops.Full h part others = absurd h
-    store_stopped after before later blame act (Stops.Rejected rejection) h part others = absurd h
     store_stopped after before later blame act (Stops.Failed file) (e, (rose, up, blamed, acted)) part others = record {
       cause = reached file e;
       faults = (rose, up, blamed ∙ own_name, acted ∙ own_act);
@@ -129,11 +129,9 @@ module _ (told : Told) (c : Command) (map_name : Text) (proof_name : Option Text
 
 -- ---- `check`
 
-module _ (told : Told) (c : Command) (b : Held) (taken : IsTaken told c b) (name : List ℕ) (is : IsToCheck c name) where
+module _ (told : Told) (c : Command) (b : Held) (taken : IsTaken told (inputs_of c) b) (name : List ℕ) (is : IsToCheck c name) where
   pub fetch_stopped : (after : Told) → after ≡ told → (before later : ℕ) (blame : List ℕ) (act : Act) (stop : Stop) → ProofStops name Acts.Fetch before later blame act stop → Stopped told after c before later blame act stop
   fetch_stopped after same before later blame act (Stops.Refused refusal) h = absurd h
-  fetch_stopped after same before later blame act Stops.Full h = absurd h
-  fetch_stopped after same before later blame act (Stops.Rejected rejection) h = absurd h
   fetch_stopped after same before later blame act (Stops.Failed file) (e, (rose, up, blamed, acted)) = record {
     cause = subst (λ f. Reaches told c f) (sym e) (subst (λ t. ReachesProof told c t) (sym is) (b, taken));
     faults = (rose, up, blamed ∙ own_name, acted ∙ own_act);
@@ -155,8 +153,10 @@ module _ (told : Told) (c : Command) (b : Held) (taken : IsTaken told c b) (name
     confirmed after same text k = inr (record { checked = record { held = b; bytes = bytes; given = given; confirmed = k }; unstored = same; status_is = refl })
 
     pub confirm_stopped : (after : Told) → after ≡ told → (before later : ℕ) (blame : List ℕ) (act : Act) → later ≡ before → (stop : Stop) → ConfirmStops b bytes stop → Stopped told after c before later blame act stop
-    confirm_stopped after same before later blame act still Stops.Full full = record { cause = (b, bytes, given, full); faults = still; stored = same }
-    confirm_stopped after same before later blame act still (Stops.Refused refusal) h = absurd h
-    confirm_stopped after same before later blame act still (Stops.Rejected rejection) h = record { cause = (b, bytes, given, h); faults = still; stored = same }
+    confirm_stopped after same before later blame act still (Stops.Refused (Refusals.Input refusal)) h = absurd h
+    confirm_stopped after same before later blame act still (Stops.Refused (Refusals.Proof CheckErrors.Full)) h = record { cause = (b, bytes, given, h); faults = still; stored = same }
+    confirm_stopped after same before later blame act still (Stops.Refused (Refusals.Proof CheckErrors.Memory)) h = absurd h
+    confirm_stopped after same before later blame act still (Stops.Refused (Refusals.Proof (CheckErrors.Syntax at))) h = record { cause = (b, bytes, given, h); faults = still; stored = same }
+    confirm_stopped after same before later blame act still (Stops.Refused (Refusals.Proof (CheckErrors.Rejected i w))) h = record { cause = (b, bytes, given, h); faults = still; stored = same }
     confirm_stopped after same before later blame act still (Stops.Failed file) h = absurd h
     confirm_stopped after same before later blame act still Stops.Memory h = record { cause = tt; faults = still; stored = inl same }

@@ -4,7 +4,6 @@ use Rattle.std.specs.Prelude.{All, Contains, Some, slice_get}
 use Rattle.std.proofs.lemmas.List.Elements.{All-contains, All-contains_itself, All-weaker}
 use Rattle.std.proofs.lemmas.Option.{slice_get_within}
 use Rattle.std.specs.Str.{IsUtf8}
-use Rattle.clap.specs.Words.{Text}
 use Rattle.shex_io.specs.Files.{Told}
 use Rattle.lists.specs.Distinct.{AreDistinct}
 use Rattle.rdf_terms.specs.Tables.{max_terms}
@@ -42,6 +41,7 @@ use Rattle.shape_map.specs.Answers.{AreAnswersTo, IsAsked}
 use Rattle.simple_typing.specs.Answers.{HasLines, IsFlatProofOf as Proves, flat}
 use Rattle.shex_run.specs.Proofs.{IsStoredProofOf}
 use Rattle.shex_run.specs.Stopping.{HasBases}
+use Rattle.shex_run.specs.Tasks.{inputs_of}
 use Rattle.shex_run.proofs.Risen.{taken_up}
 use Rattle.shex_run.proofs.Selected.{From, Gives, IsNodeOf, Known, comes_from, known}
 use Rattle.shex_run.proofs.Settled.{numbered_held}
@@ -85,7 +85,7 @@ answers_within s terms g asked xs are all x h =
 empty_distinct : AreDistinct {X = Term} []
 empty_distinct i j x h k = cc
 
-module _ (told : Told) (c : Command) (name : Text) (q : Question) (is : IsAskedOf told c name q) where
+module _ (told : Told) (c : Command) (q : Question) (is : IsAskedOf told (inputs_of c) q) where
   abbrev s : Schema
   s = q.held.schema
 
@@ -120,7 +120,7 @@ module _ (told : Told) (c : Command) (name : Text) (q : Question) (is : IsAskedO
     data_lines = data_law (format_of c.data_file) c.data_base is.taken.holds_data.bytes q.held.names is.taken.triples (base_law c.data_base other bases.data_file) is.taken.holds_data.spelled
 
     item_lines : (i : Item) → Contains is.items i → ((t : Term) → Contains (written i.selector) t → HasOneLine t) × (¬ Contains (target_text i.target) 10)
-    item_lines = map_law (node_names q.held.names) (label_names c) is.holds_map.bytes is.items data_lines.0 (record { base = base_law c.schema_base one bases.schema; prefixes = λ prefix iri h. absurd cc }) is.holds_map.spelled
+    item_lines = map_law (node_names q.held.names) (label_names (inputs_of c)) is.holds_map.bytes is.items data_lines.0 (record { base = base_law c.schema_base one bases.schema; prefixes = λ prefix iri h. absurd cc }) is.holds_map.spelled
 
     -- the term of an end of a triple of the graph can stand on one line
     first_distinct : AreDistinct is.taken.holding.first

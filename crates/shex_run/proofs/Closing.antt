@@ -8,6 +8,7 @@ use Rattle.schema_tree.specs.declared.schema.Answer.{Answer}
 use Rattle.shex_io.specs.Faults.{Rose}
 use Rattle.shex_io.specs.Files.{Holds, HoldsPart, KeepsOthers, Told}
 use Rattle.shex_io.specs.Sinks.{GainsPrefix}
+use Rattle.proof_checker.specs.declared.checking.CheckError.{CheckError}
 use Rattle.proof_checker.specs.Checks.{IsFullFor}
 use Rattle.command_words.specs.Asked.{Command, IsAsked, IsFirstFault}
 use Rattle.command_words.specs.Checks.{Fault}
@@ -17,14 +18,12 @@ use Rattle.shex_inputs.specs.declared.error.Refusal.{Refusal}
 use Rattle.shex_inputs.specs.Asked.{IsAskedOf, Question}
 use Rattle.shex_inputs.specs.Held.{Held}
 use Rattle.shex_run.specs.declared.stop.File.{File}
-use Rattle.shex_run.specs.declared.stop.File.TheVariants as Files
-use Rattle.shex_run.specs.declared.stop.Rejection.{Rejection}
 use Rattle.shex_run.specs.Checking.{IsFull, IsGiven, IsRejected, Rejects}
 use Rattle.shex_run.specs.Endings.{Ends, FilesSeen, IsAnswered, IsPartlyStored, IsPrintedInPart, IsRefusalLine, IsRefusedBy, IsRejectedBy, IsRespondedTo, IsResponse, IsUnprinted, IsWhollyStored, IsWordsLine, KeepsTold, MayPrintInPart, PrintsTo, SinkSeen, answer_in_part, answered, failed, faulty, line_in_part, refused, rejected, wanting}
 use Rattle.shex_run.specs.Outcomes.{AreTaken, IsAbsent, IsRefused, TakesFor}
 use Rattle.shex_run.specs.Proofs.{Accepted, IsStoredProofOf, Stores}
 use Rattle.shex_run.specs.Statuses.{Concludes, IsInterrupted}
-use Rattle.shex_run.specs.Tasks.{IsToValidate}
+use Rattle.shex_run.specs.Tasks.{IsToValidate, inputs_of}
 use Rattle.shex_run.proofs.Exclusive.{AreOne, asked_not_absent, asked_not_refused, check_not_refused, full_not_absent, full_not_wish, given_not_absent, no_both, one_given, refused_not_absent}
 use Rattle.shex_run.proofs.Settled.{accepted_not_full, accepted_not_rejected, rejected_not_full}
 
@@ -80,7 +79,7 @@ module _ (words : List Text) (c : Command) (is_asked : IsAsked words c) (law : A
     taken_ends taken (refused line by left quiet prints) = or_interrupted (Concludes c.task status) 3 status (λ h. go (refusal_of files.told line by) c.task refl taken h) (wanted_or err line 3 status prints)
       where
         go : IsLeft files.told → (t : Task) → c.task ≡ t → TakesFor files.told c t → status ≡ 3 → Concludes c.task status
-        go (inl (refusal, cause)) (validation m p n) is (q, asked) h = absurd (asked_not_refused files.told contents told c one m p (record { steps = n; task = is }) q asked refusal cause)
+        go (inl (refusal, cause)) (validation m p n) is (q, asked) h = absurd (asked_not_refused files.told contents told c one q asked refusal cause)
         go (inl (refusal, cause)) (checking name) is (k, held) h = absurd (check_not_refused files.told contents told c one k name held is refusal cause)
         go (inr (k, bytes, given, full)) t is taken h = subst (λ x. Concludes x status) (sym given.task) (inr (inl h))
     taken_ends taken (rejected line by left quiet prints) =
@@ -108,7 +107,7 @@ module _ (words : List Text) (c : Command) (is_asked : IsAsked words c) (law : A
               )
       whole text wanted (inr k) = absurd (no_both map (Some name) to.steps k.checked.given.name (sym to.task ∙ k.checked.given.task))
 
-      taken : AreTaken files.told c → (q : Question) × IsAskedOf files.told c map q
+      taken : AreTaken files.told c → (q : Question) × IsAskedOf files.told (inputs_of c) q
       taken h = subst (λ t. TakesFor files.told c t) to.task h
 
       -- where its inputs are taken and a sink alone failed, it is stored whole
@@ -118,7 +117,7 @@ module _ (words : List Text) (c : Command) (is_asked : IsAsked words c) (law : A
       whole_ends h (refused line by left quiet prints) at still = go (refusal_of files.told line by)
         where
           go : IsLeft files.told → IsWhollyStored files.told files.told_after c name
-          go (inl (refusal, cause)) = let (q, asked) = taken h in absurd (asked_not_refused files.told contents told c one map (Some name) to q asked refusal cause)
+          go (inl (refusal, cause)) = let (q, asked) = taken h in absurd (asked_not_refused files.told contents told c one q asked refusal cause)
           go (inr full) = absurd (full_not_wish files.told contents told c one map (Some name) to full)
       whole_ends h (rejected line by left quiet prints) at still =
           let (k, x, given, rejects) = rejection_of files.told line by in
@@ -136,7 +135,7 @@ module _ (words : List Text) (c : Command) (is_asked : IsAsked words c) (law : A
           subst (λ y. Accepted b y terms answers) (one_given files.told contents told c one k b x bytes also given)
           (subst (λ z. Accepted z x terms answers) (one.held k b also.taken given.taken) h)
 
-      same_rejects : (k : Held) (x : List ℕ) (r : Rejection) → IsGiven files.told c k x → Rejects k x r → Rejects b bytes r
+      same_rejects : (k : Held) (x : List ℕ) (r : CheckError) → IsGiven files.told c k x → Rejects k x r → Rejects b bytes r
       same_rejects k x r also h =
           subst (λ y. Rejects b y r) (one_given files.told contents told c one k b x bytes also given)
           (subst (λ z. Rejects z x r) (one.held k b also.taken given.taken) h)
@@ -170,7 +169,7 @@ module _ (words : List Text) (c : Command) (is_asked : IsAsked words c) (law : A
       accepted_ends terms answers a (wanting stored same quiet also h) = inr (inr (inr h))
 
       -- and one that is rejected too
-      rejected_ends_so : (rejection : Rejection) → Rejects b bytes rejection → Ends words files out err status → (status ≡ 6) ⊎ IsInterrupted status
+      rejected_ends_so : (rejection : CheckError) → Rejects b bytes rejection → Ends words files out err status → (status ≡ 6) ⊎ IsInterrupted status
       rejected_ends_so rejection is (faulty line by left quiet prints) = absurd (not_faulty line by)
       rejected_ends_so rejection is (answered text wanted low r same prints quiet) = elim (responded files.told files.told_after wanted text r) [
         | inl x ↦ absurd (no_wish text wanted x)
@@ -198,7 +197,7 @@ module _ (words : List Text) (c : Command) (is_asked : IsAsked words c) (law : A
       full_ends full (failed line by have quiet prints) = inr (five_interrupts status (wanted_or err line 5 status prints))
       full_ends full (wanting stored same quiet also h) = inr (inr (inr h))
 
-    pub rejected_ends : (rejection : Rejection) → IsRejected files.told c rejection → Ends words files out err status → (status ≡ 6) ⊎ IsInterrupted status
+    pub rejected_ends : (rejection : CheckError) → IsRejected files.told c rejection → Ends words files out err status → (status ≡ 6) ⊎ IsInterrupted status
     rejected_ends rejection (b, bytes, given, is) ends = rejected_ends_so b bytes given rejection is ends
 
     -- where a file is refused, the refusal is said
@@ -208,7 +207,7 @@ module _ (words : List Text) (c : Command) (is_asked : IsAsked words c) (law : A
     pub refused_ends : (refusal : Refusal) → IsRefused files.told c refusal → Ends words files out err status → (status ≡ 3) ⊎ IsInterrupted status
     refused_ends refusal cause (faulty line by left quiet prints) = absurd (not_faulty line by)
     refused_ends refusal cause (answered text wanted low r same prints quiet) = elim (responded files.told files.told_after wanted text r) [
-      | inl x ↦ absurd (asked_not_refused files.told contents told c one x.map_name x.proof_name x.task x.question x.are_answers.asked refusal cause)
+      | inl x ↦ absurd (asked_not_refused files.told contents told c one x.question x.are_answers.asked refusal cause)
       | inr k ↦ absurd (check_not_refused files.told contents told c one k.checked.held k.checked.given.name k.checked.given.taken k.checked.given.task refusal cause)
     ]
     refused_ends refusal cause (refused line by left quiet prints) = wanted_or err line 3 status prints

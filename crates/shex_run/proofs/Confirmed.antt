@@ -1,5 +1,6 @@
--- What is accepted is true of the complete typing.
-use Rattle.std.proofs.Common.{subst, ℕ, List}
+-- What is accepted is true of the complete typing, and what is not accepted is not confirmed.
+use Rattle.std.proofs.Common.{◌≤◌, length, subst, ℕ, List}
+use Rattle.rdf_terms.specs.Tables.{max_terms}
 use Rattle.rdf_terms.specs.declared.terms.Term.{Term}
 use Rattle.schema_tree.specs.declared.schema.Answer.{Answer}
 use Rattle.schema_tree.specs.Laws.{TypingExists}
@@ -7,10 +8,14 @@ use Rattle.schema_tree.specs.Loaded.{IsLoaded}
 use Rattle.schema_tree.specs.Typings.{IsTheTyping}
 use Rattle.proof_file.specs.Accepts.{Accepts}
 use Rattle.proof_file.specs.Laws.{Soundness}
+use Rattle.proof_checker.specs.declared.checking.CheckError.{CheckError}
+use Rattle.proof_checker.specs.declared.checking.CheckError.TheVariants as Errors
+use Rattle.proof_checker.specs.Checks.{FailsAs}
 use Rattle.shex_inputs.specs.Held.{Held}
 use Rattle.simple_typing.specs.Simple.{IsSimpleSchema}
-use Rattle.shex_run.specs.Checking.{IsTrueOf}
+use Rattle.shex_run.specs.Checking.{ConfirmStops, IsTrueOf}
 use Rattle.shex_run.specs.Proofs.{Accepted}
+use Rattle.shex_run.specs.Stopping.{check_stop}
 use Rattle.schema_tree.proofs.OneStrata.{strata_one}
 use Rattle.simple_typing.proofs.Flat.{has_typing}
 
@@ -25,3 +30,10 @@ is_true h loaded simple exists sound bytes terms answers a = record {
   where
     accepts : Accepts a.strata h.schema terms h.graph a.found.proof
     accepts = record { nodes = a.found.nodes; numbers = a.found.read.numbers; items = a.found.accepted }
+
+-- why a check fails is why the bytes are not confirmed
+pub stops : (h : Held) (terms : List Term) (bytes : List ℕ) (e : CheckError) → length terms ≤ max_terms → FailsAs h.schema h.terms terms h.graph bytes e → ConfirmStops h bytes (check_stop e)
+stops h terms bytes (Errors.Syntax at) few fault = fault
+stops h terms bytes (Errors.Rejected i w) few (f, least, found) = record { strata = f; are_strata = least; terms = terms; found = found; few = few }
+stops h terms bytes Errors.Full few full = full
+stops h terms bytes Errors.Memory few fails = tt

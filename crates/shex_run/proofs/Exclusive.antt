@@ -11,14 +11,14 @@ use Rattle.shex_inputs.specs.declared.error.Source.TheVariants as Sources
 use Rattle.shex_inputs.specs.Asked.{IsAskedOf, Question}
 use Rattle.shex_inputs.specs.Held.{Held, IsTaken}
 use Rattle.shex_inputs.specs.Laws.{InputsAreOne}
-use Rattle.shex_inputs.specs.Named.{map_name, source_of}
+use Rattle.shex_inputs.specs.Named.{source_of}
 use Rattle.shex_inputs.specs.Outcomes.{IsAbsent as IsInputAbsent}
 use Rattle.shex_inputs.specs.Refusals.{IsRefused as IsInputRefused}
 use Rattle.shex_run.specs.declared.stop.File.{File}
 use Rattle.shex_run.specs.declared.stop.File.TheVariants as Files
 use Rattle.shex_run.specs.Checking.{IsFull, IsGiven}
 use Rattle.shex_run.specs.Outcomes.{IsAbsent, IsRefused, ReachesProof}
-use Rattle.shex_run.specs.Tasks.{IsFetched, IsInputOf, IsToCheck, IsToValidate}
+use Rattle.shex_run.specs.Tasks.{IsFetched, IsInputOf, IsToCheck, IsToValidate, inputs_of}
 
 -- ---- words
 
@@ -46,14 +46,14 @@ no_map name Sources.Data h = λ e. cc
 no_map name Sources.Map h = absurd h
 
 pub record AreOne (told : Told) (c : Command) : Type 0 where
-  pub held : (h k : Held) → IsTaken told c h → IsTaken told c k → h ≡ k
-  pub taken : (h : Held) (source : Source) → IsTaken told c h → source ≢ Sources.Map → ((refusal : Refusal) → source_of refusal ≡ source → ¬ IsInputRefused told c refusal) × (¬ IsInputAbsent told c source)
-  pub asked : (q : Question) → IsAskedOf told c (map_name c.task) q → ((refusal : Refusal) → ¬ IsInputRefused told c refusal) × ((source : Source) → ¬ IsInputAbsent told c source)
-  pub left : (refusal : Refusal) → IsInputRefused told c refusal → (source : Source) → ¬ IsInputAbsent told c source
+  pub held : (h k : Held) → IsTaken told (inputs_of c) h → IsTaken told (inputs_of c) k → h ≡ k
+  pub taken : (h : Held) (source : Source) → IsTaken told (inputs_of c) h → source ≢ Sources.Map → ((refusal : Refusal) → source_of refusal ≡ source → ¬ IsInputRefused told (inputs_of c) refusal) × (¬ IsInputAbsent told (inputs_of c) source)
+  pub asked : (q : Question) → IsAskedOf told (inputs_of c) q → ((refusal : Refusal) → ¬ IsInputRefused told (inputs_of c) refusal) × ((source : Source) → ¬ IsInputAbsent told (inputs_of c) source)
+  pub left : (refusal : Refusal) → IsInputRefused told (inputs_of c) refusal → (source : Source) → ¬ IsInputAbsent told (inputs_of c) source
 
 pub are_one : InputsAreOne → (contents : List ℕ → Option (List ℕ)) (told : Told) → told ≡ Some contents → (c : Command) → AreOne told c
 are_one law contents told e c =
-    let (held, (one, (taken, (asked, left)))) = law contents c in
+    let (held, (one, (taken, (asked, left)))) = law contents (inputs_of c) in
     subst (λ t. AreOne t c) (sym e) (record { held = held; taken = taken; asked = asked; left = λ refusal refused. (left refusal refused).1 })
 
 module _ (told : Told) (contents : List ℕ → Option (List ℕ)) (e : told ≡ Some contents) (c : Command) (one : AreOne told c) where
@@ -67,24 +67,21 @@ module _ (told : Told) (contents : List ℕ → Option (List ℕ)) (e : told ≡
       name_one m n h = ap (λ t. unwrap_or (proof_of t) []) h
 
   -- for a check whose schema and data are taken, no input is refused or absent
-  pub check_not_refused : (h : Held) (name : Text) → IsTaken told c h → IsToCheck c name → (refusal : Refusal) → IsRefused told c refusal → ⊥
+  pub check_not_refused : (h : Held) (name : Text) → IsTaken told (inputs_of c) h → IsToCheck c name → (refusal : Refusal) → IsRefused told c refusal → ⊥
   check_not_refused h name taken is refusal (of, refused) =
       (one.taken h (source_of refusal) taken (no_map name (source_of refusal) (subst (λ t. IsInputOf t (source_of refusal)) is of))).0 refusal refl refused
 
-  check_not_absent : (h : Held) (name : Text) → IsTaken told c h → IsToCheck c name → (source : Source) → IsAbsent told c (Files.Input source) → ⊥
+  check_not_absent : (h : Held) (name : Text) → IsTaken told (inputs_of c) h → IsToCheck c name → (source : Source) → IsAbsent told c (Files.Input source) → ⊥
   check_not_absent h name taken is source (fetched, ((of, reached), lacks)) =
       (one.taken h source taken (no_map name source (subst (λ t. IsInputOf t source) is of))).1 (reached, lacks)
 
   -- where a map asks something, no input is refused or absent
-  named : (map : Text) (proof : Option Text) → IsToValidate c map proof → (q : Question) → IsAskedOf told c map q → IsAskedOf told c (map_name c.task) q
-  named map proof is q asked = subst (λ n. IsAskedOf told c n q) (sym (ap map_name is.task)) asked
-
-  pub asked_not_refused : (map : Text) (proof : Option Text) → IsToValidate c map proof → (q : Question) → IsAskedOf told c map q → (refusal : Refusal) → IsRefused told c refusal → ⊥
-  asked_not_refused map proof is q asked refusal (of, refused) = (one.asked q (named map proof is q asked)).0 refusal refused
+  pub asked_not_refused : (q : Question) → IsAskedOf told (inputs_of c) q → (refusal : Refusal) → IsRefused told c refusal → ⊥
+  asked_not_refused q asked refusal (of, refused) = (one.asked q asked).0 refusal refused
 
   -- and no file is absent
-  pub asked_not_absent : (map : Text) (proof : Option Text) → IsToValidate c map proof → (q : Question) → IsAskedOf told c map q → (file : File) → IsAbsent told c file → ⊥
-  asked_not_absent map proof is q asked (Files.Input source) (fetched, ((of, reached), lacks)) = (one.asked q (named map proof is q asked)).1 source (reached, lacks)
+  pub asked_not_absent : (map : Text) (proof : Option Text) → IsToValidate c map proof → (q : Question) → IsAskedOf told (inputs_of c) q → (file : File) → IsAbsent told c file → ⊥
+  asked_not_absent map proof is q asked (Files.Input source) (fetched, ((of, reached), lacks)) = (one.asked q asked).1 source (reached, lacks)
   asked_not_absent map proof is q asked Files.Proof (fetched, (reached, lacks)) = subst (λ t. IsFetched t Files.Proof) is.task fetched
 
   -- a proof is full only for a check

@@ -2,7 +2,6 @@
 use Rattle.std.proofs.Common.{◌≡◌, ◌≤◌, ap, sym, subst, List, length, ◌∙◌}
 use Rattle.std.specs.Prelude.{All, Bool, IfSome, Option, Some, None}
 use Rattle.std.specs.Str.{IsUtf8}
-use Rattle.clap.specs.Words.{Text}
 use Rattle.shex_io.specs.Files.{Told}
 use Rattle.rdf_terms.specs.Tables.{max_terms}
 use Rattle.graph_index.specs.Contents.{IsSealedWith}
@@ -25,6 +24,7 @@ use Rattle.shex_run.specs.declared.deciding.Decided.{Decided}
 use Rattle.shex_run.specs.Ready.{IsDecided, IsReady, IsReply, IsReplyProof}
 use Rattle.shex_run.specs.Statuses.{status_of}
 use Rattle.shex_run.specs.Stopping.{HasBases}
+use Rattle.shex_run.specs.Tasks.{inputs_of}
 use Rattle.shex_run.proofs.Asked.{asked, few, lines, proved}
 use Rattle.shex_run.proofs.Simplicity.{simple_schema}
 
@@ -33,7 +33,7 @@ some_weaker : {X : Type 0} (P Q : X → Type 0) → ((x : X) → P x → Q x) �
 some_weaker P Q f (Some x) h = f x h
 some_weaker P Q f None h = h
 
-module _ (told : Told) (c : Command) (name : Text) (q : Question) (is : IsAskedOf told c name q) (b : Holding) (schema : b.schema ≡ q.held.schema) (terms : b.terms ≡ q.terms) (graph : b.graph.triples ≡ q.held.graph)
+module _ (told : Told) (c : Command) (q : Question) (is : IsAskedOf told (inputs_of c) q) (b : Holding) (schema : b.schema ≡ q.held.schema) (terms : b.terms ≡ q.terms) (graph : b.graph.triples ≡ q.held.graph)
     (xs : List Association) (same : xs ≡ q.associations) where
   -- what is so of the question is so of what the code holds
   ready_by : All (IsOfTable b.terms) b.graph.triples → All (IsOfTable q.terms) q.held.graph
@@ -45,9 +45,9 @@ module _ (told : Told) (c : Command) (name : Text) (q : Question) (is : IsAskedO
     simple = subst (λ s. IsSimpleSchema s) (sym schema) (simple_schema q.held.terms is.taken.doc q.held.schema is.taken.holding.stands is.taken.holding.built);
     sealed = sealed;
     of_table = all;
-    asked = subst (λ s. All (IsAsked s b.terms) xs) (sym schema) (subst (λ ts. All (IsAsked q.held.schema ts) xs) (sym terms) (subst (λ ys. All (IsAsked q.held.schema q.terms) ys) (sym same) (asked told c name q is (ready_by all))));
-    few = subst (λ ys. length ys ≤ max_associations) (sym same) (few told c name q is);
-    lines = subst (λ ts. All (HasLines ts) xs) (sym terms) (subst (λ ys. All (HasLines q.terms) ys) (sym same) (lines told c name q is bases one other data_law map_law base_law));
+    asked = subst (λ s. All (IsAsked s b.terms) xs) (sym schema) (subst (λ ts. All (IsAsked q.held.schema ts) xs) (sym terms) (subst (λ ys. All (IsAsked q.held.schema q.terms) ys) (sym same) (asked told c q is (ready_by all))));
+    few = subst (λ ys. length ys ≤ max_associations) (sym same) (few told c q is);
+    lines = subst (λ ts. All (HasLines ts) xs) (sym terms) (subst (λ ys. All (HasLines q.terms) ys) (sym same) (lines told c q is bases one other data_law map_law base_law));
   }
 
   module _ (with_proof : Bool) (d : Decided) (decided : IsDecided b xs with_proof d) where
@@ -68,10 +68,10 @@ module _ (told : Told) (c : Command) (name : Text) (q : Question) (is : IsAskedO
     reply_proof within p proves = record {
       keeps = proves.keeps;
       no_feeds = proves.no_feeds;
-      proves = λ bytes text. proved told c name q is decided.answers truth p (proof p proves) bytes text (subst (λ ts. length ts ≤ max_terms) terms within);
+      proves = λ bytes text. proved told c q is decided.answers truth p (proof p proves) bytes text (subst (λ ts. length ts ≤ max_terms) terms within);
     }
 
-    pub reply : length b.terms ≤ max_terms → IsReply told c name with_proof d
+    pub reply : length b.terms ≤ max_terms → IsReply told c with_proof d
     reply within = record {
       question = q;
       answers = decided.answers;

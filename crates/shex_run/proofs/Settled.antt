@@ -15,10 +15,10 @@ use Rattle.proof_file.specs.Accepts.{AreAccepted, AreNumbers, setting_of}
 use Rattle.proof_file.proofs.Apart.{proofs_same}
 use Rattle.proof_file.proofs.Rejected.{not_both}
 use Rattle.proof_file.specs.Answers.{AreClaimed, answer_with}
+use Rattle.proof_checker.specs.declared.checking.CheckError.{CheckError}
+use Rattle.proof_checker.specs.declared.checking.CheckError.TheVariants as CheckErrors
 use Rattle.proof_checker.specs.Checks.{IsFullFor, IsReadAs, KeepsTerms, TakesUp}
 use Rattle.shex_inputs.specs.Held.{Held}
-use Rattle.shex_run.specs.declared.stop.Rejection.{Rejection}
-use Rattle.shex_run.specs.declared.stop.Rejection.TheVariants as Rejections
 use Rattle.shex_run.specs.Checking.{Rejects}
 use Rattle.shex_run.specs.Proofs.{Accepted}
 use Rattle.shex_run.proofs.Tables.{add_keeps}
@@ -100,9 +100,11 @@ reading_one old terms terms' bytes p q nodes nodes' d h k =
 
 module _ (b : Held) (d : AreDistinct b.terms) (bytes : List ℕ) where
   -- what is accepted is not rejected
-  pub accepted_not_rejected : (terms : List Term) (answers : List Answer) (r : Rejection) → Accepted b bytes terms answers → ¬ Rejects b bytes r
-  accepted_not_rejected terms answers (Rejections.Syntax at) a = λ fault. fault.none a.found.proof a.found.read.text
-  accepted_not_rejected terms answers (Rejections.Item i w) a = λ r.
+  pub accepted_not_rejected : (terms : List Term) (answers : List Answer) (r : CheckError) → Accepted b bytes terms answers → ¬ Rejects b bytes r
+  accepted_not_rejected terms answers (CheckErrors.Syntax at) a = λ fault. fault.none a.found.proof a.found.read.text
+  accepted_not_rejected terms answers CheckErrors.Full a = λ r. r
+  accepted_not_rejected terms answers CheckErrors.Memory a = λ r. r
+  accepted_not_rejected terms answers (CheckErrors.Rejected i w) a = λ r.
       let one = reading_one b.terms terms r.terms bytes a.found.proof r.found.proof a.found.nodes r.found.nodes d a.found.read r.found.read in
       let on_one : AreAccepted (setting_of r.strata b.schema terms b.graph a.found.nodes) a.found.proof =
       subst (λ f. AreAccepted (setting_of f b.schema terms b.graph a.found.nodes) a.found.proof) (strata_one b.schema a.strata r.strata a.are_strata r.are_strata) a.found.accepted in
@@ -123,6 +125,8 @@ module _ (b : Held) (d : AreDistinct b.terms) (bytes : List ℕ) where
   pub accepted_not_full : (terms : List Term) (answers : List Answer) → Accepted b bytes terms answers → ¬ IsFullFor b.terms bytes
   accepted_not_full terms answers a = not_full terms a.found.proof a.found.nodes a.found.read a.few
 
-  pub rejected_not_full : (r : Rejection) → Rejects b bytes r → ¬ IsFullFor b.terms bytes
-  rejected_not_full (Rejections.Syntax at) fault = λ full. fault.none full.proof full.text
-  rejected_not_full (Rejections.Item i w) r = not_full r.terms r.found.proof r.found.nodes r.found.read r.few
+  pub rejected_not_full : (r : CheckError) → Rejects b bytes r → ¬ IsFullFor b.terms bytes
+  rejected_not_full (CheckErrors.Syntax at) fault = λ full. fault.none full.proof full.text
+  rejected_not_full CheckErrors.Full h = absurd h
+  rejected_not_full CheckErrors.Memory h = absurd h
+  rejected_not_full (CheckErrors.Rejected i w) r = not_full r.terms r.found.proof r.found.nodes r.found.read r.few

@@ -15,17 +15,18 @@ use Rattle.proof_file.specs.declared.Proof.{Proof}
 use Rattle.proof_file.specs.declared.Why.{Why}
 use Rattle.proof_file.specs.Laws.{HoldsLines, IsTrueProof}
 use Rattle.proof_file.specs.Text.{IsFault}
+use Rattle.proof_checker.specs.declared.checking.CheckError.{CheckError}
+use Rattle.proof_checker.specs.declared.checking.CheckError.TheVariants as CheckErrors
 use Rattle.proof_checker.specs.Checks.{IsFullFor, IsRejectedAs}
 use Rattle.shape_map.specs.Results.{result_text}
 use Rattle.schema_tree.specs.Truths.{IsTypingOf}
 use Rattle.command_words.specs.Asked.{Command}
 use Rattle.shex_inputs.specs.Held.{Held, IsHolding, IsTaken}
-use Rattle.shex_run.specs.declared.stop.Rejection.{Rejection}
-use Rattle.shex_run.specs.declared.stop.Rejection.TheVariants as Rejections
+use Rattle.shex_run.specs.declared.stop.Refusal.TheVariants as Refusals
 use Rattle.shex_run.specs.declared.stop.Stop.{Stop}
 use Rattle.shex_run.specs.declared.stop.Stop.TheVariants as Stops
 use Rattle.shex_run.specs.Proofs.{Accepted}
-use Rattle.shex_run.specs.Tasks.{IsToCheck}
+use Rattle.shex_run.specs.Tasks.{IsToCheck, inputs_of}
 
 -- what the proof says is true of the complete typing over each list of terms that holds the ends of the graph and the node
 -- lines, and there is a complete typing over every list (ShEx 2.1, section 5.2)
@@ -35,7 +36,7 @@ pub record IsTrueOf (h : Held) (terms : List Term) (nodes : List TermId) (p : Pr
 
 -- the command is to check a proof, whose file holds these bytes, for the schema and the graph that the files hold
 pub record IsGiven (told : Told) (c : Command) (h : Held) (bytes : List ℕ) : Type 0 where
-  pub taken : IsTaken told c h
+  pub taken : IsTaken told (inputs_of c) h
   pub name : Text
   pub task : IsToCheck c name
   pub held : Holds told name (Some bytes)
@@ -63,14 +64,16 @@ pub record IsItemRejected (h : Held) (bytes : List ℕ) (i : ℕ) (w : Why) : Ty
   pub found : IsRejectedAs strata h.schema h.terms terms h.graph bytes i w
   pub few : length terms ≤ max_terms
 
--- the bytes are rejected so
-abbrev pub Rejects : Held → List ℕ → Rejection → Type 0
-Rejects h bytes (Rejections.Syntax at) = IsFault bytes at
-Rejects h bytes (Rejections.Item i w) = IsItemRejected h bytes i w
+-- the bytes are rejected for this cause: they are the text of no proof, or an item is not accepted
+abbrev pub Rejects : Held → List ℕ → CheckError → Type 0
+Rejects h bytes (CheckErrors.Syntax at) = IsFault bytes at
+Rejects h bytes (CheckErrors.Rejected i w) = IsItemRejected h bytes i w
+Rejects h bytes CheckErrors.Full = ⊥
+Rejects h bytes CheckErrors.Memory = ⊥
 
--- the proof's file holds bytes that are rejected so
-abbrev pub IsRejected : Told → Command → Rejection → Type 0
-IsRejected told c rejection = (h : Held) × (bytes : List ℕ) × IsGiven told c h bytes × Rejects h bytes rejection
+-- the proof's file holds bytes that are rejected for this cause
+abbrev pub IsRejected : Told → Command → CheckError → Type 0
+IsRejected told c error = (h : Held) × (bytes : List ℕ) × IsGiven told c h bytes × Rejects h bytes error
 
 -- the table cannot take up the node lines of the proof that the proof's file holds
 abbrev pub IsFull : Told → Command → Type 0
@@ -80,10 +83,14 @@ IsFull told c = (h : Held) × (bytes : List ℕ) × IsGiven told c h bytes × Is
 abbrev pub IsSomeHolding : Held → Type 0
 IsSomeHolding h = (doc : Document) × (triples : List TermTriple) × IsHolding doc triples h
 
+-- the bytes are refused for this cause: they are rejected, or the table cannot take up the node lines
+abbrev pub Refuses : Held → List ℕ → CheckError → Type 0
+Refuses h bytes CheckErrors.Full = IsFullFor h.terms bytes
+Refuses h bytes error = Rejects h bytes error
+
 -- why the bytes are not confirmed
 abbrev pub ConfirmStops : Held → List ℕ → Stop → Type 0
-ConfirmStops h bytes (Stops.Rejected rejection) = Rejects h bytes rejection
-ConfirmStops h bytes Stops.Full = IsFullFor h.terms bytes
-ConfirmStops h bytes (Stops.Refused refusal) = ⊥
+ConfirmStops h bytes (Stops.Refused (Refusals.Input refusal)) = ⊥
+ConfirmStops h bytes (Stops.Refused (Refusals.Proof error)) = Refuses h bytes error
 ConfirmStops h bytes (Stops.Failed file) = ⊥
 ConfirmStops h bytes Stops.Memory = ⊤

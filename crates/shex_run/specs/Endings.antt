@@ -7,19 +7,21 @@ use Rattle.shex_io.specs.Sinks.{GainsPrefix}
 use Rattle.shex_io.specs.declared.files.Act.{Act}
 use Rattle.schema_tree.specs.declared.schema.Answer.{Answer}
 use Rattle.shape_map.specs.Results.{result_text}
+use Rattle.proof_checker.specs.declared.checking.CheckError.{CheckError}
+use Rattle.proof_checker.specs.declared.checking.CheckError.TheVariants as CheckErrors
 use Rattle.command_words.specs.Asked.{Command, IsAsked, IsFirstFault}
 use Rattle.command_words.specs.Checks.{Fault}
-use Rattle.shex_inputs.specs.declared.error.Refusal.{Refusal}
+use Rattle.shex_inputs.specs.declared.error.Refusal.{Refusal as InputRefusal}
 use Rattle.shex_inputs.specs.Asked.{Question}
 use Rattle.shex_run.specs.declared.stop.File.{File}
-use Rattle.shex_run.specs.declared.stop.Rejection.{Rejection}
+use Rattle.shex_run.specs.declared.stop.Refusal.TheVariants as Refusals
 use Rattle.shex_run.specs.Checking.{IsCheckedAs, IsFull, IsRejected}
 use Rattle.shex_run.specs.Outcomes.{IsRefused, Reaches}
 use Rattle.shex_run.specs.Printing.{Prints}
 use Rattle.shex_run.specs.Proofs.{AreAnswers, IsCutStore, IsDueProof, IsStoredProofOf, Stores}
 use Rattle.shex_run.specs.Statuses.{status_of}
 use Rattle.shex_run.specs.Tasks.{IsToValidate, act_of, name_of}
-use Rattle.shex_run.specs.Texts.{failed_line, full_line, refusal_line, rejection_line, words_line}
+use Rattle.shex_run.specs.Texts.{failed_line, refusal_line, words_line}
 
 -- the text is the result map of the true answers to what the map asks of the files, one for each association, in their order, and
 -- the status is 0 where each is as its association wants, and else 1; where a name is given, it holds a proof of the answers that
@@ -30,7 +32,7 @@ pub record IsAnswered (told after : Told) (c : Command) (status : ℕ) (text : L
   pub task : IsToValidate c map_name proof_name
   pub question : Question
   pub answers : List Answer
-  pub are_answers : AreAnswers told c map_name question answers
+  pub are_answers : AreAnswers told c question answers
   pub stored : Stores told after proof_name (IsStoredProofOf question answers)
   pub status_is : status ≡ status_of question.associations answers
   pub text_is : text ≡ result_text question.terms answers
@@ -57,7 +59,9 @@ IsWordsLine words line = (f : Fault) × IsFirstFault words f × (line ≡ words_
 
 -- the line is that of the refusal of a file of the inputs, or of a proof whose node lines the table cannot take up
 abbrev pub IsRefusalLine : Told → Command → List ℕ → Type 0
-IsRefusalLine told c line = ((refusal : Refusal) × IsRefused told c refusal × (line ≡ refusal_line c refusal)) ⊎ (IsFull told c × (line ≡ full_line c))
+IsRefusalLine told c line =
+    ((refusal : InputRefusal) × IsRefused told c refusal × (line ≡ refusal_line c (Refusals.Input refusal)))
+    ⊎ (IsFull told c × (line ≡ refusal_line c (Refusals.Proof CheckErrors.Full)))
 
 -- the line is that of the refusal of a file that the words name
 pub record IsRefusedBy (told : Told) (words : List Text) (line : List ℕ) : Type 0 where
@@ -69,9 +73,9 @@ pub record IsRefusedBy (told : Told) (words : List Text) (line : List ℕ) : Typ
 pub record IsRejectedBy (told : Told) (words : List Text) (line : List ℕ) : Type 0 where
   pub command : Command
   pub is_asked : IsAsked words command
-  pub rejection : Rejection
+  pub rejection : CheckError
   pub rejected : IsRejected told command rejection
-  pub line_is : line ≡ rejection_line command rejection
+  pub line_is : line ≡ refusal_line command (Refusals.Proof rejection)
 
 -- the files before and after a call: what they tell, and the count of faults; and the last fault
 pub record FilesSeen : Type 0 where

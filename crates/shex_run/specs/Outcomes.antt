@@ -1,5 +1,5 @@
 -- What the files hold for a command, or where its steps stop.
-use Rattle.std.specs.Prelude.{ℕ, List, ◌≡◌}
+use Rattle.std.specs.Prelude.{ℕ, List}
 use Rattle.clap.specs.Words.{Text}
 use Rattle.shex_io.specs.Files.{Told, Lacks}
 use Rattle.command_words.specs.Asked.{Command}
@@ -12,12 +12,12 @@ use Rattle.shex_inputs.specs.Refusals.{IsRefused as IsInputRefused, Reaches as R
 use Rattle.shex_run.specs.declared.stop.File.{File}
 use Rattle.shex_run.specs.declared.stop.File.TheVariants as Files
 use Rattle.shex_run.specs.Proofs.{IsDueProof}
-use Rattle.shex_run.specs.Tasks.{IsFetched, IsInputOf, name_of}
+use Rattle.shex_run.specs.Tasks.{IsFetched, IsInputOf, inputs_of, name_of}
 
 -- the inputs of the task are taken: the schema and the data, and for `validate` the map
 abbrev pub TakesFor : Told → Command → Task → Type 0
-TakesFor told c (validation map_name proof_name steps) = (q : Question) × IsAskedOf told c map_name q
-TakesFor told c (checking name) = (h : Held) × IsTaken told c h
+TakesFor told c (validation map_name proof_name steps) = (q : Question) × IsAskedOf told (inputs_of c) q
+TakesFor told c (checking name) = (h : Held) × IsTaken told (inputs_of c) h
 
 -- the inputs of the command are taken
 abbrev pub AreTaken : Told → Command → Type 0
@@ -27,16 +27,16 @@ AreTaken told c = TakesFor told c c.task
 -- taken
 abbrev pub ReachesProof : Told → Command → Task → Type 0
 ReachesProof told c (validation map_name proof_name steps) = (name : Text) × ((bytes : List ℕ) × IsDueProof told c name bytes)
-ReachesProof told c (checking name) = (h : Held) × IsTaken told c h
+ReachesProof told c (checking name) = (h : Held) × IsTaken told (inputs_of c) h
 
 -- the steps come to the file
 abbrev pub Reaches : Told → Command → File → Type 0
-Reaches told c (Files.Input source) = IsInputOf c.task source × ReachesInput told c source
+Reaches told c (Files.Input source) = IsInputOf c.task source × ReachesInput told (inputs_of c) source
 Reaches told c Files.Proof = ReachesProof told c c.task
 
 -- a file of the task is the first of the inputs that is not taken, and this is why
 abbrev pub IsRefused : Told → Command → Refusal → Type 0
-IsRefused told c refusal = IsInputOf c.task (source_of refusal) × IsInputRefused told c refusal
+IsRefused told c refusal = IsInputOf c.task (source_of refusal) × IsInputRefused told (inputs_of c) refusal
 
 -- the next file to be fetched is told to be absent
 abbrev pub IsAbsent : Told → Command → File → Type 0

@@ -12,7 +12,7 @@ use Rattle.shex_inputs.specs.Asked.{IsAskedOf, Question}
 use Rattle.shex_inputs.specs.Held.{Held}
 use Rattle.shape_map.specs.Answers.{AreAnswersTo}
 use Rattle.proof_file.specs.Answers.{AsksNoMore}
-use Rattle.shex_run.specs.Tasks.{IsToValidate}
+use Rattle.shex_run.specs.Tasks.{IsToValidate, inputs_of}
 
 -- the bytes are the text of a proof that is accepted for the schema, with each Shape on its stratum, and the graph, the table,
 -- which can hold them, has these terms once it has taken up the proof's node lines, and the answers are the proof's claims
@@ -22,10 +22,10 @@ pub record Accepted (h : Held) (bytes : List ℕ) (terms : List Term) (answers :
   pub found : IsAcceptedAs strata h.schema h.terms terms h.graph bytes answers
   pub few : length terms ≤ max_terms
 
--- the files hold this question for the command, whose map has this name, and these are its true answers: of each association its
+-- the files hold this question for the command, and these are its true answers: of each association its
 -- node, its target, and whether the complete typing satisfies its expression there (ShEx 2.1, section 5.2)
-pub record AreAnswers (told : Told) (c : Command) (map_name : Text) (q : Question) (answers : List Answer) : Type 0 where
-  pub asked : IsAskedOf told c map_name q
+pub record AreAnswers (told : Told) (c : Command) (q : Question) (answers : List Answer) : Type 0 where
+  pub asked : IsAskedOf told (inputs_of c) q
   pub truth : AreAnswersTo q.held.schema q.terms q.held.graph q.associations answers
 
 -- the bytes are a proof whose claims are the answers, so that a check of them with the same schema and data accepts them, and
@@ -46,7 +46,7 @@ pub record IsDueProof (told : Told) (c : Command) (name : Text) (bytes : List �
   pub task : IsToValidate c map_name (Some name)
   pub question : Question
   pub answers : List Answer
-  pub are_answers : AreAnswers told c map_name question answers
+  pub are_answers : AreAnswers told c question answers
   pub proof : IsStoredProofOf question answers bytes
 
 -- the name of the proof holds what it held or a prefix of the proof, as far as is told, and each other name what it held

@@ -1,6 +1,5 @@
 -- What the functions that answer promise one another.
 use Rattle.std.specs.Prelude.{ℕ, Bool, List, All, ◌≡◌, ◌≤◌, ◌⊎◌, IfSome, is_some, length}
-use Rattle.clap.specs.Words.{Text}
 use Rattle.shex_io.specs.Files.{Told}
 use Rattle.graph_index.specs.Contents.{IsSealedWith}
 use Rattle.graph_index.specs.Laws.{IsOfTable}
@@ -47,12 +46,12 @@ pub record IsReplyProof (q : Question) (answers : List Answer) (p : Proof) : Typ
   pub no_feeds : HasNoFeeds p
   pub proves : (bytes : List ℕ) → ProofText p bytes → IsStoredProofOf q answers bytes
 
--- they are the true answers to what the files hold for the command, whose map has this name; their status and text are these, and
+-- they are the true answers to what the files hold for the command; their status and text are these, and
 -- there is a proof of them exactly where one is wanted
-pub record IsReply (told : Told) (c : Command) (map_name : Text) (with_proof : Bool) (d : Decided) : Type 0 where
+pub record IsReply (told : Told) (c : Command) (with_proof : Bool) (d : Decided) : Type 0 where
   pub question : Question
   pub answers : List Answer
-  pub are_answers : AreAnswers told c map_name question answers
+  pub are_answers : AreAnswers told c question answers
   pub low : (d.status ≡ 0) ⊎ (d.status ≡ 1)
   pub status_is : d.status ≡ status_of question.associations answers
   pub text_is : d.text.items ≡ result_text question.terms answers

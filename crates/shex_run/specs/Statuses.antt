@@ -4,7 +4,11 @@ use Rattle.std.specs.Bool.{beq}
 use Rattle.std.specs.List.{list_all, zip}
 use Rattle.schema_tree.specs.declared.schema.Answer.{Answer}
 use Rattle.shape_map.specs.declared.resolve.Association.{Association}
+use Rattle.proof_checker.specs.declared.checking.CheckError.{CheckError}
+use Rattle.proof_checker.specs.declared.checking.CheckError.TheVariants as CheckErrors
 use Rattle.command_words.specs.Requests.{Task, checking, validation}
+use Rattle.shex_run.specs.declared.stop.Refusal.{Refusal}
+use Rattle.shex_run.specs.declared.stop.Refusal.TheVariants as Refusals
 
 -- each answer is as it is wanted
 unfoldable pub are_wanted : List Bool → List Answer → Bool
@@ -22,6 +26,18 @@ status_of associations answers = status_by (map (λ a. a.want) associations) ans
 -- memory
 abbrev pub IsStatus : ℕ → Type 0
 IsStatus status = (status ≡ 0) ⊎ ((status ≡ 1) ⊎ ((status ≡ 2) ⊎ ((status ≡ 3) ⊎ ((status ≡ 5) ⊎ ((status ≡ 6) ⊎ ((status ≡ 7) ⊎ (status ≡ 8)))))))
+
+-- the status of a proof that is not accepted: 6 where it is rejected, and 3 where the table cannot take up its node lines
+abbrev pub check_status : CheckError → ℕ
+check_status (CheckErrors.Syntax at) = 6
+check_status (CheckErrors.Rejected number why) = 6
+check_status CheckErrors.Full = 3
+check_status CheckErrors.Memory = 6
+
+-- the status of a refusal
+abbrev pub refusal_status : Refusal → ℕ
+refusal_status (Refusals.Input refusal) = 3
+refusal_status (Refusals.Proof error) = check_status error
 
 -- a fault of the outside or want of memory ended the call
 abbrev pub IsInterrupted : ℕ → Type 0

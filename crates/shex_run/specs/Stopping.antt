@@ -3,11 +3,14 @@ use Rattle.std.specs.Prelude.{ℕ, List, ◌≡◌, ◌≤◌, true, ⊤}
 use Rattle.shex_io.specs.Faults.{Rose}
 use Rattle.shex_io.specs.Files.{Told}
 use Rattle.shex_io.specs.declared.files.Act.{Act}
+use Rattle.proof_checker.specs.declared.checking.CheckError.{CheckError}
+use Rattle.proof_checker.specs.declared.checking.CheckError.TheVariants as CheckErrors
 use Rattle.command_words.specs.Asked.{Command}
 use Rattle.command_words.specs.Checks.{is_base}
 use Rattle.shex_inputs.specs.declared.error.InputError.{InputError}
 use Rattle.shex_inputs.specs.declared.error.InputError.TheVariants as Errors
 use Rattle.shex_run.specs.declared.stop.File.TheVariants as Files
+use Rattle.shex_run.specs.declared.stop.Refusal.TheVariants as Refusals
 use Rattle.shex_run.specs.declared.stop.Stop.{Stop}
 use Rattle.shex_run.specs.declared.stop.Stop.TheVariants as Stops
 use Rattle.shex_run.specs.Checking.{IsFull, IsRejected}
@@ -22,16 +25,24 @@ pub record HasBases (c : Command) : Type 0 where
 
 -- the stop that an error of the inputs is
 abbrev pub stop_of : InputError → Stop
-stop_of (Errors.Refused refusal) = Stops.Refused refusal
+stop_of (Errors.Refused refusal) = Stops.Refused (Refusals.Input refusal)
 stop_of (Errors.Failed source) = Stops.Failed (Files.Input source)
 stop_of Errors.Memory = Stops.Memory
 
--- why there is no answer: a file is refused, the table is full, the proof is rejected, the steps came to a file that was not fetched
--- or stored, or memory ran out
+-- the stop that an error of the check is
+abbrev pub check_stop : CheckError → Stop
+check_stop CheckErrors.Memory = Stops.Memory
+check_stop error = Stops.Refused (Refusals.Proof error)
+
+-- the proof's file holds bytes that are refused for this cause
+abbrev pub RefusesProof : Told → Command → CheckError → Type 0
+RefusesProof told c CheckErrors.Full = IsFull told c
+RefusesProof told c error = IsRejected told c error
+
+-- why there is no answer: a file is refused, the steps came to a file that was not fetched or stored, or memory ran out
 abbrev pub Explains : Told → Command → Stop → Type 0
-Explains told c (Stops.Refused refusal) = IsRefused told c refusal
-Explains told c Stops.Full = IsFull told c
-Explains told c (Stops.Rejected rejection) = IsRejected told c rejection
+Explains told c (Stops.Refused (Refusals.Input refusal)) = IsRefused told c refusal
+Explains told c (Stops.Refused (Refusals.Proof error)) = RefusesProof told c error
 Explains told c (Stops.Failed file) = Reaches told c file
 Explains told c Stops.Memory = ⊤
 
@@ -44,8 +55,6 @@ FaultsAs c before after blame act stop = after ≡ before
 -- what a call that stops leaves stored: nothing, or, where a call on a file failed or memory ran out, the proof in part
 abbrev pub LeavesStored : Told → Told → Command → Stop → Type 0
 LeavesStored told after c (Stops.Refused refusal) = after ≡ told
-LeavesStored told after c Stops.Full = after ≡ told
-LeavesStored told after c (Stops.Rejected rejection) = after ≡ told
 LeavesStored told after c (Stops.Failed file) = MayStore told after c
 LeavesStored told after c Stops.Memory = MayStore told after c
 

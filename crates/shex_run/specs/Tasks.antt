@@ -1,5 +1,5 @@
 -- The tasks of a command, and the files that its words name for them.
-use Rattle.std.specs.Prelude.{ℕ, List, [], ◌≡◌, Option, unwrap_or, ⊤}
+use Rattle.std.specs.Prelude.{ℕ, List, [], ◌≡◌, Option, codes, unwrap_or, ⊤}
 use Rattle.clap.specs.Words.{Text}
 use Rattle.shex_io.specs.declared.files.Act.{Act}
 use Rattle.shex_io.specs.declared.files.Act.TheVariants as Acts
@@ -7,9 +7,24 @@ use Rattle.command_words.specs.Asked.{Command}
 use Rattle.command_words.specs.Requests.{Task, checking, proof_of, validation}
 use Rattle.shex_inputs.specs.declared.error.Source.{Source}
 use Rattle.shex_inputs.specs.declared.error.Source.TheVariants as Sources
-use Rattle.shex_inputs.specs.Named.{source_name}
+use Rattle.shex_inputs.specs.Named.{Inputs, source_name}
 use Rattle.shex_run.specs.declared.stop.File.{File}
 use Rattle.shex_run.specs.declared.stop.File.TheVariants as Files
+
+-- the name of the map that a task asks for; a check has none
+abbrev pub map_name : Task → Text
+map_name (validation name proof_name steps) = name
+map_name (checking proof_name) = codes ""
+
+-- what a command is given
+abbrev pub inputs_of : Command → Inputs
+inputs_of c = record {
+  schema = c.schema;
+  data_file = c.data_file;
+  map_file = map_name c.task;
+  schema_base = c.schema_base;
+  data_base = c.data_base;
+}
 
 -- the command is to validate the associations of the map of this name, and to store their proof under the other name, if there is
 -- one
@@ -42,5 +57,5 @@ act_of (checking name) Files.Proof = Acts.Fetch
 
 -- the name of a file in the words; it is empty where they name none
 abbrev pub name_of : Command → File → List ℕ
-name_of c (Files.Input source) = source_name c source
+name_of c (Files.Input source) = source_name (inputs_of c) source
 name_of c Files.Proof = unwrap_or (proof_of c.task) []

@@ -13,6 +13,7 @@ ghost use Rattle.shex_inputs.specs.Held.{HasRoom, IsTaken, held_by};
 ghost use Rattle.shex_run.specs.Endings.{IsResponse};
 ghost use Rattle.shex_run.specs.Ready.{IsReply};
 ghost use Rattle.shex_run.specs.Stopping.{Explains, FaultsAs, HasBases, LeavesStored, ProofStops};
+ghost use Rattle.shex_run.specs.Tasks.{inputs_of};
 
 use crate::checking::confirm;
 use crate::deciding::{Decided, decide};
@@ -77,12 +78,12 @@ fn decide_map<F: Files>(
     holding: &mut Holding,
     validation: &Validation<'_>,
 ) -> Result<Decided, Stop>
-    requires taken { IsTaken (F.told files.old) (command_of (Lent.Validate validation.now)) (held_by holding.old) }
+    requires taken { IsTaken (F.told files.old) (inputs_of (command_of (Lent.Validate validation.now))) (held_by holding.old) }
     requires bases { HasBases (command_of (Lent.Validate validation.now)) }
     requires scheme { IsSome (scheme_of (base_of holding.old.names)) }
     requires room { HasRoom (held_by holding.old) }
     requires of_table { All (IsOfTable holding.old.terms) holding.old.graph.triples }
-    ensures decided { IfOk result (IsReply (F.told files.old) (command_of (Lent.Validate validation.now)) validation.now.map.now (is_some validation.now.proof)) }
+    ensures decided { IfOk result (IsReply (F.told files.old) (command_of (Lent.Validate validation.now)) (is_some validation.now.proof)) }
     ensures cause { IfErr result (Explains (F.told files.old) (command_of (Lent.Validate validation.now))) }
     ensures faults { IfErr result (FaultsAs (command_of (Lent.Validate validation.now)) (F.faults files.old) (F.faults files.new) (F.blame files.new) (F.act files.new)) }
     ensures stored { IfErr result (LeavesStored (F.told files.old) (F.told files.new) (command_of (Lent.Validate validation.now))) }
@@ -94,7 +95,7 @@ fn decide_map<F: Files>(
     map_has_lines();
     bases_are_lines();
     are_texts(validation.inputs.schema_base, validation.inputs.data_base);
-    let associations = match read_map(alloc, files, validation, holding) {
+    let associations = match read_map(alloc, files, &validation.inputs, validation.map, holding) {
         Ok(associations) => associations,
         Err(error) => return Err(stop_of(error)),
     };
@@ -113,7 +114,7 @@ fn keep<F: Files>(
     validation: &Validation<'_>,
     decided: Decided,
 ) -> Result<Response, Stop>
-    requires { IsReply (F.told files.old) (command_of (Lent.Validate validation.now)) validation.now.map.now (is_some validation.now.proof) decided }
+    requires { IsReply (F.told files.old) (command_of (Lent.Validate validation.now)) (is_some validation.now.proof) decided }
     ensures response { IfOk result (λ r. IsResponse (F.told files.old) (F.told files.new) (command_of (Lent.Validate validation.now)) r.status r.text.items) }
     ensures low { IfOk result (λ r. (r.status ≡ 0) ⊎ (r.status ≡ 1)) }
     ensures cause { IfErr result (Explains (F.told files.old) (command_of (Lent.Validate validation.now))) }
@@ -136,10 +137,8 @@ fn keep<F: Files>(
     let Ok(bytes) = write(alloc, &proof) else {
         return Err(Stop::Memory);
     };
-    match store(files, name, bytes.as_slice()) {
-        Ok(()) => Ok(response),
-        Err(stop) => Err(stop),
-    }
+    store(files, name, bytes.as_slice())?;
+    Ok(response)
 }
 
 /// The answers to `validate`, whose proof is stored where one is asked for.
@@ -149,7 +148,7 @@ fn validate<F: Files>(
     holding: Holding,
     validation: &Validation<'_>,
 ) -> Result<Response, Stop>
-    requires taken { IsTaken (F.told files.old) (command_of (Lent.Validate validation.now)) (held_by holding) }
+    requires taken { IsTaken (F.told files.old) (inputs_of (command_of (Lent.Validate validation.now))) (held_by holding) }
     requires bases { HasBases (command_of (Lent.Validate validation.now)) }
     requires scheme { IsSome (scheme_of (base_of holding.names)) }
     requires room { HasRoom (held_by holding) }
@@ -162,10 +161,7 @@ fn validate<F: Files>(
     ensures faults_stay { OnOk result (F.faults files.new ≡ F.faults files.old) }
 {
     let mut holding = holding;
-    let decided = match decide_map(alloc, files, &mut holding, validation) {
-        Ok(decided) => decided,
-        Err(stop) => return Err(stop),
-    };
+    let decided = decide_map(alloc, files, &mut holding, validation)?;
     keep(alloc, files, validation, decided)
 }
 
@@ -176,7 +172,7 @@ fn check<F: Files>(
     holding: Holding,
     checking: &Checking<'_>,
 ) -> Result<Response, Stop>
-    requires taken { IsTaken (F.told files.old) (command_of (Lent.Check checking.now)) (held_by holding) }
+    requires taken { IsTaken (F.told files.old) (inputs_of (command_of (Lent.Check checking.now))) (held_by holding) }
     requires room { HasRoom (held_by holding) }
     requires of_table { All (IsOfTable holding.terms) holding.graph.triples }
     ensures response { IfOk result (λ r. IsResponse (F.told files.old) (F.told files.new) (command_of (Lent.Check checking.now)) r.status r.text.items) }
@@ -186,13 +182,27 @@ fn check<F: Files>(
     ensures stored { IfErr result (LeavesStored (F.told files.old) (F.told files.new) (command_of (Lent.Check checking.now))) }
     ensures faults_stay { OnOk result (F.faults files.new ≡ F.faults files.old) }
 {
-    let bytes = match fetch_proof(alloc, files, checking.proof) {
-        Ok(bytes) => bytes,
-        Err(stop) => return Err(stop),
-    };
-    match confirm(alloc, holding, bytes.as_slice()) {
-        Ok(text) => Ok(Response { status: 0, text }),
-        Err(stop) => Err(stop),
+    let bytes = fetch_proof(alloc, files, checking.proof)?;
+    let text = confirm(alloc, holding, bytes.as_slice())?;
+    Ok(Response { status: 0, text })
+}
+
+/// What the schema file and the data file of a command hold.
+fn hold<F: Files>(alloc: Global, files: &mut F, command: &Command<'_>) -> Result<Holding, Stop>
+    requires { HasBases (command_of command.now) }
+    ensures taken { IfOk result (λ b. IsTaken (F.told files.old) (inputs_of (command_of command.now)) (held_by b)) }
+    ensures room { IfOk result (λ b. HasRoom (held_by b)) }
+    ensures scheme { IfOk result (λ b. IsSome (scheme_of (base_of b.names))) }
+    ensures of_table { IfOk result (λ b. All (IsOfTable b.terms) b.graph.triples) }
+    ensures cause { IfErr result (Explains (F.told files.old) (command_of command.now)) }
+    ensures faults { IfErr result (FaultsAs (command_of command.now) (F.faults files.old) (F.faults files.new) (F.blame files.new) (F.act files.new)) }
+    ensures stored { IfErr result (LeavesStored (F.told files.old) (F.told files.new) (command_of command.now)) }
+    ensures faults_stay { OnOk result (F.faults files.new ≡ F.faults files.old) }
+    ensures told_stays { F.told files.new ≡ F.told files.old }
+{
+    match read_holding(alloc, files, command.inputs()) {
+        Ok(holding) => Ok(holding),
+        Err(error) => Err(stop_of(error)),
     }
 }
 
@@ -210,10 +220,7 @@ pub fn respond<F: Files>(
     ensures stored { IfErr result (LeavesStored (F.told files.old) (F.told files.new) (command_of command.now)) }
     ensures faults_stay { OnOk result (F.faults files.new ≡ F.faults files.old) }
 {
-    let holding = match read_holding(alloc, files, command) {
-        Ok(holding) => holding,
-        Err(error) => return Err(stop_of(error)),
-    };
+    let holding = hold(alloc, files, command)?;
     match command {
         Command::Validate(validation) => validate(alloc, files, holding, validation),
         Command::Check(checking) => check(alloc, files, holding, checking),

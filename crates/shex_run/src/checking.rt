@@ -5,8 +5,8 @@ ghost use Rattle.graph_index.specs.Laws.{IsOfTable};
 ghost use Rattle.shex_inputs.specs.Held.{HasRoom, held_by};
 ghost use Rattle.shex_run.specs.Checking.{ConfirmStops, Confirms, IsSomeHolding};
 
-use crate::stop::{Rejection, Stop};
-use proof_checker::{CheckError, check};
+use crate::stop::{Stop, check_stop};
+use proof_checker::check;
 use proof_file::accepted_is_true;
 use schema_tree::laws::typing_is_one;
 use shape_map::write_result;
@@ -36,12 +36,7 @@ pub fn confirm(alloc: Global, holding: Holding, proof: &[u8]) -> Result<Vec<u8>,
     let _count = terms.len();
     let claims = match checked {
         Ok(claims) => claims,
-        Err(CheckError::Syntax(at)) => return Err(Stop::Rejected(Rejection::Syntax(at))),
-        Err(CheckError::Rejected(number, why)) => {
-            return Err(Stop::Rejected(Rejection::Item(number, why)));
-        }
-        Err(CheckError::Full) => return Err(Stop::Full),
-        Err(CheckError::Memory) => return Err(Stop::Memory),
+        Err(error) => return Err(check_stop(error)),
     };
     let mut text = Vec::new(alloc);
     match write_result(alloc, &terms, claims.list(), &mut text) {

@@ -1,10 +1,11 @@
 //! Why a call ends before its answers.
 
-ghost use Rattle.std.specs.Prelude.{◌≡◌};
-ghost use Rattle.shex_run.specs.Stopping.{stop_of};
+ghost use Rattle.std.specs.Prelude.{◌≡◌, ◌<◌};
+ghost use Rattle.shex_run.specs.Statuses.{refusal_status};
+ghost use Rattle.shex_run.specs.Stopping.{check_stop, stop_of};
 
-use proof_file::Why;
-use shex_inputs::{InputError, Refusal, Source};
+use proof_checker::CheckError;
+use shex_inputs::{InputError, Refusal as InputRefusal, Source};
 use std::alloc::AllocError;
 
 /// A file that the words name.
@@ -16,25 +17,34 @@ pub enum File {
     Proof,
 }
 
-/// Why a proof is rejected.
-#[derive(Clone, Copy, Debug, PartialEq, Eq)]
-pub enum Rejection {
-    /// The bytes are no text of a proof: where they cease to begin one.
-    Syntax(u64),
-    /// The number of the first item that is not accepted, from 0 over records and claims, and the first check that it
-    /// fails.
-    Item(u64, Why),
+/// Why a file is refused. Want of memory is never the cause.
+#[derive(Debug, Drop, PartialEq, Eq)]
+pub enum Refusal {
+    /// A file of the inputs is not taken.
+    Input(InputRefusal),
+    /// The proof that is checked is not accepted.
+    Proof(CheckError),
+}
+
+impl Refusal {
+    /// The status of a call that ends with the refusal: 6 where the proof is rejected, and else 3.
+    pub fn status(&self) -> u8
+        ensures status { result ≡ refusal_status self.now }
+        ensures low { result < 7 }
+    {
+        match self {
+            Refusal::Input(_) => 3,
+            Refusal::Proof(CheckError::Full) => 3,
+            Refusal::Proof(_) => 6,
+        }
+    }
 }
 
 /// Why there is no answer.
 #[derive(Debug, Drop, PartialEq, Eq)]
 pub enum Stop {
-    /// A file of the inputs is refused.
+    /// A file is refused.
     Refused(Refusal),
-    /// The table of terms cannot take up the node lines of the proof that is checked.
-    Full,
-    /// The proof is rejected.
-    Rejected(Rejection),
     /// The file was not fetched, or not stored.
     Failed(File),
     /// Memory ran out.
@@ -57,8 +67,18 @@ pub fn stop_of(error: InputError) -> Stop
     ensures { result ≡ stop_of error }
 {
     match error {
-        InputError::Refused(refusal) => Stop::Refused(refusal),
+        InputError::Refused(refusal) => Stop::Refused(Refusal::Input(refusal)),
         InputError::Failed(source) => Stop::Failed(File::Input(source)),
         InputError::Memory => Stop::Memory,
+    }
+}
+
+/// Why there is no answer where a proof is not accepted.
+pub fn check_stop(error: CheckError) -> Stop
+    ensures { result ≡ check_stop error }
+{
+    match error {
+        CheckError::Memory => Stop::Memory,
+        error => Stop::Refused(Refusal::Proof(error)),
     }
 }

@@ -19,8 +19,9 @@ ghost use Rattle.shex_run.specs.Tasks.{IsToValidate};
 
 use crate::answers::respond;
 use crate::report;
-use crate::stop::{File, Rejection, Stop};
+use crate::stop::{File, Stop};
 use command_words::{WordsError, answers_are_one, read};
+use proof_checker::CheckError;
 use shex_inputs::{Refusal, inputs_are_one};
 use shex_io::{Files, Sink};
 use std::alloc::{AllocError, Global};
@@ -67,10 +68,12 @@ fn end<F: Files, O: Sink, E: Sink>(
     };
     match respond(alloc, files, &command) {
         Ok(response) => report::print(out, response.text.as_slice(), response.status),
-        Err(Stop::Refused(refusal)) => say(report::refusal(alloc, &command, &refusal), 3, err),
-        Err(Stop::Full) => say(report::full(alloc, &command), 3, err),
-        Err(Stop::Rejected(rejection)) => {
-            say(report::rejection(alloc, &command, rejection), 6, err)
+        Err(Stop::Refused(refusal)) => {
+            say(
+                report::refusal(alloc, &command, &refusal),
+                refusal.status(),
+                err,
+            )
         }
         Err(Stop::Failed(file)) => say(report::failed(alloc, &command, file), 5, err),
         Err(Stop::Memory) => 8,
@@ -162,7 +165,7 @@ pub fn run<F: Files, O: Sink, E: Sink>(
     ensures accepts { (contents : List ℕ → Option (List ℕ)) (c : Asking) (h : Held) (bytes : List ℕ) (terms : List Term) (answers : List Answer) →
         F.told files.old ≡ Some contents → IsAsked (map string_bytes words.now) c →
         IsGiven (F.told files.old) c h bytes → Accepted h bytes terms answers → (result ≡ 0) ⊎ IsInterrupted result }
-    ensures rejects { (contents : List ℕ → Option (List ℕ)) (c : Asking) (rejection : Rejection) →
+    ensures rejects { (contents : List ℕ → Option (List ℕ)) (c : Asking) (rejection : CheckError) →
         F.told files.old ≡ Some contents → IsAsked (map string_bytes words.now) c →
         IsRejected (F.told files.old) c rejection → (result ≡ 6) ⊎ IsInterrupted result }
     ensures refuses { (contents : List ℕ → Option (List ℕ)) (c : Asking) (refusal : Refusal) →

@@ -27,9 +27,8 @@ use Rattle.proof_file.specs.declared.RecordKind.{RecordKind}
 use Rattle.shape_map.specs.declared.resolve.Association.{Association}
 use Rattle.simple_typing.specs.Answers.{flat}
 use Rattle.simple_typing.specs.declared.pairs.Asked.{Asked}
-use Rattle.simple_typing.specs.Evidence.{Shows}
 use Rattle.simple_typing.specs.Laws.{AreLaws}
-use Rattle.simple_typing.specs.Records.{IsRead, IsShown, IsShownAs, IsSureBy, is_plus, pair_of_record}
+use Rattle.simple_typing.specs.Records.{IsShown, IsShownAs, IsSureBy, is_plus}
 use Rattle.simple_typing.specs.Simple.{IsSimpleSchema}
 use Rattle.schema_tree.specs.Truths.{IsTruth}
 use Rattle.simple_typing.proofs.Accepting.{accepted, proof_of, records_are}

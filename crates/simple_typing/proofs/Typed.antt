@@ -54,27 +54,29 @@ pub record AreParts (s : Schema) (terms : List Term) (g : List Triple) (asked : 
   pub recorded : (q : Asked) → Contains (map pair_of_record records) q ↔ ((a : Association) × Contains asked a × AsksFor s nodes a q)
 
 -- the parts as they are lent: the nodes, the pairs and the records
-pub parts_of : (s : Schema) (terms : List Term) (g : List Triple) (asked : List Association) (distinct nodes : List TermId) (pairs lent : List Asked) (records made : List Record) (lines : List Term) (answers : List Answer) (claims : List Claim) →
-    IsLoaded s → IsSimpleSchema s → All (IsAsked s terms) asked → All (HasLines terms) asked → length asked ≤ max_associations →
-    nodes ≡ distinct → IsStrictlySortedBy (compare_at terms) distinct → ((n : TermId) → Contains distinct n ↔ ((a : Association) × Contains asked a × (a.node ≡ n))) → length distinct ≤ length asked →
-    lent ≡ pairs → IsStrictlySortedBy compare_asked pairs → ((q : Asked) → Contains pairs q ↔ ((a : Association) × Contains asked a × AsksFor s nodes a q)) → map pair_of_record records ≡ lent → AllByRecursion (IsShown s terms g nodes) records →
+pub parts_of : (s : Schema) (terms : List Term) (g : List Triple) (asked asking : List Association) (distinct nodes : List TermId) (pairs lent : List Asked) (records made : List Record) (lines : List Term) (answers : List Answer) (claims : List Claim) →
+    asking ≡ asked → IsLoaded s → IsSimpleSchema s → All (IsAsked s terms) asked → All (HasLines terms) asked → length asked ≤ max_associations →
+    nodes ≡ distinct → IsStrictlySortedBy (compare_at terms) distinct → ((n : TermId) → Contains distinct n ↔ ((a : Association) × Contains asking a × (a.node ≡ n))) → length distinct ≤ length asking →
+    lent ≡ pairs → IsStrictlySortedBy compare_asked pairs → ((q : Asked) → Contains pairs q ↔ ((a : Association) × Contains asking a × AsksFor s nodes a q)) → map pair_of_record records ≡ lent → AllByRecursion (IsShown s terms g nodes) records →
     made ≡ records → AllZip (IsReplyTo s terms nodes made) asked answers → AllZip (IsClaimOf nodes) answers claims → AreNumbers terms lines nodes → AllByRecursion IsValue lines →
     AreParts s terms g asked nodes lines records answers claims
-parts_of s terms g asked distinct nodes pairs lent records made lines answers claims loaded simple are has limit nodes_are sorted exactly few pairs_are pairs_sorted pairs_exactly of shown made_are replies claimed numbers values = record {
+parts_of s terms g asked asking distinct nodes pairs lent records made lines answers claims one loaded simple are has limit nodes_are sorted exactly few pairs_are pairs_sorted pairs_exactly of shown made_are replies claimed numbers values = record {
   loaded = loaded;
   simple = simple;
   are_asked = λ a held. All-contains (IsAsked s terms) asked a are held;
   has_lines = λ a held. All-contains (HasLines terms) asked a has held;
   sorted = subst (IsStrictlySortedBy (compare_at terms)) (sym nodes_are) sorted;
-  exactly = subst (λ (ns : List TermId). (n : TermId) → Contains ns n ↔ ((a : Association) × Contains asked a × (a.node ≡ n))) (sym nodes_are) exactly;
-  few = omega (arith, ap length nodes_are, few, limit);
+  exactly = subst (λ (ns : List TermId). (n : TermId) → Contains ns n ↔ ((a : Association) × Contains asked a × (a.node ≡ n))) (sym nodes_are)
+      (subst (λ (xs : List Association). (n : TermId) → Contains distinct n ↔ ((a : Association) × Contains xs a × (a.node ≡ n))) one exactly);
+  few = omega (arith, ap length nodes_are, ap length one, few, limit);
   numbers = numbers;
   values = values;
   pairs = subst (IsStrictlySortedBy compare_asked) (sym (of ∙ pairs_are)) pairs_sorted;
   shown = shown;
   replies = subst (λ (rs : List Record). AllZip (IsReplyTo s terms nodes rs) asked answers) made_are replies;
   claimed = claimed;
-  recorded = subst (λ (qs : List Asked). (q : Asked) → Contains qs q ↔ ((a : Association) × Contains asked a × AsksFor s nodes a q)) (sym (of ∙ pairs_are)) pairs_exactly;
+  recorded = subst (λ (qs : List Asked). (q : Asked) → Contains qs q ↔ ((a : Association) × Contains asked a × AsksFor s nodes a q)) (sym (of ∙ pairs_are))
+      (subst (λ (xs : List Association). (q : Asked) → Contains pairs q ↔ ((a : Association) × Contains xs a × AsksFor s nodes a q)) one pairs_exactly);
 }
 
 -- the proof that is put together

@@ -74,15 +74,15 @@ fn holds(
     }
 }
 
-/// The answer to an association.
-fn answer_to(alloc: Global, association: &Association, holds: bool) -> Result<Answer, AllocError>
-    ensures { IfOk result (λ x. x ≡ record { node = association.now.node; target = association.now.target; holds = holds }) }
+/// The answer to an association, whose target it takes.
+fn answered(association: Association, holds: bool) -> Answer
+    ensures { result ≡ record { node = association.node; target = association.target; holds = holds } }
 {
-    Ok(Answer {
+    Answer {
         node: association.node,
-        target: association.target.try_clone(alloc)?,
+        target: association.target,
         holds,
-    })
+    }
 }
 
 /// The claim of an association whose node is on this node line.
@@ -108,26 +108,26 @@ fn replies(
     terms: &TermTable,
     nodes: &[TermId],
     records: &[Record],
-    associations: &[Association],
+    associations: Vec<Association>,
 ) -> Result<(Vec<Answer>, Vec<Claim>), AllocError>
     requires loaded { IsLoaded schema.now }
     requires simple { IsSimpleSchema schema.now }
-    requires asked { (a : Asking) → Contains associations.now a → IsAsked schema.now terms.now a }
+    requires asked { (a : Asking) → Contains associations.items a → IsAsked schema.now terms.now a }
     requires nodes { IsStrictlySortedBy (compare_at terms.now) nodes.now }
     requires few { length nodes.now ≤ max_associations }
-    requires held { (a : Asking) → Contains associations.now a → Contains nodes.now a.node }
+    requires held { (a : Asking) → Contains associations.items a → Contains nodes.now a.node }
     requires records { IsStrictlySortedBy compare_asked (map pair_of_record records.now) }
-    requires recorded { (a : Asking) (q : Wanted) → Contains associations.now a → AsksFor schema.now nodes.now a q → Contains (map pair_of_record records.now) q }
-    ensures answers { IfOk result (λ r. AllZip (IsReplyTo schema.now terms.now nodes.now records.now) associations.now r.0.items) }
+    requires recorded { (a : Asking) (q : Wanted) → Contains associations.items a → AsksFor schema.now nodes.now a q → Contains (map pair_of_record records.now) q }
+    ensures answers { IfOk result (λ r. AllZip (IsReplyTo schema.now terms.now nodes.now records.now) associations.items r.0.items) }
     ensures claims { IfOk result (λ r. AllZip (IsClaimOf nodes.now) r.0.items r.1.items) }
 {
     let mut answers = Vec::new(alloc);
     let mut claims = Vec::new(alloc);
     for association in associations {
         let line = place_of(terms, nodes, association.node);
-        let holds = holds(alloc, schema, terms, records, association, line)?;
-        answers.push(answer_to(alloc, association, holds)?)?;
-        claims.push(claim_of(alloc, association, line, holds)?)?;
+        let holds = holds(alloc, schema, terms, records, &association, line)?;
+        claims.push(claim_of(alloc, &association, line, holds)?)?;
+        answers.push(answered(association, holds))?;
     }
     Ok((answers, claims))
 }
@@ -158,58 +158,6 @@ fn laws(terms: &TermTable)
     sure_is_true();
     texts_are_distinct();
     typing_is_one();
-}
-
-/// The answers to associations, with the proof of them all, as `answer_with_proof` gives them. The
-/// schema is one whose Shapes have at most one occurrence, which takes arcs out and whose value is absent or a node
-/// constraint. There are at most 1,000,000 associations, whose nodes are of the table and whose targets are declared. The
-/// proof has a record for each pair of a node and a Shape that some association asks for, in one section of the stratum 0.
-fn prove(
-    alloc: Global,
-    schema: &Schema,
-    terms: &TermTable,
-    graph: &Graph,
-    associations: &[Association],
-) -> Result<Typing, AllocError>
-    requires loaded { IsLoaded schema.now }
-    requires simple { IsSimpleSchema schema.now }
-    requires sealed { IsSealedWith terms.now graph.now }
-    requires of_table { All (IsOfTable terms.now) graph.now.triples }
-    requires asked { All (IsAsked schema.now terms.now) associations.now }
-    requires lines { All (HasLines terms.now) associations.now }
-    requires few { length associations.now ≤ max_associations }
-
-    // Each answer is the truth.
-    ensures answers { IfOk result (λ t. AreAnswersTo schema.now terms.now graph.now.triples associations.now t.answers.items) }
-
-    // They have a proof.
-    ensures proof { IfOk result (λ t. IsFlatProofOf schema.now terms.now graph.now.triples t.answers.items t.proof) }
-{
-    laws(terms);
-    let distinct = nodes_of(alloc, terms, associations)?;
-    let nodes = distinct.as_slice();
-    let asked = pairs_of(alloc, schema, terms, nodes, associations)?;
-    let pairs = asked.as_slice();
-    let records = records_of(alloc, schema, terms, graph, nodes, pairs)?;
-    let made = records.as_slice();
-    let (answers, claims) = replies(alloc, schema, terms, nodes, made, associations)?;
-    let proof = Proof {
-        nodes: Items::of(lines(alloc, terms, nodes)?),
-        sections: Items::of(sections(alloc, records)?),
-        claims: Items::of(claims),
-    };
-    Ok(Typing { answers, proof })
-}
-
-/// The answer to an association, whose target it takes.
-fn answered(association: Association, holds: bool) -> Answer
-    ensures { result ≡ record { node = association.node; target = association.target; holds = holds } }
-{
-    Answer {
-        node: association.node,
-        target: association.target,
-        holds,
-    }
 }
 
 /// The answers to associations, each true of the complete typing (ShEx 2.1, section 5.2). The schema is one whose Shapes have
@@ -263,5 +211,19 @@ pub fn answer_with_proof(
     // They have a proof.
     ensures proof { IfOk result (λ t. IsFlatProofOf schema.now terms.now graph.now.triples t.answers.items t.proof) }
 {
-    prove(alloc, schema, terms, graph, associations.as_slice())
+    laws(terms);
+    let asking = associations.as_slice();
+    let distinct = nodes_of(alloc, terms, asking)?;
+    let nodes = distinct.as_slice();
+    let asked = pairs_of(alloc, schema, terms, nodes, asking)?;
+    let pairs = asked.as_slice();
+    let records = records_of(alloc, schema, terms, graph, nodes, pairs)?;
+    let made = records.as_slice();
+    let (answers, claims) = replies(alloc, schema, terms, nodes, made, associations)?;
+    let proof = Proof {
+        nodes: Items::of(lines(alloc, terms, nodes)?),
+        sections: Items::of(sections(alloc, records)?),
+        claims: Items::of(claims),
+    };
+    Ok(Typing { answers, proof })
 }

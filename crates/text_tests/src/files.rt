@@ -1,4 +1,4 @@
-//! Files and sinks in memory and of the machine, called as a program calls them.
+//! Files and sinks that never fail, a sink that fails in mid-stream, and those of the machine.
 
 ghost use Rattle.std.specs.Prelude.{None, Some};
 
@@ -6,62 +6,6 @@ use shex_io::*;
 use std::io::Write;
 use std::test::Fail;
 use std::{fs, io};
-
-#[test]
-fn memory_files_fail_at_the_listed_calls_alone(rt: HostRuntime) -> Result<(), Fail> {
-    let alloc = rt.alloc();
-    let mut files = MemFiles::new(alloc, vec![in alloc; 1, 3]?);
-    files.add("a", b"first")?;
-    files.add("b", b"")?;
-    files.add("a", b"second")?;
-    assert_eq!(rt; files.file("a"), Some(b"second".as_slice()));
-    assert_eq!(rt; files.file("b"), Some(b"".as_slice()));
-    assert_eq!(rt; files.file("c"), None);
-    assert_eq!(rt;
-        files.fetch(alloc, "a", 9)?.as_slice(),
-        b"second".as_slice()
-    );
-    assert_eq!(rt;
-        files.fetch(alloc, "a", 9).err(),
-        Some(FetchError::Failed),
-        "call 1"
-    );
-    assert_eq!(rt;
-        files.fetch(alloc, "c", 9).err(),
-        Some(FetchError::Failed),
-        "absent"
-    );
-    assert_eq!(rt;
-        files.fetch(alloc, "c", 9).err(),
-        Some(FetchError::Failed),
-        "call 3"
-    );
-    assert_eq!(rt; files.fetch(alloc, "b", 9)?.as_slice(), b"".as_slice());
-    Ok(())
-}
-
-#[test]
-fn fetches_and_stores_in_memory_are_numbered_together(rt: HostRuntime) -> Result<(), Fail> {
-    let alloc = rt.alloc();
-    let mut files = MemFiles::new(alloc, vec![in alloc; 0, 2]?);
-    files.add("kept", b"as it was")?;
-    assert_eq!(rt;
-        files.store("a", b"first"),
-        Err(StoreError::Failed),
-        "call 0"
-    );
-    assert_eq!(rt; files.file("a"), None);
-    assert_eq!(rt; files.store("a", b"first"), Ok(()));
-    assert_eq!(rt;
-        files.fetch(alloc, "a", 9).err(),
-        Some(FetchError::Failed),
-        "call 2"
-    );
-    assert_eq!(rt; files.store("a", b"again"), Ok(()));
-    assert_eq!(rt; files.fetch(alloc, "a", 9)?.as_slice(), b"again".as_slice());
-    assert_eq!(rt; files.file("kept"), Some(b"as it was".as_slice()));
-    Ok(())
-}
 
 #[test]
 fn sure_files_fail_at_absent_names_alone(rt: HostRuntime) -> Result<(), Fail> {
@@ -81,41 +25,6 @@ fn sure_files_fail_at_absent_names_alone(rt: HostRuntime) -> Result<(), Fail> {
     assert_eq!(rt; put_all(&mut sink, b"one"), Ok(()));
     assert_eq!(rt; sink.put(b"two"), Ok(3));
     assert_eq!(rt; sink.bytes(), b"onetwo".as_slice());
-    Ok(())
-}
-
-#[test]
-fn a_fetch_takes_as_many_bytes_as_the_limit_and_no_more(rt: HostRuntime) -> Result<(), Fail> {
-    let alloc = rt.alloc();
-    let mut files = MemFiles::new(alloc, Vec::new(alloc));
-    files.add("four", b"1234")?;
-    files.add("none", b"")?;
-    for (name, limit, want) in [
-        ("four", 0, None),
-        ("four", 3, None),
-        ("four", 4, Some(4)),
-        ("four", u64::MAX, Some(4)),
-        ("none", 0, Some(0)),
-    ] {
-        match files.fetch(alloc, name, limit) {
-            Ok(bytes) => assert_eq!(rt; Some(bytes.len()), want, "{name} at {limit}"),
-            Err(error) => {
-                assert_eq!(rt; error, FetchError::Long, "{name} at {limit}");
-                assert_eq!(rt; None, want, "{name} at {limit}");
-            }
-        }
-    }
-    Ok(())
-}
-
-#[test]
-fn a_memory_sink_fails_at_the_listed_calls_alone(rt: HostRuntime) -> Result<(), Fail> {
-    let alloc = rt.alloc();
-    let mut sink = MemSink::new(alloc, vec![in alloc; 1]?);
-    assert_eq!(rt; sink.put(b"one"), Ok(3));
-    assert_eq!(rt; sink.put(b"two"), Err(SinkError::Failed));
-    assert_eq!(rt; sink.put(b"three"), Ok(5));
-    assert_eq!(rt; sink.bytes(), b"onethree".as_slice());
     Ok(())
 }
 

@@ -1,8 +1,8 @@
-//! Patterns that are too large to be written down, and one that is made of a tree.
+//! Patterns that are too large to be written down.
 
 use std::alloc::{AllocError, Global};
 use std::test::Fail;
-use xs_pattern::{Expression, Flags, Pattern, PatternError};
+use xs_pattern::{Pattern, PatternError};
 
 /// Whether the pattern is found in the text, or why it is refused.
 fn search(
@@ -28,40 +28,27 @@ fn repeated(alloc: Global, part: &str, number: u32) -> Result<String, AllocError
 
 #[test]
 fn as_many_positions_as_the_limit_are_read(rt: HostRuntime) -> Result<(), Fail> {
-    for (number, want) in [(4096, true), (4095, false)] {
-        let text = repeated(rt.alloc(), "a", number)?;
+    for (length, want) in [(4096, true), (4095, false)] {
+        let text = repeated(rt.alloc(), "a", length)?;
         let found = search(rt.alloc(), "(a{64}){64}", "", text.as_str())?;
-        assert_eq!(rt; found, Ok(want));
+        assert_eq!(rt; found, Ok(want), "in {length} letters");
     }
     Ok(())
 }
 
+/// Each character is a position under the flag of literals, and nested repetitions are answered at once.
 #[test]
-fn each_character_is_a_position_under_the_flag_of_literals(rt: HostRuntime) -> Result<(), Fail> {
-    for (number, want) in [(4096, Ok(false)), (4097, Err(PatternError::Large))] {
-        let text = repeated(rt.alloc(), ".", number)?;
-        assert_eq!(rt; search(rt.alloc(), text.as_str(), "q", "")?, want);
-    }
-    Ok(())
-}
-
-#[test]
-fn nested_repetitions_are_answered_at_once(rt: HostRuntime) -> Result<(), Fail> {
-    let text = repeated(rt.alloc(), "a", 100_000)?;
-    let found = search(rt.alloc(), "(a*)*b", "", text.as_str())?;
-    assert_eq!(rt; found, Ok(false));
-    Ok(())
-}
-
-#[test]
-fn a_tree_is_a_pattern(rt: HostRuntime) -> Result<(), Fail> {
-    let flags = Flags {
-        dot_all: false,
-        ignore_case: false,
-    };
-    match Pattern::new(Expression::Start, flags) {
-        Some(pattern) => assert!(rt; pattern.found(rt.alloc(), "a")?),
-        None => assert!(rt; false),
+fn large_patterns_and_texts_are_answered(rt: HostRuntime) -> Result<(), Fail> {
+    let alloc = rt.alloc();
+    for (part, number, flags, length, want) in [
+        (".", 4096, "q", 0, Ok(false)),
+        (".", 4097, "q", 0, Err(PatternError::Large)),
+        ("(a*)*b", 1, "", 100_000, Ok(false)),
+    ] {
+        let pattern = repeated(alloc, part, number)?;
+        let text = repeated(alloc, "a", length)?;
+        let found = search(alloc, pattern.as_str(), flags, text.as_str())?;
+        assert_eq!(rt; found, want, "{part} {number} times in {length} letters");
     }
     Ok(())
 }

@@ -1,18 +1,15 @@
 -- What tokens of Turtle stand for can stand on one line, where the base and the prefixes do.
-use Rattle.std.proofs.Common.{◌≡◌, ℕ, ◌+◌, ◌≤◌, Bool, true, false, cond, nat_eq, nat_lt, List, [], ◌∷◌, ◌++◌, Option, Some, Result, Ok, Err, refl, subst, arith}
-use Rattle.std.specs.List.{AllByRecursion, after_first}
+use Rattle.std.proofs.Common.{◌≡◌, ℕ, ◌+◌, ◌≤◌, Bool, true, false, cond, nat_lt, List, [], ◌∷◌, ◌++◌, Option, Some, Result, Ok, Err, refl, subst, arith}
+use Rattle.std.specs.List.{AllByRecursion}
 use Rattle.std.specs.Str.{chars, bytes_eq}
 use Rattle.std.proofs.lemmas.Bool.Decides.{nat_tests}
 use Rattle.std.proofs.lemmas.Option.{same_Some}
 use Rattle.rdf_terms.specs.Vocabulary.{rdf_first, rdf_rest, rdf_nil}
 use Rattle.rdf_terms.specs.declared.terms.Term.{Term}
-use Rattle.rdf_terms.specs.declared.terms.Term.TheVariants.{Blank}
-use Rattle.rdf_terms.specs.declared.terms.Name.TheVariants.{Label}
-use Rattle.rdf_terms.proofs.OneLine.{Plain, plain_chars, Clean}
+use Rattle.rdf_terms.proofs.OneLine.{Plain, Clean}
 use Rattle.rdf_terms.proofs.TermLines.{PlainTerm, plain_written}
-use Rattle.rdf_lex.specs.Tokens.{Spelled}
 use Rattle.rdf_cursor.specs.declared.stops.Fault.{Fault}
-use Rattle.rdf_cursor.specs.declared.stops.Fault.TheVariants.{Syntax, Full}
+use Rattle.rdf_cursor.specs.declared.stops.Fault.TheVariants.{Full}
 use Rattle.term_tokens.specs.Terms.{iri_term}
 use Rattle.term_tokens.proofs.NameLines.{err_is_not_ok, ok_same, PlainNames}
 use Rattle.graph_index.specs.declared.loading.TermTriple.{TermTriple}

@@ -12,3 +12,4 @@ pub mod OrderLaws
 pub mod CountLaws
 pub mod Grammar
 pub mod DateTimeGrammar
+pub mod Naturals

@@ -6,6 +6,7 @@ mod decimal;
 mod digits;
 mod integer;
 pub mod laws;
+mod unsigned;
 
 ghost use Rattle.std.specs.Prelude.{◌≡◌, ◌↔◌, IsTrue};
 ghost use Rattle.xs_text.specs.Decimal.{is_decimal, IsBelow, HasSameValue, total_digit_count, fraction_digit_count};
@@ -19,6 +20,7 @@ ghost use Rattle.xs_text.specs.Datatype.{
 };
 
 use std::cmp::Ordering;
+pub use unsigned::unsigned_long;
 
 /// The namespace of the datatypes.
 const XML_SCHEMA: &str = "http://www.w3.org/2001/XMLSchema#";

@@ -1,8 +1,4 @@
-use Rattle.std.proofs.Common.{◌≡◌, ◌<◌, ◌≤◌, ◌^◌, ap, arith, length, refl, subst, sym, ◌∙◌}
-use Rattle.std.proofs.lemmas.Bool.{ltb-true}
-use Rattle.std.proofs.lemmas.Option.{slice_get_read}
 use Rattle.std.proofs.lemmas.Result.{IfOk-weaker}
-use Rattle.std.specs.Prelude.{Some, slice_get, IsTrue, ◌↔◌, true, false}
 use Rattle.schema_tree.specs.Entries.{shape_at}
 use Rattle.schema_tree.specs.Places.{MayFail, MayHold}
 use Rattle.bag_match.specs.Outcomes.{IsFound, IsOutcome}
@@ -11,8 +7,8 @@ use Rattle.bag_match.proofs.matching.match_pair.Goals as goal
 
 pub outcome-requires-clause-few : goal.outcome-requires-clause-few
 outcome-requires-clause-few g c =
-    few_relevant c.args.terms.now c.args.graph.now.triples c.in-Some.shape.now c.args.pair.node c.as_slice-2.result.now c.len-held.result
-    (c.as_slice-2.ensures.value ∙ c.in_ok-triples.ensures c.args.terms.now c.requires.sealed) c.len-held.ensures.count c.len-held.ensures.few
+    few_relevant c.args.terms.now c.args.graph.now.triples c.in-Some.shape.now c.args.pair.node c.in_ok-triples.triples c.len-held.result
+    (c.in_ok-triples.ensures c.args.terms.now c.requires.sealed) c.len-held.ensures.count c.len-held.ensures.few
 
 pub outcome-requires-clause-few_occurrences : goal.outcome-requires-clause-few_occurrences
 outcome-requires-clause-few_occurrences g c =
@@ -22,12 +18,12 @@ outcome-requires-clause-few_occurrences g c =
 pub returns-clause-outcome : goal.returns-clause-outcome
 returns-clause-outcome g c =
     IfOk-weaker c.outcome.result
-    (IsFound (MayHold c.args.schema.now c.args.terms.now (g.V.View.known c.args.view.now) c.args.lean) (MayFail c.args.schema.now c.args.terms.now (g.V.View.known c.args.view.now) c.args.lean) c.in-Some.shape.now c.args.pair.node c.as_slice-2.result.now)
+    (IsFound (MayHold c.args.schema.now c.args.terms.now (g.V.View.known c.args.view.now) c.args.lean) (MayFail c.args.schema.now c.args.terms.now (g.V.View.known c.args.view.now) c.args.lean) c.in-Some.shape.now c.args.pair.node c.in_ok-triples.triples)
     (IsOutcome c.args.schema.now c.args.terms.now c.args.graph.now.triples (g.V.View.known c.args.view.now) c.args.lean c.args.pair)
-    (λ r found. matched_of c.args.schema.now c.args.terms.now c.args.graph.now.triples (g.V.View.known c.args.view.now) c.args.lean c.args.pair.node (shape_at c.args.schema.now c.args.pair.shape) c.in-Some.shape.now c.as_slice-2.result.now
+    (λ r found. matched_of c.args.schema.now c.args.terms.now c.args.graph.now.triples (g.V.View.known c.args.view.now) c.args.lean c.args.pair.node (shape_at c.args.schema.now c.args.pair.shape) c.in-Some.shape.now c.in_ok-triples.triples
     (shape_read c.args.schema.now c.args.pair.shape c.as_slice.result.now c.in-Some.shape.now c.as_slice.ensures c.in-Some.ensures.lookup.0 c.in-Some.ensures.lookup.1)
     (is_open c.args.graph.now.triples c.in-Some.shape.now c.args.pair.node c.is_shut.result (c.is_shut.ensures c.args.terms.now c.requires.sealed) c.if-is_shut.false)
-    (c.as_slice-2.ensures.value ∙ c.in_ok-triples.ensures c.args.terms.now c.requires.sealed) r found)
+    (c.in_ok-triples.ensures c.args.terms.now c.requires.sealed) r found)
     c.outcome.ensures.found
 
 pub returns-clause-placed : goal.returns-clause-placed
@@ -37,6 +33,6 @@ returns-clause-placed g c =
 
 pub returns-clause-most : goal.returns-clause-most
 returns-clause-most g c =
-    ticks_most c.args.schema.now c.args.terms.now c.args.graph.now.triples (g.V.View.known c.args.view.now) c.args.lean c.args.pair c.in-Some.shape.now c.as_slice-2.result.now
+    ticks_most c.args.schema.now c.args.terms.now c.args.graph.now.triples (g.V.View.known c.args.view.now) c.args.lean c.args.pair c.in-Some.shape.now c.in_ok-triples.triples
     (shape_read c.args.schema.now c.args.pair.shape c.as_slice.result.now c.in-Some.shape.now c.as_slice.ensures c.in-Some.ensures.lookup.0 c.in-Some.ensures.lookup.1)
-    (c.as_slice-2.ensures.value ∙ c.in_ok-triples.ensures c.args.terms.now c.requires.sealed) c.args.steps.now c.outcome.new.steps c.outcome.ensures.most
+    (c.in_ok-triples.ensures c.args.terms.now c.requires.sealed) c.args.steps.now c.outcome.new.steps c.outcome.ensures.most

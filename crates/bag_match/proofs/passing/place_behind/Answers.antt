@@ -1,4 +1,4 @@
-use Rattle.std.proofs.Common.{rules, arith, ◌≤◌, ◌∙◌, sym}
+use Rattle.std.proofs.Common.{rules, ◌≤◌, ◌∙◌, sym}
 use Rattle.bag_match.specs.Later.{is_kept}
 use Rattle.bag_match.proofs.Skipping.{fewer_no, fewer_yes, pass_no, pass_yes}
 use Rattle.bag_match.proofs.passing.place_behind.Goals as goal

@@ -1,4 +1,4 @@
-use Rattle.std.proofs.Common.{arith, lit≤, subst, min, ◌≤◌, ◌≡◌}
+use Rattle.std.proofs.Common.{arith, lit≤, subst, min, ◌≡◌}
 use Rattle.schema_tree.specs.Width.{ways}
 use Rattle.bag_match.specs.Keys.{places_of}
 use Rattle.bag_match.proofs.Keyed.{long_rest, product_ends, product_goes, some_next, some_way}

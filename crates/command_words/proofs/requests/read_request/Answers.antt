@@ -1,4 +1,4 @@
-use Rattle.std.proofs.Common.{◌≡◌, ◌∙◌, ◌∷◌, ◌-◌, Global, List, ap, codes, drop, length, map, string_bytes, sym, take, ℕ}
+use Rattle.std.proofs.Common.{◌≡◌, ◌∙◌, ◌∷◌, ◌-◌, Global, ap, codes, drop, length, map, string_bytes, sym, take}
 use Rattle.std.specs.Cmp.Lexicographic.{bytes_decides}
 use Rattle.command_words.proofs.Seen.{first_and_rest, requested}
 use Rattle.command_words.proofs.requests.read_request.Goals as goal

@@ -1,4 +1,4 @@
-use Rattle.std.proofs.Common.{ap, Err, ◌++◌, ◌∷◌, [], refl, subst, sym}
+use Rattle.std.proofs.Common.{ap, Err, ◌++◌, ◌∷◌, [], subst, sym}
 use Rattle.proof_file.specs.Accepts.{AreNumbers}
 use Rattle.proof_checker.proofs.TakenUp.{adds_keeps, cannot_take, keeps_on, numbers_push, rest_moves, rest_split, takes_push}
 use Rattle.proof_checker.proofs.lines.take_up.Goals as goal

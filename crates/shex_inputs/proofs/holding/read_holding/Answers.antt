@@ -1,20 +1,61 @@
-use Rattle.std.proofs.Common.{ap, sym, subst, ◌∙◌, IfErr, IfOk}
-use Rattle.command_words.specs.Checks.{is_base}
-use Rattle.shex_inputs.specs.Held.{IsTaken, held_by}
-use Rattle.shex_inputs.specs.Outcomes.{Explains, FaultsAs}
+use Rattle.std.proofs.Common.{◌∙◌, codes, subst}
+use Rattle.std.proofs.lemmas.Result.{err_from_is_err_and}
+use Rattle.schema_documents.specs.Tree.{document_of}
+use Rattle.graph_index.specs.declared.read_error.ReadError.TheVariants as ReadErrors
+use Rattle.shex_inputs.specs.declared.error.Refusal.TheVariants as Refusals
+use Rattle.shex_inputs.specs.declared.error.Source.TheVariants.{Data}
+use Rattle.shex_inputs.specs.Held.{held_by}
+use Rattle.shex_inputs.specs.Named.{IsFile, inputs_with}
+use Rattle.shex_inputs.specs.Stops.{FetchStops}
+use Rattle.shex_inputs.proofs.Reading.{are_taken, base_scheme, data_explains, fetch_before_map, fetch_explains, loadable, refused_before_map, refused_faults}
 use Rattle.shex_inputs.proofs.holding.read_holding.Goals as goal
 
-pub read_inputs-requires : goal.read_inputs-requires
-read_inputs-requires g c = let (task, same) = c.inputs_of.ensures in ap (λ k. is_base k.data_base) (sym same) ∙ c.requires.data_base
+pub load-requires-clause-scheme : goal.load-requires-clause-scheme
+load-requires-clause-scheme g c = base_scheme c.args.inputs.now.data_base.now c.requires.data_base
 
-pub returns-clause-taken : goal.returns-clause-taken
-returns-clause-taken g c = let (task, same) = c.inputs_of.ensures in subst (λ k. IfOk c.read_inputs.result (λ b. IsTaken (g.F.Files.told c.args.files.now) k (held_by b))) (sym same) (c.read_inputs.ensures.taken task)
+pub load-requires-clause-loadable : goal.load-requires-clause-loadable
+load-requires-clause-loadable g c = let holds = c.in_ok-doc.ensures.taken (codes "") in loadable (document_of c.in_ok-doc.doc) holds.bytes holds.spelled
+
+pub returns-in_err-doc-clause-cause : goal.returns-in_err-doc-clause-cause
+returns-in_err-doc-clause-cause g c = λ map_name.
+    let p = err_from_is_err_and c.from_residual.result c.from_residual.ensures.1 in
+    rw (p.1, p.2) (c.in_err-doc.ensures.cause map_name)
+
+pub returns-in_err-doc-clause-faults : goal.returns-in_err-doc-clause-faults
+returns-in_err-doc-clause-faults g c = λ map_name.
+    let p = err_from_is_err_and c.from_residual.result c.from_residual.ensures.1 in
+    rw (p.1, p.2) (c.in_err-doc.ensures.faults map_name)
+
+pub returns-in_err-bytes-clause-cause : goal.returns-in_err-bytes-clause-cause
+returns-in_err-bytes-clause-cause g c = λ map_name.
+    let p = err_from_is_err_and c.from_residual-in_err-bytes.result c.from_residual-in_err-bytes.ensures.1 in
+    let before = g.F.Files.faults c.read_schema.new.files in
+    let after = g.F.Files.faults c.fetch.new.files in
+    let blame = g.F.Files.blame c.fetch.new.files in
+    let act = g.F.Files.act c.fetch.new.files in
+    rw (p.1, p.2)
+    (fetch_explains (g.F.Files.told c.args.files.now) (inputs_with c.args.inputs.now map_name) Data before after blame act c.in_err-bytes.field-0.0 (document_of c.in_ok-doc.doc, c.in_ok-doc.ensures.taken map_name)
+    (subst (λ t. FetchStops t c.args.inputs.now.data.now Data before after blame act c.in_err-bytes.field-0.0) c.in_ok-doc.ensures.told_stays c.in_err-bytes.ensures.stops))
+
+pub returns-in-Ok-clause-taken : goal.returns-in-Ok-clause-taken
+returns-in-Ok-clause-taken g c = λ map_name.
+    let (triples, spelled, based) = c.in-Ok.ensures.read in
+    are_taken (g.F.Files.told c.args.files.now) (inputs_with c.args.inputs.now map_name) (held_by c.in-Ok.holding) c.of_name-format.result (document_of c.in_ok-doc.doc) c.in_ok-bytes.bytes.items c.as_slice.result.now triples (c.in_ok-doc.ensures.taken map_name)
+    (subst (λ t. IsFile t c.args.inputs.now.data.now c.in_ok-bytes.bytes.items) c.in_ok-doc.ensures.told_stays c.in_ok-bytes.ensures.bytes) c.of_name-format.ensures c.as_slice.ensures.value spelled based
+
+pub returns-in_err-bytes-clause-before_map : goal.returns-in_err-bytes-clause-before_map
+returns-in_err-bytes-clause-before_map g c =
+    let p = err_from_is_err_and c.from_residual-in_err-bytes.result c.from_residual-in_err-bytes.ensures.1 in
+    rw (p.1, p.2) (fetch_before_map _ _ _ _ _ _ _ _ (λ e. cc) c.in_err-bytes.ensures.stops)
+
+pub returns-clause-before_map : goal.returns-clause-before_map
+returns-clause-before_map g c = refused_before_map ReadErrors.Memory (λ e. Refusals.Data e) c.in-Err.error c.data_error.result c.data_error.ensures (λ e. cc)
 
 pub returns-clause-cause : goal.returns-clause-cause
-returns-clause-cause g c = let (task, same) = c.inputs_of.ensures in subst (λ k. IfErr c.read_inputs.result (Explains (g.F.Files.told c.args.files.now) k)) (sym same) (c.read_inputs.ensures.cause task)
+returns-clause-cause g c = λ map_name.
+    data_explains (g.F.Files.told c.args.files.now) (inputs_with c.args.inputs.now map_name) c.of_name-format.result (document_of c.in_ok-doc.doc) c.in_ok-bytes.bytes.items c.as_slice.result.now c.in-Err.error c.data_error.result (c.in_ok-doc.ensures.taken map_name)
+    (subst (λ t. IsFile t c.args.inputs.now.data.now c.in_ok-bytes.bytes.items) c.in_ok-doc.ensures.told_stays c.in_ok-bytes.ensures.bytes) c.of_name-format.ensures c.as_slice.ensures.value c.in-Err.ensures.unread c.data_error.ensures
 
 pub returns-clause-faults : goal.returns-clause-faults
-returns-clause-faults g c =
-    let (task, same) = c.inputs_of.ensures in
-    subst (λ k. IfErr c.read_inputs.result (FaultsAs k (g.F.Files.faults c.args.files.now) (g.F.Files.faults c.read_inputs.new.files) (g.F.Files.blame c.read_inputs.new.files) (g.F.Files.act c.read_inputs.new.files))) (sym same)
-    (c.read_inputs.ensures.faults task)
+returns-clause-faults g c = λ map_name.
+    refused_faults ReadErrors.Memory (λ e. Refusals.Data e) c.in-Err.error c.data_error.result (inputs_with c.args.inputs.now map_name) _ _ _ _ c.data_error.ensures (c.in_ok-bytes.ensures.faults_stay ∙ c.in_ok-doc.ensures.faults_stay)

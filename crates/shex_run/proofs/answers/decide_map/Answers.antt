@@ -12,13 +12,13 @@ use Rattle.shex_run.proofs.answers.decide_map.Goals as goal
 
 pub decide-requires : goal.decide-requires
 decide-requires g c =
-    ready (g.F.Files.told c.args.files.now) (command_of (Lent.Validate c.args.validation.now)) c.args.validation.now.map.now
+    ready (g.F.Files.told c.args.files.now) (command_of (Lent.Validate c.args.validation.now))
     (record { held = held_by c.args.holding.now; terms = c.read_map.new.holding.terms; associations = c.in-Ok.associations.items }) c.in-Ok.ensures.asked c.read_map.new.holding c.in-Ok.ensures.schema refl c.in-Ok.ensures.graph c.in-Ok.associations.items refl
     c.in-Ok.ensures.sealed c.in-Ok.ensures.of_new_table c.requires.bases c.are_texts.ensures.schema c.are_texts.ensures.data_file c.data_have_lines.ensures c.map_has_lines.ensures c.bases_are_lines.ensures
 
 pub returns-in-Ok-decide-clause-decided : goal.returns-in-Ok-decide-clause-decided
 returns-in-Ok-decide-clause-decided g c =
-    reply (g.F.Files.told c.args.files.now) (command_of (Lent.Validate c.args.validation.now)) c.args.validation.now.map.now
+    reply (g.F.Files.told c.args.files.now) (command_of (Lent.Validate c.args.validation.now))
     (record { held = held_by c.args.holding.now; terms = c.read_map.new.holding.terms; associations = c.in-Ok.associations.items }) c.in-Ok.ensures.asked c.read_map.new.holding c.in-Ok.ensures.schema refl c.in-Ok.ensures.graph c.in-Ok.associations.items refl
     (is_some c.args.validation.now.proof) c.in-Ok-decide.decided (subst (λ b. IsDecided c.read_map.new.holding c.in-Ok.associations.items b c.in-Ok-decide.decided) c.is_some.ensures c.in-Ok-decide.ensures) (subst (λ k. k ≤ max_terms) c.len-count.ensures.count c.len-count.ensures.few)
 

@@ -1,5 +1,6 @@
 use Rattle.std.proofs.Common.{◌≡◌, ◌∙◌, ap, refl, subst, sym, true, true≢false}
 use Rattle.std.specs.Prelude.{IfSome, None, Option, Some, is_some, option_map}
+use Rattle.std.proofs.lemmas.Result.{err_from_is_err_and}
 use Rattle.proof_file.specs.Text.{ProofText}
 use Rattle.command_words.specs.Lent.{command_of}
 use Rattle.command_words.specs.declared.command.Command.TheVariants as Lent
@@ -16,26 +17,30 @@ there None n y same none some = let on : is_some n ≡ true = ap is_some some in
 pub unreachable-requires : goal.unreachable-requires
 unreachable-requires g c = there c.args.decided.proof c.args.validation.now.proof c.in-Some.name c.requires.wanted c.in_default-proof.not-Some c.in-Some.is
 
-pub returns-in-Ok-store-clause-response : goal.returns-in-Ok-store-clause-response
-returns-in-Ok-store-clause-response g c =
+pub returns-clause-response : goal.returns-clause-response
+returns-clause-response g c =
     let task : IsToValidate (command_of (Lent.Validate c.args.validation.now)) c.args.validation.now.map.now (option_map (λ s. s.now) c.args.validation.now.proof) = record { steps = c.args.validation.now.budget; task = refl } in
     let own : IsReplyProof c.requires.question c.requires.answers c.in-Some-proof.proof = subst (λ o. IfSome o (IsReplyProof c.requires.question c.requires.answers)) c.in-Some-proof.is c.requires.proof in
     stored (g.F.Files.told c.args.files.now) (command_of (Lent.Validate c.args.validation.now)) c.args.validation.now.map.now (option_map (λ s. s.now) c.args.validation.now.proof) task c.requires.question c.requires.answers c.requires.are_answers
     c.args.decided.text.items c.args.decided.status c.requires.text_is c.requires.status_is c.in-Some.name.now c.as_slice.result.now (ap (option_map (λ s. s.now)) c.in-Some.is)
-    (own.proves c.as_slice.result.now (subst (λ bytes. ProofText c.in-Some-proof.proof bytes) (sym c.as_slice.ensures.value) (c.in-Ok.ensures own.no_feeds))) (g.F.Files.told c.store.new.files) c.in-Ok-store.ensures.holds c.store.ensures.others
+    (own.proves c.as_slice.result.now (subst (λ bytes. ProofText c.in-Some-proof.proof bytes) (sym c.as_slice.ensures.value) (c.in-Ok.ensures own.no_feeds))) (g.F.Files.told c.store.new.files) c.in_ok-store.ensures.holds c.store.ensures.others
 
-pub returns-in-Err-clause-cause : goal.returns-in-Err-clause-cause
-returns-in-Err-clause-cause g c =
+pub returns-in_err-store-clause-cause : goal.returns-in_err-store-clause-cause
+returns-in_err-store-clause-cause g c =
+    let p = err_from_is_err_and c.from_residual.result c.from_residual.ensures.1 in
     let task : IsToValidate (command_of (Lent.Validate c.args.validation.now)) c.args.validation.now.map.now (option_map (λ s. s.now) c.args.validation.now.proof) = record { steps = c.args.validation.now.budget; task = refl } in
     let own : IsReplyProof c.requires.question c.requires.answers c.in-Some-proof.proof = subst (λ o. IfSome o (IsReplyProof c.requires.question c.requires.answers)) c.in-Some-proof.is c.requires.proof in
-    (store_stopped (g.F.Files.told c.args.files.now) (command_of (Lent.Validate c.args.validation.now)) c.args.validation.now.map.now (option_map (λ s. s.now) c.args.validation.now.proof) task c.requires.question c.requires.answers c.requires.are_answers
+    rw (p.1, p.2)
+    ((store_stopped (g.F.Files.told c.args.files.now) (command_of (Lent.Validate c.args.validation.now)) c.args.validation.now.map.now (option_map (λ s. s.now) c.args.validation.now.proof) task c.requires.question c.requires.answers c.requires.are_answers
     c.args.decided.text.items c.args.decided.status c.requires.text_is c.requires.status_is c.in-Some.name.now c.as_slice.result.now (ap (option_map (λ s. s.now)) c.in-Some.is)
-    (own.proves c.as_slice.result.now (subst (λ bytes. ProofText c.in-Some-proof.proof bytes) (sym c.as_slice.ensures.value) (c.in-Ok.ensures own.no_feeds))) (g.F.Files.told c.store.new.files) (g.F.Files.faults c.args.files.now) (g.F.Files.faults c.store.new.files) (g.F.Files.blame c.store.new.files) (g.F.Files.act c.store.new.files) c.in-Err.stop c.in-Err.ensures.stops c.in-Err.ensures.part c.store.ensures.others).cause
+    (own.proves c.as_slice.result.now (subst (λ bytes. ProofText c.in-Some-proof.proof bytes) (sym c.as_slice.ensures.value) (c.in-Ok.ensures own.no_feeds))) (g.F.Files.told c.store.new.files) (g.F.Files.faults c.args.files.now) (g.F.Files.faults c.store.new.files) (g.F.Files.blame c.store.new.files) (g.F.Files.act c.store.new.files) c.in_err-store.field-0.0 c.in_err-store.ensures.stops c.in_err-store.ensures.part c.store.ensures.others).cause)
 
-pub returns-in-Err-clause-stored : goal.returns-in-Err-clause-stored
-returns-in-Err-clause-stored g c =
+pub returns-in_err-store-clause-stored : goal.returns-in_err-store-clause-stored
+returns-in_err-store-clause-stored g c =
+    let p = err_from_is_err_and c.from_residual.result c.from_residual.ensures.1 in
     let task : IsToValidate (command_of (Lent.Validate c.args.validation.now)) c.args.validation.now.map.now (option_map (λ s. s.now) c.args.validation.now.proof) = record { steps = c.args.validation.now.budget; task = refl } in
     let own : IsReplyProof c.requires.question c.requires.answers c.in-Some-proof.proof = subst (λ o. IfSome o (IsReplyProof c.requires.question c.requires.answers)) c.in-Some-proof.is c.requires.proof in
-    (store_stopped (g.F.Files.told c.args.files.now) (command_of (Lent.Validate c.args.validation.now)) c.args.validation.now.map.now (option_map (λ s. s.now) c.args.validation.now.proof) task c.requires.question c.requires.answers c.requires.are_answers
+    rw (p.1, p.2)
+    ((store_stopped (g.F.Files.told c.args.files.now) (command_of (Lent.Validate c.args.validation.now)) c.args.validation.now.map.now (option_map (λ s. s.now) c.args.validation.now.proof) task c.requires.question c.requires.answers c.requires.are_answers
     c.args.decided.text.items c.args.decided.status c.requires.text_is c.requires.status_is c.in-Some.name.now c.as_slice.result.now (ap (option_map (λ s. s.now)) c.in-Some.is)
-    (own.proves c.as_slice.result.now (subst (λ bytes. ProofText c.in-Some-proof.proof bytes) (sym c.as_slice.ensures.value) (c.in-Ok.ensures own.no_feeds))) (g.F.Files.told c.store.new.files) (g.F.Files.faults c.args.files.now) (g.F.Files.faults c.store.new.files) (g.F.Files.blame c.store.new.files) (g.F.Files.act c.store.new.files) c.in-Err.stop c.in-Err.ensures.stops c.in-Err.ensures.part c.store.ensures.others).stored
+    (own.proves c.as_slice.result.now (subst (λ bytes. ProofText c.in-Some-proof.proof bytes) (sym c.as_slice.ensures.value) (c.in-Ok.ensures own.no_feeds))) (g.F.Files.told c.store.new.files) (g.F.Files.faults c.args.files.now) (g.F.Files.faults c.store.new.files) (g.F.Files.blame c.store.new.files) (g.F.Files.act c.store.new.files) c.in_err-store.field-0.0 c.in_err-store.ensures.stops c.in_err-store.ensures.part c.store.ensures.others).stored)

@@ -16,7 +16,7 @@ returns-clause-cause g c =
 
 pub returns-clause-faults : goal.returns-clause-faults
 returns-clause-faults g c =
-    subst (λ k. IfErr c.keep.result (FaultsAs (command_of (Lent.Validate c.args.validation.now)) k (g.F.Files.faults c.keep.new.files) (g.F.Files.blame c.keep.new.files) (g.F.Files.act c.keep.new.files))) c.in-Ok.ensures.faults_stay c.keep.ensures.faults
+    subst (λ k. IfErr c.keep.result (FaultsAs (command_of (Lent.Validate c.args.validation.now)) k (g.F.Files.faults c.keep.new.files) (g.F.Files.blame c.keep.new.files) (g.F.Files.act c.keep.new.files))) c.in_ok-decided.ensures.faults_stay c.keep.ensures.faults
 
 pub returns-clause-stored : goal.returns-clause-stored
 returns-clause-stored g c =

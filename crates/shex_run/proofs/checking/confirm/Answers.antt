@@ -1,13 +1,14 @@
-use Rattle.std.proofs.Common.{◌≤◌, ◌++◌, ◌∙◌, ap, rules, subst, sym}
+use Rattle.std.proofs.Common.{◌≤◌, ◌++◌, ◌∙◌, ap, subst, sym}
 use Rattle.std.specs.Prelude.{All, Contains}
 use Rattle.graph_index.specs.Laws.{IsOfTable}
 use Rattle.rdf_terms.specs.Tables.{max_terms}
-use Rattle.proof_checker.specs.Checks.{IsAcceptedAs, IsRejectedAs, OnStrata}
+use Rattle.proof_checker.specs.Checks.{FailsAs, IsAcceptedAs}
 use Rattle.shape_map.specs.Results.{result_text}
 use Rattle.shex_inputs.specs.Held.{Held, held_by}
 use Rattle.simple_typing.specs.Simple.{IsSimpleSchema}
+use Rattle.shex_run.specs.Checking.{ConfirmStops}
 use Rattle.shex_run.specs.Proofs.{Accepted}
-use Rattle.shex_run.proofs.Confirmed.{is_true}
+use Rattle.shex_run.proofs.Confirmed.{is_true, stops}
 use Rattle.shex_run.proofs.Simplicity.{simple_schema}
 use Rattle.shex_run.proofs.Settled.{answers_there}
 use Rattle.simple_typing.proofs.Flat.{no_cycle}
@@ -49,16 +50,10 @@ returns-in-Ok-write_result-clause-confirmed c =
       text_is = c.in-Ok-write_result.ensures.written ∙ ap (λ zs. zs ++ result_text terms c.list.result.now) c.new-text.ensures.items ∙ ap (λ xs. result_text terms xs) c.list.ensures;
     }
 
-pub returns-in-Err-Rejected-clause-stops : goal.returns-in-Err-Rejected-clause-stops
-returns-in-Err-Rejected-clause-stops c =
+pub returns-in-Err-clause-stops : goal.returns-in-Err-clause-stops
+returns-in-Err-clause-stops c =
     let terms = c.check-checked.new.terms in
     let held : Held = held_by c.args.holding in
-    let rejected : OnStrata held.schema (λ f. IsRejectedAs f held.schema held.terms terms c.seal.new.self.triples c.args.proof.now c.in-Err-Rejected.number c.in-Err-Rejected.why) = search rules in
-    let (f, least, found) = rejected in
-    record {
-      strata = f;
-      are_strata = least;
-      terms = terms;
-      found = subst (λ ts. IsRejectedAs f held.schema held.terms terms ts c.args.proof.now c.in-Err-Rejected.number c.in-Err-Rejected.why) c.seal.ensures.same found;
-      few = subst (λ k. k ≤ max_terms) c.len-count.ensures.count c.len-count.ensures.few;
-    }
+    let fails : FailsAs held.schema held.terms terms held.graph c.args.proof.now c.in-Err.error = subst (λ ts. FailsAs held.schema held.terms terms ts c.args.proof.now c.in-Err.error) c.seal.ensures.same c.in-Err.ensures.fails in
+    subst (λ s. ConfirmStops held c.args.proof.now s) (sym c.check_stop.ensures)
+    (stops held terms c.args.proof.now c.in-Err.error (subst (λ k. k ≤ max_terms) c.len-count.ensures.count c.len-count.ensures.few) fails)

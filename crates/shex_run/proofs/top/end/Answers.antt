@@ -4,7 +4,7 @@ use Rattle.shex_run.specs.Endings.{IsResponse}
 use Rattle.shex_run.specs.Stopping.{Explains, FaultsAs, LeavesStored}
 use Rattle.shex_run.specs.declared.stop.Stop.{Stop}
 use Rattle.shex_run.specs.declared.stop.Stop.TheVariants as Stops
-use Rattle.shex_run.proofs.Ended.{with_response, with_stop, with_words}
+use Rattle.shex_run.proofs.Ended.{with_refusal, with_response, with_stop, with_words}
 use Rattle.shex_run.proofs.top.end.Goals as goal
 
 pub returns-in-Err : goal.returns-in-Err
@@ -23,26 +23,9 @@ returns-in-Err-Refused g c =
     let C : Stop → Type 0 = λ s. Explains (g.F.Files.told c.args.files.now) k s in
     let A : Stop → Type 0 = λ s. FaultsAs k (g.F.Files.faults c.args.files.now) (g.F.Files.faults c.respond.new.files) (g.F.Files.blame c.respond.new.files) (g.F.Files.act c.respond.new.files) s in
     let L : Stop → Type 0 = λ s. LeavesStored (g.F.Files.told c.args.files.now) (g.F.Files.told c.respond.new.files) k s in
-    with_stop _ k c.in-Ok.ensures.asked _ _ _ _ (Stops.Refused c.in-Err-Refused.refusal) (subst C c.in-Err-Refused.field-0-is c.in-Err-Refused.ensures.cause) (subst A c.in-Err-Refused.field-0-is c.in-Err-Refused.ensures.faults)
-    (subst L c.in-Err-Refused.field-0-is c.in-Err-Refused.ensures.stored) (record { got_same = refl; faults_same = refl }) (c.say.ensures _ c.refusal.ensures)
-
-pub returns-in-Err-Full : goal.returns-in-Err-Full
-returns-in-Err-Full g c =
-    let k = command_of c.in-Ok.command in
-    let C : Stop → Type 0 = λ s. Explains (g.F.Files.told c.args.files.now) k s in
-    let A : Stop → Type 0 = λ s. FaultsAs k (g.F.Files.faults c.args.files.now) (g.F.Files.faults c.respond.new.files) (g.F.Files.blame c.respond.new.files) (g.F.Files.act c.respond.new.files) s in
-    let L : Stop → Type 0 = λ s. LeavesStored (g.F.Files.told c.args.files.now) (g.F.Files.told c.respond.new.files) k s in
-    with_stop _ k c.in-Ok.ensures.asked _ _ _ _ Stops.Full (subst C c.in-Err-Full.field-0-is c.in-Err-Full.ensures.cause) (subst A c.in-Err-Full.field-0-is c.in-Err-Full.ensures.faults)
-    (subst L c.in-Err-Full.field-0-is c.in-Err-Full.ensures.stored) (record { got_same = refl; faults_same = refl }) (c.say-in-Err-Full.ensures _ c.full.ensures)
-
-pub returns-in-Err-Rejected : goal.returns-in-Err-Rejected
-returns-in-Err-Rejected g c =
-    let k = command_of c.in-Ok.command in
-    let C : Stop → Type 0 = λ s. Explains (g.F.Files.told c.args.files.now) k s in
-    let A : Stop → Type 0 = λ s. FaultsAs k (g.F.Files.faults c.args.files.now) (g.F.Files.faults c.respond.new.files) (g.F.Files.blame c.respond.new.files) (g.F.Files.act c.respond.new.files) s in
-    let L : Stop → Type 0 = λ s. LeavesStored (g.F.Files.told c.args.files.now) (g.F.Files.told c.respond.new.files) k s in
-    with_stop _ k c.in-Ok.ensures.asked _ _ _ _ (Stops.Rejected c.in-Err-Rejected.rejection) (subst C c.in-Err-Rejected.field-0-is c.in-Err-Rejected.ensures.cause) (subst A c.in-Err-Rejected.field-0-is c.in-Err-Rejected.ensures.faults)
-    (subst L c.in-Err-Rejected.field-0-is c.in-Err-Rejected.ensures.stored) (record { got_same = refl; faults_same = refl }) (c.say-in-Err-Rejected.ensures _ c.rejection.ensures)
+    with_refusal _ k c.in-Ok.ensures.asked _ _ _ _ c.in-Err-Refused.refusal c.status.result c.status.ensures.status (subst C c.in-Err-Refused.field-0-is c.in-Err-Refused.ensures.cause) (subst A c.in-Err-Refused.field-0-is c.in-Err-Refused.ensures.faults)
+    (subst L c.in-Err-Refused.field-0-is c.in-Err-Refused.ensures.stored) (record { got_same = refl; faults_same = refl })
+    (c.say.ensures _ c.refusal.ensures)
 
 pub returns-in-Err-Failed : goal.returns-in-Err-Failed
 returns-in-Err-Failed g c =

@@ -1,5 +1,5 @@
 use Rattle.std.proofs.Common.{◌≡◌, ◌∙◌, ◌<◌, ap, sym, subst, length, IsTrue}
-use Rattle.std.specs.Prelude.{Some, slice_get, ◌↔◌}
+use Rattle.std.specs.Prelude.{Some, ◌↔◌}
 use Rattle.node_constraint.specs.SatNode.{SatNode}
 use Rattle.schema_tree.specs.Entries.{entry}
 use Rattle.schema_tree.specs.declared.schema.Expr.TheVariants as Exprs

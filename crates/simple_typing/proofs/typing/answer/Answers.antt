@@ -1,12 +1,10 @@
-use Rattle.std.proofs.Common.{◌≡◌, ◌∷◌, [], ◌++◌, ◌∙◌, List, ap, append_assoc, append-nil, refl, subst, sym}
+use Rattle.std.proofs.Common.{◌∷◌, [], ◌++◌, List, refl, subst, sym}
 use Rattle.std.specs.List.{AllZip}
-use Rattle.std.specs.Prelude.{Contains}
-use Rattle.std.proofs.lemmas.List.Elements.{All-contains, Contains-append_right}
-use Rattle.lists.proofs.Members.{is_first}
 use Rattle.schema_tree.specs.declared.schema.Answer.{Answer}
 use Rattle.shape_map.specs.declared.resolve.Association.{Association}
-use Rattle.shape_map.specs.Answers.{IsAnswerTo, IsAsked}
+use Rattle.shape_map.specs.Answers.{IsAnswerTo}
 use Rattle.lists.proofs.Beside.{zip_push}
+use Rattle.lists.proofs.Members.{yields_on}
 use Rattle.simple_typing.proofs.typing.answer.Goals as goal
 
 pub loop-association-init : goal.loop-association-init
@@ -14,9 +12,6 @@ loop-association-init c = record {
   all = sym c.into_iter-association-iterator.ensures.into_iter_gives.0;
   answers = subst (λ (ys : List Answer). AllZip (IsAnswerTo c.args.schema.now c.args.terms.now c.args.graph.now.triples) [] ys) (sym c.new-answers.ensures.items) tt;
 }
-
-yields_on : {X : Type 0} (all yielded rest behind : List X) (x : X) → all ≡ yielded ++ rest → rest ≡ x ∷ behind → all ≡ (yielded ++ x ∷ []) ++ behind
-yields_on all yielded rest behind x e f = e ∙ ap (λ (v : List _). yielded ++ v) f ∙ sym (append_assoc yielded (x ∷ []) behind)
 
 pub loop-association-preserved : goal.loop-association-preserved
 loop-association-preserved c =

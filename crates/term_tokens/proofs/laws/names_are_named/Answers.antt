@@ -1,4 +1,4 @@
-use Rattle.std.proofs.Common.{◌≡◌, ℕ, List, subst}
+use Rattle.std.proofs.Common.{subst}
 use Rattle.rdf_terms.specs.Names.{IsNameOf}
 use Rattle.term_tokens.proofs.Meanings.{name_of_is, name_is}
 use Rattle.term_tokens.proofs.laws.names_are_named.Goals as goal

@@ -1,5 +1,5 @@
 use Rattle.std.proofs.Common.{get_or}
-use Rattle.proof_file.specs.Accepts.{in_section, is_claim}
+use Rattle.proof_file.specs.Accepts.{is_claim}
 use Rattle.proof_checker.specs.Faults.{held, setting}
 use Rattle.proof_checker.proofs.Found.{found_none, found_some, next_accepted, next_fault, no_fault}
 use Rattle.proof_checker.proofs.items.Held.claims_fault.Goals as goal

@@ -2,7 +2,7 @@ use Rattle.std.proofs.Common.{arith, map, subst, sym}
 use Rattle.std.specs.Prelude.{Contains, Some}
 use Rattle.proof_file.specs.Accepts.{in_section, is_claim, items_of}
 use Rattle.proof_checker.specs.Faults.{FirstFault, held, setting}
-use Rattle.proof_checker.proofs.Found.{claim_fits, count_fits, count_here, fault_claims, fault_fits, fault_here, fault_none, fault_some, none_claims, none_here}
+use Rattle.proof_checker.proofs.Found.{count_fits, count_here, fault_claims, fault_fits, fault_here, fault_none, fault_some, none_here}
 use Rattle.proof_checker.proofs.items.Held.fault.Goals as goal
 
 pub section_fault-requires-clause-rising : goal.section_fault-requires-clause-rising

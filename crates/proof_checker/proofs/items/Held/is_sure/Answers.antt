@@ -1,5 +1,4 @@
-use Rattle.std.proofs.Common.{◌≡◌, subst, sym}
-use Rattle.std.specs.Prelude.{IsTrue, ◌↔◌}
+use Rattle.std.proofs.Common.{subst, sym}
 use Rattle.schema_tree.specs.Sure.{IsSure}
 use Rattle.proof_file.specs.Accepts.{no_of, verdict_of, yes_of}
 use Rattle.proof_checker.specs.declared.standings.Reader.TheVariants as Readers

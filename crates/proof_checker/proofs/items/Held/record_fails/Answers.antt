@@ -1,4 +1,4 @@
-use Rattle.std.proofs.Common.{ap, arith, length, refl, subst, sym, ◌∙◌, ◌<◌}
+use Rattle.std.proofs.Common.{length, refl, subst, sym, ◌∙◌, ◌<◌}
 use Rattle.std.specs.Prelude.{Some, Option}
 use Rattle.std.proofs.lemmas.Result.{IfOk-weaker}
 use Rattle.proof_file.specs.Accepts.{Passes, PassesKind, checks_of, in_section, kind_checks}

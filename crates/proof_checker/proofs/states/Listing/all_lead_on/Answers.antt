@@ -1,9 +1,9 @@
-use Rattle.std.proofs.Common.{arith, ap, sym, subst, true≢false, ◌≡◌, ◌∙◌, length}
+use Rattle.std.proofs.Common.{arith, ap, sym, true≢false, ◌≡◌, ◌∙◌, length}
 use Rattle.std.specs.Prelude.{IsTrue, Some, slice_get, ◌↔◌}
 use Rattle.std.proofs.lemmas.Result.{IfOk-weaker}
 use Rattle.rdf_terms.specs.declared.terms.Triple.{Triple}
 use Rattle.schema_tree.specs.declared.verdicts.Place.{Place}
-use Rattle.schema_tree.specs.declared.verdicts.Place.TheVariants.{At, Rest}
+use Rattle.schema_tree.specs.declared.verdicts.Place.TheVariants.{Rest}
 use Rattle.bag_match.specs.Counts.{state_of}
 use Rattle.proof_checker.specs.Stated.{LeadsOn}
 use Rattle.bag_match.proofs.Allowed.{neither}

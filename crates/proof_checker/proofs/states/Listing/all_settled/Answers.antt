@@ -1,4 +1,4 @@
-use Rattle.std.proofs.Common.{inl, inr, refl, subst, sym, ◌∙◌}
+use Rattle.std.proofs.Common.{inl, inr, subst, sym, ◌∙◌}
 use Rattle.proof_checker.specs.Stated.{IsSettled}
 use Rattle.proof_checker.proofs.Stating.{all_taken, take_cases}
 use Rattle.proof_checker.proofs.states.Listing.all_settled.Goals as goal

@@ -1,7 +1,6 @@
 use Rattle.std.proofs.Common.{ap, sym, subst, length, replicate, ◌∙◌}
 use Rattle.std.specs.Prelude.{IsTrue, ◌↔◌}
-use Rattle.std.proofs.lemmas.Result.{IfOk-weaker}
-use Rattle.schema_tree.specs.States.{IsCovered, opening}
+use Rattle.schema_tree.specs.States.{IsCovered}
 use Rattle.bag_match.proofs.Stepping.{opening_is}
 use Rattle.proof_checker.proofs.states.Listing.is_opened.Goals as goal
 

@@ -1,0 +1,25 @@
+use Rattle.std.proofs.Common.{◌≤◌, ℕ, ap, arith, drop, length}
+use Rattle.std.proofs.lemmas.List.{length-replicate}
+use Rattle.bag_match.proofs.Filled.{left_of}
+use Rattle.bag_match.proofs.Stepping.{drop_few, left_few}
+use Rattle.bag_match.proofs.dying.is_dead_after.Goals as goal
+
+pub is_dead-requires-clause-beside : goal.is_dead-requires-clause-beside
+is_dead-requires-clause-beside c =
+    let room : length c.as_slice-occs.result.now ≤ length c.fill_later.new.left = (let a = c.fill_later.ensures.len in let b = ap length c.as_mut_slice.ensures.value in let e = length-replicate {A = ℕ} 256 0 in let d = ap length c.as_slice-occs.ensures in omega (arith, a, b, e, d, c.requires.few)) in
+    (left_of c.args.shape.now.occs c.as_slice-occs.result.now c.args.node (drop c.args.done c.args.triples.now) c.fill_later.new.left c.as_slice.result.now c.front.result.now c.as_slice-occs.ensures c.as_slice.ensures c.front.ensures room c.fill_later.ensures.left).0
+
+pub is_dead-requires-clause-small : goal.is_dead-requires-clause-small
+is_dead-requires-clause-small c = λ i.
+    let room : length c.as_slice-occs.result.now ≤ length c.fill_later.new.left = (let a = c.fill_later.ensures.len in let b = ap length c.as_mut_slice.ensures.value in let e = length-replicate {A = ℕ} 256 0 in let d = ap length c.as_slice-occs.ensures in omega (arith, a, b, e, d, c.requires.few)) in
+    let most = left_few c.args.shape.now.occs c.args.node (drop c.args.done c.args.triples.now) c.front.result.now
+    (left_of c.args.shape.now.occs c.as_slice-occs.result.now c.args.node (drop c.args.done c.args.triples.now) c.fill_later.new.left c.as_slice.result.now c.front.result.now c.as_slice-occs.ensures c.as_slice.ensures c.front.ensures room c.fill_later.ensures.left) i in
+    let few = drop_few c.args.done c.args.triples.now in
+    let small = c.requires.small i in
+    omega (arith, most, few, small, c.requires.few_triples)
+
+pub returns : goal.returns
+returns c =
+    let room : length c.as_slice-occs.result.now ≤ length c.fill_later.new.left = (let a = c.fill_later.ensures.len in let b = ap length c.as_mut_slice.ensures.value in let e = length-replicate {A = ℕ} 256 0 in let d = ap length c.as_slice-occs.ensures in omega (arith, a, b, e, d, c.requires.few)) in
+    c.is_dead.ensures c.args.node c.args.triples.now c.args.done
+    (left_of c.args.shape.now.occs c.as_slice-occs.result.now c.args.node (drop c.args.done c.args.triples.now) c.fill_later.new.left c.as_slice.result.now c.front.result.now c.as_slice-occs.ensures c.as_slice.ensures c.front.ensures room c.fill_later.ensures.left)

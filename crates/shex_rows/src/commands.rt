@@ -1,0 +1,55 @@
+//! What words ask for.
+
+use command_words::{Checking, Command, Import, Inputs, Validation, read};
+use std::alloc::{AllocError, Global};
+
+/// The words of a line, of which single spaces part each two.
+fn words_of(alloc: Global, line: &str) -> Result<Vec<String>, AllocError> {
+    let mut words = Vec::new(alloc);
+    for word in line.split(' ') {
+        words.push(String::from_str(alloc, word)?)?;
+    }
+    Ok(words)
+}
+
+/// The files and the bases of a command.
+fn shown_inputs(alloc: Global, inputs: &Inputs<'_>) -> Result<String, AllocError> {
+    let (schema, data) = (inputs.schema, inputs.data);
+    let (schema_base, data_base) = (inputs.schema_base, inputs.data_base);
+    format!(in alloc; "{schema} {schema_base} {data} {data_base}")
+}
+
+/// A line with imports behind it.
+fn with_imports(mut line: String, imports: &[Import<'_>]) -> Result<String, AllocError> {
+    for import in imports {
+        let (iri, file) = (import.iri, import.file);
+        write!(line, " [{iri} {file}]")?;
+    }
+    Ok(line)
+}
+
+/// What `validate` asks for.
+fn shown_validation(alloc: Global, asked: &Validation<'_>) -> Result<String, AllocError> {
+    let inputs = shown_inputs(alloc, &asked.inputs)?;
+    let (map, proof, budget) = (asked.map, asked.proof, asked.budget);
+    let line = format!(in alloc; "validate {inputs} {map} {proof:?} {budget}")?;
+    with_imports(line, &asked.inputs.imports)
+}
+
+/// What `check` asks for.
+fn shown_checking(alloc: Global, asked: &Checking<'_>) -> Result<String, AllocError> {
+    let inputs = shown_inputs(alloc, &asked.inputs)?;
+    let proof = asked.proof;
+    let line = format!(in alloc; "check {inputs} {proof}")?;
+    with_imports(line, &asked.inputs.imports)
+}
+
+/// What the words of a line ask for, or why they are refused.
+pub fn asked(alloc: Global, line: &str) -> Result<String, AllocError> {
+    let words = words_of(alloc, line)?;
+    match read(alloc, &words) {
+        Ok(Command::Validate(validation)) => shown_validation(alloc, &validation),
+        Ok(Command::Check(checking)) => shown_checking(alloc, &checking),
+        Err(error) => format!(in alloc; "{error}"),
+    }
+}

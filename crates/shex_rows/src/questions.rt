@@ -1,0 +1,86 @@
+//! Questions that rows ask of single calls of the libraries.
+
+use crate::inputs::NamedFile;
+use crate::{
+    arcs, commands, constraints, graphs, maps, numbers, patterns, proof_texts, references, terms,
+    tokens,
+};
+use anyhow::bail;
+use std::alloc::Global;
+
+/// The files that a question may name: those of all rows, and those of the row.
+#[derive(Clone, Copy)]
+pub struct Named<'a> {
+    /// Those of all rows.
+    pub common: &'a [NamedFile],
+    /// Those of the row.
+    pub own: &'a [NamedFile],
+}
+
+/// The bytes of the file with this name, if there is one.
+fn found<'a>(files: &'a [NamedFile], name: &str) -> Option<&'a [u8]> {
+    for file in files {
+        if file.name.as_str() == name {
+            return Some(file.bytes.as_slice());
+        }
+    }
+    None
+}
+
+impl<'a> Named<'a> {
+    /// The bytes of the file with this name.
+    fn bytes_of(self, name: &str) -> anyhow::Result<&'a [u8]> {
+        match found(self.own, name).or(found(self.common, name)) {
+            Some(bytes) => Ok(bytes),
+            None => bail!("a question names a file that is not there"),
+        }
+    }
+}
+
+/// What a call of a kind, with what stands behind its name, answers to a text.
+fn of_text(
+    alloc: Global,
+    files: Named<'_>,
+    kind: &str,
+    with: &str,
+    text: &str,
+) -> anyhow::Result<String> {
+    match kind {
+        "resolve" => Ok(references::resolved(alloc, with, text)?),
+        "components" => Ok(references::components(alloc, text)?),
+        "tokens" => tokens::tokens(alloc, with, text),
+        "meaning" => Ok(tokens::meaning(alloc, text)?),
+        "pattern" => patterns::sought(alloc, with, text),
+        "compare" => Ok(numbers::compared(alloc, text, with)?),
+        "digits" => Ok(numbers::digits(alloc, text)?),
+        "words" => Ok(commands::asked(alloc, text)?),
+        "term" => Ok(terms::parts(alloc, text)?),
+        "numbers" => terms::numbers(alloc, text),
+        "sorted" => terms::sorted(alloc, text),
+        "facet" => constraints::held(alloc, with, text),
+        "facets" => constraints::made(alloc, text),
+        "value" => constraints::valued(alloc, with, text),
+        "proof-line" => Ok(proof_texts::of_line(alloc, text)?),
+        "arcs" => arcs::arcs(alloc, with, files.bytes_of(with)?, text),
+        _ => bail!("no call is of this kind"),
+    }
+}
+
+/// What a call answers to a question.
+pub fn answer(
+    alloc: Global,
+    files: Named<'_>,
+    call: &str,
+    question: &[u8],
+) -> anyhow::Result<String> {
+    let (kind, with) = call.split_once(' ').unwrap_or((call, ""));
+    match kind {
+        "triples" | "count" | "table" | "names" => Ok(graphs::asked(alloc, kind, with, question)?),
+        "items" | "select" => maps::asked(alloc, kind, with, files.bytes_of(with)?, question),
+        "proof" => Ok(proof_texts::rewritten(alloc, question)?),
+        _ => match str::from_utf8(question) {
+            Ok(text) => of_text(alloc, files, kind, with, text),
+            Err(_) => bail!("a question is no text"),
+        },
+    }
+}

@@ -1,5 +1,0 @@
-use Rattle.rdf_lex.specs.declared.kinds.Mode.TheVariants.{Map}
-use Rattle.text_tests.proofs.tokens.text_of.Goals as goal
-
-pub unescape-requires-clause-spelled : goal.unescape-requires-clause-spelled
-unescape-requires-clause-spelled c = (Map, c.in-Token.ensures.longest.spelled)
