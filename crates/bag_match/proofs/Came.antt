@@ -26,7 +26,7 @@ use Rattle.bag_match.specs.Reached.{IsReachedAt}
 use Rattle.bag_match.proofs.Finishing.{count_raised}
 use Rattle.bag_match.proofs.Offered.{allowed_there}
 use Rattle.bag_match.proofs.Putting.{compare_items, lists}
-use Rattle.bag_match.proofs.Spread.{times_append}
+use Rattle.schema_tree.proofs.ToPlaces.{times_append}
 use Rattle.bag_match.proofs.Stepping.{after_is, opening_at, raised_long, reached_shaped, some_one}
 use Rattle.lists.proofs.Members.{from_map, in_one, not_in_none}
 

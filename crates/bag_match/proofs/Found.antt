@@ -1,24 +1,20 @@
 -- The layers one behind the other, and what follows where the last is empty.
-use Rattle.std.proofs.Common.{◌≡◌, ℕ, zero, suc, ◌+◌, ◌<◌, ◌≤◌, ◌⊎◌, inl, inr, length, drop, get_or, List, [], ◌∷◌, refl, arith, ap, sym, subst, ◌∙◌, Bool, true, false, true≢false}
+use Rattle.std.proofs.Common.{◌≡◌, ℕ, zero, suc, ◌+◌, ◌<◌, ◌≤◌, ◌⊎◌, inl, inr, length, get_or, List, [], ◌∷◌, refl, arith, ap, sym, subst, ◌∙◌, Bool, true, false, true≢false}
 use Rattle.std.proofs.lemmas.List.{length-append}
 use Rattle.std.proofs.lemmas.Bool.{cases_lt, eqb-true}
 use Rattle.std.proofs.lemmas.List.Elements.{Contains-append_cases, Contains-append_left, Contains-append_right}
 use Rattle.std.proofs.lemmas.Option.{slice_get-get_or, slice_get_within}
-use Rattle.std.specs.Prelude.{Contains, Option, Some, None, slice_get, slice_index, nat_eq}
+use Rattle.std.specs.Prelude.{Contains, Option, Some, slice_get, slice_index, nat_eq}
 use Rattle.std.specs.List.{flat_map}
 use Rattle.rdf_terms.specs.declared.terms.TermId.{TermId}
 use Rattle.rdf_terms.specs.declared.terms.Triple.{Triple}
-use Rattle.tally.specs.Plan.{Plan}
-use Rattle.tally.specs.Span.{span}
 use Rattle.schema_tree.specs.declared.schema.ExprId.{ExprId}
 use Rattle.schema_tree.specs.declared.schema.Shape.{Shape}
 use Rattle.schema_tree.specs.declared.verdicts.State.{State}
 use Rattle.schema_tree.specs.declared.verdicts.Place.{Place}
 use Rattle.schema_tree.specs.Places.{AreAllowed, IsShut}
-use Rattle.schema_tree.specs.States.{AreClosed, IsCovered, IsDeadBody, after, fitting, opening, IsStateBefore}
-use Rattle.schema_tree.proofs.Closed.{states_refute}
-use Rattle.schema_tree.proofs.Decide.{decide_span}
-use Rattle.lists.proofs.Decided.{Decided, decide_not}
+use Rattle.schema_tree.specs.States.{AreClosed, IsCovered, after, opening, IsStateBefore}
+use Rattle.schema_tree.proofs.Closed.{decide_dead, states_refute}
 use Rattle.lists.proofs.Members.{is_first, not_in_none}
 use Rattle.bag_match.specs.Layers.{AreLayers, IsLayer}
 use Rattle.bag_match.specs.Least.{AreLeast}
@@ -84,11 +80,6 @@ module _ (hold fail : TermId → Option ExprId → Type 0) (sh : Shape) (n : Ter
       go deeper (inl lt) = let same : suc j ≡ i = omega (arith, lt, le) in (x, subst (λ k. Reached k x) same h)
       go deeper (inr lower) = deeper lower
 
-  decide_dead : (x : State) (body : Option Plan) → Decided (IsDeadBody sh n (drop x.done ts) (slice_index x.counts) body)
-  decide_dead x None = inr (λ dead. dead)
-  decide_dead x (Some c) =
-      decide_not (decide_span (span c (slice_index x.counts) (λ i. slice_index x.counts i + fitting n (drop x.done ts) (slice_get sh.occs i))) 1)
-
   module _ (layers : List (List State)) (h : AreLayers hold fail sh n ts (length ts) layers) where
     follow : Follow 0 layers
     follow k xs e = subst (λ i. IsLayer hold fail sh n ts i xs) (let same : k ≡ 0 + k = omega arith in same) (h.each k xs e)
@@ -151,7 +142,7 @@ module _ (hold fail : TermId → Option ExprId → Type 0) (sh : Shape) (n : Ter
             let le = reached_within x.done x (held x c) in
             absurd (none x (subst (λ i. Reached i x) (let same : x.done ≡ length ts = omega (arith, le, ge) in same) (held x c)))
       ];
-      steps = λ x c alive t at p allowed. elim (decide_dead (after p x) sh.body) [
+      steps = λ x c alive t at p allowed. elim (decide_dead hold fail sh n ts (after p x) sh.body) [
         | inl dead ↦ inr dead
         | inr lives ↦ inl ((reached.same (after p x)).1 (subst (λ i. Reached i (after p x)) (sym (ap (λ z. z.done) (after_is x p))) ((x, held x c, (t, at, (p, allowed, refl))), lives)))
       ];
@@ -164,7 +155,7 @@ module _ (hold fail : TermId → Option ExprId → Type 0) (sh : Shape) (n : Ter
         omega (arith, most, within)
 
     pub states_open : IsCovered sh n ts states (opening sh)
-    states_open = elim (decide_dead (opening sh) sh.body) [
+    states_open = elim (decide_dead hold fail sh n ts (opening sh) sh.body) [
       | inl dead ↦ inr dead
       | inr lives ↦ inl ((reached.same (opening sh)).1 (refl, lives))
     ]

@@ -22,7 +22,7 @@ use Rattle.schema_tree.specs.Width.{is_open_rest, is_taken_by, product, ways}
 use Rattle.std.proofs.lemmas.List.{take_more, take_all}
 use Rattle.std.proofs.lemmas.List.Sums.{sum_by-append, sum_by-cons}
 use Rattle.bag_match.specs.Keys.{AreCounted, AreSized, CountsOne, HaveKeys, IsKeyLong, compare_lists, has_key, held, if_any, is_set, key_of, places_of}
-use Rattle.bag_match.proofs.Ways.{ways_some}
+use Rattle.schema_tree.proofs.Widths.{ways_some}
 use Rattle.bag_match.proofs.Classes.{IsNear, end_is}
 use Rattle.bag_match.proofs.Rising.{in_push}
 use Rattle.bag_match.proofs.Spread.{mul-le-mul}

@@ -1,5 +1,5 @@
 -- Lists of places that are the same but for their order are one of the spreads.
-use Rattle.std.proofs.Common.{◌≡◌, ℕ, zero, suc, ◌+◌, ◌*◌, ◌≤◌, ◌⊎◌, inl, inr, List, [], ◌∷◌, ◌++◌, length, map, filter, not, refl, arith, ap, sym, subst, ◌∙◌, Bool, true, false, true≢false, cond, zero-add}
+use Rattle.std.proofs.Common.{◌≡◌, ℕ, zero, suc, ◌+◌, ◌*◌, ◌≤◌, ◌⊎◌, inl, inr, List, [], ◌∷◌, ◌++◌, length, map, filter, not, refl, arith, ap, sym, subst, ◌∙◌, Bool, true, false, true≢false, cond}
 use Rattle.std.proofs.lemmas.Bool.{cases_eq}
 use Rattle.std.proofs.lemmas.List.Sums.{length-filter}
 use Rattle.std.proofs.lemmas.List.{length-append, length-map}
@@ -10,6 +10,7 @@ use Rattle.schema_tree.specs.declared.verdicts.Place.{Place}
 use Rattle.schema_tree.specs.declared.verdicts.Place.TheVariants.{At, Rest}
 use Rattle.schema_tree.specs.Places.{add_place, times}
 use Rattle.schema_tree.specs.Width.{next_row, product, ways}
+use Rattle.schema_tree.proofs.ToPlaces.{times_append}
 use Rattle.bag_match.proofs.Spreads.{next_spreads, spreads, products, all_spreads, ArePlaced, AreClassed, AreAlike}
 use Rattle.lists.proofs.Filters.{in_filter}
 use Rattle.lists.proofs.Members.{in_map, in_rest, is_first, is_later, not_in_none}
@@ -63,10 +64,6 @@ turned p i a b =
     let over = add_over i p b a in
     let there : a + add_place i p b ≡ add_place i p b + a = omega arith in
     there ∙ sym over ∙ ap (λ k. add_place i p k) (let back : b + a ≡ a + b = omega arith in back)
-
-pub times_append : (ps qs : List Place) (i : ℕ) → times (ps ++ qs) i ≡ times ps i + times qs i
-times_append [] qs i = sym (zero-add (times qs i))
-times_append (p ∷ ps) qs i = ap (λ k. add_place i p k) (times_append ps qs i) ∙ add_over i p (times ps i) (times qs i)
 
 pub alike_append : (es ps fs qs : List Place) → AreAlike es ps → AreAlike fs qs → AreAlike (es ++ fs) (ps ++ qs)
 alike_append es ps fs qs one two i =

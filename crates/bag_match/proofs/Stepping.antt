@@ -15,6 +15,7 @@ use Rattle.schema_tree.specs.declared.verdicts.State.{State}
 use Rattle.schema_tree.specs.Matches.{fits}
 use Rattle.schema_tree.specs.Places.{IsAllowed}
 use Rattle.schema_tree.specs.States.{IsDead, after, count_fits, fitting, no_counts, opening}
+use Rattle.schema_tree.proofs.Closed.{zeros}
 use Rattle.lists.proofs.Members.{in_one, is_first, not_in_none}
 use Rattle.bag_match.specs.Counts.{AreLeft, ArePlacesOf, HasCounts, IsRaised, raised, state_of}
 use Rattle.bag_match.specs.Layers.{AreLiving, IsLayer}
@@ -69,11 +70,6 @@ raised_most counts (At k) j most i = elim (cases_eq i k) [
       let at : slice_index (raised counts (At k)) i ≡ slice_index counts i = get_or-set_other counts k i (suc (slice_index counts k)) 0 other in
       let h = most i in omega (arith, at, h)
 ]
-
-zeros : (occs : List Occurrence) (i : ℕ) → slice_index (no_counts occs) i ≡ 0
-zeros [] i = refl
-zeros (o ∷ os) zero = refl
-zeros (o ∷ os) (suc i) = zeros os i
 
 pub opening_at : (sh : Shape) (i : ℕ) → slice_index ((opening sh).counts) i ≡ 0
 opening_at sh i = zeros sh.occs i

@@ -95,6 +95,7 @@ pub fn match_pair<V: View, L: Ledger>(
     if is_shut(graph, shape, node) {
         return Ok(Outcome::Never(Items::of(Vec::new(alloc))));
     }
+    // The length of a graph tells contracts that it is within the limit.
     let _held = graph.len();
     let triples = relevant(alloc, graph, shape, node)?;
     let judge = Values {

@@ -80,6 +80,7 @@ pub fn dead(schema: &Schema, graph: &Graph, pair: Pair, state: &State) -> bool
     let Some(shape) = schema.shapes.as_slice().get(pair.shape.0 as usize) else {
         return false;
     };
+    // The length of a graph tells contracts that it is within the limit.
     let _held = graph.len();
     let outs = graph.outs(node);
     let ins = graph.ins(node);

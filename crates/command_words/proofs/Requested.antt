@@ -29,7 +29,7 @@ one_task : (found : List Row) (t u : Task) → name_of t ≡ name_of u → IsTas
 one_task found (validation m p n) (validation k q o) e a b =
     let maps : m ≡ k = one_value _ m k a.map_file b.map_file in
     let proofs : p ≡ q = sym a.proof ∙ b.proof in
-    let budgets : n ≡ o = one_budget _ n o a.budget b.budget in
+    let budgets : n ≡ o = one_budget _ n o a.is_budget b.is_budget in
     cc
 one_task found (validation m p n) (checking q) e a b = absurd (names_differ e)
 one_task found (checking p) (validation k q o) e a b = absurd (names_differ (sym e))

@@ -43,23 +43,23 @@ pub record IsGiven (found : List Row) (r : Request) : Type 0 where
   pub import_words : unwrap_or (all_of (codes "imports") found) [] ≡ r.import_words
 
 -- of what only `validate` is given
-pub record IsValidation (found : List Row) (map_name : Text) (proof_name : Option Text) (steps : ℕ) : Type 0 where
+pub record IsValidation (found : List Row) (map_name : Text) (proof_name : Option Text) (budget : ℕ) : Type 0 where
   pub map_file : first_of (codes "map") found ≡ Some map_name
   pub proof : first_of (codes "proof") found ≡ proof_name
-  pub budget : IsBudget (first_of (codes "budget") found) steps
+  pub is_budget : IsBudget (first_of (codes "budget") found) budget
 
 -- of what only the command for this task is given
 abbrev pub IsTask : List Row → Task → Type 0
-IsTask found (validation map_name proof_name steps) = IsValidation found map_name proof_name steps
+IsTask found (validation map_name proof_name budget) = IsValidation found map_name proof_name budget
 IsTask found (checking proof_name) = first_of (codes "proof") found ≡ Some proof_name
 
 -- the command for a task, and its name
 abbrev pub command_for : Task → App
-command_for (validation map_name proof_name steps) = validate
+command_for (validation map_name proof_name budget) = validate
 command_for (checking proof_name) = check
 
 abbrev pub name_of : Task → Text
-name_of (validation map_name proof_name steps) = codes "validate"
+name_of (validation map_name proof_name budget) = codes "validate"
 name_of (checking proof_name) = codes "check"
 
 -- `clap` takes the words behind the command's name, and finds these values
@@ -76,9 +76,9 @@ pub record Asks (words : List Text) (r : Request) : Type 0 where
 
 -- the name of the proof, if there is one, and the name of the map, if there is one
 abbrev pub proof_of : Task → Option Text
-proof_of (validation map_name proof_name steps) = proof_name
+proof_of (validation map_name proof_name budget) = proof_name
 proof_of (checking proof_name) = Some proof_name
 
 abbrev pub map_names : Task → List Text
-map_names (validation map_name proof_name steps) = map_name ∷ []
+map_names (validation map_name proof_name budget) = map_name ∷ []
 map_names (checking proof_name) = []

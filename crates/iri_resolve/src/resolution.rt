@@ -15,10 +15,10 @@ use thiserror::Error;
 #[derive(Clone, Copy, Debug, PartialEq, Eq, Error)]
 pub enum IriError {
     /// Neither the base nor the reference has a scheme.
-    #[error("neither the base nor the reference has a scheme")]
+    #[error("NoScheme")]
     NoScheme,
     /// Memory ran out.
-    #[error("out of memory")]
+    #[error("Memory")]
     Memory,
 }
 

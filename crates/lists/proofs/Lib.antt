@@ -2,6 +2,7 @@ pub mod Additions
 pub mod Beside
 pub mod Decided
 pub mod Distinct
+pub mod Exactly
 pub mod Filters
 pub mod Halving
 pub mod Joined

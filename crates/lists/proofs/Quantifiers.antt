@@ -1,7 +1,7 @@
 -- What holds of all or some items.
 use Rattle.std.proofs.Common.{inl, inr, List, [], ◌∷◌, subst, map, ◌++◌}
 use Rattle.std.specs.List.{AllByRecursion}
-use Rattle.std.specs.Prelude.{Contains}
+use Rattle.std.specs.Prelude.{Contains, ◌↔◌}
 use Rattle.std.specs.List.Sorted.{IsPermutation}
 use Rattle.std.proofs.lemmas.List.Sorted.{All-permutation}
 use Rattle.std.proofs.lemmas.List.Elements.{recursion_from_All, All-from_recursion}
@@ -33,6 +33,16 @@ pub some_weaker :
 some_weaker P Q [] step h = absurd h
 some_weaker P Q (x ∷ xs) step (inl h) = inl (step x (is_first x xs) h)
 some_weaker P Q (x ∷ xs) step (inr h) = inr (some_weaker P Q xs (λ y c. step y (is_later x xs y c)) h)
+
+-- of two facts that hold of the same items, both hold of all or neither does
+pub all_same :
+    {X : Type 0} (P Q : X → Type 0) (xs : List X) → ((x : X) → Contains xs x → P x ↔ Q x) → AllByRecursion P xs ↔ AllByRecursion Q xs
+all_same P Q xs h = (all_weaker P Q xs (λ x c. (h x c).0), all_weaker Q P xs (λ x c. (h x c).1))
+
+-- and both hold of some or neither does
+pub some_same :
+    {X : Type 0} (P Q : X → Type 0) (xs : List X) → ((x : X) → Contains xs x → P x ↔ Q x) → SomeByRecursion P xs ↔ SomeByRecursion Q xs
+some_same P Q xs h = (some_weaker P Q xs (λ x c. (h x c).0), some_weaker Q P xs (λ x c. (h x c).1))
 
 -- one that has P is against all that have Q, where P is against Q
 pub some_against : {X : Type 0} (P Q : X → Type 0) → ((x : X) → P x → ¬ Q x) → (xs : List X) → SomeByRecursion P xs → ¬ AllByRecursion Q xs

@@ -1,9 +1,10 @@
 -- A text spells a pattern under given flags or it does not.
 use Rattle.std.proofs.Common.{◌≡◌, ℕ, ◌⊎◌, inl, inr, List, Option, Some, None, Bool, true, false, refl, sym, ap, subst, ◌∙◌}
 use Rattle.std.specs.Prelude.{MatchBool}
+use Rattle.std.proofs.lemmas.Option.{same_Some}
 use Rattle.xs_pattern.proofs.Lexed.{tokens_complete, well_placed}
 use Rattle.xs_pattern.proofs.Parsed.{spelled_meaning}
-use Rattle.xs_pattern.proofs.Sound.{some_same, tokens_sound}
+use Rattle.xs_pattern.proofs.Sound.{tokens_sound}
 use Rattle.xs_pattern.specs.Flagged.{IsSpelledUnder, has_flag, literal}
 use Rattle.xs_pattern.specs.Lexing.{read_tokens}
 use Rattle.xs_pattern.specs.Parsing.{IsSpelled, is_spelled}
@@ -24,7 +25,7 @@ by_tokens text us read false told = inr none
   where
     none : ¬ IsSpelledPlain text
     none (e, s) =
-        let same : us ≡ tokens e = some_same us (tokens e) (sym read ∙ tokens_complete e text s) in
+        let same : us ≡ tokens e = same_Some us (tokens e) (sym read ∙ tokens_complete e text s) in
         let placed : is_spelled 0 false us ≡ true = ap (is_spelled 0 false) same ∙ well_placed e s.0 in
         absurd (cc)
 

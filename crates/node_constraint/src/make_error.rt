@@ -10,16 +10,16 @@ use xs_pattern::PatternError;
 #[derive(Clone, Copy, Debug, PartialEq, Eq, Error)]
 pub enum MakeError {
     /// A range facet has a floating-point number, or a facet on numbers stands beside xsd:float or xsd:double.
-    #[error("a facet on floating-point numbers")]
+    #[error("FloatFacet")]
     FloatFacet,
     /// The value of a range facet is no decimal.
-    #[error("the value of a range facet is no decimal")]
+    #[error("FacetNumber")]
     FacetNumber,
     /// A pattern is refused.
-    #[error("{0}")]
+    #[error("Pattern({0})")]
     Pattern(PatternError),
     /// Memory ran out.
-    #[error("out of memory")]
+    #[error("Memory")]
     Memory,
 }
 

@@ -3,13 +3,13 @@ use Rattle.std.proofs.Common.{◌≡◌, ℕ, Bool, true, List, [], ◌∷◌, �
 use Rattle.std.proofs.lemmas.List.{append-nil}
 use Rattle.rdf_terms.specs.declared.terms.Term.{Term}
 use Rattle.rdf_cursor.specs.Ahead.{Ahead, finished, next_is}
-use Rattle.rdf_cursor.specs.Marks.{Mark, mark}
+use Rattle.rdf_cursor.specs.Marks.{Mark}
 use Rattle.rdf_cursor.specs.Phrases.{Is, ◌⨾◌}
 use Rattle.rdf_cursor.specs.Readers.{Answer, and_then, loop}
-use Rattle.rdf_cursor.proofs.Completeness.{one_read}
+use Rattle.rdf_cursor.proofs.Completeness.{one_read, took}
 use Rattle.rdf_cursor.proofs.Loops.{loop_more, loop_stop}
 use Rattle.rdf_lex.specs.Tokens.{Spelled}
-use Rattle.rdf_cursor.specs.Symbols.{is_any, of_symbol}
+use Rattle.rdf_cursor.specs.Symbols.{is_any}
 use Rattle.rdf_cursor.specs.declared.stops.Fault.{Fault}
 use Rattle.rdf_cursor.specs.declared.stops.Fault.TheVariants.{Syntax}
 use Rattle.rdf_cursor.specs.declared.symbols.Symbol.{Symbol}
@@ -22,9 +22,6 @@ use Rattle.nt_reader.specs.Grammar as g
 use Rattle.nt_reader.specs.Grammar.{LineEnd, Lines, no_lines, blank_line, line}
 use Rattle.nt_reader.specs.Reading as r
 use Rattle.nt_reader.proofs.Places.{consumes_line_behind}
-
-took : (a : Symbol) (w : Spelled) (ts rest : Ahead Spelled) → Is (of_symbol a) w ts rest → mark a ts ≡ Ok (w, rest)
-took a w ts rest h = one_read Syntax (of_symbol a) w ts rest h
 
 -- what a subject begins with
 abbrev subjects : List Symbol

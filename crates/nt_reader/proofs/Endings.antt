@@ -8,11 +8,11 @@ use Rattle.rdf_terms.specs.declared.terms.Triple.{Triple}
 use Rattle.graph_index.specs.declared.read_error.ReadError.{ReadError}
 use Rattle.rdf_cursor.specs.Ahead.{Ahead, finished, token, prepend}
 use Rattle.rdf_cursor.specs.Phrases.{◌⨾◌}
-use Rattle.rdf_cursor.specs.Properties.{IsLocalAt, AgreesAt}
-use Rattle.rdf_cursor.specs.Readers.{Answer, Reader, loop, finish}
-use Rattle.rdf_cursor.proofs.Answers.{then_ok, apart, err_is, ok_is}
+use Rattle.rdf_cursor.specs.Properties.{AgreesAt}
+use Rattle.rdf_cursor.specs.Readers.{Answer, loop, finish}
+use Rattle.rdf_cursor.proofs.Answers.{then_ok, apart, ok_is}
 use Rattle.rdf_cursor.proofs.Blocking.{blocked}
-use Rattle.rdf_cursor.proofs.Locality.{prepend-append}
+use Rattle.rdf_cursor.proofs.Fronts.{Front, front_ok, front_err, both_fronts}
 use Rattle.rdf_cursor.proofs.Loops.{loop_rule}
 use Rattle.rdf_cursor.proofs.Soundness.{finish_sound}
 use Rattle.rdf_lex.specs.declared.kinds.Mode.TheVariants.{NTriples}
@@ -40,22 +40,7 @@ use Rattle.nt_reader.proofs.Complete.{document_read}
 use Rattle.nt_reader.proofs.Limits.{Common, LongNext, same_document}
 use Rattle.nt_reader.proofs.Places.{local_document, consumes_line_behind}
 
--- the tokens that were passed
-front_ok : {A : Type 0} (p : Reader Spelled Fault A) (ts : Ahead Spelled) (a : Answer Spelled Fault A) (x : A) (rest : Ahead Spelled) → a ≡ Ok (x, rest) → IsLocalAt p ts a → (front : List Spelled) × (ts ≡ prepend front rest)
-front_ok {A = A} p ts (Ok y) x rest e l = (l.0, l.1 ∙ ap (λ (v : A × Ahead Spelled). prepend l.0 v.1) (ok_is y (x, rest) e))
-front_ok p ts (Err y) x rest e l = absurd cc
-
-front_err : {A : Type 0} (p : Reader Spelled Fault A) (ts : Ahead Spelled) (a : Answer Spelled Fault A) (f : Fault) (rest : Ahead Spelled) → a ≡ Err (f, rest) → IsLocalAt p ts a → (front : List Spelled) × (ts ≡ prepend front rest)
-front_err p ts (Ok y) f rest e l = absurd cc
-front_err p ts (Err y) f rest e l = (l.0, l.1 ∙ ap (λ (v : Fault × Ahead Spelled). prepend l.0 v.1) (err_is y (f, rest) e))
-
 -- the tokens of lines
-abbrev Front : Ahead Spelled → Ahead Spelled → Type 0
-Front ts rest = (front : List Spelled) × (ts ≡ prepend front rest)
-
-both_fronts : (ts mid rest : Ahead Spelled) → Front ts mid → Front mid rest → Front ts rest
-both_fronts ts mid rest (a, e) (b, f) = (a ++ b, e ∙ ap (prepend a) f ∙ sym (prepend-append a b rest))
-
 subject_front : (x : Term) (ts rest : Ahead Spelled) → Subject true x ts rest → Front ts rest
 subject_front x ts rest (inl (i, e, (t, f, h))) = (t ∷ [], f)
 subject_front x ts rest (inr (t, f, h)) = (t ∷ [], f)

@@ -1,26 +1,22 @@
 -- Without the limit a document is read in the same way, but for what is too long.
-use Rattle.std.proofs.Common.{◌≡◌, ℕ, Bool, true, false, cond, List, Option, Some, None, is_some, length, nat_lt, refl, sym, ap, subst, ◌<◌, encode_utf8_all, Result, Ok, Err, inl, inr}
+use Rattle.std.proofs.Common.{◌≡◌, ℕ, Bool, true, false, cond, List, Option, Some, None, is_some, length, nat_lt, refl, ◌<◌, encode_utf8_all, Result, Ok, Err, inl, inr}
 use Rattle.std.proofs.lemmas.Bool.{ltb-true}
 use Rattle.std.specs.List.{after_first}
 use Rattle.std.specs.Str.{chars}
 use Rattle.iri_resolve.specs.Reference.{scheme_of}
-use Rattle.rdf_terms.specs.Vocabulary.{rdf_lang_string}
-use Rattle.rdf_terms.specs.Texts.{same_text}
-use Rattle.rdf_terms.specs.declared.terms.Term.{Term}
 use Rattle.rdf_cursor.specs.Ahead.{Ahead, token}
 use Rattle.rdf_cursor.specs.Properties.{Agrees}
 use Rattle.rdf_cursor.specs.Readers.{◌>>=◌, give, one, either}
 use Rattle.rdf_cursor.proofs.Agreement.{ClassAgrees, agrees_give, agrees_one, agrees_bind, agrees_either, agrees_finish, agrees_loop}
 use Rattle.rdf_lex.specs.Tokens.{Spelled}
 use Rattle.term_tokens.specs.Meanings.{text_of}
-use Rattle.term_tokens.specs.Terms.{max_text, is_colon, absolute, absolute_of, blank_of, is_quoted_once, lexical, string_of, short_string_of, typed, typed_by, absolute_typed_of, tagged_of, tags}
+use Rattle.term_tokens.specs.Terms.{max_text, is_colon, absolute, absolute_of, blank_of, is_quoted_once, lexical, string_of, short_string_of, absolute_typed_of}
+use Rattle.term_tokens.proofs.Agreeing.{typed_by_agrees, tagged_agrees, agrees_mark}
 use Rattle.term_tokens.proofs.Meanings.{text_of_is}
-use Rattle.rdf_cursor.specs.Symbols.{is_any, is_symbol, is_among}
+use Rattle.rdf_cursor.specs.Symbols.{is_any, is_symbol}
 use Rattle.rdf_cursor.specs.declared.stops.Fault.{Fault}
 use Rattle.rdf_cursor.specs.declared.stops.Fault.TheVariants.{Syntax, Long}
-use Rattle.rdf_cursor.specs.declared.symbols.Symbol.{Symbol}
 use Rattle.rdf_cursor.specs.declared.symbols.Symbol.TheVariants as symbol
-use Rattle.rdf_cursor.specs.Marks.{mark}
 use Rattle.graph_index.specs.declared.loading.TermTriple.{TermTriple}
 use Rattle.nt_reader.specs.Endings.{IsLong, by_text, by_label}
 use Rattle.nt_reader.specs.Reading.{R, iri, subject, predicate, literal, object, statement, line_end, line, line_behind, document}
@@ -57,9 +53,6 @@ guard_agrees t false g c d e a = syntax_agrees t
 cond_agrees : {A : Type 0} (t : Spelled) (b : Bool) (c d : Result A Fault) → (b ≡ true → Agree t c d) → Agree t (cond b c (Err Syntax)) (cond b d (Err Syntax))
 cond_agrees t b c d a = guard_agrees t b b c d refl a
 
-same_class : {A : Type 0} (t : Spelled) (b : Bool) (x : A) → Agree t (cond b (Ok x) (Err Syntax)) (cond b (Ok x) (Err Syntax))
-same_class t b x = cond_agrees t b (Ok x) (Ok x) (λ e. refl)
-
 text_long : (t : Spelled) (text : List ℕ) → text_of t ≡ Some text → max_text < length (encode_utf8_all text) → IsLong t
 text_long t text e l = by_text text (text_of_is t text e) l
 
@@ -88,22 +81,9 @@ short_string_agrees : (t : Spelled) → Agree t (short_string_of true t) (short_
 unfolding short_string_of
 short_string_agrees t = cond_agrees t (is_quoted_once (chars t.text)) _ _ (λ e. string_agrees t)
 
-not_lang : (t : Spelled) (x : Term) (b : Bool) → Agree t (cond b (Err Syntax) (Ok x)) (cond b (Err Syntax) (Ok x))
-not_lang t x true = syntax_agrees t
-not_lang t x false = refl
-
-typed_by_agrees : (t : Spelled) (lex : List ℕ) (c d : Result (List ℕ) Fault) → Agree t c d → Agree t (typed_by lex c) (typed_by lex d)
-typed_by_agrees t lex (Ok i) d e = subst (λ (v : Result (List ℕ) Fault). Agree t (typed_by lex (Ok i)) (typed_by lex v)) (sym e) (not_lang t (typed lex (chars i)) (same_text (chars i) rdf_lang_string))
-typed_by_agrees t lex (Err f) d (inl (c, e)) = inl (c, ap (typed_by lex) e)
-typed_by_agrees t lex (Err f) d (inr h) = inr h
-
 typed_agrees : (lex : List ℕ) (t : Spelled) → Agree t (absolute_typed_of true lex t) (absolute_typed_of false lex t)
 unfolding absolute_typed_of
-typed_agrees lex t = typed_by_agrees t lex (absolute_of true t) (absolute_of false t) (absolute_agrees t)
-
-tagged_agrees : (lex : List ℕ) (t : Spelled) → Agree t (tagged_of lex t) (tagged_of lex t)
-unfolding tagged_of
-tagged_agrees lex t = same_class t (is_among tags t) _
+typed_agrees lex t = typed_by_agrees Common LongNext refl t lex (absolute_of true t) (absolute_of false t) (absolute_agrees t)
 
 -- rules
 bind : {A B : Type 0} (p q : R A) (f g : A → R B) → Same p q → ((x : A) → Same (f x) (g x)) → Same (p >>= f) (q >>= g)
@@ -117,9 +97,6 @@ given x = agrees_give Common LongNext x
 
 taken : {A : Type 0} (c d : Spelled → Result A Fault) → ((t : Spelled) → Agree t (c t) (d t)) → Same (one Syntax c) (one Syntax d)
 taken c d h = agrees_one Common LongNext Syntax c d refl h
-
-same_mark : (a : Symbol) → Same (mark a) (mark a)
-same_mark a = taken _ _ (λ t. same_class t (is_symbol a t) t)
 
 same_iri : Same (iri true) (iri false)
 unfolding iri
@@ -135,7 +112,7 @@ same_predicate = bind _ _ _ _ same_iri (λ i. given _)
 
 same_literal : Same (literal true) (literal false)
 unfolding literal
-same_literal = bind _ _ _ _ (taken _ _ short_string_agrees) (λ lex. choice _ _ _ _ _ (taken _ _ (tagged_agrees lex)) (choice _ _ _ _ _ (bind _ _ _ _ (same_mark symbol.Carets) (λ _. taken _ _ (typed_agrees lex))) (given _)))
+same_literal = bind _ _ _ _ (taken _ _ short_string_agrees) (λ lex. choice _ _ _ _ _ (taken _ _ (tagged_agrees Common LongNext refl lex)) (choice _ _ _ _ _ (bind _ _ _ _ (agrees_mark Common LongNext refl symbol.Carets) (λ _. taken _ _ (typed_agrees lex))) (given _)))
 
 same_object : Same (object true) (object false)
 unfolding object
@@ -143,15 +120,15 @@ same_object = choice _ _ _ _ _ same_literal same_subject
 
 same_statement : Same (statement true) (statement false)
 unfolding statement
-same_statement = bind _ _ _ _ same_subject (λ s. bind _ _ _ _ same_predicate (λ p. bind _ _ _ _ same_object (λ o. bind _ _ _ _ (same_mark symbol.Dot) (λ _. given _))))
+same_statement = bind _ _ _ _ same_subject (λ s. bind _ _ _ _ same_predicate (λ p. bind _ _ _ _ same_object (λ o. bind _ _ _ _ (agrees_mark Common LongNext refl symbol.Dot) (λ _. given _))))
 
 same_line_end : Same line_end line_end
 unfolding line_end
-same_line_end = choice _ _ _ _ _ (bind _ _ _ _ (same_mark symbol.Line) (λ _. given _)) (agrees_finish Common LongNext Syntax tt refl)
+same_line_end = choice _ _ _ _ _ (bind _ _ _ _ (agrees_mark Common LongNext refl symbol.Line) (λ _. given _)) (agrees_finish Common LongNext Syntax tt refl)
 
 same_line : Same (line true) (line false)
 unfolding line
-same_line = choice _ _ _ _ _ (bind _ _ _ _ (same_mark symbol.Line) (λ _. given _)) (bind _ _ _ _ same_statement (λ t. bind _ _ _ _ same_line_end (λ _. given _)))
+same_line = choice _ _ _ _ _ (bind _ _ _ _ (agrees_mark Common LongNext refl symbol.Line) (λ _. given _)) (bind _ _ _ _ same_statement (λ t. bind _ _ _ _ same_line_end (λ _. given _)))
 
 same_line_behind : (before : List TermTriple) → Same (line_behind true before) (line_behind false before)
 unfolding line_behind

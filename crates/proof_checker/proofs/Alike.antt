@@ -24,9 +24,9 @@ use Rattle.schema_tree.specs.Matches.{other_end}
 use Rattle.schema_tree.specs.Places.{AreAllowed, IsAllowed, MayFail, MayHold, MayStay, MayStayOut, MayTake}
 use Rattle.schema_tree.specs.Relevant.{is_forward}
 use Rattle.schema_tree.specs.Sure.{Known, PairIs}
-use Rattle.schema_tree.proofs.Fuel.{all_same, not_same}
+use Rattle.lists.proofs.Quantifiers.{all_same}
 use Rattle.proof_file.specs.Accepts.{AreStates}
-use Rattle.bag_match.proofs.Allowed.{itself}
+use Rattle.lists.proofs.Exactly.{itself, not_same}
 
 Same : (TermId → Option ExprId → Type 0) → (TermId → Option ExprId → Type 0) → Type 0
 Same a b = (m : TermId) (v : Option ExprId) → a m v ↔ b m v

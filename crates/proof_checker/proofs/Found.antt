@@ -3,20 +3,14 @@ use Rattle.std.proofs.Common.{◌≡◌, ℕ, zero, suc, ◌+◌, ◌^◌, ◌<�
 use Rattle.std.proofs.lemmas.List.{take_all, take_more, take-append-drop, append_assoc, append-nil, length-append}
 use Rattle.std.proofs.lemmas.Grind.{flat_map-append}
 use Rattle.std.proofs.lemmas.Option.{slice_get-get_or}
-use Rattle.std.specs.Prelude.{Contains, Option, Some, None, IfSome, slice_get, unwrap_or}
+use Rattle.std.specs.Prelude.{Option, Some, None, IfSome, slice_get}
 use Rattle.std.specs.List.{AllByRecursion}
 use Rattle.rdf_terms.specs.declared.terms.TermId.{TermId}
 use Rattle.schema_tree.specs.declared.schema.ExprId.{ExprId}
 use Rattle.schema_tree.specs.declared.schema.Shape.{Shape}
-use Rattle.schema_tree.specs.declared.schema.Schema.{Schema}
-use Rattle.schema_tree.specs.declared.schema.Target.{Target}
-use Rattle.schema_tree.specs.declared.schema.Target.TheVariants as Targets
-use Rattle.schema_documents.specs.declared.label.Label.{Label}
 use Rattle.schema_tree.specs.Edges.{level}
-use Rattle.schema_tree.specs.Labels.{labels_of}
-use Rattle.schema_tree.specs.Loaded.{IsLoaded, IsTarget}
+use Rattle.schema_tree.specs.Loaded.{IsTarget}
 use Rattle.schema_tree.specs.Sure.{IsSure}
-use Rattle.lists.specs.Distinct.{AreDistinct}
 use Rattle.proof_file.specs.declared.RecordKind.{RecordKind}
 use Rattle.proof_file.specs.declared.RecordKind.TheVariants.{Plus, Minus}
 use Rattle.proof_file.specs.declared.Record.{Record}
@@ -192,22 +186,6 @@ module _ (x : Setting) (p : Proof) where
   pub all_after : (xs ys : List Item) → AllByRecursion (IsAccepted x p) xs → FirstFault x p ys None → FirstFault x p (xs ++ ys) None
   all_after xs ys all h = all_both xs ys all h
 
-label_at : (ls : List (Label × ExprId)) (l : Label) (d : ExprId) (i : ℕ) → i < length ls → get_or ls i (l, d) ≡ (l, d) → slice_get (labels_of ls) i ≡ Some l
-label_at ls l d i within at = slice_get_map (λ e. e.0) ls i (l, d) within ∙ ap (λ e. Some e.0) at
-
-pair_second : (a b : Label × ExprId) → Some a ≡ Some b → a.1 ≡ b.1
-pair_second a b h = let same : a ≡ b = ap (λ o. unwrap_or {T = Label × ExprId} o a) h in ap (λ (z : Label × ExprId). z.1) same
-
-label_once : (ls : List (Label × ExprId)) → AreDistinct (labels_of ls) → (l : Label) (d e : ExprId) → Contains ls (l, d) → Contains ls (l, e) → d ≡ e
-label_once ls distinct l d e (i, within, at) (j, inside, on) =
-    let same : i ≡ j = distinct i j l (label_at ls l d i within at) (label_at ls l e j inside on) in
-    let first : slice_get ls i ≡ Some (l, d) = slice_get-get_or ls i (l, d) within ∙ ap (λ z. Some z) at in
-    let second : slice_get ls j ≡ Some (l, e) = slice_get-get_or ls j (l, e) inside ∙ ap (λ z. Some z) on in
-    pair_second (l, d) (l, e) (sym first ∙ ap (λ k. slice_get ls k) same ∙ second)
-
-some_once : (d e : ExprId) → Some d ≡ Some e → d ≡ e
-some_once d e h = ap (λ o. unwrap_or o d) h
-
 -- the items of a section among all items
 module _ (x : Setting) (p : Proof) (xs : List Section) (cs : List Claim) (i : ℕ) (y : Section) (within : i < length xs) (is : y ≡ get_or xs i y)
     (records : List Record) (same : records ≡ y.records) (before : ℕ) (count : before ≡ length (section_items (take i xs))) where
@@ -285,8 +263,3 @@ module _ (x : Setting) (p : Proof) (xs : List Section) (cs : List Claim) (i : �
 
   pub none_claims : AllByRecursion (IsAccepted x p) (section_items (take i xs)) → FirstFault x p (map (λ c. is_claim c) cs) None → FirstFault x p (items_of (proof_of xs cs)) None
   none_claims all fault = all_after x p (section_items xs) (map (λ c. is_claim c) cs) (subst (λ zs. AllByRecursion (IsAccepted x p) zs) all_sections all) fault
-
--- each target has one expression
-pub target_once : (s : Schema) → IsLoaded s → (t : Target) (d e : ExprId) → IsTarget s t d → IsTarget s t e → d ≡ e
-target_once s loaded Targets.Start d e a b = some_once d e (sym a ∙ b)
-target_once s loaded (Targets.Label l) d e a b = label_once s.labels loaded.once l d e a b

@@ -14,7 +14,7 @@ use Rattle.schema_tree.specs.Rising.{Rises}
 use Rattle.proof_checker.specs.declared.items.Fault.{Fault}
 use Rattle.schema_tree.specs.Loaded.{IsLoaded}
 use Rattle.schema_tree.specs.Sure.{Known}
-use Rattle.proof_checker.specs.declared.items.Held.{Held}
+use Rattle.proof_checker.specs.declared.items.ProofInSetting.{ProofInSetting}
 use Rattle.proof_checker.specs.declared.standings.Reader.{Reader}
 use Rattle.graph_index.specs.Contents.{IsSealedWith}
 use Rattle.proof_checker.specs.Standings.{AreStandings, view_of}
@@ -47,21 +47,22 @@ StatesRise (Minus rank states) = Rises IsStateBefore states
 abbrev pub AreRising : List Section → Type 0
 AreRising sections = (x : Section) → Contains sections x → (r : Record) → Contains x.records r → StatesRise r.kind
 
--- what is held: a proof against a schema, its strata, terms and a graph
-abbrev pub setting : Held → Setting
+-- what the proof is held against: a schema, its strata, terms, a graph and the terms of the node lines
+abbrev pub setting : ProofInSetting → Setting
 setting h = setting_of h.strata.now h.schema.now h.terms.now h.graph.now.triples h.nodes.now
 
-abbrev pub held : Held → Proof
-held h = proof_of h.sections.now h.claims.now
+-- the proof, by its sections and claims
+abbrev pub proof_in : ProofInSetting → Proof
+proof_in h = proof_of h.sections.now h.claims.now
 
 -- what a reader may use of the records
-abbrev pub known_to : Held → Reader → Known
-known_to h reader = view_of h.strata.now (yes_of (setting h) (held h)) (no_of (setting h) (held h)) reader
+abbrev pub known_to : ProofInSetting → Reader → Known
+known_to h reader = view_of h.strata.now (yes_of (setting h) (proof_in h)) (no_of (setting h) (proof_in h)) reader
 
 -- what the checks of an item need
-pub record IsReady (h : Held) : Type 0 where
+pub record IsReady (h : ProofInSetting) : Type 0 where
   pub loaded : IsLoaded h.schema.now
-  pub standings : AreStandings (yes_of (setting h) (held h)) (no_of (setting h) (held h)) h.standings.now
+  pub standings : AreStandings (yes_of (setting h) (proof_in h)) (no_of (setting h) (proof_in h)) h.standings.now
   pub sealed : IsSealedWith h.terms.now h.graph.now
   pub rising : AreRising h.sections.now
   pub few : length h.graph.now.triples < 2 ^ 31

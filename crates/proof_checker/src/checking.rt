@@ -12,7 +12,7 @@ ghost use Rattle.proof_checker.specs.Checks.{FailsAs, IsAcceptedAs, IsTrueAs, Ke
 ghost use Rattle.proof_checker.specs.Faults.{AreRising, FirstFault, proof_of};
 
 use crate::claims::{Claims, answers};
-use crate::items::{Fault, Held};
+use crate::items::{Fault, ProofInSetting};
 use crate::lines::take_up;
 use crate::standings::Standings;
 use graph_index::graph::Graph;
@@ -90,9 +90,10 @@ fn first_fault(
     requires few_items { length (items_of (proof_of sections.now claims.now)) < 2 ^ 64 }
     ensures { IfOk result (FirstFault (setting_of strata.now schema.now terms.now graph.now.triples nodes.now) (proof_of sections.now claims.now) (items_of (proof_of sections.now claims.now))) }
 {
+    // The length of a graph tells contracts that it is within the limit.
     let _held = graph.len();
     let standings = Standings::of_sections(alloc, nodes, sections)?;
-    let held = Held {
+    let proof = ProofInSetting {
         schema,
         terms,
         graph,
@@ -102,7 +103,7 @@ fn first_fault(
         claims,
         standings: &standings,
     };
-    held.fault(alloc)
+    proof.fault(alloc)
 }
 
 /// How many bytes there are, which a `u64` holds.
@@ -130,7 +131,9 @@ fn checked(
     ensures kept { KeepsTerms terms.old terms.new }
     ensures distinct { AreDistinct terms.new }
 {
+    // The length of a table tells contracts that its terms are distinct.
     let _distinct = terms.len();
+    // The number of bytes tells contracts that it is below 2^64.
     let _fits = size(proof);
     lines_are_few();
     sealing_outlives_growth();
@@ -188,6 +191,7 @@ pub fn check(
 {
     // The law that ties what is accepted to the complete typing.
     accepted_is_true();
+    // The length of a table tells contracts that its terms are distinct.
     let _distinct = terms.len();
     let strata = match strata(alloc, schema) {
         Ok(strata) => strata,

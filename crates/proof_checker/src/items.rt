@@ -11,7 +11,7 @@ ghost use Rattle.schema_tree.specs.States.{IsStateBefore};
 ghost use Rattle.schema_tree.specs.Rising.{Rises};
 ghost use Rattle.proof_file.specs.declared.Record.{Record as Line};
 ghost use Rattle.proof_file.specs.declared.Why.TheVariants as Whys;
-ghost use Rattle.proof_checker.specs.Faults.{FirstFault, FoundBy, IsReady, StatesRise, held, known_to, setting};
+ghost use Rattle.proof_checker.specs.Faults.{FirstFault, FoundBy, IsReady, StatesRise, known_to, proof_in, setting};
 ghost use Rattle.proof_checker.specs.declared.standings.Reader.TheVariants.{Refutes};
 
 use crate::standings::{Reader, RecordView, Standings, stratum_of};
@@ -38,9 +38,9 @@ pub struct Fault {
     pub why: Why,
 }
 
-/// A proof, and what it is held against.
+/// A proof, and the setting that it is held against.
 #[derive(Clone, Copy)]
-pub struct Held<'a> {
+pub struct ProofInSetting<'a> {
     /// The schema, which is loaded.
     pub schema: &'a Schema,
     /// The terms.
@@ -59,7 +59,7 @@ pub struct Held<'a> {
     pub standings: &'a Standings,
 }
 
-impl Held<'_> {
+impl ProofInSetting<'_> {
     /// Whether the values at the places are as a record that confirms on the stratum may take them.
     fn values_fit(
         &self,
@@ -72,7 +72,7 @@ impl Held<'_> {
     ) -> Result<bool, AllocError>
         requires ready { IsReady self.now }
         requires triples { triples.now ≡ relevant_in_order self.now.terms.now self.now.graph.now.triples shape.now node }
-        ensures { IfOk result (λ b. IsTrue b ↔ PassesPlus (setting self.now) (held self.now) stratum node shape.now places.now Whys.Value) }
+        ensures { IfOk result (λ b. IsTrue b ↔ PassesPlus (setting self.now) (proof_in self.now) stratum node shape.now places.now Whys.Value) }
     {
         layers_are_meanings();
         let judge = Values {
@@ -139,7 +139,7 @@ impl Held<'_> {
     ) -> Result<Option<Why>, AllocError>
         requires ready { IsReady self.now }
         requires shape { IsShapeLoaded self.now.schema.now shape.now }
-        ensures { IfOk result (FoundBy (PassesPlus (setting self.now) (held self.now) stratum node shape.now places.now) (Whys.Places ∷ Whys.Value ∷ Whys.Counts ∷ [])) }
+        ensures { IfOk result (FoundBy (PassesPlus (setting self.now) (proof_in self.now) stratum node shape.now places.now) (Whys.Places ∷ Whys.Value ∷ Whys.Counts ∷ [])) }
     {
         if is_shut(self.graph, shape, node) {
             return Ok(Some(Why::Places));
@@ -171,7 +171,7 @@ impl Held<'_> {
         requires ready { IsReady self.now }
         requires rising { Rises IsStateBefore states.now }
         requires shape { IsShapeLoaded self.now.schema.now shape.now }
-        ensures { IfOk result (FoundBy (PassesMinus (setting self.now) (held self.now) stratum node shape.now rank states.now) (Whys.States ∷ [])) }
+        ensures { IfOk result (FoundBy (PassesMinus (setting self.now) (proof_in self.now) stratum node shape.now rank states.now) (Whys.States ∷ [])) }
     {
         if is_shut(self.graph, shape, node) {
             return Ok(None);
@@ -196,7 +196,7 @@ impl Held<'_> {
         requires ready { IsReady self.now }
         requires rising { StatesRise kind.now }
         requires shape { IsShapeLoaded self.now.schema.now shape.now }
-        ensures { IfOk result (FoundBy (PassesKind (setting self.now) (held self.now) stratum kind.now (Some node) (Some shape.now)) (kind_checks kind.now)) }
+        ensures { IfOk result (FoundBy (PassesKind (setting self.now) (proof_in self.now) stratum kind.now (Some node) (Some shape.now)) (kind_checks kind.now)) }
     {
         match kind {
             RecordKind::Plus(places) => {
@@ -217,7 +217,7 @@ impl Held<'_> {
     ) -> Result<Option<Why>, AllocError>
         requires ready { IsReady self.now }
         requires rising { StatesRise entry.now.kind }
-        ensures { IfOk result (FoundBy (Passes (setting self.now) (held self.now) (in_section stratum entry.now)) (checks_of (in_section stratum entry.now))) }
+        ensures { IfOk result (FoundBy (Passes (setting self.now) (proof_in self.now) (in_section stratum entry.now)) (checks_of (in_section stratum entry.now))) }
     {
         let Some(node) = self.nodes.get(entry.node as usize) else {
             return Ok(Some(Why::Node));
@@ -234,7 +234,7 @@ impl Held<'_> {
     /// The first check of a claim that fails.
     fn claim_fails(&self, alloc: Global, claim: &Claim) -> Result<Option<Why>, AllocError>
         requires ready { IsReady self.now }
-        ensures { IfOk result (FoundBy (Passes (setting self.now) (held self.now) (is_claim claim.now)) (checks_of (is_claim claim.now))) }
+        ensures { IfOk result (FoundBy (Passes (setting self.now) (proof_in self.now) (is_claim claim.now)) (checks_of (is_claim claim.now))) }
     {
         let Some(node) = self.nodes.get(claim.node as usize) else {
             return Ok(Some(Why::Node));
@@ -279,7 +279,7 @@ impl Held<'_> {
     ) -> Result<Option<Fault>, AllocError>
         requires ready { IsReady self.now }
         requires rising { (r : Line) → Contains records.now r → StatesRise r.kind }
-        ensures { IfOk result (FirstFault (setting self.now) (held self.now) (map (λ r. in_section stratum r) records.now)) }
+        ensures { IfOk result (FirstFault (setting self.now) (proof_in self.now) (map (λ r. in_section stratum r) records.now)) }
     {
         for i in 0..records.len() {
             let failed = self.record_fails(alloc, stratum, &records[i])?;
@@ -293,7 +293,7 @@ impl Held<'_> {
     /// The first claim that is not accepted.
     fn claims_fault(&self, alloc: Global) -> Result<Option<Fault>, AllocError>
         requires ready { IsReady self.now }
-        ensures { IfOk result (FirstFault (setting self.now) (held self.now) (map (λ c. is_claim c) self.now.claims.now)) }
+        ensures { IfOk result (FirstFault (setting self.now) (proof_in self.now) (map (λ c. is_claim c) self.now.claims.now)) }
     {
         for i in 0..self.claims.len() {
             let failed = self.claim_fails(alloc, &self.claims[i])?;
@@ -307,8 +307,8 @@ impl Held<'_> {
     /// The first item that is not accepted.
     pub fn fault(&self, alloc: Global) -> Result<Option<Fault>, AllocError>
         requires ready { IsReady self.now }
-        requires few { length (items_of (held self.now)) < 2 ^ 64 }
-        ensures { IfOk result (FirstFault (setting self.now) (held self.now) (items_of (held self.now))) }
+        requires few { length (items_of (proof_in self.now)) < 2 ^ 64 }
+        ensures { IfOk result (FirstFault (setting self.now) (proof_in self.now) (items_of (proof_in self.now))) }
     {
         let mut before = 0;
         for section in self.sections {

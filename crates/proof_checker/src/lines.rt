@@ -22,6 +22,7 @@ pub fn take_up(
     ensures kept { KeepsTerms terms.old terms.new }
     ensures distinct { AreDistinct terms.new }
 {
+    // The length of a table tells contracts that its terms are distinct.
     let _distinct = terms.len();
     let Ok(mut nodes) = Vec::with_capacity(alloc, lines.len()) else {
         return Err(PutError::Memory);

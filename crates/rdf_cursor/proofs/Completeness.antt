@@ -4,10 +4,19 @@ use Rattle.rdf_cursor.specs.Ahead.{Ahead, next_is}
 use Rattle.rdf_cursor.specs.Readers.{Reader, one, loop}
 use Rattle.rdf_cursor.specs.Phrases.{Phrase, Is, Many, none, more}
 use Rattle.rdf_cursor.specs.Properties.{Consumes}
+use Rattle.rdf_cursor.specs.Marks.{mark}
+use Rattle.rdf_cursor.specs.Symbols.{of_symbol}
+use Rattle.rdf_cursor.specs.declared.stops.Fault.TheVariants.{Syntax}
+use Rattle.rdf_cursor.specs.declared.symbols.Symbol.{Symbol}
 use Rattle.rdf_cursor.proofs.Loops.{loop_more, loop_stop}
+use Rattle.rdf_lex.specs.Tokens.{Spelled}
 
 pub one_read : {T F A : Type 0} (f : F) (class : T → Result A F) (x : A) (ts r : Ahead T) → Is class x ts r → one f class ts ≡ Ok (x, r)
 one_read f class x ts r h = rw (h.1, h.2) refl
+
+-- a token that is one symbol
+pub took : (a : Symbol) (w : Spelled) (ts r : Ahead Spelled) → Is (of_symbol a) w ts r → mark a ts ≡ Ok (w, r)
+took a w ts r h = one_read Syntax (of_symbol a) w ts r h
 
 pub many_follows : {T S : Type 0} (class : T → Bool) (One : S → S → Phrase T) (Follow : Ahead T → Type 0) → ((s x : S) (ts m : Ahead T) → One s x ts m → next_is class ts ≡ true)
     → ((m : Ahead T) → next_is class m ≡ true → Follow m) → (s y : S) (m r : Ahead T) → Many One s y m r → Follow r → Follow m

@@ -1,5 +1,6 @@
 pub mod Answers
 pub mod Locality
+pub mod Fronts
 pub mod Consuming
 pub mod Loops
 pub mod Soundness

@@ -24,6 +24,7 @@ fn end_of(source: &str, token: Token<'_>) -> u64
     requires { IsCharBoundary source.now (token.at + length token.text.now) }
     ensures { result ≡ token.entry.at + length token.entry.text.now }
 {
+    // The length of a text tells contracts that it is below 2^64.
     let _whole = source.len();
     token.at + token.text.len() as u64
 }

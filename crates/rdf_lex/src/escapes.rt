@@ -18,10 +18,10 @@ use thiserror::Error;
 pub enum LexError {
     /// An escape names a surrogate, a number above 10FFFF or, in an IRI, a character that an IRI may
     /// not have (RDF 1.1 Turtle, section 6.4).
-    #[error("an escape names no character that may stand there")]
+    #[error("Escape")]
     Escape,
     /// Memory ran out.
-    #[error("out of memory")]
+    #[error("Memory")]
     Memory,
 }
 

@@ -162,6 +162,7 @@ fn sum_to(at: usize, more: usize, source: &str) -> usize
     requires { at + more ≤ length source.now }
     ensures { result ≡ at + more }
 {
+    // The length of a text tells contracts that it is below 2^64.
     let _whole = source.len();
     at + more
 }

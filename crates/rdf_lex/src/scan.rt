@@ -14,6 +14,7 @@ pub fn add_len(len: usize, ch: char, source: &str) -> usize
     requires { len + len_utf8 ch ≤ length source.now }
     ensures { result ≡ len + len_utf8 ch }
 {
+    // The length of a text tells contracts that it is below 2^64.
     let _whole = source.len();
     len + ch.len_utf8()
 }

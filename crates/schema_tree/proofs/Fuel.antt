@@ -1,7 +1,6 @@
 -- What is asked through enough entries does not depend on how many more there are: Sat and IsSure at an entry are its own layer.
 use Rattle.std.proofs.Common.{◌≡◌, ℕ, zero, suc, ◌<◌, List, refl, arith}
-use Rattle.std.specs.Prelude.{◌↔◌, Contains, Option, Some, None}
-use Rattle.std.specs.List.{AllByRecursion}
+use Rattle.std.specs.Prelude.{◌↔◌, Option, Some, None}
 use Rattle.rdf_terms.specs.declared.terms.TermId.{TermId}
 use Rattle.rdf_terms.specs.declared.terms.Term.{Term}
 use Rattle.schema_tree.specs.declared.schema.Schema.{Schema}
@@ -13,10 +12,10 @@ use Rattle.schema_tree.specs.declared.verdicts.Verdict.TheVariants.{Yes, No, Unk
 use Rattle.schema_tree.specs.declared.schema.Pair.{Pair}
 use Rattle.schema_tree.specs.Entries.{entry, pair_of}
 use Rattle.schema_tree.specs.Satisfies.{Sat, SatWithin, SatEntry}
-use Rattle.lists.specs.Quantifiers.{SomeByRecursion}
 use Rattle.schema_tree.specs.Sure.{Known, PairIs, SureWithin, SureEntry, IsSure}
 use Rattle.schema_tree.specs.Loaded.{IsLoaded, RefersBelow}
-use Rattle.lists.proofs.Quantifiers.{all_weaker, some_weaker}
+use Rattle.lists.proofs.Exactly.{not_same, two_same}
+use Rattle.lists.proofs.Quantifiers.{all_weaker, some_weaker, all_same, some_same}
 
 pub entry_same :
     (s : Schema) (terms : List Term) (T : List Pair) (n : TermId) (i : ℕ) (a b : ExprId → Type 0) → ((d : ExprId) → d.0 < i → a d ↔ b d) →
@@ -46,21 +45,6 @@ module _ (s : Schema) (terms : List Term) (loaded : IsLoaded s) where
   unfolding SatWithin
   sat_layer T n e =
       entry_same s terms T n e.0 (SatWithin e.0 s terms T n) (Sat s terms T n) (λ d lt. sat_fuel T n e.0 (suc d.0) d lt (omega arith)) (entry s e) (λ y is. loaded.refers e y is)
-
--- no longer one of them where the other is not
-pub not_same : {A B : Type 0} → (A ↔ B) → (¬ A) ↔ (¬ B)
-not_same h = ((λ n b. n (h.1 b)), λ n a. n (h.0 a))
-
-pub all_same :
-    {X : Type 0} (P Q : X → Type 0) (xs : List X) → ((x : X) → Contains xs x → P x ↔ Q x) → AllByRecursion P xs ↔ AllByRecursion Q xs
-all_same P Q xs h = (all_weaker P Q xs (λ x c. (h x c).0), all_weaker Q P xs (λ x c. (h x c).1))
-
-pub some_same :
-    {X : Type 0} (P Q : X → Type 0) (xs : List X) → ((x : X) → Contains xs x → P x ↔ Q x) → SomeByRecursion P xs ↔ SomeByRecursion Q xs
-some_same P Q xs h = (some_weaker P Q xs (λ x c. (h x c).0), some_weaker Q P xs (λ x c. (h x c).1))
-
-pub two_same : {A B C D : Type 0} → (A ↔ B) → (C ↔ D) → (A × C) ↔ (B × D)
-two_same h k = ((λ p. (h.0 p.0, k.0 p.1)), λ p. (h.1 p.0, k.1 p.1))
 
 -- the same of verdicts, under two views that answer alike
 pub sure_entry_same :

@@ -90,7 +90,8 @@ module _ (hold fail hold' fail' : TermId → Option ExprId → Type 0) (sh : Sha
       stay true c = out (list_any (is_forward n t) sh.occs) c
       stay false c = c
 
-  all_weaker_allowed :
+  -- places that are allowed stay so
+  pub all_weaker_allowed :
       (ts : List Triple) (ps : List Place) → ((t : Triple) → Contains ts t → base t) → AreAllowed hold fail sh n ts ps →
       AreAllowed hold' fail' sh n ts ps
   all_weaker_allowed [] [] inside a = a

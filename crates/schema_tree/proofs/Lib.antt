@@ -12,6 +12,7 @@ pub mod Local
 pub mod Independent
 pub mod Strata
 pub mod OneStrata
+pub mod OneTarget
 pub mod SureOnce
 pub mod Joining
 pub mod Lifted

@@ -22,7 +22,8 @@ use Rattle.schema_tree.specs.Places.{CanMatch, MayFail, MayHold, PairCanMatch}
 use Rattle.schema_tree.specs.Removal.{AreRefinedBelow, CanGo, GoesNext, IsConfirmed, IsRefinedAt}
 use Rattle.schema_tree.specs.Sure.{IsSure, Known, PairIs}
 use Rattle.schema_tree.specs.Typings.{HaveSame, IsPartOf}
-use Rattle.schema_tree.proofs.Fuel.{not_same, sure_alike}
+use Rattle.lists.proofs.Exactly.{not_same}
+use Rattle.schema_tree.proofs.Fuel.{sure_alike}
 use Rattle.schema_tree.proofs.Leans.{places_weaker}
 
 -- the two know the same
@@ -76,7 +77,7 @@ module _ (s : Schema) (terms : List Term) (g : List Triple) (loaded : IsLoaded s
   fail_same a b h Impossible n (Some e) m = (sure_same a b h n e No).0 m
 
   -- and the same matches
-  match_same : (a b : Known) → KnowSame a b → (lean : Lean) (p : Pair) → PairCanMatch s terms g a lean p → PairCanMatch s terms g b lean p
+  pub match_same : (a b : Known) → KnowSame a b → (lean : Lean) (p : Pair) → PairCanMatch s terms g a lean p → PairCanMatch s terms g b lean p
   match_same a b h lean p = go (shape_at s p.shape)
     where
       go : (x : Option Shape) → CanMatch s terms g a lean p.node x → CanMatch s terms g b lean p.node x

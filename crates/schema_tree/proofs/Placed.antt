@@ -1,6 +1,6 @@
 -- Triples match an expression exactly where places with the right counts can be given to them: from a match to places.
-use Rattle.std.proofs.Common.{◌≡◌, ℕ, suc, ◌+◌, ◌≤◌, inl, inr, List, [], ◌∷◌, ◌++◌, refl, arith, sym, subst, ap, ◌∙◌, Bool, true, false, cond, length, map, true≢false}
-use Rattle.std.proofs.lemmas.Bool.{eqb-true, eq-eqb}
+use Rattle.std.proofs.Common.{◌≡◌, ℕ, suc, ◌+◌, inl, inr, List, [], ◌∷◌, ◌++◌, refl, arith, sym, subst, ap, ◌∙◌, Bool, true, false, cond, length, map, true≢false}
+use Rattle.std.proofs.lemmas.Bool.{eqb-true, eq-eqb, or_left, or_right}
 use Rattle.std.proofs.lemmas.List.{map-append}
 use Rattle.std.proofs.lemmas.List.Sorted.{IsPermutation-refl, IsPermutation-trans, IsPermutation-append}
 use Rattle.std.specs.Prelude.{slice_get, nat_eq}
@@ -8,13 +8,11 @@ use Rattle.std.specs.List.{AllByRecursion, flat_map}
 use Rattle.std.specs.List.Sorted.{IsPermutation}
 use Rattle.rdf_terms.specs.declared.terms.TermId.{TermId}
 use Rattle.rdf_terms.specs.declared.terms.Triple.{Triple}
-use Rattle.tally.specs.declared.Bound.{Bound}
-use Rattle.tally.specs.declared.Bound.TheVariants.{Upto, Free}
 use Rattle.tally.specs.Plan.{Plan, sym as symbol, each, one, many, Plans, no_plans, more_plans}
-use Rattle.tally.specs.Copies.{Copies, CopiesEach, CopiesOne, Fills}
+use Rattle.tally.specs.Copies.{Copies, CopiesEach, CopiesOne}
 use Rattle.tally.specs.Symbols.{has_symbol, some_has, IsDistinct, AreDistinct}
-use Rattle.tally.proofs.CopyLaws.{or_left, or_right, copies_agree, each_agree, copies_zero, one_zero, copies_add}
-use Rattle.tally.specs.Deals.{IsUpTo}
+use Rattle.tally.proofs.CopyLaws.{copies_agree, each_agree, copies_zero, one_zero, copies_add}
+use Rattle.tally.proofs.Dealt.{fills_one}
 use Rattle.schema_tree.specs.declared.schema.Occurrence.{Occurrence}
 use Rattle.schema_tree.specs.declared.schema.ExprId.{ExprId}
 use Rattle.schema_tree.specs.Matches.{Matches, MatchesEach, MatchesOne, Takes}
@@ -97,10 +95,6 @@ module _ (sat : TermId → ExprId → Type 0) (occs : List Occurrence) (n : Term
         spelled = subst (λ k. Copies p (count_of (a.placed ++ b.placed)) k) more
             (copies_agree p (λ i. count_of a.placed i + count_of b.placed i) (count_of (a.placed ++ b.placed)) (1 + length parts) (λ i e. sym (count_append a.placed b.placed i)) both);
       }
-
-  fills_one : (low : ℕ) (bound : Bound) (k : ℕ) → low ≤ k → IsUpTo k bound → Fills low bound 1 k
-  fills_one low (Upto m) k h t = (omega arith, omega arith)
-  fills_one low Free k h t = (omega arith, λ e. absurd (omega arith))
 
   mutual
     unfolding Matches Copies IsDistinct

@@ -151,7 +151,8 @@ module _ (s : Schema) (terms : List Term) (a b : Known) (up : (p : Pair) → Pai
   fail_more n None h = h
   fail_more n (Some e) h = (sure_more (suc e.0) n e).1 h
 
-  match_more : (g : List Triple) (p : Pair) → PairCanMatch s terms g a Impossible p → PairCanMatch s terms g b Impossible p
+  -- what matches under a view matches under one that knows more
+  pub match_more : (g : List Triple) (p : Pair) → PairCanMatch s terms g a Impossible p → PairCanMatch s terms g b Impossible p
   match_more g p = go (shape_at s p.shape)
     where
       go : (x : Option Shape) → CanMatch s terms g a Impossible p.node x → CanMatch s terms g b Impossible p.node x
@@ -191,7 +192,8 @@ module _ (s : Schema) (terms : List Term) (nodes : NodesAreDecided) (g : List Tr
     abbrev InTurn : List Pair → Type 0
     InTurn gone = (r : ℕ) (p : Pair) → slice_get gone r ≡ Some p → GoesNext s terms g f pairs budget lower k (take r gone) p
 
-    in_turn_more : (gone : List Pair) (p : Pair) → InTurn gone → GoesNext s terms g f pairs budget lower k gone p → InTurn (gone ++ p ∷ [])
+    -- and so did one more that goes next
+    pub in_turn_more : (gone : List Pair) (p : Pair) → InTurn gone → GoesNext s terms g f pairs budget lower k gone p → InTurn (gone ++ p ∷ [])
     in_turn_more gone p turns next r q is = elim (cases_lt r (length gone)) [
       | inl lt ↦ earlier lt
       | inr ge ↦ last (let w = slice_get_within (gone ++ p ∷ []) r q is in let l = length-append gone (p ∷ []) in omega arith)

@@ -1,6 +1,6 @@
 -- A node that has a Shape has a list of allowed places with matching counts.
 use Rattle.std.proofs.Common.{◌≡◌, ℕ, suc, ◌+◌, inl, inr, List, [], ◌∷◌, ◌++◌, refl, arith, sym, subst, ap, ◌∙◌, Bool, true, false, cond, not, map, filter, true≢false, append-nil}
-use Rattle.std.proofs.lemmas.Bool.{eq-eqb, and_parts}
+use Rattle.std.proofs.lemmas.Bool.{eq-eqb, and_parts, or_left}
 use Rattle.std.proofs.lemmas.List.{map-append}
 use Rattle.std.proofs.lemmas.List.Elements.{Contains-append_cases}
 use Rattle.std.proofs.lemmas.List.Folds.{Any-from_list_any}
@@ -14,7 +14,7 @@ use Rattle.rdf_terms.specs.declared.terms.Triple.{Triple}
 use Rattle.rdf_terms.specs.Graphs.{neigh, outs, same_id}
 use Rattle.tally.specs.Plan.{Plan}
 use Rattle.tally.specs.Symbols.{IsDistinct}
-use Rattle.tally.proofs.CopyLaws.{copies_agree, or_left}
+use Rattle.tally.proofs.CopyLaws.{copies_agree}
 use Rattle.schema_tree.specs.declared.schema.Occurrence.{Occurrence}
 use Rattle.schema_tree.specs.declared.schema.Shape.{Shape}
 use Rattle.schema_tree.specs.declared.schema.ExprId.{ExprId}

@@ -103,9 +103,10 @@ decided_by_form s terms nodes g budget n e form q reached =
     let bound = form q reached in
     (w, has, omega (arith, le, bound))
 
--- ---- there is a way
+-- ---- ways
 
-ways_some : (d p : ℕ) → 1 ≤ ways d (suc p)
+-- where there is a place, there is a way
+pub ways_some : (d p : ℕ) → 1 ≤ ways d (suc p)
 ways_some zero p = omega arith
 ways_some (suc d) p = let e = ways_some d p in omega (arith, e)
 

@@ -1,5 +1,5 @@
 -- How the items of a map end: in one way, item by item.
-use Rattle.std.proofs.Common.{◌≡◌, ℕ, zero, suc, ◌+◌, ◌≤◌, ◌<◌, List, [], ◌∷◌, ◌++◌, Option, Some, refl, sym, ap, subst, ◌∙◌, map, length, drop, get_or, arith, length-append}
+use Rattle.std.proofs.Common.{◌≡◌, ℕ, ◌+◌, ◌≤◌, ◌<◌, List, [], ◌∷◌, ◌++◌, Some, refl, sym, ap, subst, ◌∙◌, map, length, drop, get_or, arith, length-append}
 use Rattle.std.proofs.lemmas.List.{length-map}
 use Rattle.std.proofs.Math.ListN.{drop_of_length-le}
 use Rattle.std.specs.Prelude.{◌↔◌, Contains, Err, IfOk, Ok, Result, slice_get}
@@ -12,7 +12,7 @@ use Rattle.rdf_terms.specs.declared.terms.Triple.{Triple}
 use Rattle.rdf_terms.proofs.Orders.{id_total}
 use Rattle.schema_tree.specs.Labels.{labels_of}
 use Rattle.schema_tree.specs.Loaded.{IsTarget, HasTarget}
-use Rattle.schema_documents.specs.declared.label.Label.{Label}
+use Rattle.schema_tree.proofs.OneTarget.{target_once}
 use Rattle.schema_tree.specs.declared.schema.ExprId.{ExprId}
 use Rattle.schema_tree.specs.declared.schema.Schema.{Schema}
 use Rattle.schema_tree.specs.declared.schema.Target.{Target}
@@ -27,29 +27,6 @@ use Rattle.shape_map.specs.declared.resolve.Association.{Association}
 use Rattle.shape_map.specs.Selection.{max_associations, IsFocus, AreNodes, association, Selects, refusal_of, IsUndeclared, Refuses, UnlessMemory, Outcome, selected, refused, Ends, all, more, stops}
 use Rattle.lists.proofs.Ordered.{sorted_one}
 use Rattle.lists.proofs.Members.{items_left}
-
--- one expression has a label that is declared once
-some_same : {X : Type 0} (o : Option X) (x y : X) → o ≡ Some x → o ≡ Some y → x ≡ y
-some_same o x y e f = cc
-
-label_at : (ls : List (Label × ExprId)) (k : ℕ) (l : Label) (e : ExprId) → k < length ls → get_or ls k (l, e) ≡ (l, e) → slice_get (labels_of ls) k ≡ Some l
-label_at [] k l e h is = absurd (omega arith)
-label_at (d ∷ ls) zero l e h is = ap (λ (p : Label × ExprId). Some p.0) is
-label_at (d ∷ ls) (suc k) l e h is = label_at ls k l e (omega arith) is
-
-entry_one : (ls : List (Label × ExprId)) (k : ℕ) (l : Label) (d e : ExprId) → k < length ls → get_or ls k (l, d) ≡ (l, d) → get_or ls k (l, e) ≡ (l, e) → d ≡ e
-entry_one [] k l d e h is same = absurd (omega arith)
-entry_one (x ∷ ls) zero l d e h is same = ap (λ (p : Label × ExprId). p.1) (sym is ∙ same)
-entry_one (x ∷ ls) (suc k) l d e h is same = entry_one ls k l d e (omega arith) is same
-
-label_once : (ls : List (Label × ExprId)) → AreDistinct (labels_of ls) → (l : Label) (d e : ExprId) → Contains ls (l, d) → Contains ls (l, e) → d ≡ e
-label_once ls once l d e (i, a, is) (j, b, same) =
-    let k : i ≡ j = once i j l (label_at ls i l d a is) (label_at ls j l e b same) in
-    entry_one ls i l d e a is (subst (λ (n : ℕ). get_or ls n (l, e) ≡ (l, e)) (sym k) same)
-
-target_once : (s : Schema) → AreDistinct (labels_of s.labels) → (t : Target) (d e : ExprId) → IsTarget s t d → IsTarget s t e → d ≡ e
-target_once s once target.Start d e h k = some_same s.start d e h k
-target_once s once (target.Label l) d e h k = label_once s.labels once l d e h k
 
 module _ (s : Schema) (g : List Triple) (once : AreDistinct (labels_of s.labels)) (terms : List Term) (distinct : AreDistinct terms) where
   nodes_one : (x : Selector) (ns ms : List TermId) → AreNodes terms g x ns → AreNodes terms g x ms → ns ≡ ms

@@ -1,13 +1,11 @@
 -- What is spelled is read.
-use Rattle.std.proofs.Common.{◌≡◌, ℕ, Bool, true, false, cond, List, [], ◌∷◌, Option, Some, None, Result, Ok, Err, refl, ◌∙◌, inl, inr, ◌||◌}
+use Rattle.std.proofs.Common.{◌≡◌, ℕ, Bool, true, false, List, [], ◌∷◌, Option, Some, None, Ok, refl, ◌∙◌, inl, inr}
 use Rattle.rdf_cursor.specs.Ahead.{Ahead, finished, next_is}
 use Rattle.rdf_cursor.specs.Phrases.{Is, Many}
-use Rattle.rdf_cursor.proofs.Completeness.{one_read, loop_read}
+use Rattle.rdf_cursor.proofs.Completeness.{one_read, took, loop_read}
 use Rattle.rdf_lex.specs.Tokens.{Spelled}
-use Rattle.term_tokens.specs.Meanings.{text_of}
 use Rattle.rdf_terms.specs.declared.terms.Term.{Term}
 use Rattle.schema_tree.specs.declared.schema.Target as schema
-use Rattle.rdf_cursor.specs.declared.stops.Fault.{Fault}
 use Rattle.rdf_cursor.specs.declared.stops.Fault.TheVariants.{Syntax}
 use Rattle.shape_map.specs.declared.items.TriplePattern.{TriplePattern}
 use Rattle.shape_map.specs.declared.items.Selector.{Selector}
@@ -15,18 +13,15 @@ use Rattle.shape_map.specs.declared.items.Item.{Item}
 use Rattle.rdf_cursor.specs.declared.symbols.Symbol.{Symbol}
 use Rattle.rdf_cursor.specs.declared.symbols.Symbol.TheVariants as symbol
 use Rattle.term_tokens.specs.Scopes.{Scope}
-use Rattle.term_tokens.specs.Terms.{name_in, iri_ref_of, iri_of, tagged_of, at_name_of, string_of, typed_of, shorthand_of, resolved, shorthands}
+use Rattle.term_tokens.specs.Terms.{name_in, iri_of, tagged_of, at_name_of, string_of, typed_of, shorthand_of, shorthands}
 use Rattle.shape_map.specs.Meanings.{node_tags, node_tagged_of, blank_of, blank_target_of}
 use Rattle.shape_map.specs.Reading.{iri, literal, resource, node, verb, or_any, of_subjects, of_objects, pattern, triples, selector, target, wish, asked, item, added, behind, items, all_items, shape_map}
-use Rattle.rdf_cursor.specs.Marks.{mark}
-use Rattle.rdf_cursor.specs.Symbols.{symbol_of, same_symbol, is_symbol, is_among, is_any, of_symbol}
+use Rattle.rdf_cursor.specs.Symbols.{is_symbol, is_any}
 use Rattle.shape_map.specs.Grammar as g
 use Rattle.term_tokens.proofs.Literals as any
+use Rattle.term_tokens.proofs.Literals.{iris, iri_begins}
 use Rattle.term_tokens.proofs.Nexts.{Next, nexts, no_next, no_symbol, begins, first, single, guarded, guarded_one, any_next}
 use Rattle.shape_map.proofs.Places.{consumes_behind}
-
-took : (a : Symbol) (w : Spelled) (ts r : Ahead Spelled) → Is (of_symbol a) w ts r → mark a ts ≡ Ok (w, r)
-took a w ts r h = one_read Syntax (of_symbol a) w ts r h
 
 -- what follows a node
 abbrev after_node : List Symbol
@@ -36,9 +31,6 @@ abbrev aims : List Symbol
 aims = symbol.At ∷ symbol.AtName ∷ symbol.AtStart ∷ []
 
 -- what begins
-abbrev pub iris : List Symbol
-iris = symbol.PnameNs ∷ symbol.PnameLn ∷ symbol.IriRef ∷ []
-
 abbrev pub resources : List Symbol
 resources = symbol.BlankLabel ∷ iris
 
@@ -53,12 +45,6 @@ subjects = symbol.Underscore ∷ resources
 
 abbrev goals : List Symbol
 goals = symbol.Start ∷ resources
-
-iri_bits : {A : Type 0} (a b c : Bool) (x y : Result A Fault) (z : A) → cond (a || (b || false)) x (cond c y (Err Syntax)) ≡ Ok z → (a || (b || (c || false))) ≡ true
-iri_bits true b c x y z e = refl
-iri_bits false true c x y z e = refl
-iri_bits false false true x y z e = refl
-iri_bits false false false x y z e = absurd cc
 
 pub tagged_begins : (lex : List ℕ) (x : Term) (ts r : Ahead Spelled) → Is (node_tagged_of lex) x ts r → Next node_tags ts
 unfolding node_tagged_of
@@ -77,15 +63,6 @@ module _ (v : Scope) where
   unfolding at_name_of
   at_name_begins x ts r h = guarded_one symbol.AtName (at_name_of false v) (name_in false v) (λ t. refl) x ts r h
 
-  iri_class : (x : List ℕ) (t : Spelled) → iri_of false v t ≡ Ok x → is_among iris t ≡ true
-  unfolding iri_of iri_ref_of is_among is_symbol
-  iri_class x t e =
-      let s = symbol_of t.kind t.text in
-      iri_bits (same_symbol s symbol.PnameNs) (same_symbol s symbol.PnameLn) (same_symbol s symbol.IriRef) (name_in false v t) (resolved false v (text_of t)) x e
-
-  pub iri_begins : (x : List ℕ) (ts r : Ahead Spelled) → Is (iri_of false v) x ts r → Next iris ts
-  iri_begins x ts r h = rw h.1 (iri_class x h.0 h.2)
-
   iri_read : (x : List ℕ) (ts r : Ahead Spelled) → Is (iri_of false v) x ts r → iri v ts ≡ Ok (x, r)
   unfolding iri
   iri_read x ts r h = one_read Syntax (iri_of false v) x ts r h
@@ -97,11 +74,11 @@ module _ (v : Scope) where
 
   resource_read : (x : Term) (ts r : Ahead Spelled) → g.Resource v x ts r → resource v ts ≡ Ok (x, r)
   unfolding resource
-  resource_read x ts r (inl (i, e, h)) = rw (no_symbol iris symbol.BlankLabel ts refl (iri_begins i ts r h), iri_read i ts r h, e) refl
+  resource_read x ts r (inl (i, e, h)) = rw (no_symbol iris symbol.BlankLabel ts refl (iri_begins false v i ts r h), iri_read i ts r h, e) refl
   resource_read x ts r (inr h) = rw (single symbol.BlankLabel ts ∙ blank_begins x ts r h, one_read Syntax blank_of x ts r h) refl
 
   resource_begins : (x : Term) (ts r : Ahead Spelled) → g.Resource v x ts r → Next resources ts
-  resource_begins x ts r (inl (i, e, h)) = nexts iris resources ts refl (iri_begins i ts r h)
+  resource_begins x ts r (inl (i, e, h)) = nexts iris resources ts refl (iri_begins false v i ts r h)
   resource_begins x ts r (inr h) = nexts (symbol.BlankLabel ∷ []) resources ts refl (blank_begins x ts r h)
 
   node_read : (x : Term) (ts r : Ahead Spelled) → g.Node v x ts r → Next after_node r → node v ts ≡ Ok (x, r)
@@ -120,7 +97,7 @@ module _ (v : Scope) where
   verb_read : (p : Term) (ts r : Ahead Spelled) → g.Verb v p ts r → verb v ts ≡ Ok (p, r)
   unfolding verb
   verb_read p ts r (inl (e, (w, h))) = rw (begins symbol.A w ts r h, took symbol.A w ts r h, e) refl
-  verb_read p ts r (inr (i, e, h)) = rw (no_symbol iris symbol.A ts refl (iri_begins i ts r h), iri_read i ts r h, e) refl
+  verb_read p ts r (inr (i, e, h)) = rw (no_symbol iris symbol.A ts refl (iri_begins false v i ts r h), iri_read i ts r h, e) refl
 
   object_read : (o : Option Term) (ts r : Ahead Spelled) → g.OrAny v (g.Node v) o ts r → Next after_node r → or_any v (node v) ts ≡ Ok (o, r)
   unfolding or_any
@@ -166,7 +143,7 @@ module _ (v : Scope) where
       let n = blank_target_begins t ts r h in
       (rw (no_symbol (symbol.BlankLabel ∷ []) symbol.Start ts refl n, single symbol.BlankLabel ts ∙ n, one_read Syntax blank_target_of t ts r h) refl, nexts (symbol.BlankLabel ∷ []) goals ts refl n)
   target_read t ts r (inr (inr (i, e, h))) =
-      let n = iri_begins i ts r h in
+      let n = iri_begins false v i ts r h in
       (rw (no_symbol iris symbol.Start ts refl n, no_symbol iris symbol.BlankLabel ts refl n, iri_read i ts r h, e) refl, nexts iris goals ts refl n)
 
   wish_read : (t : schema.Target) (b : Bool) (ts r : Ahead Spelled) → g.Wish v t b ts r → wish v ts ≡ Ok ((t, b), r)

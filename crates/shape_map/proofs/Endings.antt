@@ -2,10 +2,9 @@
 use Rattle.std.proofs.Common.{◌≡◌, ℕ, List, Ok, Err, sym, ap, subst, ◌∙◌}
 use Rattle.std.specs.Str.{IsUtf8}
 use Rattle.rdf_cursor.specs.Ahead.{Ahead, finished, prepend}
-use Rattle.rdf_cursor.specs.Readers.{Answer}
-use Rattle.rdf_cursor.specs.Properties.{IsLocalAt}
 use Rattle.rdf_cursor.proofs.Answers.{apart, ok_is}
 use Rattle.rdf_cursor.proofs.Blocking.{blocked}
+use Rattle.rdf_cursor.proofs.Fronts.{front_ok}
 use Rattle.rdf_lex.specs.declared.kinds.Mode.TheVariants.{Map}
 use Rattle.rdf_lex.specs.Tokens.{Spelled}
 use Rattle.rdf_cursor.specs.Cursors.{Source}
@@ -31,18 +30,13 @@ use Rattle.shape_map.proofs.Passed.{map_on}
 use Rattle.shape_map.proofs.Places.{local_map}
 use Rattle.shape_map.proofs.Sound.{map_meets}
 
--- the tokens that were passed
-front_ok : {A : Type 0} (ts : Ahead Spelled) (a : Answer Spelled Fault A) (p : Ahead Spelled → Answer Spelled Fault A) (x : A) (rest : Ahead Spelled) → a ≡ Ok (x, rest) → IsLocalAt p ts a → (front : List Spelled) × (ts ≡ prepend front rest)
-front_ok {A = A} ts (Ok y) p x rest e l = (l.0, l.1 ∙ ap (λ (v : A × Ahead Spelled). prepend l.0 v.1) (ok_is y (x, rest) e))
-front_ok ts (Err y) p x rest e l = absurd cc
-
 module _ (nodes labels : Scope) (source : List ℕ) (u : IsUtf8 source) where
   abbrev ahead : Ahead Spelled
   ahead = stream_from Map source 0
 
   found_map : (xs : List Item) → ShapeMap nodes labels xs ahead → IsMap nodes labels source xs
   found_map xs h =
-      let f = front_ok ahead (shape_map nodes labels ahead) (shape_map nodes labels) xs finished (map_read nodes labels xs ahead h) (local_map nodes labels ahead) in
+      let f = front_ok (shape_map nodes labels) ahead (shape_map nodes labels ahead) xs finished (map_read nodes labels xs ahead h) (local_map nodes labels ahead) in
       (f.0, u, to_tokens Map source u f.0 f.1, subst (λ (ts : Ahead Spelled). ShapeMap nodes labels xs ts) f.1 h)
 
   map_ahead : (xs : List Item) → IsMap nodes labels source xs → ShapeMap nodes labels xs ahead

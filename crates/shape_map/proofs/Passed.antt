@@ -22,7 +22,8 @@ use Rattle.shape_map.specs.Reading.{R, iri, literal, resource, node, verb, or_an
 use Rattle.rdf_cursor.specs.Marks.{mark}
 use Rattle.rdf_cursor.specs.Symbols.{symbol_of, is_symbol, is_among}
 use Rattle.term_tokens.proofs.Literals as any
-use Rattle.shape_map.proofs.Complete.{iris, tagged_begins, blank_begins, iri_begins}
+use Rattle.term_tokens.proofs.Literals.{iris, iri_begins}
+use Rattle.shape_map.proofs.Complete.{tagged_begins, blank_begins}
 use Rattle.term_tokens.proofs.Nexts.{Next, no_next, first, within, outside, widen, single}
 
 -- what was passed, and what was passed before a fault
@@ -174,24 +175,18 @@ Cause ks v Deep rest = ⊥
 Cause ks v Long rest = ⊥
 Cause ks v Full rest = ⊥
 
-err_of : {A : Type 0} (a b : Fault) → Path (Result A Fault) (Err a) (Err b) → a ≡ b
-err_of a b e = cc
-
-no_err : {A : Type 0} (x : A) (f : Fault) → Path (Result A Fault) (Ok x) (Err f) → ⊥
-no_err x f e = cc
-
 syntax_only : {A : Type 0} (ks : List Symbol) (v : Scope) (rest : Ahead Spelled) (f : Fault) → Path (Result A Fault) (Err Syntax) (Err f) → Cause ks v f rest
-syntax_only ks v rest f e = subst (λ (g : Fault). Cause ks v g rest) (err_of Syntax f e) tt
+syntax_only ks v rest f e = subst (λ (g : Fault). Cause ks v g rest) (err_is Syntax f e) tt
 
 module _ (ks : List Symbol) (v : Scope) (t : Spelled) (rest : Ahead Spelled) (f : Fault) where
   joined_bad : (local found : Option (List ℕ)) → is_among ks t ≡ true → v.prefixes (prefix_of t) ≡ found → joined false local found ≡ Err f → Cause ks v f (token t rest)
   joined_bad None found n e is = syntax_only ks v (token t rest) f is
-  joined_bad (Some local) None n e is = subst (λ (g : Fault). Cause ks v g (token t rest)) (err_of Prefix f is) (t, rest, refl, n, e)
-  joined_bad (Some local) (Some found) n e is = absurd (no_err (found ++ _) f is)
+  joined_bad (Some local) None n e is = subst (λ (g : Fault). Cause ks v g (token t rest)) (err_is Prefix f is) (t, rest, refl, n, e)
+  joined_bad (Some local) (Some found) n e is = absurd (apart (found ++ _) f is)
 
   resolved_bad : (text : Option (List ℕ)) → resolved false v text ≡ Err f → Cause ks v f (token t rest)
   resolved_bad None is = syntax_only ks v (token t rest) f is
-  resolved_bad (Some text) is = absurd (no_err _ f is)
+  resolved_bad (Some text) is = absurd (apart _ f is)
 
 iri_bad : (v : Scope) (t : Spelled) (rest : Ahead Spelled) (f : Fault) → iri_of false v t ≡ Err f → Cause names v f (token t rest)
 unfolding iri_of iri_ref_of
@@ -211,7 +206,7 @@ at_name_bad v t rest f is = by (is_symbol symbol.AtName t) refl is
     by false e is = syntax_only (symbol.AtName ∷ []) v (token t rest) f is
 
 guard_bad : {A : Type 0} (ks : List Symbol) (v : Scope) (rest : Ahead Spelled) (f : Fault) (b : Bool) (x : A) → cond b (Ok x) (Err Syntax) ≡ Err f → Cause ks v f rest
-guard_bad ks v rest f true x is = absurd (no_err x f is)
+guard_bad ks v rest f true x is = absurd (apart x f is)
 guard_bad ks v rest f false x is = syntax_only ks v rest f is
 
 string_bad : (ks : List Symbol) (v : Scope) (t : Spelled) (rest : Ahead Spelled) (f : Fault) → string_of false t ≡ Err f → Cause ks v f (token t rest)
@@ -220,7 +215,7 @@ string_bad ks v t rest f is = by (is_symbol symbol.Str t) (text_of t) is
   where
     by : (b : Bool) (o : Option (List ℕ)) → cond b (lexical false o) (Err Syntax) ≡ Err f → Cause ks v f (token t rest)
     by true None is = syntax_only ks v (token t rest) f is
-    by true (Some x) is = absurd (no_err x f is)
+    by true (Some x) is = absurd (apart x f is)
     by false o is = syntax_only ks v (token t rest) f is
 
 tagged_bad : (ks : List Symbol) (v : Scope) (lex : List ℕ) (t : Spelled) (rest : Ahead Spelled) (f : Fault) → node_tagged_of lex t ≡ Err f → Cause ks v f (token t rest)
@@ -249,18 +244,18 @@ typed_bad v lex t rest f is = by (iri_of false v t) refl is
   where
     lang : (b : Bool) (x : Term) → cond b (Err Syntax) (Ok x) ≡ Err f → Cause names v f (token t rest)
     lang true x is = syntax_only names v (token t rest) f is
-    lang false x is = absurd (no_err x f is)
+    lang false x is = absurd (apart x f is)
 
     by : (i : Result (List ℕ) Fault) → iri_of false v t ≡ i → typed_by lex i ≡ Err f → Cause names v f (token t rest)
     by (Ok i) e is = lang _ _ is
-    by (Err d) e is = iri_bad v t rest f (e ∙ ap (λ (g : Fault). Err g) (err_of d f is))
+    by (Err d) e is = iri_bad v t rest f (e ∙ ap (λ (g : Fault). Err g) (err_is d f is))
 
 typed_begins : (v : Scope) (lex : List ℕ) (x : Term) (ts r : Ahead Spelled) → Is (typed_of false v lex) x ts r → Next iris ts
 unfolding typed_of
 typed_begins v lex x ts r (t, is, e) = by (iri_of false v t) refl e
   where
     by : (i : Result (List ℕ) Fault) → iri_of false v t ≡ i → typed_by lex i ≡ Ok x → Next iris ts
-    by (Ok i) k e = iri_begins v i ts r (t, is, k)
+    by (Ok i) k e = iri_begins false v i ts r (t, is, k)
     by (Err d) k e = absurd cc
 
 -- parts of a node pass no mark behind which a target stands
@@ -286,7 +281,7 @@ module _ (v : Scope) where
 
   iri_plain : (ts : Ahead Spelled) → Passes (iri v) IsPlain At ts
   unfolding iri
-  iri_plain ts = class_plain iris refl (iri_begins v) (iri_bad v)
+  iri_plain ts = class_plain iris refl (iri_begins false v) (iri_bad v)
 
   literal_plain : (ts : Ahead Spelled) → Passes (literal v) IsPlain At ts
   unfolding literal
@@ -400,8 +395,8 @@ module _ (nodes labels : Scope) where
   mark_on a b = passes_one (λ x t r h. (t, refl, first a x (token t r) r h)) (λ ts. on_none b Syntax ts tt) (λ t rest f e. on_none b f (token t rest) (syntax_behind f (token t rest) (is_symbol a t) t e))
     where
       syntax_behind : (f : Fault) (rest : Ahead Spelled) (c : Bool) (x : Spelled) → cond c (Ok x) (Err Syntax) ≡ Err f → Behind b f rest
-      syntax_behind f rest true x e = absurd (no_err x f e)
-      syntax_behind f rest false x e = subst (λ (g : Fault). Behind b g rest) (err_of {A = Spelled} Syntax f e) tt
+      syntax_behind f rest true x e = absurd (apart x f e)
+      syntax_behind f rest false x e = subst (λ (g : Fault). Behind b g rest) (err_is {X = Spelled} Syntax f e) tt
 
   on_give : {A : Type 0} {x : A} {ts : Ahead Spelled} (b : List Spelled) → Passes (give x) All (On b) ts
   on_give b = passes_give tt

@@ -28,7 +28,7 @@ use Rattle.shex_inputs.specs.Laws.{AskedIsNotLeft, HeldIsOne, InputsAreOne, Left
 use Rattle.shex_inputs.specs.Named.{Inputs, IsFile, IsTooLong, max_file, source_name, source_of}
 use Rattle.shex_inputs.specs.Outcomes.{IsAbsent}
 use Rattle.shex_inputs.specs.Refusals.{AreUnread, IsNoMap, IsNoSchema, IsRefused, IsUnresolved, Reaches}
-use Rattle.shex_inputs.proofs.Based.{one_holding}
+use Rattle.shex_inputs.proofs.Holdings.{one_holding}
 
 -- ---- one map ends in one way
 

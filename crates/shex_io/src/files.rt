@@ -11,13 +11,13 @@ use thiserror::Error;
 #[derive(Clone, Copy, Debug, Drop, PartialEq, Eq, Error)]
 pub enum FetchError {
     /// The outside refused; the count of faults rose.
-    #[error("the file could not be read")]
+    #[error("Failed")]
     Failed,
     /// The file has more bytes than the limit.
-    #[error("the file is too long")]
+    #[error("Long")]
     Long,
     /// Memory was refused.
-    #[error("out of memory")]
+    #[error("Memory")]
     Memory,
 }
 
@@ -25,10 +25,10 @@ pub enum FetchError {
 #[derive(Clone, Copy, Debug, Drop, PartialEq, Eq, Error)]
 pub enum StoreError {
     /// The outside refused; the count of faults rose.
-    #[error("the file could not be written")]
+    #[error("Failed")]
     Failed,
     /// Memory was refused.
-    #[error("out of memory")]
+    #[error("Memory")]
     Memory,
 }
 

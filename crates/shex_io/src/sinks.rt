@@ -10,10 +10,10 @@ use thiserror::Error;
 #[derive(Clone, Copy, Debug, Drop, PartialEq, Eq, Error)]
 pub enum SinkError {
     /// The outside refused; the count of faults rose.
-    #[error("the bytes could not be written")]
+    #[error("Failed")]
     Failed,
     /// Memory was refused.
-    #[error("out of memory")]
+    #[error("Memory")]
     Memory,
 }
 

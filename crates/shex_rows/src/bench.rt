@@ -44,7 +44,7 @@ impl Row {
         })
     }
 
-    /// Sets which calls of the files or of a sink fail.
+    /// Sets which calls of the files or of a sink fail in the next call.
     fn fail(&mut self, alloc: Global, line: &str) -> anyhow::Result<()> {
         let (place, numbers) = line.split_once(' ').unwrap_or((line, ""));
         let numbers = numbers_of(alloc, numbers)?;
@@ -93,8 +93,11 @@ impl Row {
         }
     }
 
-    /// The lines for the row.
-    fn into_lines(mut self, alloc: Global) -> Result<String, AllocError> {
+    /// The lines for the row, in which no call is to fail behind the last one.
+    fn into_lines(mut self, alloc: Global) -> anyhow::Result<String> {
+        if !self.failing.is_none() {
+            bail!("a row says what fails behind its last call");
+        }
         self.end(alloc)?;
         self.asking.end(&mut self.differences)?;
         if self.verdict.is_none() && !self.asking.has_asked() {
@@ -105,7 +108,7 @@ impl Row {
         } else {
             "DIFFERS"
         };
-        format!(in alloc; "{mark} {}\n{}", self.title, self.differences)
+        Ok(format!(in alloc; "{mark} {}\n{}", self.title, self.differences)?)
     }
 }
 
@@ -122,7 +125,7 @@ impl Bench {
     }
 
     /// Adds the lines for the row at hand, if there is one, to the report.
-    fn end_row(&mut self) -> Result<(), AllocError> {
+    fn end_row(&mut self) -> anyhow::Result<()> {
         if let Some(row) = self.row.take() {
             let lines = row.into_lines(self.alloc)?;
             self.report.push_str(lines.as_str())?;
@@ -132,10 +135,13 @@ impl Bench {
 
     /// Takes up what stands before the first row: the words of each row that calls with no others, or a file.
     fn share(&mut self, verb: &str, rest: &str, text: &str) -> anyhow::Result<()> {
-        if verb == "run" {
-            self.words = Some(String::from_str(self.alloc, rest)?);
-        } else {
-            self.common.push(file_of(self.alloc, verb, rest, text)?)?;
+        match verb {
+            "run" => self.words = Some(String::from_str(self.alloc, rest)?),
+            "file" | "text" | "bytes" | "times" => {
+                let file = file_of(self.alloc, verb, rest, text)?;
+                self.common.push(file)?;
+            }
+            _ => bail!("only files and words stand before the first row"),
         }
         Ok(())
     }
@@ -173,7 +179,7 @@ impl Bench {
     }
 
     /// The lines for all rows.
-    pub fn into_report(mut self) -> Result<String, AllocError> {
+    pub fn into_report(mut self) -> anyhow::Result<String> {
         self.end_row()?;
         Ok(self.report)
     }

@@ -1,16 +1,8 @@
 //! What words ask for.
 
+use crate::inputs::words_of;
 use command_words::{Checking, Command, Import, Inputs, Validation, read};
 use std::alloc::{AllocError, Global};
-
-/// The words of a line, of which single spaces part each two.
-fn words_of(alloc: Global, line: &str) -> Result<Vec<String>, AllocError> {
-    let mut words = Vec::new(alloc);
-    for word in line.split(' ') {
-        words.push(String::from_str(alloc, word)?)?;
-    }
-    Ok(words)
-}
 
 /// The files and the bases of a command.
 fn shown_inputs(alloc: Global, inputs: &Inputs<'_>) -> Result<String, AllocError> {

@@ -6,11 +6,9 @@ use node_constraint::{Facet, MakeError, NodeConstraint};
 use rdf_terms::items::Items;
 use rdf_terms::terms::{Literal, Term};
 use rdf_terms::text::Text;
+use rdf_terms::vocabulary::XSD_DECIMAL;
 use std::alloc::{AllocError, Global};
 use value_sets::{Except, Exceptions, Value, ValueSet};
-
-/// The datatype of decimals.
-const DECIMAL: &str = "http://www.w3.org/2001/XMLSchema#decimal";
 
 /// The facet of a name with this value; a pattern stands behind its flags and a slash.
 fn facet_of(alloc: Global, line: &str) -> anyhow::Result<Facet> {
@@ -42,7 +40,7 @@ fn constraint_of(alloc: Global, lines: &str) -> anyhow::Result<Result<NodeConstr
 /// Whether a constraint of one facet holds for the decimal of a text, or how it is refused.
 pub fn held(alloc: Global, facet: &str, text: &str) -> anyhow::Result<String> {
     let lex = Text::from_str(alloc, text)?;
-    let Some(literal) = Literal::typed(lex, Text::from_str(alloc, DECIMAL)?) else {
+    let Some(literal) = Literal::typed(lex, Text::from_str(alloc, XSD_DECIMAL)?) else {
         bail!("decimals are literals");
     };
     match constraint_of(alloc, facet)? {

@@ -1,6 +1,7 @@
 //! A document of rows as a list of entries.
 
-use std::alloc::{AllocError, Global};
+use anyhow::bail;
+use std::alloc::Global;
 
 /// A line that says something, and the text that belongs to it.
 #[derive(Drop)]
@@ -19,13 +20,14 @@ fn continued(line: &str) -> Option<&str> {
     line.strip_prefix("| ")
 }
 
-/// Adds a line to the entries.
-fn add(alloc: Global, entries: &mut Vec<Entry>, line: &str) -> Result<(), AllocError> {
+/// Adds a line to the entries. One that belongs to the text of an entry stands behind that entry.
+fn add(alloc: Global, entries: &mut Vec<Entry>, line: &str) -> anyhow::Result<()> {
     if let Some(text) = continued(line) {
-        if let Some(last) = entries.last_mut() {
-            last.text.push_str(text)?;
-            last.text.push('\n')?;
-        }
+        let Some(last) = entries.last_mut() else {
+            bail!("a text belongs to no line");
+        };
+        last.text.push_str(text)?;
+        last.text.push('\n')?;
         return Ok(());
     }
     if line.is_empty() || line.starts_with('#') {
@@ -39,7 +41,7 @@ fn add(alloc: Global, entries: &mut Vec<Entry>, line: &str) -> Result<(), AllocE
 }
 
 /// The entries of a document, in its order.
-pub fn entries(alloc: Global, text: &str) -> Result<Vec<Entry>, AllocError> {
+pub fn entries(alloc: Global, text: &str) -> anyhow::Result<Vec<Entry>> {
     let mut entries = Vec::new(alloc);
     for line in text.lines() {
         add(alloc, &mut entries, line)?;

@@ -1,5 +1,9 @@
 //! Data: their triples, their terms, and their last base and prefix.
 
+ghost use Rattle.std.specs.Prelude.{IfOk, IsSome};
+ghost use Rattle.iri_resolve.specs.Reference.{scheme_of};
+ghost use Rattle.rdf_lex.specs.Prefixes.{base_of};
+
 use crate::terms::{numbers_from, push_term, texts_of};
 use data_reader::{Format, read};
 use graph_index::graph::Graph;
@@ -24,7 +28,9 @@ pub struct Data {
 }
 
 /// The data of a file with this name and these bytes, or why they are refused.
-pub fn data_of(alloc: Global, name: &str, source: &[u8]) -> Result<Data, ReadError> {
+pub fn data_of(alloc: Global, name: &str, source: &[u8]) -> Result<Data, ReadError>
+    ensures { IfOk result (λ d. IsSome (scheme_of (base_of d.names))) }
+{
     let mut terms = TermTable::new(alloc);
     let mut graph = Graph::new(alloc);
     let format = Format::of_name(name);

@@ -1,4 +1,4 @@
-//! What the lines of a row give: bytes, numbers and files.
+//! What the lines of a row give: bytes, numbers, words and files.
 
 use anyhow::bail;
 use std::alloc::{AllocError, Global};
@@ -28,6 +28,18 @@ pub fn numbers_of(alloc: Global, text: &str) -> anyhow::Result<Vec<u64>> {
         numbers.push(digits.parse::<u64>()?)?;
     }
     Ok(numbers)
+}
+
+/// The words of a line, of which single spaces part each two. A line without characters has none.
+pub fn words_of(alloc: Global, line: &str) -> Result<Vec<String>, AllocError> {
+    let mut words = Vec::new(alloc);
+    if line.is_empty() {
+        return Ok(words);
+    }
+    for word in line.split(' ') {
+        words.push(String::from_str(alloc, word)?)?;
+    }
+    Ok(words)
 }
 
 /// A text as bytes of their own.

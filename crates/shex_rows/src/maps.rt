@@ -4,11 +4,10 @@ ghost use Rattle.std.specs.Prelude.{IfOk, IsSome};
 ghost use Rattle.iri_resolve.specs.Reference.{scheme_of};
 ghost use Rattle.rdf_lex.specs.Prefixes.{base_of};
 
+use crate::graphs::{Data, data_of};
 use crate::items::items;
 use crate::terms::{numbers_from, push_term, texts_of};
 use anyhow::bail;
-use data_reader::Format;
-use graph_index::graph::Graph;
 use rdf_lex::Prefixes;
 use rdf_terms::items::Items;
 use rdf_terms::table::TermTable;
@@ -17,9 +16,6 @@ use schema_tree::labels::{Label, Labels};
 use schema_tree::schema::{ExprId, Schema};
 use shape_map::{Association, MapError, ShapeMap, read};
 use std::alloc::{AllocError, Global};
-
-/// The base of data at first.
-const BASE: &str = "http://localhost/";
 
 /// The names of targets: a base, and a prefix.
 fn target_names(alloc: Global) -> Result<Prefixes, AllocError>
@@ -86,18 +82,13 @@ fn added(alloc: Global, terms: &TermTable, first: usize) -> Result<String, Alloc
 }
 
 /// What a map selects from data, or why it is refused, and the terms that the table takes up.
-fn selected(
-    alloc: Global,
-    map: &ShapeMap,
-    graph: &mut Graph,
-    terms: &mut TermTable,
-) -> Result<String, AllocError> {
-    let first = terms.len();
-    let answer = map.resolve(alloc, &schema(alloc)?, graph, terms);
-    let added = added(alloc, terms, first)?;
+fn selected(alloc: Global, map: &ShapeMap, data: &mut Data) -> Result<String, AllocError> {
+    let first = data.terms.len();
+    let answer = map.resolve(alloc, &schema(alloc)?, &mut data.graph, &mut data.terms);
+    let added = added(alloc, &data.terms, first)?;
     match answer {
         Ok(selected) => {
-            let text = associations(alloc, terms, selected.as_slice())?;
+            let text = associations(alloc, &data.terms, selected.as_slice())?;
             format!(in alloc; "{text}; adds {added}")
         }
         Err(error) => format!(in alloc; "{error}; adds {added}"),
@@ -109,12 +100,11 @@ fn told(
     alloc: Global,
     kind: &str,
     map: Result<ShapeMap, MapError>,
-    graph: &mut Graph,
-    terms: &mut TermTable,
+    data: &mut Data,
 ) -> Result<String, AllocError> {
     match map {
         Ok(map) if kind == "items" => items(alloc, &map),
-        Ok(map) => selected(alloc, &map, graph, terms),
+        Ok(map) => selected(alloc, &map, data),
         Err(error) => format!(in alloc; "{error}"),
     }
 }
@@ -124,15 +114,12 @@ pub fn asked(
     alloc: Global,
     kind: &str,
     name: &str,
-    data: &[u8],
     source: &[u8],
+    question: &[u8],
 ) -> anyhow::Result<String> {
-    let mut terms = TermTable::new(alloc);
-    let mut graph = Graph::new(alloc);
-    let format = Format::of_name(name);
-    let Ok(names) = data_reader::read(alloc, format, BASE, data, &mut terms, &mut graph) else {
+    let Ok(mut data) = data_of(alloc, name, source) else {
         bail!("the data are refused");
     };
-    let map = read(alloc, source, &names, &target_names(alloc)?);
-    Ok(told(alloc, kind, map, &mut graph, &mut terms)?)
+    let map = read(alloc, question, &data.names, &target_names(alloc)?);
+    Ok(told(alloc, kind, map, &mut data)?)
 }

@@ -17,14 +17,15 @@ pub struct Named<'a> {
     pub own: &'a [NamedFile],
 }
 
-/// The bytes of the file with this name, if there is one.
+/// The bytes of the last file with this name, if there is one.
 fn found<'a>(files: &'a [NamedFile], name: &str) -> Option<&'a [u8]> {
+    let mut last = None;
     for file in files {
         if file.name.as_str() == name {
-            return Some(file.bytes.as_slice());
+            last = Some(file.bytes.as_slice());
         }
     }
-    None
+    last
 }
 
 impl<'a> Named<'a> {

@@ -1,6 +1,6 @@
 //! One call, and what it gave.
 
-use crate::inputs::NamedFile;
+use crate::inputs::{NamedFile, words_of};
 use shex_io::{MemFiles, MemSink};
 use shex_run::run;
 use std::alloc::{AllocError, Global};
@@ -25,6 +25,11 @@ impl Failing {
             err: Vec::new(alloc),
         }
     }
+
+    /// Whether no call fails.
+    pub fn is_none(&self) -> bool {
+        self.files.is_empty() && self.out.is_empty() && self.err.is_empty()
+    }
 }
 
 /// What a call gave.
@@ -40,21 +45,12 @@ pub struct Trial {
     pub files: MemFiles,
 }
 
-/// Adds files to those in memory.
+/// Adds files to those in memory, each in the place of an earlier one of its name.
 fn add_all(files: &mut MemFiles, added: &[NamedFile]) -> Result<(), AllocError> {
     for file in added {
         files.add(file.name.as_str(), file.bytes.as_slice())?;
     }
     Ok(())
-}
-
-/// The words of a line.
-fn words_of(alloc: Global, line: &str) -> Result<Vec<String>, AllocError> {
-    let mut words = Vec::new(alloc);
-    for word in line.split_ascii_whitespace() {
-        words.push(String::from_str(alloc, word)?)?;
-    }
-    Ok(words)
 }
 
 /// Calls with the words of a line, over the files that all rows have and those of one row.

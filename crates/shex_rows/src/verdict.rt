@@ -3,15 +3,24 @@
 use crate::differences::compare;
 use crate::trial::Trial;
 use anyhow::bail;
+use shex_io::{MemFiles, MemSink};
 use std::alloc::{AllocError, Global};
+
+/// What a call printed to a sink, and whether anything was said of it.
+#[derive(Drop)]
+struct Printed {
+    sink: MemSink,
+    is_said: bool,
+}
 
 /// A call, and what was said of it so far.
 #[derive(Drop)]
 pub struct Verdict {
-    trial: Trial,
+    status: u8,
     has_status: bool,
-    has_out: bool,
-    has_err: bool,
+    out: Printed,
+    err: Printed,
+    files: MemFiles,
 }
 
 /// Notes a difference where a call has another status.
@@ -28,14 +37,57 @@ fn compare_status(
     Ok(())
 }
 
+impl Printed {
+    /// Nothing was said of a sink.
+    fn new(sink: MemSink) -> Printed {
+        Printed {
+            sink,
+            is_said: false,
+        }
+    }
+
+    /// Notes the difference where the sink of a name did not get the text that is said.
+    fn say(
+        &mut self,
+        alloc: Global,
+        differences: &mut String,
+        name: &str,
+        wanted: &str,
+    ) -> Result<(), AllocError> {
+        self.is_said = true;
+        compare(
+            alloc,
+            differences,
+            name,
+            self.sink.bytes(),
+            wanted.as_bytes(),
+        )
+    }
+
+    /// Notes the difference where the sink of a name got something, and nothing was said of it.
+    fn end(&self, alloc: Global, differences: &mut String, name: &str) -> Result<(), AllocError> {
+        if self.is_said {
+            return Ok(());
+        }
+        compare(alloc, differences, name, self.sink.bytes(), b"")
+    }
+}
+
 impl Verdict {
     /// Nothing was said of a call.
     pub fn new(trial: Trial) -> Verdict {
+        let Trial {
+            status,
+            out,
+            err,
+            files,
+        } = trial;
         Verdict {
-            trial,
+            status,
             has_status: false,
-            has_out: false,
-            has_err: false,
+            out: Printed::new(out),
+            err: Printed::new(err),
+            files,
         }
     }
 
@@ -47,7 +99,7 @@ impl Verdict {
         name: &str,
         wanted: &str,
     ) -> Result<(), AllocError> {
-        match self.trial.files.file(name) {
+        match self.files.file(name) {
             Some(found) => compare(alloc, differences, name, found, wanted.as_bytes()),
             None => {
                 let line = format!(in alloc; "  {name} is not stored\n")?;
@@ -63,7 +115,7 @@ impl Verdict {
         differences: &mut String,
         name: &str,
     ) -> Result<(), AllocError> {
-        if self.trial.files.file(name).is_some() {
+        if self.files.file(name).is_some() {
             let line = format!(in alloc; "  {name} is there\n")?;
             differences.push_str(line.as_str())?;
         }
@@ -82,28 +134,10 @@ impl Verdict {
         match verb {
             "status" => {
                 self.has_status = true;
-                compare_status(alloc, differences, self.trial.status, rest)?;
+                compare_status(alloc, differences, self.status, rest)?;
             }
-            "out" => {
-                self.has_out = true;
-                compare(
-                    alloc,
-                    differences,
-                    "out",
-                    self.trial.out.bytes(),
-                    text.as_bytes(),
-                )?;
-            }
-            "err" => {
-                self.has_err = true;
-                compare(
-                    alloc,
-                    differences,
-                    "err",
-                    self.trial.err.bytes(),
-                    text.as_bytes(),
-                )?;
-            }
+            "out" => self.out.say(alloc, differences, verb, text)?,
+            "err" => self.err.say(alloc, differences, verb, text)?,
             "stored" => self.compare_stored(alloc, differences, rest, text)?,
             "absent" => self.compare_absent(alloc, differences, rest)?,
             _ => bail!("no line begins with this word"),
@@ -113,12 +147,8 @@ impl Verdict {
 
     /// Notes the differences of what nothing was said of: nothing was to be printed, and the status was to be said.
     pub fn end(&self, alloc: Global, differences: &mut String) -> Result<(), AllocError> {
-        if !self.has_out {
-            compare(alloc, differences, "out", self.trial.out.bytes(), b"")?;
-        }
-        if !self.has_err {
-            compare(alloc, differences, "err", self.trial.err.bytes(), b"")?;
-        }
+        self.out.end(alloc, differences, "out")?;
+        self.err.end(alloc, differences, "err")?;
         if !self.has_status {
             differences.push_str("  no status is said\n")?;
         }

@@ -14,7 +14,7 @@ use Rattle.graph_index.specs.Laws.{IsOfTable}
 use Rattle.graph_index.specs.declared.loading.TermTriple.{TermTriple}
 use Rattle.graph_index.specs.Loading.{HaveOneLine, IsNumbered}
 use Rattle.graph_index.proofs.Loaded.{loads_hold}
-use Rattle.lists.proofs.Additions.{all_distinct}
+use Rattle.lists.proofs.Additions.{all_distinct, all_grow, kept_at}
 use Rattle.data_reader.specs.Formats.{format_of}
 use Rattle.schema_tree.specs.declared.schema.Answer.{Answer}
 use Rattle.schema_tree.specs.declared.schema.Schema.{Schema}
@@ -46,7 +46,6 @@ use Rattle.shex_run.proofs.Risen.{taken_up}
 use Rattle.shex_run.proofs.Selected.{From, Gives, IsNodeOf, Known, comes_from, known}
 use Rattle.shex_run.proofs.Settled.{numbered_held}
 use Rattle.shex_run.proofs.Simplicity.{simple_schema}
-use Rattle.shex_run.proofs.Tables.{all_keep}
 use Rattle.simple_typing.proofs.Flat.{flat_stratum}
 
 -- what is so of each member is so of all
@@ -132,7 +131,7 @@ module _ (told : Told) (c : Command) (q : Question) (is : IsAskedOf told (inputs
       line : HasOneLine term
 
     grown : (n : TermId) (t : Term) → slice_get q.held.terms n.0 ≡ Some t → HasOneLine t → LineNode n
-    grown n t at line = record { term = t; is_term = all_keep q.held.terms is.ends.takes.nodes q.terms is.ends.takes.taken n.0 t at; line = line }
+    grown n t at line = record { term = t; is_term = kept_at q.held.terms q.terms n.0 t (all_grow q.held.terms q.terms is.ends.takes.nodes is.ends.takes.taken) at; line = line }
 
     end_line : (t : Triple) → Contains g t → (f : Focus) → LineNode (at_focus f t)
     end_line t held f = go f ((loads_hold is.taken.holding.first q.held.terms [] g is.taken.triples first_distinct is.taken.holding.graph t).0 held)

@@ -90,11 +90,11 @@ module _ (words : List Text) (c : Command) (is_asked : IsAsked words c) (law : A
 
     -- the proof that is asked for, under this name
     module _ (map name : Text) (to : IsToValidate c map (Some name)) where
-      same_proof : (m : Text) (p : Option Text) (n : ℕ) → validation m p n ≡ validation map (Some name) to.steps → p ≡ Some name
+      same_proof : (m : Text) (p : Option Text) (n : ℕ) → validation m p n ≡ validation map (Some name) to.budget → p ≡ Some name
       same_proof m p n h = ap proof_of h
 
       whole : (text : List ℕ) (wanted : ℕ) → IsResponse files.told files.told_after c wanted text → IsWhollyStored files.told files.told_after c name
-      whole text wanted (inl a) = go a.proof_name (same_proof a.map_name a.proof_name a.task.steps (sym a.task.task ∙ to.task)) a.task a.stored
+      whole text wanted (inl a) = go a.proof_name (same_proof a.map_name a.proof_name a.task.budget (sym a.task.task ∙ to.task)) a.task a.stored
         where
           go : (p : Option Text) → p ≡ Some name → IsToValidate c a.map_name p → Stores files.told files.told_after p (IsStoredProofOf a.question a.answers) → IsWhollyStored files.told files.told_after c name
           go None e task stored = absurd cc
@@ -105,7 +105,7 @@ module _ (words : List Text) (c : Command) (is_asked : IsAsked words c) (law : A
                 subst (λ z. Holds files.told_after z (Some x)) same held,
                 subst (λ z. KeepsOthers files.told files.told_after z) same others,
               )
-      whole text wanted (inr k) = absurd (no_both map (Some name) to.steps k.checked.given.name (sym to.task ∙ k.checked.given.task))
+      whole text wanted (inr k) = absurd (no_both map (Some name) to.budget k.checked.given.name (sym to.task ∙ k.checked.given.task))
 
       taken : AreTaken files.told c → (q : Question) × IsAskedOf files.told (inputs_of c) q
       taken h = subst (λ t. TakesFor files.told c t) to.task h
@@ -121,7 +121,7 @@ module _ (words : List Text) (c : Command) (is_asked : IsAsked words c) (law : A
           go (inr full) = absurd (full_not_wish files.told contents told c one map (Some name) to full)
       whole_ends h (rejected line by left quiet prints) at still =
           let (k, x, given, rejects) = rejection_of files.told line by in
-          absurd (no_both map (Some name) to.steps given.name (sym to.task ∙ given.task))
+          absurd (no_both map (Some name) to.budget given.name (sym to.task ∙ given.task))
       whole_ends h (failed line by have quiet prints) at still = absurd (still by.rose)
       whole_ends h (wanting stored same quiet also e) at still = absurd (omega (arith, e, at))
 
@@ -151,7 +151,7 @@ module _ (words : List Text) (c : Command) (is_asked : IsAsked words c) (law : A
       refused_full (inr full) = same_full full
 
       no_wish : (text : List ℕ) (wanted : ℕ) → IsAnswered files.told files.told_after c wanted text → ⊥
-      no_wish text wanted a = no_both a.map_name a.proof_name a.task.steps given.name (sym a.task.task ∙ given.task)
+      no_wish text wanted a = no_both a.map_name a.proof_name a.task.budget given.name (sym a.task.task ∙ given.task)
 
       -- a proof that is accepted is said to be
       pub accepted_ends : (terms : List Term) (answers : List Answer) → Accepted b bytes terms answers → Ends words files out err status → (status ≡ 0) ⊎ IsInterrupted status

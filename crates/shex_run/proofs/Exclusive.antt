@@ -86,7 +86,7 @@ module _ (told : Told) (contents : List ℕ → Option (List ℕ)) (e : told ≡
 
   -- a proof is full only for a check
   pub full_not_wish : (map : Text) (proof : Option Text) → IsToValidate c map proof → IsFull told c → ⊥
-  full_not_wish map proof is (h, bytes, given, full) = no_both map proof is.steps given.name (sym is.task ∙ given.task)
+  full_not_wish map proof is (h, bytes, given, full) = no_both map proof is.budget given.name (sym is.task ∙ given.task)
 
   -- where the proof is given, none is absent
   pub given_not_absent : (h : Held) (bytes : List ℕ) (file : File) → IsGiven told c h bytes → IsAbsent told c file → ⊥

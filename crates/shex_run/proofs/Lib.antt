@@ -9,4 +9,3 @@ pub mod Risen
 pub mod Selected
 pub mod Settled
 pub mod Simplicity
-pub mod Tables

@@ -6,7 +6,7 @@ use Rattle.lists.specs.Distinct.{AreDistinct}
 use Rattle.rdf_terms.specs.Tables.{max_terms}
 use Rattle.rdf_terms.specs.declared.terms.Term.{Term}
 use Rattle.rdf_terms.specs.declared.terms.TermId.{TermId}
-use Rattle.lists.proofs.Additions.{adds_distinct, adds_one}
+use Rattle.lists.proofs.Additions.{adds_distinct, adds_grows, adds_one, kept_at}
 use Rattle.schema_tree.specs.declared.schema.Answer.{Answer}
 use Rattle.lists.proofs.Members.{got_in, from_map, in_map}
 use Rattle.proof_file.specs.declared.Claim.{Claim}
@@ -21,7 +21,6 @@ use Rattle.proof_checker.specs.Checks.{IsFullFor, IsReadAs, KeepsTerms, TakesUp}
 use Rattle.shex_inputs.specs.Held.{Held}
 use Rattle.shex_run.specs.Checking.{Rejects}
 use Rattle.shex_run.specs.Proofs.{Accepted}
-use Rattle.shex_run.proofs.Tables.{add_keeps}
 use Rattle.schema_tree.proofs.OneStrata.{strata_one}
 
 -- ---- tables
@@ -32,7 +31,7 @@ taken_distinct (t ∷ ts) old new d (mid, adds, more) = taken_distinct ts mid ne
 
 taken_keeps : (ts old new : List Term) → TakesUp old ts new → KeepsTerms old new
 taken_keeps [] old new e i t h = ap (λ z. slice_get z i) e ∙ h
-taken_keeps (x ∷ ts) old new (mid, adds, more) i t h = taken_keeps ts mid new more i t (add_keeps old mid x adds i t h)
+taken_keeps (x ∷ ts) old new (mid, adds, more) i t h = taken_keeps ts mid new more i t (kept_at old mid i t (adds_grows old mid x adds) h)
 
 taken_one : (ts old a b : List Term) → TakesUp old ts a → TakesUp old ts b → a ≡ b
 taken_one [] old a b h k = h ∙ sym k

@@ -16,7 +16,7 @@ use Rattle.shex_run.specs.Tasks.{IsFetched, IsInputOf, inputs_of, name_of}
 
 -- the inputs of the task are taken: the schema and the data, and for `validate` the map
 abbrev pub TakesFor : Told → Command → Task → Type 0
-TakesFor told c (validation map_name proof_name steps) = (q : Question) × IsAskedOf told (inputs_of c) q
+TakesFor told c (validation map_name proof_name budget) = (q : Question) × IsAskedOf told (inputs_of c) q
 TakesFor told c (checking name) = (h : Held) × IsTaken told (inputs_of c) h
 
 -- the inputs of the command are taken
@@ -26,7 +26,7 @@ AreTaken told c = TakesFor told c c.task
 -- the steps come to the proof: where one is to be stored, it is made of the inputs; where one is to be checked, the inputs are
 -- taken
 abbrev pub ReachesProof : Told → Command → Task → Type 0
-ReachesProof told c (validation map_name proof_name steps) = (name : Text) × ((bytes : List ℕ) × IsDueProof told c name bytes)
+ReachesProof told c (validation map_name proof_name budget) = (name : Text) × ((bytes : List ℕ) × IsDueProof told c name bytes)
 ReachesProof told c (checking name) = (h : Held) × IsTaken told (inputs_of c) h
 
 -- the steps come to the file

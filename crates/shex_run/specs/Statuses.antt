@@ -45,5 +45,5 @@ IsInterrupted status = (status ≡ 5) ⊎ ((status ≡ 7) ⊎ (status ≡ 8))
 
 -- the statuses of a task whose inputs are taken: 0 or 1; or, for a check, 0, 6, or 3 where the table is full
 abbrev pub Concludes : Task → ℕ → Type 0
-Concludes (validation map_name proof_name steps) status = (status ≡ 0) ⊎ (status ≡ 1)
+Concludes (validation map_name proof_name budget) status = (status ≡ 0) ⊎ (status ≡ 1)
 Concludes (checking name) status = (status ≡ 0) ⊎ ((status ≡ 3) ⊎ (status ≡ 6))

@@ -13,7 +13,7 @@ use Rattle.shex_run.specs.declared.stop.File.TheVariants as Files
 
 -- the name of the map that a task asks for; a check has none
 abbrev pub map_name : Task → Text
-map_name (validation name proof_name steps) = name
+map_name (validation name proof_name budget) = name
 map_name (checking proof_name) = codes ""
 
 -- what a command is given
@@ -29,8 +29,8 @@ inputs_of c = record {
 -- the command is to validate the associations of the map of this name, and to store their proof under the other name, if there is
 -- one
 pub record IsToValidate (c : Command) (map_name : Text) (proof_name : Option Text) : Type 0 where
-  pub steps : ℕ
-  pub task : c.task ≡ validation map_name proof_name steps
+  pub budget : ℕ
+  pub task : c.task ≡ validation map_name proof_name budget
 
 -- the command is to check the proof of this name
 abbrev pub IsToCheck : Command → Text → Type 0
@@ -38,7 +38,7 @@ IsToCheck c name = c.task ≡ checking name
 
 -- the file is an input of the task: a check has no map
 abbrev pub IsInputOf : Task → Source → Type 0
-IsInputOf (validation map_name proof_name steps) source = ⊤
+IsInputOf (validation map_name proof_name budget) source = ⊤
 IsInputOf (checking name) Sources.Schema = ⊤
 IsInputOf (checking name) Sources.Data = ⊤
 IsInputOf (checking name) Sources.Map = ⊥
@@ -46,13 +46,13 @@ IsInputOf (checking name) Sources.Map = ⊥
 -- the file is to be fetched, and not to be stored
 abbrev pub IsFetched : Task → File → Type 0
 IsFetched task (Files.Input source) = IsInputOf task source
-IsFetched (validation map_name proof_name steps) Files.Proof = ⊥
+IsFetched (validation map_name proof_name budget) Files.Proof = ⊥
 IsFetched (checking name) Files.Proof = ⊤
 
 -- what is done with a file
 abbrev pub act_of : Task → File → Act
 act_of task (Files.Input source) = Acts.Fetch
-act_of (validation map_name proof_name steps) Files.Proof = Acts.Store
+act_of (validation map_name proof_name budget) Files.Proof = Acts.Store
 act_of (checking name) Files.Proof = Acts.Fetch
 
 -- the name of a file in the words; it is empty where they name none

@@ -15,7 +15,7 @@ use std::alloc::Global;
 
 /// The result map of the claims of a proof that is accepted, or why it is not.
 pub fn confirm(alloc: Global, holding: Holding, proof: &[u8]) -> Result<Vec<u8>, Stop>
-    requires base { IsSomeHolding (held_by holding) }
+    requires holding { IsSomeHolding (held_by holding) }
     requires room { HasRoom (held_by holding) }
     requires of_table { All (IsOfTable holding.terms) holding.graph.triples }
     ensures confirmed { IfOk result (λ text. Confirms (held_by holding) proof.now text.items) }

@@ -86,7 +86,8 @@ parts_stand has matches stands (part ∷ parts) h i none =
     let rest = parts_stand has matches stands parts h.1 i none in
     omega (arith, times_append part (flat parts) i)
 
-fills_one : (low : ℕ) (bound : Bound) (k : ℕ) → low ≤ k → IsUpTo k bound → Fills low bound 1 k
+-- copies from the least to the greatest number make one repetition
+pub fills_one : (low : ℕ) (bound : Bound) (k : ℕ) → low ≤ k → IsUpTo k bound → Fills low bound 1 k
 fills_one low (Upto m) k h t = (omega arith, omega arith)
 fills_one low Free k h t = (omega arith, λ e. absurd (omega arith))
 

@@ -1,6 +1,6 @@
 -- The interval is exactly the numbers of copies.
 use Rattle.std.proofs.Common.{◌≡◌, ℕ, ◌+◌, ◌-◌, ◌*◌, ◌/◌, ◌<◌, ◌≤◌, ◌≢◌, inl, inr, refl, subst, arith, Bool, true, false, cond, min, max}
-use Rattle.std.proofs.lemmas.Bool.{cases_lt, cases_eq, eqb-true, eq-eqb}
+use Rattle.std.proofs.lemmas.Bool.{cases_lt, cases_eq, eqb-true, eq-eqb, or_left, or_right}
 use Rattle.std.proofs.lemmas.Bool.Decides.{nat_tests}
 use Rattle.std.proofs.lemmas.Grind.{div_ceil_times}
 use Rattle.std.proofs.Math.Nat.{le-div_iff_mul-le, mul-le-mul_right}
@@ -11,7 +11,6 @@ use Rattle.tally.specs.declared.Bound.TheVariants.{Upto, Free}
 use Rattle.tally.specs.declared.Interval.{Interval}
 use Rattle.tally.specs.Plan.{Plan, sym as symbol, each, one, many, Plans, no_plans, more_plans}
 use Rattle.tally.specs.Copies.{Copies, CopiesEach, CopiesOne, Fills}
-use Rattle.tally.proofs.CopyLaws.{or_left, or_right}
 use Rattle.tally.specs.Symbols.{IsUnder, has_symbol, some_has}
 use Rattle.tally.specs.Span.{HasSpan, IsBelow, IsProper, IsOrdered, IsSound, AreSound, proper, meet, meet_ends, plus, add_ends, least, most, repeated, is_nothing, span, span_each, span_one}
 

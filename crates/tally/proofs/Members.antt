@@ -1,9 +1,9 @@
 -- What a walk over the members of an EachOf or a OneOf knows at each of them.
 use Rattle.std.proofs.Common.{◌≡◌, ℕ, suc, ◌+◌, ◌<◌, ◌≤◌, sym, ap, subst, ◌∙◌, arith, Bool, true, max, List, length, drop, get_or, add-one}
+use Rattle.std.proofs.lemmas.Bool.{or_left, or_right}
 use Rattle.std.proofs.Math.ListN.{drop_of_length-le}
 use Rattle.std.proofs.Math.Seq.{drop-cons}
 use Rattle.std.specs.Prelude.{Option, Some, None, IfSome, ⊤, ◌||◌, ◌^◌}
-use Rattle.tally.proofs.CopyLaws.{or_left, or_right}
 use Rattle.tally.proofs.Exact.{each_is, meet_is}
 use Rattle.tally.proofs.Algebra.{meet_all, meet_assoc, meet_with_all, plus_assoc, plus_zero, proper_ends, zero_plus}
 use Rattle.tally.proofs.Totals.{total_join, total_part, total_under}

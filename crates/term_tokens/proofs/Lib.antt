@@ -4,5 +4,6 @@ pub mod Labels
 pub mod Nexts
 pub mod Failing
 pub mod Literals
+pub mod Agreeing
 pub mod TokenLines
 pub mod NameLines

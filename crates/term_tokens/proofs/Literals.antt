@@ -1,5 +1,5 @@
 -- Literals, and IRIs or blank nodes, of any grammar: with what they begin, and that they are read just where they are spelled.
-use Rattle.std.proofs.Common.{◌≡◌, ℕ, Bool, true, false, cond, List, [], ◌∷◌, Result, Ok, Err, refl, inl, inr}
+use Rattle.std.proofs.Common.{◌≡◌, ℕ, Bool, true, false, cond, List, [], ◌∷◌, Result, Ok, Err, refl, inl, inr, ◌||◌}
 use Rattle.std.specs.Str.{chars}
 use Rattle.rdf_terms.specs.declared.terms.Term.{Term}
 use Rattle.rdf_lex.specs.Tokens.{Spelled}
@@ -7,7 +7,7 @@ use Rattle.rdf_cursor.specs.Ahead.{Ahead, next_is}
 use Rattle.rdf_cursor.specs.Phrases.{Is}
 use Rattle.rdf_cursor.specs.Properties.{IsLocal, Consumes}
 use Rattle.rdf_cursor.specs.Readers.{Reader, give}
-use Rattle.rdf_cursor.specs.Symbols.{is_symbol, is_among, of_symbol}
+use Rattle.rdf_cursor.specs.Symbols.{symbol_of, same_symbol, is_symbol, is_among, of_symbol}
 use Rattle.rdf_cursor.specs.declared.stops.Fault.{Fault}
 use Rattle.rdf_cursor.specs.declared.stops.Fault.TheVariants.{Syntax}
 use Rattle.rdf_cursor.specs.declared.symbols.Symbol.{Symbol}
@@ -18,7 +18,8 @@ use Rattle.rdf_cursor.proofs.Locality.{local_give, local_one, local_bind, local_
 use Rattle.rdf_cursor.proofs.Soundness.{Meets, meets_give, meets_one, meets_bind, meets_either}
 use Rattle.term_tokens.specs.Literals.{Literal, Resource, literal_by, resource_by}
 use Rattle.term_tokens.specs.Meanings.{text_of}
-use Rattle.term_tokens.specs.Terms.{iri_term, absolute, absolute_of, is_quoted_once, lexical, string_of, short_string_of, tagged_of, shorthand_of, blank_of, tags, shorthands}
+use Rattle.term_tokens.specs.Scopes.{Scope}
+use Rattle.term_tokens.specs.Terms.{iri_term, resolved, name_in, iri_ref_of, iri_of, absolute, absolute_of, is_quoted_once, lexical, string_of, short_string_of, tagged_of, shorthand_of, blank_of, tags, shorthands}
 use Rattle.term_tokens.proofs.Nexts.{Next, outside, no_next, begins, first, guarded, guarded_one}
 
 -- with which token a class begins
@@ -49,6 +50,25 @@ shorthand_begins k x ts r h = guarded shorthands (shorthand_of k) _ (λ t. refl)
 pub blank_begins : (k : Bool) (x : Term) (ts r : Ahead Spelled) → Is (blank_of k) x ts r → Next (symbol.BlankLabel ∷ []) ts
 unfolding blank_of
 blank_begins k x ts r h = guarded_one symbol.BlankLabel (blank_of k) _ (λ t. refl) x ts r h
+
+-- with which tokens an IRI begins
+abbrev pub iris : List Symbol
+iris = symbol.PnameNs ∷ symbol.PnameLn ∷ symbol.IriRef ∷ []
+
+iri_bits : {A : Type 0} (a b c : Bool) (x y : Result A Fault) (z : A) → cond (a || (b || false)) x (cond c y (Err Syntax)) ≡ Ok z → (a || (b || (c || false))) ≡ true
+iri_bits true b c x y z e = refl
+iri_bits false true c x y z e = refl
+iri_bits false false true x y z e = refl
+iri_bits false false false x y z e = absurd cc
+
+iri_class : (k : Bool) (v : Scope) (x : List ℕ) (t : Spelled) → iri_of k v t ≡ Ok x → is_among iris t ≡ true
+unfolding iri_of iri_ref_of is_among is_symbol
+iri_class k v x t e =
+    let s = symbol_of t.kind t.text in
+    iri_bits (same_symbol s symbol.PnameNs) (same_symbol s symbol.PnameLn) (same_symbol s symbol.IriRef) (name_in k v t) (resolved k v (text_of t)) x e
+
+pub iri_begins : (k : Bool) (v : Scope) (x : List ℕ) (ts r : Ahead Spelled) → Is (iri_of k v) x ts r → Next iris ts
+iri_begins k v x ts r h = rw h.1 (iri_class k v x h.0 h.2)
 
 -- literals
 module _ (marks : List Symbol) (string : Spelled → Result (List ℕ) Fault) (tagged datatyped : List ℕ → Spelled → Result Term Fault) where

@@ -10,6 +10,7 @@ use Rattle.rdf_terms.specs.Texts.{same_text}
 use Rattle.rdf_terms.specs.declared.terms.Term.{Term}
 use Rattle.rdf_cursor.specs.Ahead.{Ahead, finished, token}
 use Rattle.rdf_cursor.specs.Readers.{one}
+use Rattle.rdf_cursor.proofs.Answers.{apart, err_is}
 use Rattle.rdf_lex.specs.Tokens.{Spelled}
 use Rattle.term_tokens.specs.Meanings.{text_of}
 use Rattle.rdf_cursor.specs.declared.stops.Fault.{Fault}
@@ -30,19 +31,13 @@ use Rattle.turtle_reader.proofs.Tells.{Tells, tells_give, tells_refuse, tells_on
 syntax_only : (v : DocumentScope) (t : Spelled) (rest : Ahead Spelled) (f : Fault) → faults.Syntax ≡ f → Causes v f (token t rest)
 syntax_only v t rest f e = subst (λ (g : Fault). Causes v g (token t rest)) e tt
 
-err_of : {A : Type 0} (a b : Fault) → Path (Result A Fault) (Err a) (Err b) → a ≡ b
-err_of a b e = cc
-
-no_err : {A : Type 0} (x : A) (f : Fault) → Path (Result A Fault) (Ok x) (Err f) → ⊥
-no_err x f e = cc
-
 limited_cause : {A : Type 0} (v : DocumentScope) (t : Spelled) (rest : Ahead Spelled) (bytes : List ℕ) (x : A) (b : Bool) (f : Fault) → nat_lt max_text (length bytes) ≡ b → (max_text < length bytes → IsLong v t) → cond b (Err faults.Long) (Ok x) ≡ Err f → Causes v f (token t rest)
-limited_cause v t rest bytes x true f l long e = subst (λ (g : Fault). Causes v g (token t rest)) (err_of faults.Long f e) (t, rest, refl, long (ltb-true max_text (length bytes) l))
-limited_cause v t rest bytes x false f l long e = absurd (no_err x f e)
+limited_cause v t rest bytes x true f l long e = subst (λ (g : Fault). Causes v g (token t rest)) (err_is faults.Long f e) (t, rest, refl, long (ltb-true max_text (length bytes) l))
+limited_cause v t rest bytes x false f l long e = absurd (apart x f e)
 
 cond_cause : {A : Type 0} (v : DocumentScope) (t : Spelled) (rest : Ahead Spelled) (b c : Bool) (x : Result A Fault) (f : Fault) → b ≡ c → (b ≡ true → x ≡ Err f → Causes v f (token t rest)) → cond c x (Err faults.Syntax) ≡ Err f → Causes v f (token t rest)
 cond_cause v t rest b true x f is h e = h is e
-cond_cause v t rest b false x f is h e = syntax_only v t rest f (err_of faults.Syntax f e)
+cond_cause v t rest b false x f is h e = syntax_only v t rest f (err_is faults.Syntax f e)
 
 module _ (v : DocumentScope) where
   abbrev Kept : DocumentScope → Type 0
@@ -55,7 +50,7 @@ module _ (v : DocumentScope) where
   class_tells h = tells_one tt (λ t rest x is e. tt) (λ t rest f is e. h t rest f e)
 
   resolved_cause : (t : Spelled) (rest : Ahead Spelled) (f : Fault) (o : Option (List ℕ)) → text_of t ≡ o → ((iri : List ℕ) → resolved false (names_in v) o ≡ Ok iri → max_text < length iri → IsLong (bare v) t) → resolved true (names_in v) o ≡ Err f → P f (token t rest)
-  resolved_cause t rest f None e long is = syntax_only (bare v) t rest f (err_of faults.Syntax f is)
+  resolved_cause t rest f None e long is = syntax_only (bare v) t rest f (err_is faults.Syntax f is)
   resolved_cause t rest f (Some text) e long is =
       let iri = resolved_text v.base (encode_utf8_all text) in limited_cause (bare v) t rest iri iri (nat_lt max_text (length iri)) f refl (long iri refl) is
 
@@ -74,8 +69,8 @@ module _ (v : DocumentScope) where
 
   joined_cause : (t : Spelled) (rest : Ahead Spelled) (f : Fault) (o p : Option (List ℕ)) → is_among names t ≡ true → p ≡ v.prefixes (prefix_of t)
       → ((iri : List ℕ) → joined false o p ≡ Ok iri → max_text < length iri → IsLong (bare v) t) → joined true o p ≡ Err f → P f (token t rest)
-  joined_cause t rest f None p n e long is = syntax_only (bare v) t rest f (err_of faults.Syntax f is)
-  joined_cause t rest f (Some local) None n e long is = subst (λ (g : Fault). P g (token t rest)) (err_of faults.Prefix f is) (t, rest, refl, n, sym e)
+  joined_cause t rest f None p n e long is = syntax_only (bare v) t rest f (err_is faults.Syntax f is)
+  joined_cause t rest f (Some local) None n e long is = subst (λ (g : Fault). P g (token t rest)) (err_is faults.Prefix f is) (t, rest, refl, n, sym e)
   joined_cause t rest f (Some local) (Some iri) n e long is =
       let whole = iri ++ encode_utf8_all local in limited_cause (bare v) t rest whole whole (nat_lt max_text (length whole)) f refl (long whole refl) is
 
@@ -90,7 +85,7 @@ module _ (v : DocumentScope) where
 
   ref_by_cause : (t : Spelled) (rest : Ahead Spelled) (f : Fault) (b : Bool) → is_symbol symbol.IriRef t ≡ b → iri_ref_of true (names_in v) t ≡ Err f → P f (token t rest)
   unfolding iri_ref_of
-  ref_by_cause t rest f false n e = syntax_only (bare v) t rest f (err_of faults.Syntax f (sym (cond_false (is_symbol symbol.IriRef t) _ _ n) ∙ e))
+  ref_by_cause t rest f false n e = syntax_only (bare v) t rest f (err_is faults.Syntax f (sym (cond_false (is_symbol symbol.IriRef t) _ _ n) ∙ e))
   ref_by_cause t rest f true n e = iri_ref_cause t rest f (not_name t n) e
     where
       not_name : (t : Spelled) → is_symbol symbol.IriRef t ≡ true → is_among names t ≡ false
@@ -105,7 +100,7 @@ module _ (v : DocumentScope) where
       (λ is k. limited_cause (bare v) t rest (after_first is_colon t.text) _ (nat_lt max_text (length (after_first is_colon t.text))) f refl (λ l. by_label is l) k) e
 
   lexical_cause : (t : Spelled) (rest : Ahead Spelled) (f : Fault) (o : Option (List ℕ)) → is_symbol symbol.Str t ≡ true → text_of t ≡ o → lexical true o ≡ Err f → P f (token t rest)
-  lexical_cause t rest f None n e is = syntax_only (bare v) t rest f (err_of faults.Syntax f is)
+  lexical_cause t rest f None n e is = syntax_only (bare v) t rest f (err_is faults.Syntax f is)
   lexical_cause t rest f (Some text) n e is = limited_cause (bare v) t rest (encode_utf8_all text) text (nat_lt max_text (length (encode_utf8_all text))) f refl (λ l. by_string n text e l) is
 
   string_cause : (t : Spelled) (rest : Ahead Spelled) (f : Fault) → string_of true t ≡ Err f → P f (token t rest)
@@ -113,20 +108,20 @@ module _ (v : DocumentScope) where
   string_cause t rest f e = cond_cause (bare v) t rest (is_symbol symbol.Str t) (is_symbol symbol.Str t) _ f refl (λ is k. lexical_cause t rest f (text_of t) is refl k) e
 
   typed_by_cause : (t : Spelled) (rest : Ahead Spelled) (f : Fault) (lex : List ℕ) (c : Result (List ℕ) Fault) → iri_of true (names_in v) t ≡ c → typed_by lex c ≡ Err f → P f (token t rest)
-  typed_by_cause t rest f lex (Err d) e is = subst (λ (g : Fault). P g (token t rest)) (err_of d f is) (iri_cause t rest d e)
+  typed_by_cause t rest f lex (Err d) e is = subst (λ (g : Fault). P g (token t rest)) (err_is d f is) (iri_cause t rest d e)
   typed_by_cause t rest f lex (Ok iri) e is = by (same_text (chars iri) rdf_lang_string) is
     where
       by : (b : Bool) → cond b (Err faults.Syntax) (Ok (typed lex (chars iri))) ≡ Err f → P f (token t rest)
-      by true k = syntax_only (bare v) t rest f (err_of faults.Syntax f k)
-      by false k = absurd (no_err (typed lex (chars iri)) f k)
+      by true k = syntax_only (bare v) t rest f (err_is faults.Syntax f k)
+      by false k = absurd (apart (typed lex (chars iri)) f k)
 
   typed_cause : (lex : List ℕ) (t : Spelled) (rest : Ahead Spelled) (f : Fault) → typed_of true (names_in v) lex t ≡ Err f → P f (token t rest)
   unfolding typed_of
   typed_cause lex t rest f e = typed_by_cause t rest f lex (iri_of true (names_in v) t) refl e
 
   ok_cause : {A : Type 0} (t : Spelled) (rest : Ahead Spelled) (f : Fault) (b : Bool) (x : A) → cond b (Ok x) (Err faults.Syntax) ≡ Err f → P f (token t rest)
-  ok_cause t rest f true x e = absurd (no_err x f e)
-  ok_cause t rest f false x e = syntax_only (bare v) t rest f (err_of faults.Syntax f e)
+  ok_cause t rest f true x e = absurd (apart x f e)
+  ok_cause t rest f false x e = syntax_only (bare v) t rest f (err_is faults.Syntax f e)
 
   tagged_cause : (lex : List ℕ) (t : Spelled) (rest : Ahead Spelled) (f : Fault) → tagged_of lex t ≡ Err f → P f (token t rest)
   unfolding tagged_of

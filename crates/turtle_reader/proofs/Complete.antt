@@ -1,31 +1,26 @@
 -- What is spelled is read.
-use Rattle.std.proofs.Common.{◌≡◌, ℕ, zero, suc, Bool, true, false, cond, List, [], ◌∷◌, Result, Ok, Err, refl, ◌∙◌, inl, inr, ◌||◌}
+use Rattle.std.proofs.Common.{◌≡◌, ℕ, zero, suc, Bool, true, false, List, [], ◌∷◌, Ok, refl, ◌∙◌, inl, inr}
 use Rattle.rdf_cursor.specs.Ahead.{Ahead, finished, next_is}
 use Rattle.rdf_cursor.specs.Phrases.{Is, Many}
 use Rattle.rdf_cursor.specs.Readers.{loop}
-use Rattle.rdf_cursor.proofs.Completeness.{one_read, loop_read, many_follows, elements_follow, elements_read}
+use Rattle.rdf_cursor.proofs.Completeness.{one_read, took, loop_read, many_follows, elements_follow, elements_read}
 use Rattle.rdf_lex.specs.Tokens.{Spelled}
-use Rattle.term_tokens.specs.Meanings.{text_of}
 use Rattle.rdf_terms.specs.declared.terms.Term.{Term}
 use Rattle.graph_index.specs.declared.loading.TermTriple.{TermTriple}
-use Rattle.rdf_cursor.specs.declared.stops.Fault.{Fault}
 use Rattle.rdf_cursor.specs.declared.stops.Fault.TheVariants.{Syntax}
 use Rattle.rdf_cursor.specs.declared.symbols.Symbol.{Symbol}
 use Rattle.rdf_cursor.specs.declared.symbols.Symbol.TheVariants as symbol
-use Rattle.term_tokens.specs.Terms.{iri_ref_of, iri_of, string_of, typed_of, tagged_of, shorthand_of, resolved, joined, prefix_of, tags, shorthands, blank_of}
+use Rattle.term_tokens.specs.Terms.{iri_ref_of, iri_of, string_of, typed_of, tagged_of, shorthand_of, tags, shorthands, blank_of}
 use Rattle.turtle_reader.specs.Meanings.{verbs}
 use Rattle.turtle_reader.specs.Reading.{R, next_node, iri_ref, iri, literal, resource, simple, verb, one_object, comma, objects, pair, semicolon, predicates, node, in_cell, member, next_member, cells, collection, object, subject, about_subject, listed, about_node, triples, ended, prefix_declaration, base_declaration, behind, statement, further, document}
-use Rattle.rdf_cursor.specs.Marks.{mark}
 use Rattle.turtle_reader.specs.States.{names_in, DocumentScope, added}
-use Rattle.rdf_cursor.specs.Symbols.{symbol_of, same_symbol, is_symbol, is_other, is_among, is_any, of_symbol}
+use Rattle.rdf_cursor.specs.Symbols.{is_symbol, is_other, is_among, is_any, of_symbol}
 use Rattle.rdf_terms.specs.Vocabulary.{rdf_rest}
 use Rattle.turtle_reader.specs.Grammar as g
 use Rattle.term_tokens.proofs.Literals as any
+use Rattle.term_tokens.proofs.Literals.{iris, iri_begins}
 use Rattle.term_tokens.proofs.Nexts.{Next, nexts, no_next, no_symbol, begins, first, first_of, single, other_next, same_next, any_next}
 use Rattle.turtle_reader.proofs.Places.{local_object, consumes_object, consumes_comma, consumes_semicolon, consumes_next_member, consumes_further}
-
-took : (a : Symbol) (w : Spelled) (ts r : Ahead Spelled) → Is (of_symbol a) w ts r → mark a ts ≡ Ok (w, r)
-took a w ts r h = one_read Syntax (of_symbol a) w ts r h
 
 -- what follows
 abbrev closing : List Symbol
@@ -35,9 +30,6 @@ abbrev after_objects : List Symbol
 after_objects = symbol.Semicolon ∷ closing
 
 -- what begins
-abbrev pub iris : List Symbol
-iris = symbol.PnameNs ∷ symbol.PnameLn ∷ symbol.IriRef ∷ []
-
 abbrev resources : List Symbol
 resources = symbol.BlankLabel ∷ iris
 
@@ -56,22 +48,7 @@ subjects = symbol.OpenParenthesis ∷ resources
 abbrev statements : List Symbol
 statements = symbol.OpenBracket ∷ subjects
 
-iri_bits : {A : Type 0} (a b c : Bool) (x y : Result A Fault) (z : A) → cond (a || (b || false)) x (cond c y (Err Syntax)) ≡ Ok z → (a || (b || (c || false))) ≡ true
-iri_bits true b c x y z e = refl
-iri_bits false true c x y z e = refl
-iri_bits false false true x y z e = refl
-iri_bits false false false x y z e = absurd cc
-
 module _ (k : Bool) where
-  iri_class : (v : DocumentScope) (x : List ℕ) (t : Spelled) → iri_of k (names_in v) t ≡ Ok x → is_among iris t ≡ true
-  unfolding iri_of iri_ref_of is_among is_symbol
-  iri_class v x t e =
-      let s = symbol_of t.kind t.text in
-      iri_bits (same_symbol s symbol.PnameNs) (same_symbol s symbol.PnameLn) (same_symbol s symbol.IriRef) (joined k (text_of t) (v.prefixes (prefix_of t))) (resolved k (names_in v) (text_of t)) x e
-
-  pub iri_begins : (v : DocumentScope) (x : List ℕ) (ts r : Ahead Spelled) → Is (iri_of k (names_in v)) x ts r → Next iris ts
-  iri_begins v x ts r h = rw h.1 (iri_class v x h.0 h.2)
-
   iri_read : (v : DocumentScope) (x : List ℕ) (ts r : Ahead Spelled) → Is (iri_of k (names_in v)) x ts r → iri k v ts ≡ Ok (x, r)
   unfolding iri
   iri_read v x ts r h = one_read Syntax (iri_of k (names_in v)) x ts r h
@@ -91,11 +68,11 @@ module _ (k : Bool) where
 
   resource_read : (v : DocumentScope) (x : Term) (ts r : Ahead Spelled) → g.Resource k v x ts r → resource k v ts ≡ Ok (x, r)
   unfolding resource
-  resource_read v x ts r (inl (i, e, h)) = rw (no_symbol iris symbol.BlankLabel ts refl (iri_begins v i ts r h), iri_read v i ts r h, e) refl
+  resource_read v x ts r (inl (i, e, h)) = rw (no_symbol iris symbol.BlankLabel ts refl (iri_begins k (names_in v) i ts r h), iri_read v i ts r h, e) refl
   resource_read v x ts r (inr h) = rw (single symbol.BlankLabel ts ∙ any.blank_begins k x ts r h, one_read Syntax (blank_of k) x ts r h) refl
 
   resource_begins : (v : DocumentScope) (x : Term) (ts r : Ahead Spelled) → g.Resource k v x ts r → Next resources ts
-  resource_begins v x ts r (inl (i, e, h)) = nexts iris resources ts refl (iri_begins v i ts r h)
+  resource_begins v x ts r (inl (i, e, h)) = nexts iris resources ts refl (iri_begins k (names_in v) i ts r h)
   resource_begins v x ts r (inr h) = nexts (symbol.BlankLabel ∷ []) resources ts refl (any.blank_begins k x ts r h)
 
   simple_read : (v : DocumentScope) (x : Term) (ts r : Ahead Spelled) → g.Simple k v x ts r → Next after_object r → simple k v ts ≡ Ok (x, r)
@@ -115,7 +92,7 @@ module _ (k : Bool) where
   unfolding verb
   verb_read v p ts r (inl (e, (w, h))) = (rw (begins symbol.A w ts r h, took symbol.A w ts r h, e) refl, nexts (symbol.A ∷ []) verbs ts refl (first symbol.A w ts r h))
   verb_read v p ts r (inr h) =
-      let n = iri_begins v p ts r h in (rw (no_symbol iris symbol.A ts refl n, iri_read v p ts r h) refl, nexts iris verbs ts refl n)
+      let n = iri_begins k (names_in v) p ts r h in (rw (no_symbol iris symbol.A ts refl n, iri_read v p ts r h) refl, nexts iris verbs ts refl n)
 
   module _ (d : ℕ) (start : (v : DocumentScope) (x : Term) (w : DocumentScope) (ts r : Ahead Spelled) → g.Object k d v x w ts r → Next starts ts)
       (each : (v : DocumentScope) (x : Term) (w : DocumentScope) (ts r : Ahead Spelled) → g.Object k d v x w ts r → Next after_object r → object k d v ts ≡ Ok ((x, w), r)) where

@@ -26,8 +26,7 @@ use Rattle.rdf_cursor.specs.Marks.{mark}
 use Rattle.turtle_reader.specs.States.{names_in, DocumentScope, added, anonymous, counted}
 use Rattle.rdf_cursor.specs.Symbols.{is_symbol, is_among, of_symbol}
 use Rattle.term_tokens.specs.Literals.{datatyped_by}
-use Rattle.term_tokens.proofs.Literals.{string_begins, tagged_begins, shorthand_begins, blank_begins}
-use Rattle.turtle_reader.proofs.Complete.{iris, iri_begins}
+use Rattle.term_tokens.proofs.Literals.{iris, iri_begins, string_begins, tagged_begins, shorthand_begins, blank_begins}
 use Rattle.term_tokens.proofs.Nexts.{within, outside, Next, nexts, no_next, first as first_of_mark, guarded_one}
 use Rattle.turtle_reader.proofs.Tells.{Tells, tells_give, tells_refuse, tells_one, tells_bind, tells_either, tells_loop}
 
@@ -132,7 +131,7 @@ typed_from lex (Err f) x e = absurd cc
 
 typed_begins : (v : DocumentScope) (lex : List ℕ) (x : Term) (ts r : Ahead Spelled) → Is (typed_of true (names_in v) lex) x ts r → Next iris ts
 unfolding typed_of
-typed_begins v lex x ts r h = let c = typed_from lex (iri_of true (names_in v) h.0) x h.2 in iri_begins true v c.0 ts r (h.0, h.1, c.1)
+typed_begins v lex x ts r h = let c = typed_from lex (iri_of true (names_in v) h.0) x h.2 in iri_begins true (names_in v) c.0 ts r (h.0, h.1, c.1)
 
 -- what lies ahead is reached with so many brackets open, and so many numbers may have been taken, of those from a scope's next on
 record At (whole : Ahead Spelled) (first : DocumentScope) (n k : ℕ) (ts : Ahead Spelled) : Type 0 where
@@ -233,7 +232,7 @@ module _ (whole : Ahead Spelled) (first : DocumentScope) where
 
     goes_iri : (v : DocumentScope) → Goes n k n (λ _. suc k) (iri true v)
     unfolding iri
-    goes_iri v = goes_plain n k iris (iri_of true (names_in v)) refl refl (iri_begins true v) (iri_shallow v)
+    goes_iri v = goes_plain n k iris (iri_of true (names_in v)) refl refl (iri_begins true (names_in v)) (iri_shallow v)
 
     goes_typed : (v : DocumentScope) (lex : List ℕ) → Goes n k n (λ _. suc k) (one faults.Syntax (typed_of true (names_in v) lex))
     goes_typed v lex = goes_plain n k iris (typed_of true (names_in v) lex) refl refl (typed_begins v lex) (typed_shallow v lex)

@@ -8,10 +8,9 @@ use Rattle.rdf_terms.specs.declared.terms.Triple.{Triple}
 use Rattle.graph_index.specs.declared.read_error.ReadError.{ReadError}
 use Rattle.rdf_cursor.specs.Ahead.{Ahead, finished, prepend}
 use Rattle.rdf_cursor.specs.Phrases.{Many, none, more}
-use Rattle.rdf_cursor.specs.Properties.{IsLocalAt}
-use Rattle.rdf_cursor.specs.Readers.{Answer, Reader}
 use Rattle.rdf_cursor.proofs.Answers.{apart, ok_is}
 use Rattle.rdf_cursor.proofs.Blocking.{blocked}
+use Rattle.rdf_cursor.proofs.Fronts.{Front, front_ok, both_fronts}
 use Rattle.rdf_cursor.proofs.Locality.{prepend-append}
 use Rattle.rdf_cursor.proofs.Soundness.{meets_loop}
 use Rattle.rdf_lex.specs.declared.kinds.Mode.TheVariants.{Turtle}
@@ -44,16 +43,6 @@ use Rattle.turtle_reader.proofs.Places.{local_document, local_further, consumes_
 use Rattle.turtle_reader.proofs.Sound.{further_meets}
 
 -- the tokens that statements pass
-abbrev Front : Ahead Spelled → Ahead Spelled → Type 0
-Front ts rest = (front : List Spelled) × (ts ≡ prepend front rest)
-
-front_ok : {A : Type 0} (p : Reader Spelled Fault A) (ts : Ahead Spelled) (a : Answer Spelled Fault A) (x : A) (rest : Ahead Spelled) → a ≡ Ok (x, rest) → IsLocalAt p ts a → Front ts rest
-front_ok {A = A} p ts (Ok y) x rest e l = (l.0, l.1 ∙ ap (λ (v : A × Ahead Spelled). prepend l.0 v.1) (ok_is y (x, rest) e))
-front_ok p ts (Err y) x rest e l = absurd cc
-
-both_fronts : (ts mid rest : Ahead Spelled) → Front ts mid → Front mid rest → Front ts rest
-both_fronts ts mid rest (a, e) (b, f) = (a ++ b, e ∙ ap (prepend a) f ∙ sym (prepend-append a b rest))
-
 many_front : (a b : DocumentScope × List TermTriple) (ts rest : Ahead Spelled) → Many (Behind true inner_depth) a b ts rest → Front ts rest
 many_front a b ts rest none = ([], refl)
 many_front a b ts rest (more {x = x} {mid = mid} o others) =

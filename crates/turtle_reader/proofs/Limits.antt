@@ -1,10 +1,7 @@
 -- Without the limits a document is read in the same way, but for what passes them.
 use Rattle.std.proofs.Common.{◌≡◌, ℕ, zero, suc, ◌≤◌, ◌+◌, Bool, true, false, cond, List, [], ◌++◌, Option, Some, None, length, refl, sym, ap, subst, ◌∙◌, arith, Result, Ok, Err, ◌⊎◌, inl, inr, encode_utf8_all}
 use Rattle.std.specs.Prelude.{nat_lt, ◌&&◌}
-use Rattle.std.specs.Str.{chars}
 use Rattle.iri_resolve.specs.Resolution.{resolved_text}
-use Rattle.rdf_terms.specs.Vocabulary.{rdf_lang_string}
-use Rattle.rdf_terms.specs.Texts.{same_text}
 use Rattle.rdf_terms.specs.declared.terms.Term.{Term}
 use Rattle.rdf_cursor.specs.Ahead.{Ahead, finished, prepend}
 use Rattle.rdf_cursor.specs.Properties.{IsLocalAt, Agrees, AgreesAt, Blocked}
@@ -20,10 +17,10 @@ use Rattle.rdf_cursor.specs.declared.symbols.Symbol.{Symbol}
 use Rattle.rdf_cursor.specs.declared.symbols.Symbol.TheVariants as symbol
 use Rattle.turtle_reader.specs.Documents.{inner_depth}
 use Rattle.turtle_reader.specs.Grammar.{Document}
-use Rattle.term_tokens.specs.Terms.{max_text, resolved, joined, iri_ref_of, iri_of, lexical, string_of, typed, typed_by, typed_of, tagged_of, shorthand_of, prefix_of, names, tags, shorthands, blank_of}
+use Rattle.term_tokens.specs.Terms.{max_text, resolved, joined, iri_ref_of, iri_of, lexical, string_of, typed_of, shorthand_of, prefix_of, names, shorthands, blank_of}
+use Rattle.term_tokens.proofs.Agreeing.{typed_by_agrees, tagged_agrees, agrees_mark}
 use Rattle.turtle_reader.specs.Meanings.{max_anonymous, numbered}
 use Rattle.turtle_reader.specs.Reading.{R, settled, next_node, iri_ref, iri, literal, resource, simple, verb, one_object, comma, objects, pair, semicolon, predicates, node, in_cell, member, next_member, cells, collection, object, subject, about_subject, listed, about_node, triples, ended, prefix_declaration, base_declaration, behind, statement, further, document}
-use Rattle.rdf_cursor.specs.Marks.{mark}
 use Rattle.turtle_reader.specs.States.{names_in, DocumentScope, anonymous, counted}
 use Rattle.rdf_cursor.specs.Symbols.{is_symbol, is_among, is_any}
 use Rattle.turtle_reader.proofs.Complete.{document_read}
@@ -62,10 +59,6 @@ cond_agrees : {A : Type 0} (t : Spelled) (b : Bool) (c d e f : Result A Fault) �
 cond_agrees t true c d e f a h = a
 cond_agrees t false c d e f a h = h
 
-same_class : {A : Type 0} (t : Spelled) (b : Bool) (x : A) → Agree t (cond b (Ok x) (Err faults.Syntax)) (cond b (Ok x) (Err faults.Syntax))
-same_class t true x = refl
-same_class t false x = syntax_agrees t
-
 -- with the limits, or without them from one depth to another
 module _ (j : Bool) where
   resolved_agrees : (t : Spelled) (v : DocumentScope) (o : Option (List ℕ)) → Agree t (resolved j (names_in v) o) (resolved false (names_in v) o)
@@ -97,30 +90,13 @@ module _ (j : Bool) where
   unfolding string_of
   string_agrees t = cond_agrees t (is_symbol symbol.Str t) _ _ _ _ (lexical_agrees t (text_of t)) (syntax_agrees t)
 
-  not_lang : (t : Spelled) (x : Term) (b : Bool) → Agree t (cond b (Err faults.Syntax) (Ok x)) (cond b (Err faults.Syntax) (Ok x))
-  not_lang t x true = syntax_agrees t
-  not_lang t x false = refl
-
-  typed_agrees : (t : Spelled) (lex : List ℕ) (c d : Result (List ℕ) Fault) → Agree t c d → Agree t (typed_by lex c) (typed_by lex d)
-  typed_agrees t lex (Ok iri) d e =
-      subst (λ (r : Result (List ℕ) Fault). Agree t (typed_by lex (Ok iri)) (typed_by lex r)) (sym e) (not_lang t (typed lex (chars iri)) (same_text (chars iri) rdf_lang_string))
-  typed_agrees t lex (Err f) d (inl (c, e)) = inl (c, ap (typed_by lex) e)
-  typed_agrees t lex (Err f) d (inr h) = inr h
-
   typed_of_agrees : (v : DocumentScope) (lex : List ℕ) (t : Spelled) → Agree t (typed_of j (names_in v) lex t) (typed_of false (names_in v) lex t)
   unfolding typed_of
-  typed_of_agrees v lex t = typed_agrees t lex (iri_of j (names_in v) t) (iri_of false (names_in v) t) (iri_agrees v t)
-
-  tagged_agrees : (lex : List ℕ) (t : Spelled) → Agree t (tagged_of lex t) (tagged_of lex t)
-  unfolding tagged_of
-  tagged_agrees lex t = same_class t (is_among tags t) _
+  typed_of_agrees v lex t = typed_by_agrees Common IsLimit tt t lex (iri_of j (names_in v) t) (iri_of false (names_in v) t) (iri_agrees v t)
 
   shorthand_agrees : (t : Spelled) → Agree t (shorthand_of j t) (shorthand_of false t)
   unfolding shorthand_of
   shorthand_agrees t = cond_agrees t (is_among shorthands t) _ _ _ _ (limited_agrees t _ _) (syntax_agrees t)
-
-  same_mark : (a : Symbol) → Same (mark a) (mark a)
-  same_mark a = agrees_one Common IsLimit faults.Syntax _ _ tt (λ t. same_class t (is_symbol a t) t)
 
   settled_agrees : {A : Type 0} (x : A) (b : Bool) → Same (settled (cond b (Err faults.Full) (Ok x))) (settled (Ok x))
   settled_agrees x true ts = inr tt
@@ -141,8 +117,8 @@ module _ (j : Bool) where
   same_literal : (v : DocumentScope) → Same (literal j v) (literal false v)
   unfolding literal
   same_literal v = agrees_bind Common IsLimit _ _ _ _ (agrees_one Common IsLimit faults.Syntax _ _ tt string_agrees) (λ lex.
-      agrees_either Common IsLimit _ _ _ _ _ (agrees_one Common IsLimit faults.Syntax _ _ tt (tagged_agrees lex))
-      (agrees_either Common IsLimit _ _ _ _ _ (agrees_bind Common IsLimit _ _ _ _ (same_mark symbol.Carets) (λ _. agrees_one Common IsLimit faults.Syntax _ _ tt (typed_of_agrees v lex))) (agrees_give Common IsLimit _)))
+      agrees_either Common IsLimit _ _ _ _ _ (agrees_one Common IsLimit faults.Syntax _ _ tt (tagged_agrees Common IsLimit tt lex))
+      (agrees_either Common IsLimit _ _ _ _ _ (agrees_bind Common IsLimit _ _ _ _ (agrees_mark Common IsLimit tt symbol.Carets) (λ _. agrees_one Common IsLimit faults.Syntax _ _ tt (typed_of_agrees v lex))) (agrees_give Common IsLimit _)))
 
   same_resource : (v : DocumentScope) → Same (resource j v) (resource false v)
   unfolding resource
@@ -154,7 +130,7 @@ module _ (j : Bool) where
 
   same_verb : (v : DocumentScope) → Same (verb j v) (verb false v)
   unfolding verb
-  same_verb v = agrees_either Common IsLimit _ _ _ _ _ (agrees_bind Common IsLimit _ _ _ _ (same_mark symbol.A) (λ _. agrees_give Common IsLimit _)) (same_iri v)
+  same_verb v = agrees_either Common IsLimit _ _ _ _ _ (agrees_bind Common IsLimit _ _ _ _ (agrees_mark Common IsLimit tt symbol.A) (λ _. agrees_give Common IsLimit _)) (same_iri v)
 
   module _ (d e : ℕ) (each : (v : DocumentScope) → Same (object j d v) (object false e v)) where
     same_one : (s : Term) (p : List ℕ) (v : DocumentScope) → Same (one_object j (object j d) s p v) (one_object false (object false e) s p v)
@@ -163,7 +139,7 @@ module _ (j : Bool) where
 
     same_comma : (s : Term) (p : List ℕ) (v : DocumentScope) → Same (comma j (object j d) s p v) (comma false (object false e) s p v)
     unfolding comma
-    same_comma s p v = agrees_bind Common IsLimit _ _ _ _ (same_mark symbol.Comma) (λ _. same_one s p v)
+    same_comma s p v = agrees_bind Common IsLimit _ _ _ _ (agrees_mark Common IsLimit tt symbol.Comma) (λ _. same_one s p v)
 
     same_objects : (s : Term) (p : List ℕ) (v : DocumentScope) → Same (objects j (object j d) s p v) (objects false (object false e) s p v)
     unfolding objects
@@ -176,7 +152,7 @@ module _ (j : Bool) where
 
     same_semicolon : (s : Term) (v : DocumentScope) → Same (semicolon j (object j d) s v) (semicolon false (object false e) s v)
     unfolding semicolon
-    same_semicolon s v = agrees_bind Common IsLimit _ _ _ _ (same_mark symbol.Semicolon) (λ _. agrees_either Common IsLimit _ _ _ _ _ (same_pair s v) (agrees_give Common IsLimit _))
+    same_semicolon s v = agrees_bind Common IsLimit _ _ _ _ (agrees_mark Common IsLimit tt symbol.Semicolon) (λ _. agrees_either Common IsLimit _ _ _ _ _ (same_pair s v) (agrees_give Common IsLimit _))
 
     same_predicates : (s : Term) (v : DocumentScope) → Same (predicates j (object j d) s v) (predicates false (object false e) s v)
     unfolding predicates
@@ -185,9 +161,9 @@ module _ (j : Bool) where
 
     same_node : (v : DocumentScope) → Same (node j (object j d) v) (node false (object false e) v)
     unfolding node
-    same_node v = agrees_bind Common IsLimit _ _ _ _ (same_mark symbol.OpenBracket) (λ _. agrees_bind Common IsLimit _ _ _ _ (same_next v) (λ x.
+    same_node v = agrees_bind Common IsLimit _ _ _ _ (agrees_mark Common IsLimit tt symbol.OpenBracket) (λ _. agrees_bind Common IsLimit _ _ _ _ (same_next v) (λ x.
         agrees_bind Common IsLimit _ _ _ _ (agrees_either Common IsLimit _ _ _ _ _ (agrees_give Common IsLimit _) (same_predicates _ _)) (λ w.
-        agrees_bind Common IsLimit _ _ _ _ (same_mark symbol.CloseBracket) (λ _. agrees_give Common IsLimit _))))
+        agrees_bind Common IsLimit _ _ _ _ (agrees_mark Common IsLimit tt symbol.CloseBracket) (λ _. agrees_give Common IsLimit _))))
 
     same_in_cell : (cell : Term) (v : DocumentScope) → Same (in_cell j (object j d) cell v) (in_cell false (object false e) cell v)
     unfolding in_cell
@@ -205,12 +181,12 @@ module _ (j : Bool) where
     unfolding cells
     same_cells v = agrees_bind Common IsLimit _ _ _ _ (same_member v) (λ f. agrees_bind Common IsLimit _ _ _ _ (agrees_loop Common IsLimit _ _ _
         (consumes_next_member j (object j d) (local_object j d) (consumes_object j d)) (consumes_next_member false (object false e) (local_object false e) (consumes_object false e)) same_next_member f) (λ l.
-        agrees_bind Common IsLimit _ _ _ _ (same_mark symbol.CloseParenthesis) (λ _. agrees_give Common IsLimit _)))
+        agrees_bind Common IsLimit _ _ _ _ (agrees_mark Common IsLimit tt symbol.CloseParenthesis) (λ _. agrees_give Common IsLimit _)))
 
     same_collection : (v : DocumentScope) → Same (collection j (object j d) v) (collection false (object false e) v)
     unfolding collection
-    same_collection v = agrees_bind Common IsLimit _ _ _ _ (same_mark symbol.OpenParenthesis) (λ _.
-        agrees_either Common IsLimit _ _ _ _ _ (agrees_bind Common IsLimit _ _ _ _ (same_mark symbol.CloseParenthesis) (λ _. agrees_give Common IsLimit _)) (same_cells v))
+    same_collection v = agrees_bind Common IsLimit _ _ _ _ (agrees_mark Common IsLimit tt symbol.OpenParenthesis) (λ _.
+        agrees_either Common IsLimit _ _ _ _ _ (agrees_bind Common IsLimit _ _ _ _ (agrees_mark Common IsLimit tt symbol.CloseParenthesis) (λ _. agrees_give Common IsLimit _)) (same_cells v))
 
   deep_agrees : {A : Type 0} (p : R A) → Same (refuse faults.Deep) p
   deep_agrees p ts = inr tt
@@ -226,15 +202,15 @@ module _ (j : Bool) where
 
   same_ended : (p q : DocumentScope → R DocumentScope) → ((v : DocumentScope) → Same (p v) (q v)) → (v : DocumentScope) → Same (ended j p v) (ended false q v)
   unfolding ended
-  same_ended p q h v = agrees_bind Common IsLimit _ _ _ _ (h v) (λ w. agrees_bind Common IsLimit _ _ _ _ (same_mark symbol.Dot) (λ _. agrees_give Common IsLimit _))
+  same_ended p q h v = agrees_bind Common IsLimit _ _ _ _ (h v) (λ w. agrees_bind Common IsLimit _ _ _ _ (agrees_mark Common IsLimit tt symbol.Dot) (λ _. agrees_give Common IsLimit _))
 
   same_behind : (a : Symbol) (p q : DocumentScope → R DocumentScope) → ((v : DocumentScope) → Same (p v) (q v)) → (v : DocumentScope) → Same (behind j a p v) (behind false a q v)
   unfolding behind
-  same_behind a p q h v = agrees_bind Common IsLimit _ _ _ _ (same_mark a) (λ _. h v)
+  same_behind a p q h v = agrees_bind Common IsLimit _ _ _ _ (agrees_mark Common IsLimit tt a) (λ _. h v)
 
   same_prefix : (v : DocumentScope) → Same (prefix_declaration j v) (prefix_declaration false v)
   unfolding prefix_declaration
-  same_prefix v = agrees_bind Common IsLimit _ _ _ _ (same_mark symbol.PnameNs) (λ t. agrees_bind Common IsLimit _ _ _ _ (same_iri_ref v) (λ i. agrees_give Common IsLimit _))
+  same_prefix v = agrees_bind Common IsLimit _ _ _ _ (agrees_mark Common IsLimit tt symbol.PnameNs) (λ t. agrees_bind Common IsLimit _ _ _ _ (same_iri_ref v) (λ i. agrees_give Common IsLimit _))
 
   same_base : (v : DocumentScope) → Same (base_declaration j v) (base_declaration false v)
   unfolding base_declaration
@@ -257,13 +233,13 @@ module _ (j : Bool) where
 
     same_listed : (s : Term) (v : DocumentScope) → Same (listed j d s v) (listed false e s v)
     unfolding listed
-    same_listed s v = agrees_bind Common IsLimit _ _ _ _ (same_within s v) (λ w. agrees_bind Common IsLimit _ _ _ _ (same_mark symbol.CloseBracket) (λ _.
+    same_listed s v = agrees_bind Common IsLimit _ _ _ _ (same_within s v) (λ w. agrees_bind Common IsLimit _ _ _ _ (agrees_mark Common IsLimit tt symbol.CloseBracket) (λ _.
         agrees_either Common IsLimit _ _ _ _ _ (same_outside _ _) (agrees_give Common IsLimit _)))
 
     same_about_node : (v : DocumentScope) → Same (about_node j d v) (about_node false e v)
     unfolding about_node
-    same_about_node v = agrees_bind Common IsLimit _ _ _ _ (same_mark symbol.OpenBracket) (λ _. agrees_bind Common IsLimit _ _ _ _ (same_next v) (λ x.
-        agrees_either Common IsLimit _ _ _ _ _ (agrees_bind Common IsLimit _ _ _ _ (same_mark symbol.CloseBracket) (λ _. same_outside _ _)) (same_listed _ _)))
+    same_about_node v = agrees_bind Common IsLimit _ _ _ _ (agrees_mark Common IsLimit tt symbol.OpenBracket) (λ _. agrees_bind Common IsLimit _ _ _ _ (same_next v) (λ x.
+        agrees_either Common IsLimit _ _ _ _ _ (agrees_bind Common IsLimit _ _ _ _ (agrees_mark Common IsLimit tt symbol.CloseBracket) (λ _. same_outside _ _)) (same_listed _ _)))
 
     same_triples : (v : DocumentScope) → Same (triples j d v) (triples false e v)
     unfolding triples

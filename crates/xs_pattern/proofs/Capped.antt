@@ -4,6 +4,7 @@ use Rattle.std.specs.Prelude.{◌↔◌, Option, Some, None, option_map, nat_lt,
 use Rattle.std.specs.List.{list_any}
 use Rattle.std.proofs.lemmas.Bool.{ltb-true, ltb-false, lt-ltb, le-ltb}
 use Rattle.std.proofs.lemmas.List.Folds.{list_any-append}
+use Rattle.std.proofs.lemmas.Option.{same_Some}
 use Rattle.xs_pattern.specs.Lexing.{capped, capped_token, read_tokens}
 use Rattle.xs_pattern.specs.Limits.{greater, greatest, greatest_of_all, nesting}
 use Rattle.xs_pattern.specs.declared.parser.Token.{Token as TokenInCode}
@@ -14,7 +15,7 @@ use Rattle.xs_pattern.specs.Tokens.{Token, open_bracket, close_bracket, bar, sta
 use Rattle.xs_pattern.proofs.Choices.{or_no}
 use Rattle.xs_pattern.proofs.Lexed.{tokens_complete, well_placed}
 use Rattle.xs_pattern.proofs.Parsed.{spelled_meaning}
-use Rattle.xs_pattern.proofs.Sound.{some_same, tokens_sound}
+use Rattle.xs_pattern.proofs.Sound.{tokens_sound}
 
 -- the place of tokens does not depend on their numbers
 spelled_alike : (us : List Token) (g : ℕ) (ready : Bool) → is_spelled g ready (map capped_token us) ≡ is_spelled g ready us
@@ -122,7 +123,7 @@ held_none (Some us) h = absurd (cc)
 
 held_some : (o : Option (List Token)) (ts : List Token) → Some ts ≡ option_map (map capped_token) o → (us : List Token) × (o ≡ Some us) × (ts ≡ map capped_token us)
 held_some None ts h = absurd (cc)
-held_some (Some us) ts h = (us, refl, some_same ts (map capped_token us) h)
+held_some (Some us) ts h = (us, refl, same_Some ts (map capped_token us) h)
 
 -- no tokens, no pattern
 pub no_tokens : (text : List ℕ) → Held text None → (e : Regex) → ¬ Spells e text
@@ -132,7 +133,7 @@ no_tokens text h e s = let none_read = held_none (read_tokens text) h in let rea
 pub no_pattern : (text : List ℕ) (ts : List Token) → Held text (Some ts) → (¬ IsSpelled ts) → (e : Regex) → ¬ Spells e text
 no_pattern text ts h unplaced e s =
     let p = held_some (read_tokens text) ts h in
-    let same = some_same p.0 (tokens e) (sym p.1 ∙ tokens_complete e text s) in
+    let same = same_Some p.0 (tokens e) (sym p.1 ∙ tokens_complete e text s) in
     let told : true ≡ is_spelled 0 false ts = sym (ap (is_spelled 0 false) (p.2 ∙ ap (map capped_token) same) ∙ (spelled_alike (tokens e) 0 false ∙ well_placed e s.0)) in
     unplaced ((spelled_meaning ts true told).0 refl)
 

@@ -6,6 +6,7 @@ use Rattle.std.specs.List.{list_all}
 use Rattle.std.specs.Str.Parse.{digits_value}
 use Rattle.std.proofs.Math.Seq.{take-append_seam, drop-append_seam}
 use Rattle.std.proofs.lemmas.Bool.{eqb-true, eq-eqb, le-leb, ne_eqb}
+use Rattle.std.proofs.lemmas.Option.{same_Some}
 use Rattle.xs_pattern.specs.declared.expression.Item.{Item}
 use Rattle.xs_pattern.specs.declared.expression.Item.TheVariants as Items
 use Rattle.xs_pattern.specs.declared.expression.Kind.{Kind}
@@ -18,7 +19,7 @@ use Rattle.xs_pattern.specs.Parsing.{blank, is_spelled, parse}
 use Rattle.xs_pattern.proofs.Parsed.{is_spelled_told, parse_complete}
 use Rattle.xs_pattern.proofs.Choices.{and_no, not_true, or_true, or_yes, skip}
 use Rattle.xs_pattern.proofs.Reading.{and_both, and_parts, or_cases}
-use Rattle.xs_pattern.proofs.Sound.{begins_with, Groups, closing, groups_of_class, some_same}
+use Rattle.xs_pattern.proofs.Sound.{begins_with, Groups, closing, groups_of_class}
 
 -- a character that an escape needs not is another one
 apart : (c k d : ℕ) → escaped k ≡ None → escaped c ≡ Some d → nat_eq c k ≡ false
@@ -609,5 +610,5 @@ tokens_complete e text (made, spelled) =
 -- a text spells at most one pattern
 pub one_pattern : (text : List ℕ) (e d : Regex) → Spells e text → Spells d text → e ≡ d
 one_pattern text e d first_one second_one =
-    let same = some_same (tokens e) (tokens d) (sym (tokens_complete e text first_one) ∙ tokens_complete d text second_one) in
-    some_same e d (sym (parse_complete e first_one.0) ∙ (ap (parse [] blank) same ∙ parse_complete d second_one.0))
+    let same = same_Some (tokens e) (tokens d) (sym (tokens_complete e text first_one) ∙ tokens_complete d text second_one) in
+    same_Some e d (sym (parse_complete e first_one.0) ∙ (ap (parse [] blank) same ∙ parse_complete d second_one.0))

@@ -2,11 +2,11 @@
 use Rattle.std.proofs.Common.{◌≡◌, ◌<◌, ◌≤◌, ℕ, arith, length, List, [], ◌∷◌, ◌++◌, refl, sym, ap, ◌∙◌, Bool, true, false, cond, append_assoc, map}
 use Rattle.std.specs.Prelude.{Option, Some, None, option_map}
 use Rattle.std.proofs.lemmas.List.{append-nil}
+use Rattle.std.proofs.lemmas.Option.{same_Some}
 use Rattle.xs_pattern.specs.declared.expression.Item.{Item}
 use Rattle.xs_pattern.specs.Lexing.{begins, tail, is_end, read_item, item_before, item_then, read_more, read_items, read_members, group_before, groups_then, read_groups, class_token, plain_token, read_class, read_token, token_before, tokens_then, read_tokens, capped_token, capped_pair}
 use Rattle.xs_pattern.specs.Tokens.{Token}
 use Rattle.xs_pattern.specs.Regex.{Members}
-use Rattle.xs_pattern.proofs.Sound.{some_same}
 use Rattle.xs_pattern.proofs.Steps.{item_shorter, more_items, no_more_items, members_short, more_groups, token_shorter, more_tokens}
 
 -- items that were read, before what is read behind them
@@ -132,7 +132,7 @@ tokens_end us (c ∷ cs) all so_far none = absurd (omega arith)
 
 token_found : (p : Option (Token × List ℕ)) (u : Token) (r : List ℕ) → Some (u, r) ≡ capped_pair p → (v : Token) × (p ≡ Some (v, r))
 token_found None u r h = absurd (cc)
-token_found (Some (v, s)) u r h = (v, ap (λ (w : Token × List ℕ). Some (v, w.1)) (sym (some_same (u, r) (capped_token v, s) h)))
+token_found (Some (v, s)) u r h = (v, ap (λ (w : Token × List ℕ). Some (v, w.1)) (sym (same_Some (u, r) (capped_token v, s) h)))
 
 pub token_less : (u : Token) (ts r : List ℕ) → Some (u, r) ≡ capped_pair (read_token ts) → length r < length ts
 token_less u ts r h = let p = token_found (read_token ts) u r h in token_shorter p.0 ts r p.1

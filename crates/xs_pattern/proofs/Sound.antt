@@ -7,6 +7,7 @@ use Rattle.std.specs.Str.Parse.{digits_value}
 use Rattle.std.proofs.lemmas.Bool.{eqb-true, leb-true, le-leb}
 use Rattle.std.proofs.lemmas.List.{take-append-drop}
 use Rattle.std.proofs.lemmas.List.Folds.{length-prefix_len}
+use Rattle.std.proofs.lemmas.Option.{same_Some}
 use Rattle.xs_pattern.specs.declared.expression.Item.{Item}
 use Rattle.xs_pattern.specs.declared.expression.Item.TheVariants as Items
 use Rattle.xs_pattern.specs.declared.expression.Kind.{Kind}
@@ -18,9 +19,6 @@ use Rattle.xs_pattern.specs.Regex.{Members, dot, item, class}
 use Rattle.xs_pattern.proofs.Choices.{chosen, not_true}
 use Rattle.xs_pattern.proofs.Reading.{and_parts, or_cases}
 
-pub some_same : {A : Type 0} (x y : A) → Some x ≡ Some y → x ≡ y
-some_same x y h = cc
-
 either_way : {A : Type 0} (a b : Option A) (v : A) (P : Type 0) → or_else a b ≡ Some v → (a ≡ Some v → P) → (b ≡ Some v → P) → P
 either_way None b v P h f g = g h
 either_way (Some x) b v P h f g = f h
@@ -28,7 +26,7 @@ either_way (Some x) b v P h f g = f h
 with_rest_is : {A : Type 0} (o : Option A) (s : List ℕ) (a : A) (r : List ℕ) → with_rest o s ≡ Some (a, r) → (o ≡ Some a) × (s ≡ r)
 with_rest_is None s a r h = absurd (cc)
 with_rest_is {A} (Some x) s a r h =
-    let e = some_same (x, s) (a, r) h in (ap (λ (w : A × List ℕ). Some w.0) e, ap (λ (w : A × List ℕ). w.1) e)
+    let e = same_Some (x, s) (a, r) h in (ap (λ (w : A × List ℕ). Some w.0) e, ap (λ (w : A × List ℕ). w.1) e)
 
 pub begins_with : (c : ℕ) (ts : List ℕ) → begins c ts ≡ true → ts ≡ c ∷ tail ts
 begins_with c [] h = absurd (cc)
@@ -72,7 +70,7 @@ named_category [] name k all h = absurd (cc)
 named_category (entry ∷ entries) name k all h =
     let p = and_parts (is_category entry.1) (list_all (λ e. is_category e.1) entries) all in
     chosen (is_same entry.0 name) (Some entry.1) (named entries name) k (is_category k ≡ true) h
-    (λ t e. ap is_category (sym (some_same entry.1 k e)) ∙ p.0)
+    (λ t e. ap is_category (sym (same_Some entry.1 k e)) ∙ p.0)
     (λ t e. named_category entries name k p.1 e)
 
 all_categories : list_all (λ entry. is_category entry.1) categories ≡ true
@@ -91,19 +89,19 @@ kind_item_sound : (negated : Bool) (o : Option (Kind × List ℕ)) (x : Item) (r
 kind_item_sound true None x r cs p h sound letter = absurd (cc)
 kind_item_sound false None x r cs p h sound letter = absurd (cc)
 kind_item_sound true (Some (k, m)) x r cs p h sound letter =
-    let e = some_same (Items.Not k, m) (x, r) h in
+    let e = same_Some (Items.Not k, m) (x, r) h in
     let q = sound k m refl in
     subst (λ (v : Item × List ℕ). SpellsEscape v.0 (92 ∷ p ∷ cs) v.1) e
     (kind_sound 68 83 87 80 k (92 ∷ p ∷ cs) m (q.0, q.1, λ i. 92 ∷ letter i ∷ q.2 i))
 kind_item_sound false (Some (k, m)) x r cs p h sound letter =
-    let e = some_same (Items.Kind k, m) (x, r) h in
+    let e = same_Some (Items.Kind k, m) (x, r) h in
     let q = sound k m refl in
     subst (λ (v : Item × List ℕ). SpellsEscape v.0 (92 ∷ p ∷ cs) v.1) e
     (kind_sound 100 115 119 112 k (92 ∷ p ∷ cs) m (q.0, q.1, λ i. 92 ∷ letter i ∷ q.2 i))
 
 is_letter : (c k : ℕ) (x y : Item) (r : List ℕ) → nat_eq c k ≡ true → Some y ≡ Some x → SpellsEscape y (92 ∷ k ∷ r) r → SpellsEscape x (92 ∷ c ∷ r) r
 is_letter c k x y r t e s =
-    subst (λ v. SpellsEscape v (92 ∷ c ∷ r) r) (some_same y x e) (subst (λ v. SpellsEscape y (92 ∷ v ∷ r) r) (sym (eqb-true c k t)) s)
+    subst (λ v. SpellsEscape v (92 ∷ c ∷ r) r) (same_Some y x e) (subst (λ v. SpellsEscape y (92 ∷ v ∷ r) r) (sym (eqb-true c k t)) s)
 
 letter_sound : (c : ℕ) (x : Item) (r : List ℕ) → letter_item c ≡ Some x → SpellsEscape x (92 ∷ c ∷ r) r
 letter_sound c x r h =
@@ -131,7 +129,7 @@ single_sound (c ∷ cs) r d h = let p = with_rest_is (escaped c) cs d r h in (c,
 char_item_sound : (o : Option (ℕ × List ℕ)) (x : Item) (cs r : List ℕ) → char_item o ≡ Some (x, r) → ((d : ℕ) (m : List ℕ) → o ≡ Some (d, m) → SpellsEscape (Items.Char d) (92 ∷ cs) m) → SpellsEscape x (92 ∷ cs) r
 char_item_sound None x cs r h sound = absurd (cc)
 char_item_sound (Some (d, m)) x cs r h sound =
-    subst (λ (v : Item × List ℕ). SpellsEscape v.0 (92 ∷ cs) v.1) (some_same (Items.Char d, m) (x, r) h) (sound d m refl)
+    subst (λ (v : Item × List ℕ). SpellsEscape v.0 (92 ∷ cs) v.1) (same_Some (Items.Char d, m) (x, r) h) (sound d m refl)
 
 pub escape_sound : (cs r : List ℕ) (x : Item) → read_escape cs ≡ Some (x, r) → SpellsEscape x (92 ∷ cs) r
 escape_sound cs r x h =
@@ -155,7 +153,7 @@ char_sound is_first d (c ∷ cs) r h =
     chosen (nat_eq c 92) (read_single cs) (cond (is_own is_first c cs) (Some (c, cs)) None) (d, r) (SpellsChar is_first d (c ∷ cs) r) h
     (λ t e. inl (subst (λ v. SpellsEscape (Items.Char d) (v ∷ cs) r) (sym (eqb-true c 92 t)) (single_sound cs r d e)))
     (λ t h. chosen (is_own is_first c cs) (Some (c, cs)) None (d, r) (SpellsChar is_first d (c ∷ cs) r) h
-    (λ t e. subst (λ (v : ℕ × List ℕ). SpellsChar is_first v.0 (c ∷ cs) v.1) (some_same (c, cs) (d, r) e) (own_sound is_first c cs t))
+    (λ t e. subst (λ (v : ℕ × List ℕ). SpellsChar is_first v.0 (c ∷ cs) v.1) (same_Some (c, cs) (d, r) e) (own_sound is_first c cs t))
     (λ t e. absurd (cc)))
 
 escape_is_item : (is_first : Bool) (x : Item) (ts r : List ℕ) → SpellsEscape x ts r → SpellsItem is_first x ts r
@@ -178,7 +176,7 @@ up_to_sound : (is_first : Bool) (a : ℕ) (o : Option (ℕ × List ℕ)) (x : It
 up_to_sound is_first a None x ts m r h from sound = absurd (cc)
 up_to_sound is_first a (Some (b, v)) x ts m r h from sound =
     chosen (nat_le a b) (Some (Items.Range a b, v)) None (x, r) (SpellsItem is_first x ts r) h
-    (λ t e. subst (λ (w : Item × List ℕ). SpellsItem is_first w.0 ts w.1) (some_same (Items.Range a b, v) (x, r) e) (m, from, sound b v refl, leb-true a b t))
+    (λ t e. subst (λ (w : Item × List ℕ). SpellsItem is_first w.0 ts w.1) (same_Some (Items.Range a b, v) (x, r) e) (m, from, sound b v refl, leb-true a b t))
     (λ t e. absurd (cc))
 
 ranged_sound : (is_first : Bool) (o : Option (ℕ × List ℕ)) (x : Item) (ts r : List ℕ) → ranged o ≡ Some (x, r) → ((d : ℕ) (m : List ℕ) → o ≡ Some (d, m) → SpellsChar is_first d ts m) → SpellsItem is_first x ts r
@@ -186,7 +184,7 @@ ranged_sound is_first None x ts r h sound = absurd (cc)
 ranged_sound is_first (Some (d, m)) x ts r h sound =
     chosen (is_range m) (up_to d (read_char false (tail m))) (Some (Items.Char d, m)) (x, r) (SpellsItem is_first x ts r) h
     (λ t e. up_to_sound is_first d (read_char false (tail m)) x ts (tail m) r e (subst (λ v. SpellsChar is_first d ts v) (range_begins m t) (sound d m refl)) (λ b v. char_sound false b (tail m) v))
-    (λ t e. subst (λ (w : Item × List ℕ). SpellsItem is_first w.0 ts w.1) (some_same (Items.Char d, m) (x, r) e) (sound d m refl))
+    (λ t e. subst (λ (w : Item × List ℕ). SpellsItem is_first w.0 ts w.1) (same_Some (Items.Char d, m) (x, r) e) (sound d m refl))
 
 pub item_sound : (is_first : Bool) (x : Item) (ts r : List ℕ) → read_item is_first ts ≡ Some (x, r) → SpellsItem is_first x ts r
 item_sound is_first x ts r h =
@@ -198,7 +196,7 @@ item_sound is_first x ts r h =
 item_before_is : (x : Item) (o : Option (List Item × List ℕ)) (xs : List Item) (r : List ℕ) → item_before x o ≡ Some (xs, r) → (ys : List Item) × (o ≡ Some (ys, r)) × (xs ≡ x ∷ ys)
 item_before_is x None xs r h = absurd (cc)
 item_before_is x (Some (ys, s)) xs r h =
-    let e = some_same (x ∷ ys, s) (xs, r) h in (ys, ap (λ (w : List Item × List ℕ). Some (ys, w.1)) e, ap (λ (w : List Item × List ℕ). w.0) (sym e))
+    let e = same_Some (x ∷ ys, s) (xs, r) h in (ys, ap (λ (w : List Item × List ℕ). Some (ys, w.1)) e, ap (λ (w : List Item × List ℕ). w.0) (sym e))
 
 item_then_is : (go : List ℕ → Option (List Item × List ℕ)) (o : Option (Item × List ℕ)) (xs : List Item) (r : List ℕ) → item_then go o ≡ Some (xs, r) → (x : Item) × (m : List ℕ) × (ys : List Item) × (o ≡ Some (x, m)) × (go m ≡ Some (ys, r)) × (xs ≡ x ∷ ys)
 item_then_is go None xs r h = absurd (cc)
@@ -208,7 +206,7 @@ within_sound : (n : ℕ) (ts r : List ℕ) (xs : List Item) → items_within n t
 within_sound zero ts r xs h = absurd (cc)
 within_sound (suc n) ts r xs h =
     chosen (is_end ts) (Some ([], ts)) (item_then (λ v. items_within n v) (read_item false ts)) (xs, r) (SpellsMore xs ts r × (is_end r ≡ true)) h
-    (λ t e. subst (λ (w : List Item × List ℕ). SpellsMore w.0 ts w.1 × (is_end w.1 ≡ true)) (some_same ([], ts) (xs, r) e) (refl, t))
+    (λ t e. subst (λ (w : List Item × List ℕ). SpellsMore w.0 ts w.1 × (is_end w.1 ≡ true)) (same_Some ([], ts) (xs, r) e) (refl, t))
     (λ t e. let p = item_then_is (λ v. items_within n v) (read_item false ts) xs r e in
     let rest = within_sound n p.1 r p.2 p.4 in
     subst (λ v. SpellsMore v ts r × (is_end r ≡ true)) (sym p.5) ((p.1, item_sound false p.0 ts p.1 p.3, rest.0), rest.1))
@@ -230,14 +228,14 @@ opening_sound b [] a h = absurd (cc)
 opening_sound b (c ∷ cs) a h =
     chosen (nat_eq c 91) (cond (begins 94 cs) (Some (true, tail cs)) (Some (false, cs))) None (b, a) (SpellsOpening b (c ∷ cs) a) h
     (λ bracket h. chosen (begins 94 cs) (Some (true, tail cs)) (Some (false, cs)) (b, a) (SpellsOpening b (c ∷ cs) a) h
-    (λ t e. subst (λ (w : Bool × List ℕ). SpellsOpening w.0 (c ∷ cs) w.1) (some_same (true, tail cs) (b, a) e) (λ i. eqb-true c 91 bracket i ∷ begins_with 94 cs t i))
-    (λ t e. subst (λ (w : Bool × List ℕ). SpellsOpening w.0 (c ∷ cs) w.1) (some_same (false, cs) (b, a) e) (λ i. eqb-true c 91 bracket i ∷ cs, not_begun 94 cs t)))
+    (λ t e. subst (λ (w : Bool × List ℕ). SpellsOpening w.0 (c ∷ cs) w.1) (same_Some (true, tail cs) (b, a) e) (λ i. eqb-true c 91 bracket i ∷ begins_with 94 cs t i))
+    (λ t e. subst (λ (w : Bool × List ℕ). SpellsOpening w.0 (c ∷ cs) w.1) (same_Some (false, cs) (b, a) e) (λ i. eqb-true c 91 bracket i ∷ cs, not_begun 94 cs t)))
     (λ t e. absurd (cc))
 
 members_are : (b : Bool) (o : Option (List Item × List ℕ)) (m : Members) (r : List ℕ) → members b o ≡ Some (m, r) → (m.negated ≡ b) × (o ≡ Some (m.items, r))
 members_are b None m r h = absurd (cc)
 members_are b (Some (xs, s)) m r h =
-    let e = some_same (record { negated = b; items = xs }, s) (m, r) h in
+    let e = same_Some (record { negated = b; items = xs }, s) (m, r) h in
     (ap (λ (w : Members × List ℕ). (w.0).negated) (sym e), ap (λ (w : Members × List ℕ). Some ((w.0).items, w.1)) e)
 
 members_then_sound : (o : Option (Bool × List ℕ)) (m : Members) (ts r : List ℕ) → members_then o ≡ Some (m, r) → ((b : Bool) (a : List ℕ) → o ≡ Some (b, a) → SpellsOpening b ts a) → SpellsMembers m ts r × (is_end r ≡ true)
@@ -259,7 +257,7 @@ Groups (m ∷ (n ∷ ms)) ts r = (a : List ℕ) × SpellsMembers m ts (45 ∷ a)
 group_before_is : (m : Members) (o : Option (List Members × List ℕ)) (ms : List Members) (r : List ℕ) → group_before m o ≡ Some (ms, r) → (ns : List Members) × (o ≡ Some (ns, r)) × (ms ≡ m ∷ ns)
 group_before_is m None ms r h = absurd (cc)
 group_before_is m (Some (ns, s)) ms r h =
-    let e = some_same (m ∷ ns, s) (ms, r) h in (ns, ap (λ (w : List Members × List ℕ). Some (ns, w.1)) e, ap (λ (w : List Members × List ℕ). w.0) (sym e))
+    let e = same_Some (m ∷ ns, s) (ms, r) h in (ns, ap (λ (w : List Members × List ℕ). Some (ns, w.1)) e, ap (λ (w : List Members × List ℕ). w.0) (sym e))
 
 group_more : (m : Members) (ns : List Members) (ts a r : List ℕ) → SpellsMembers m ts (45 ∷ a) → Groups ns a r → Groups (m ∷ ns) ts r
 group_more m [] ts a r h rest = absurd rest
@@ -271,7 +269,7 @@ groups_then_sound go (Some (m, b)) ms ts r h sound rest =
     chosen (begins 45 b) (group_before m (go (tail b))) (Some (m ∷ [], b)) (ms, r) (Groups ms ts r) h
     (λ t e. let p = group_before_is m (go (tail b)) ms r e in
     subst (λ v. Groups v ts r) (sym p.2) (group_more m p.0 ts (tail b) r (subst (λ v. SpellsMembers m ts v) (begins_with 45 b t) (sound m b refl)) (rest p.0 (tail b) r p.1)))
-    (λ t e. subst (λ (w : List Members × List ℕ). Groups w.0 ts w.1) (some_same (m ∷ [], b) (ms, r) e) (sound m b refl))
+    (λ t e. subst (λ (w : List Members × List ℕ). Groups w.0 ts w.1) (same_Some (m ∷ [], b) (ms, r) e) (sound m b refl))
 
 groups_sound : (k : ℕ) (ms : List Members) (ts r : List ℕ) → groups_within k ts ≡ Some (ms, r) → Groups ms ts r
 groups_sound zero ms ts r h = absurd (cc)
@@ -310,13 +308,13 @@ closing_sound : (n : ℕ) (b r : List ℕ) → behind_closing n b ≡ Some r →
 closing_sound n b r h =
     chosen (nat_le n (length b) && list_all (λ c. nat_eq c 93) (take n b)) (Some (drop n b)) None r (b ≡ closing n r) h
     (λ t e. let p = and_parts (nat_le n (length b)) (list_all (λ c. nat_eq c 93) (take n b)) t in
-    brackets n b p.0 p.1 ∙ ap (closing n) (some_same (drop n b) r e))
+    brackets n b p.0 p.1 ∙ ap (closing n) (same_Some (drop n b) r e))
     (λ t e. absurd (cc))
 
 paired : (ms : List Members) (o : Option (List ℕ)) (ns : List Members) (r : List ℕ) → option_map (with_members ms) o ≡ Some (ns, r) → (ms ≡ ns) × (o ≡ Some r)
 paired ms None ns r h = absurd (cc)
 paired ms (Some v) ns r h =
-    let e = some_same (ms, v) (ns, r) h in (ap (λ (w : List Members × List ℕ). w.0) e, ap (λ (w : List Members × List ℕ). Some w.1) e)
+    let e = same_Some (ms, v) (ns, r) h in (ap (λ (w : List Members × List ℕ). w.0) e, ap (λ (w : List Members × List ℕ). Some w.1) e)
 
 closed_is : (o : Option (List Members × List ℕ)) (ms : List Members) (r : List ℕ) → closed o ≡ Some (ms, r) → (b : List ℕ) × (o ≡ Some (ms, b)) × (b ≡ closing (length ms) r)
 closed_is None ms r h = absurd (cc)
@@ -358,7 +356,7 @@ pub digits_sound : (ts ds r : List ℕ) → read_digits ts ≡ Some (ds, r) → 
 digits_sound ts ds r h =
     chosen (nat_eq (digit_count ts) 0) None (Some (take (digit_count ts) ts, drop (digit_count ts) ts)) (ds, r) (Digits ds ts r) h
     (λ t e. absurd (cc))
-    (λ t e. subst (λ (w : List ℕ × List ℕ). Digits w.0 ts w.1) (some_same (take (digit_count ts) ts, drop (digit_count ts) ts) (ds, r) e) (
+    (λ t e. subst (λ (w : List ℕ × List ℕ). Digits w.0 ts w.1) (same_Some (take (digit_count ts) ts, drop (digit_count ts) ts) (ds, r) e) (
       (let some = not_none (digit_count ts) t in let e = length-prefix_len is_ascii_digit ts in omega arith),
       all_digits ts,
       sym (take-append-drop (digit_count ts) ts),
@@ -527,7 +525,7 @@ token_sound u ts r h = subst (λ v. Reads ts v) h (token_reads ts)
 
 token_before_is : (u : Token) (o : Option (List Token)) (us : List Token) → token_before u o ≡ Some us → (vs : List Token) × (o ≡ Some vs) × (us ≡ u ∷ vs)
 token_before_is u None us h = absurd (cc)
-token_before_is u (Some vs) us h = (vs, refl, sym (some_same (u ∷ vs) us h))
+token_before_is u (Some vs) us h = (vs, refl, sym (same_Some (u ∷ vs) us h))
 
 tokens_then_is : (go : List ℕ → Option (List Token)) (o : Option (Token × List ℕ)) (us : List Token) → tokens_then go o ≡ Some us → (u : Token) × (r : List ℕ) × (vs : List Token) × (o ≡ Some (u, r)) × (go r ≡ Some vs) × (us ≡ u ∷ vs)
 tokens_then_is go None us h = absurd (cc)
@@ -535,7 +533,7 @@ tokens_then_is go (Some (u, r)) us h = let p = token_before_is u (go r) us h in 
 
 tokens_within_sound : (k : ℕ) (ts : List ℕ) (us : List Token) → tokens_within k ts ≡ Some us → SpellsTokens us ts
 tokens_within_sound zero ts us h = absurd (cc)
-tokens_within_sound (suc k) [] us h = subst (λ v. SpellsTokens v []) (some_same [] us h) refl
+tokens_within_sound (suc k) [] us h = subst (λ v. SpellsTokens v []) (same_Some [] us h) refl
 tokens_within_sound (suc k) (c ∷ cs) us h =
     let p = tokens_then_is (λ r. tokens_within k r) (read_token (c ∷ cs)) us h in
     subst (λ v. SpellsTokens v (c ∷ cs)) (sym p.5) (p.1, token_sound p.0 (c ∷ cs) p.1 p.3, tokens_within_sound k p.1 p.2 p.4)

@@ -31,11 +31,12 @@ point_at_end (x ∷ xs) h =
     let rest = point_at_end xs parts.1 in
     ap (λ b. cond (not b) (1 + position_or_len (λ c. eqb c 46) xs) 0) other ∙ omega arith
 
-pub record IsWhole (text : List ℕ) : Type 0 where
+-- an integer text: its whole part is all behind the sign, and it has no fraction
+pub record IsIntegerText (text : List ℕ) : Type 0 where
   pub whole : whole_part text ≡ unsigned_part text
   pub fraction : fraction_part text ≡ []
 
-pub whole_from_integer : (text : List ℕ) → is_integer text ≡ true → IsWhole text
+pub whole_from_integer : (text : List ℕ) → is_integer text ≡ true → IsIntegerText text
 whole_from_integer text h =
     let parts = and_parts (ltb 0 (length (unsigned_part text))) (are_digits (unsigned_part text)) h in
     let end = point_at_end (unsigned_part text) parts.1 in

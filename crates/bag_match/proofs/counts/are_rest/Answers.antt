@@ -1,6 +1,6 @@
 use Rattle.std.proofs.Common.{◌≡◌, ℕ}
 use Rattle.schema_tree.specs.Places.{times}
-use Rattle.bag_match.proofs.Allowed.{neither}
+use Rattle.lists.proofs.Tests.{neither}
 use Rattle.bag_match.proofs.Counting.{is_rest, not_all_rest, rest_next}
 use Rattle.bag_match.proofs.counts.are_rest.Goals as goal
 

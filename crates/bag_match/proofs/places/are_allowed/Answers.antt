@@ -1,5 +1,6 @@
 use Rattle.std.proofs.Common.{◌∙◌}
-use Rattle.bag_match.proofs.Allowed.{as_many, neither}
+use Rattle.lists.proofs.Tests.{neither}
+use Rattle.bag_match.proofs.Allowed.{as_many}
 use Rattle.schema_tree.specs.Places.{AreAllowed}
 use Rattle.bag_match.proofs.places.are_allowed.Goals as goal
 

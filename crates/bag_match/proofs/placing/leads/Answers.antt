@@ -5,7 +5,7 @@ use Rattle.std.specs.Prelude.{Contains}
 use Rattle.lists.proofs.Halving.{halves}
 use Rattle.bag_match.specs.Counts.{raised}
 use Rattle.bag_match.specs.Layers.{counts_of}
-use Rattle.bag_match.proofs.Allowed.{holds_so, neither}
+use Rattle.lists.proofs.Tests.{holds_so, neither}
 use Rattle.bag_match.proofs.Comparing.{found_led, missed_led}
 use Rattle.bag_match.proofs.placing.leads.Goals as goal
 

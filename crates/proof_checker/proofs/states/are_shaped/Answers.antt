@@ -1,6 +1,6 @@
 use Rattle.std.proofs.Common.{inl, inr, refl, subst, ◌∙◌}
 use Rattle.proof_checker.specs.Stated.{AreShapedBy, IsShapedBy}
-use Rattle.bag_match.proofs.Allowed.{holds_so}
+use Rattle.lists.proofs.Tests.{holds_so}
 use Rattle.proof_checker.proofs.Stating.{all_taken, take_cases}
 use Rattle.proof_checker.proofs.states.are_shaped.Goals as goal
 

@@ -1,6 +1,6 @@
 use Rattle.std.proofs.Common.{rules, Ok, Err}
 use Rattle.std.specs.Prelude.{Contains}
-use Rattle.bag_match.proofs.Allowed.{holds_so, neither}
+use Rattle.lists.proofs.Tests.{holds_so, neither}
 use Rattle.bag_match.specs.Counts.{state_of}
 use Rattle.proof_checker.specs.Stated.{compare_states}
 use Rattle.lists.proofs.Halving.{halves}

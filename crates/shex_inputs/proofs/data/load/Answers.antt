@@ -2,8 +2,8 @@ use Rattle.std.proofs.Common.{length}
 use Rattle.std.proofs.lemmas.Result.{err_from_is_err_and}
 use Rattle.data_reader.specs.Documents.{context_of}
 use Rattle.schema_documents.specs.Tree.{Declaration, Document, decl_of, document_of}
-use Rattle.shex_inputs.proofs.Based.{based, expr_loadable, few_first, from_empty, loading_stops, room}
 use Rattle.shex_inputs.proofs.Counted.{of_table}
+use Rattle.shex_inputs.proofs.Holdings.{expr_loadable, few_first, from_empty, is_holding, loading_stops, room}
 use Rattle.shex_inputs.proofs.data.load.Goals as goal
 
 pub returns-clause-read : goal.returns-clause-read
@@ -11,7 +11,7 @@ returns-clause-read c =
     let (triples, spelled, loads) = c.in_ok-graph.ensures.read in
     let own : Document = document_of c.args.doc in
     let only : Declaration = decl_of c.only_declaration-label.result in
-    (triples, spelled, based own only c.only_declaration-label.ensures c.requires.loadable triples (context_of c.in_ok-graph.names) c.in-Ok.declared c.in-Ok-make_schema.schema c.in_ok-graph.graph.triples c.new-terms.result c.in_numbers.new.terms c.read_data.new.terms c.new-terms.ensures c.in-Ok.ensures.added c.in-Ok.ensures.numbered c.in-Ok-make_schema.ensures c.in_ok-graph.ensures.distinct loads c.in_ok-graph.ensures.within)
+    (triples, spelled, is_holding own only c.only_declaration-label.ensures c.requires.loadable triples (context_of c.in_ok-graph.names) c.in-Ok.declared c.in-Ok-make_schema.schema c.in_ok-graph.graph.triples c.new-terms.result c.in_numbers.new.terms c.read_data.new.terms c.new-terms.ensures c.in-Ok.ensures.added c.in-Ok.ensures.numbered c.in-Ok-make_schema.ensures c.in_ok-graph.ensures.distinct loads c.in_ok-graph.ensures.within)
 
 pub returns-clause-room : goal.returns-clause-room
 returns-clause-room c =

@@ -39,9 +39,9 @@ returns-in_err-bytes-clause-cause g c = λ map_name.
 
 pub returns-in-Ok-clause-taken : goal.returns-in-Ok-clause-taken
 returns-in-Ok-clause-taken g c = λ map_name.
-    let (triples, spelled, based) = c.in-Ok.ensures.read in
+    let (triples, spelled, holding) = c.in-Ok.ensures.read in
     are_taken (g.F.Files.told c.args.files.now) (inputs_with c.args.inputs.now map_name) (held_by c.in-Ok.holding) c.of_name-format.result (document_of c.in_ok-doc.doc) c.in_ok-bytes.bytes.items c.as_slice.result.now triples (c.in_ok-doc.ensures.taken map_name)
-    (subst (λ t. IsFile t c.args.inputs.now.data.now c.in_ok-bytes.bytes.items) c.in_ok-doc.ensures.told_stays c.in_ok-bytes.ensures.bytes) c.of_name-format.ensures c.as_slice.ensures.value spelled based
+    (subst (λ t. IsFile t c.args.inputs.now.data.now c.in_ok-bytes.bytes.items) c.in_ok-doc.ensures.told_stays c.in_ok-bytes.ensures.bytes) c.of_name-format.ensures c.as_slice.ensures.value spelled holding
 
 pub returns-in_err-bytes-clause-before_map : goal.returns-in_err-bytes-clause-before_map
 returns-in_err-bytes-clause-before_map g c =

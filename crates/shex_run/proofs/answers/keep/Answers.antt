@@ -19,7 +19,7 @@ unreachable-requires g c = there c.args.decided.proof c.args.validation.now.proo
 
 pub returns-clause-response : goal.returns-clause-response
 returns-clause-response g c =
-    let task : IsToValidate (command_of (Lent.Validate c.args.validation.now)) c.args.validation.now.map.now (option_map (λ s. s.now) c.args.validation.now.proof) = record { steps = c.args.validation.now.budget; task = refl } in
+    let task : IsToValidate (command_of (Lent.Validate c.args.validation.now)) c.args.validation.now.map.now (option_map (λ s. s.now) c.args.validation.now.proof) = record { budget = c.args.validation.now.budget; task = refl } in
     let own : IsReplyProof c.requires.question c.requires.answers c.in-Some-proof.proof = subst (λ o. IfSome o (IsReplyProof c.requires.question c.requires.answers)) c.in-Some-proof.is c.requires.proof in
     stored (g.F.Files.told c.args.files.now) (command_of (Lent.Validate c.args.validation.now)) c.args.validation.now.map.now (option_map (λ s. s.now) c.args.validation.now.proof) task c.requires.question c.requires.answers c.requires.are_answers
     c.args.decided.text.items c.args.decided.status c.requires.text_is c.requires.status_is c.in-Some.name.now c.as_slice.result.now (ap (option_map (λ s. s.now)) c.in-Some.is)
@@ -28,7 +28,7 @@ returns-clause-response g c =
 pub returns-in_err-store-clause-cause : goal.returns-in_err-store-clause-cause
 returns-in_err-store-clause-cause g c =
     let p = err_from_is_err_and c.from_residual.result c.from_residual.ensures.1 in
-    let task : IsToValidate (command_of (Lent.Validate c.args.validation.now)) c.args.validation.now.map.now (option_map (λ s. s.now) c.args.validation.now.proof) = record { steps = c.args.validation.now.budget; task = refl } in
+    let task : IsToValidate (command_of (Lent.Validate c.args.validation.now)) c.args.validation.now.map.now (option_map (λ s. s.now) c.args.validation.now.proof) = record { budget = c.args.validation.now.budget; task = refl } in
     let own : IsReplyProof c.requires.question c.requires.answers c.in-Some-proof.proof = subst (λ o. IfSome o (IsReplyProof c.requires.question c.requires.answers)) c.in-Some-proof.is c.requires.proof in
     rw (p.1, p.2)
     ((store_stopped (g.F.Files.told c.args.files.now) (command_of (Lent.Validate c.args.validation.now)) c.args.validation.now.map.now (option_map (λ s. s.now) c.args.validation.now.proof) task c.requires.question c.requires.answers c.requires.are_answers
@@ -38,7 +38,7 @@ returns-in_err-store-clause-cause g c =
 pub returns-in_err-store-clause-stored : goal.returns-in_err-store-clause-stored
 returns-in_err-store-clause-stored g c =
     let p = err_from_is_err_and c.from_residual.result c.from_residual.ensures.1 in
-    let task : IsToValidate (command_of (Lent.Validate c.args.validation.now)) c.args.validation.now.map.now (option_map (λ s. s.now) c.args.validation.now.proof) = record { steps = c.args.validation.now.budget; task = refl } in
+    let task : IsToValidate (command_of (Lent.Validate c.args.validation.now)) c.args.validation.now.map.now (option_map (λ s. s.now) c.args.validation.now.proof) = record { budget = c.args.validation.now.budget; task = refl } in
     let own : IsReplyProof c.requires.question c.requires.answers c.in-Some-proof.proof = subst (λ o. IfSome o (IsReplyProof c.requires.question c.requires.answers)) c.in-Some-proof.is c.requires.proof in
     rw (p.1, p.2)
     ((store_stopped (g.F.Files.told c.args.files.now) (command_of (Lent.Validate c.args.validation.now)) c.args.validation.now.map.now (option_map (λ s. s.now) c.args.validation.now.proof) task c.requires.question c.requires.answers c.requires.are_answers

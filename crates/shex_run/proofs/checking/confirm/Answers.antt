@@ -16,7 +16,7 @@ use Rattle.shex_run.proofs.checking.confirm.Goals as goal
 
 pub check-checked-requires-clause-stratified : goal.check-checked-requires-clause-stratified
 check-checked-requires-clause-stratified c =
-    let (doc, triples, is) = c.requires.base in
+    let (doc, triples, is) = c.requires.holding in
     let held : Held = held_by c.args.holding in
     no_cycle held.schema (simple_schema held.terms doc held.schema is.stands is.built)
 
@@ -31,7 +31,7 @@ write_result-requires c = λ a h.
 
 pub returns-in-Ok-write_result-clause-confirmed : goal.returns-in-Ok-write_result-clause-confirmed
 returns-in-Ok-write_result-clause-confirmed c =
-    let (doc, triples, is) = c.requires.base in
+    let (doc, triples, is) = c.requires.holding in
     let terms = c.check-checked.new.terms in
     let held : Held = held_by c.args.holding in
     let simple : IsSimpleSchema held.schema = simple_schema held.terms doc held.schema is.stands is.built in

@@ -6,7 +6,7 @@ use Rattle.schema_tree.specs.declared.verdicts.Place.{Place}
 use Rattle.schema_tree.specs.declared.verdicts.Place.TheVariants.{Rest}
 use Rattle.bag_match.specs.Counts.{state_of}
 use Rattle.proof_checker.specs.Stated.{LeadsOn}
-use Rattle.bag_match.proofs.Allowed.{neither}
+use Rattle.lists.proofs.Tests.{neither}
 use Rattle.proof_checker.proofs.Stating.{all_places, one_more_leads}
 use Rattle.proof_checker.proofs.states.Listing.all_lead_on.Goals as goal
 

@@ -4,7 +4,7 @@ use Rattle.std.proofs.lemmas.Result.{IfOk-weaker}
 use Rattle.schema_tree.specs.declared.verdicts.State.{State}
 use Rattle.proof_file.specs.Accepts.{AreStates}
 use Rattle.proof_checker.specs.Stated.{IsSettled}
-use Rattle.bag_match.proofs.Allowed.{neither}
+use Rattle.lists.proofs.Tests.{neither}
 use Rattle.proof_checker.proofs.Stating.{both_ok, states_fail, states_shaped}
 use Rattle.proof_checker.proofs.states.Listing.are_states.Goals as goal
 

@@ -1,5 +1,5 @@
--- What is read into one table in turn is a base, and there is one base for a document and triples.
-use Rattle.std.proofs.Common.{◌≡◌, ◌∙◌, ap, sym, subst, refl, ℕ, zero, suc, ◌≤◌, ◌+◌, ◌*◌, List, [], ◌∷◌, ◌++◌, arith, length}
+-- What is read into one table in turn is a holding, and there is one holding for a document and triples.
+use Rattle.std.proofs.Common.{◌≡◌, ◌∙◌, ap, sym, subst, refl, ℕ, ◌≤◌, ◌+◌, ◌*◌, List, [], ◌∷◌, arith, length}
 use Rattle.std.specs.Prelude.{Bool, Option, Some, None, slice_get}
 use Rattle.std.specs.List.{flat_map}
 use Rattle.std.proofs.lemmas.List.{append-nil}
@@ -14,7 +14,7 @@ use Rattle.graph_index.specs.declared.read_error.ReadError.{ReadError}
 use Rattle.graph_index.specs.declared.loading.TermTriple.{TermTriple}
 use Rattle.graph_index.specs.Loading.{IsWithin, Loads}
 use Rattle.graph_index.proofs.Loaded.{loads_grow, loads_one}
-use Rattle.lists.proofs.Additions.{all_distinct, all_one, all_few}
+use Rattle.lists.proofs.Additions.{all_distinct, all_one, all_few, kept_at}
 use Rattle.data_reader.specs.declared.format.Format.{Format}
 use Rattle.data_reader.specs.Documents.{Context}
 use Rattle.schema_tree.specs.declared.schema.Schema.{Schema}
@@ -33,15 +33,8 @@ empty_distinct i j x h k = cc
 abbrev Keeps : List Term → List Term → Type 0
 Keeps old new = (i : ℕ) (t : Term) → slice_get old i ≡ Some t → slice_get new i ≡ Some t
 
-append_keeps : (old behind : List Term) → Keeps old (old ++ behind)
-append_keeps [] behind i t h = cc
-append_keeps (x ∷ old) behind zero t h = h
-append_keeps (x ∷ old) behind (suc i) t h = append_keeps old behind i t h
-
 loads_keep : (old new : List Term) (before after : List Triple) (triples : List TermTriple) → Loads old before triples new after → Keeps old new
-loads_keep old new before after triples loads i t h =
-    let (behind, grown) = (loads_grow old new before after triples loads).0 in
-    ap (λ ts. slice_get ts i) grown ∙ append_keeps old behind i t h
+loads_keep old new before after triples loads i t h = kept_at old new i t (loads_grow old new before after triples loads).0 h
 
 arc_kept : (old new : List Term) → Keeps old new → (t : TripleExpr) (a : Arc) → IsArcOf old t a → IsArcOf new t a
 arc_kept old new keeps (triple name least most (constraint inverse predicate value)) a (number, valued) = (keeps a.predicate.0 (Terms.Iri predicate) number, valued)
@@ -93,11 +86,11 @@ module _ (doc : Document) (d : Declaration) (declares : doc.decls ≡ d ∷ []) 
   pub from_empty : (empty first : List Term) → empty ≡ [] → AddsAll empty (predicates_in d.expr) first → AddsAll [] (predicates_of doc) first
   from_empty empty first nothing takes = subst (λ xs. AddsAll [] xs first) (sym predicates_are) (subst (λ ts. AddsAll ts (predicates_in d.expr) first) nothing takes)
 
-  -- what is read is a base
-  pub based : IsLoadable doc → (triples : List TermTriple) (names : Context) (n : Declared) (s : Schema) (g : List Triple) (empty first last : List Term) →
+  -- what is read is a holding
+  pub is_holding : IsLoadable doc → (triples : List TermTriple) (names : Context) (n : Declared) (s : Schema) (g : List Triple) (empty first last : List Term) →
       empty ≡ [] → AddsAll empty (predicates_in d.expr) first → IsDeclaredAs first d.expr n → s ≡ schema_of d.label n →
       AreDistinct last → Loads first [] triples last g → IsWithin last g → IsHolding doc triples (record { schema = s; terms = last; graph = g; names = names })
-  based is triples names n s g empty first last nothing takes numbers made distinct loads within =
+  is_holding is triples names n s g empty first last nothing takes numbers made distinct loads within =
       let numbered : IsDeclaredAs last d.expr n = declared_kept first last (loads_keep first last [] g triples loads) d.expr n numbers in
       record {
         stands = subst (λ x. StandsFor last doc x) (sym made) (stands last doc (only_loadable is) n numbered);
@@ -129,7 +122,7 @@ few_first empty first x e h = let l = all_few empty first (predicates_in x) h in
 pub room : (h : Held) (first : ℕ) → first ≤ 1 → length h.terms ≤ first + 3 * length h.graph → IsWithin h.terms h.graph → HasRoom h
 room h first one terms within = let g = within.1 in record { terms = omega (arith, one, terms, g); graph = omega (arith, g) }
 
--- ---- one base
+-- ---- one holding
 
 same_node : (x : ShapeExpr) (c d : Constraint) → x ≡ node c → x ≡ node d → c ≡ d
 same_node x c d h k = by (sym h ∙ k)

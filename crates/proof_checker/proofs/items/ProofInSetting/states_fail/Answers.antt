@@ -1,6 +1,6 @@
 use Rattle.std.proofs.Common.{arith, ap, length}
 use Rattle.bag_match.proofs.Neighbours.{relevant_few}
-use Rattle.proof_checker.proofs.items.Held.states_fail.Goals as goal
+use Rattle.proof_checker.proofs.items.ProofInSetting.states_fail.Goals as goal
 
 pub states_refute-requires-clause-few : goal.states_refute-requires-clause-few
 states_refute-requires-clause-few c =

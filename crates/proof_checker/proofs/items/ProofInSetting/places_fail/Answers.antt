@@ -2,7 +2,7 @@ use Rattle.std.proofs.Common.{arith, ap, length}
 use Rattle.std.specs.Prelude.{⊤}
 use Rattle.bag_match.proofs.Allowed.{as_many}
 use Rattle.bag_match.proofs.Neighbours.{relevant_few}
-use Rattle.proof_checker.proofs.items.Held.places_fail.Goals as goal
+use Rattle.proof_checker.proofs.items.ProofInSetting.places_fail.Goals as goal
 
 pub have_counts-requires-clause-few : goal.have_counts-requires-clause-few
 have_counts-requires-clause-few c =
