@@ -149,7 +149,7 @@ fn negated_self(alloc: Global) -> Result<Schema, Fail>
 }
 
 /// S0 = `EXTRA <p> { <p> @<S0> }`.
-fn excused_self(alloc: Global) -> Result<Schema, Fail>
+pub fn excused_self(alloc: Global) -> Result<Schema, Fail>
     ensures { IfOk result IsLoaded }
 {
     let exprs = vec![in alloc; Expr::Shape(ShapeId(0))]?;
@@ -159,7 +159,7 @@ fn excused_self(alloc: Global) -> Result<Schema, Fail>
 }
 
 /// S0 = `{ <p> NOT @<S1> }`, S1 = `EXTRA <p> { <p> @<S2> }`, S2 = `{ <p> @<S2> }`.
-fn chain(alloc: Global) -> Result<Schema, Fail>
+pub fn chain(alloc: Global) -> Result<Schema, Fail>
     ensures { IfOk result IsLoaded }
 {
     let exprs = vec![in alloc;
@@ -175,7 +175,7 @@ fn chain(alloc: Global) -> Result<Schema, Fail>
 }
 
 /// S0 = `{ <p> @<S1> }`, S1 = `{ <p> @<S0> }`.
-fn mutual(alloc: Global) -> Result<Schema, Fail>
+pub fn mutual(alloc: Global) -> Result<Schema, Fail>
     ensures { IfOk result IsLoaded }
 {
     let exprs = vec![in alloc; Expr::Shape(ShapeId(0)), Expr::Shape(ShapeId(1))]?;

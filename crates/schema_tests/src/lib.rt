@@ -5,11 +5,15 @@
 #[tactic(auto, unfolding(tally::specs::Symbols::IsDistinct, tally::specs::Span::IsSound))]
 mod counts;
 #[cfg(test)]
+mod demands;
+#[cfg(test)]
 mod documents;
 #[cfg(test)]
 mod levels;
 #[cfg(test)]
 mod matches;
+#[cfg(test)]
+mod schemas;
 #[cfg(test)]
 mod typings;
 #[cfg(test)]

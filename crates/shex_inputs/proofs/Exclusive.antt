@@ -25,6 +25,7 @@ use Rattle.shex_inputs.specs.declared.error.Source.TheVariants.{Schema as Schema
 use Rattle.shex_inputs.specs.Asked.{EndsAs, HoldsMap, IsAskedOf, Question, label_names, node_names}
 use Rattle.shex_inputs.specs.Held.{Held, HoldsData, HoldsSchema, IsHolding, IsTaken}
 use Rattle.shex_inputs.specs.Laws.{AskedIsNotLeft, HeldIsOne, InputsAreOne, LeftIsOne, QuestionIsOne, TakenIsNotLeft}
+use Rattle.shex_inputs.specs.Loading.{IsLoadable}
 use Rattle.shex_inputs.specs.Named.{Inputs, IsFile, IsTooLong, max_file, source_name, source_of}
 use Rattle.shex_inputs.specs.Outcomes.{IsAbsent}
 use Rattle.shex_inputs.specs.Refusals.{AreUnread, IsNoMap, IsNoSchema, IsRefused, IsUnresolved, Reaches}
@@ -146,7 +147,8 @@ module _ (contents : List ℕ → Option (List ℕ)) (i : Inputs) (one_text : Do
 
   passed_taken : (refusal : Refusal) → IsPassed (source_of refusal) → IsRefused told i refusal → ⊥
   passed_taken (Refusals.Size source) passed (there, long) = passed_short source passed long
-  passed_taken Refusals.NotBuilt (doc, h) u = true≢false (sym u.compact ∙ h.in_json)
+  passed_taken Refusals.NotBuilt (doc, h) (inl u) = true≢false (sym u.compact ∙ h.in_json)
+  passed_taken Refusals.NotBuilt (doc, h) (inr u) = u.unbuilt (subst IsLoadable (one_text h.bytes doc u.doc h.spelled (subst (λ bs. IsDocumentText u.doc bs) (same_bytes i.schema u.bytes h.bytes u.file.held h.file.held) u.spelled)) h.loadable)
   passed_taken (Refusals.Schema e) (doc, h) u = schema_read doc h e u
   passed_taken (Refusals.Data e) (h, x) u = data_are_read h x e u
   passed_taken (Refusals.Map e) (q, x) (inl u) = map_is_read q x e u
@@ -165,7 +167,8 @@ module _ (contents : List ℕ → Option (List ℕ)) (i : Inputs) (one_text : Do
   -- what is refused is there
   refused_there : (refusal : Refusal) → IsRefused told i refusal → Lacks told (source_name i (source_of refusal)) → ⊥
   refused_there (Refusals.Size source) (there, long) lacks = held_there (source_name i source) long.bytes long.held lacks
-  refused_there Refusals.NotBuilt u lacks = held_there i.schema u.bytes u.file.held lacks
+  refused_there Refusals.NotBuilt (inl u) lacks = held_there i.schema u.bytes u.file.held lacks
+  refused_there Refusals.NotBuilt (inr u) lacks = held_there i.schema u.bytes u.file.held lacks
   refused_there (Refusals.Schema e) u lacks = held_there i.schema u.bytes u.file.held lacks
   refused_there (Refusals.Data e) u lacks = held_there i.data_file u.bytes u.file.held lacks
   refused_there (Refusals.Map e) (inl u) lacks = held_there i.map_file u.bytes u.file.held lacks

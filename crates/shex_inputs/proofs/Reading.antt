@@ -18,12 +18,10 @@ use Rattle.shex_inputs.specs.declared.error.InputError.TheVariants.{Refused, Fai
 use Rattle.shex_inputs.specs.declared.error.Source.{Source}
 use Rattle.shex_inputs.specs.declared.error.Source.TheVariants as Sources
 use Rattle.data_reader.specs.Formats.{format_of}
-use Rattle.schema_documents.specs.Tree.{Document, ShapeExpr, conj, disj, each, include, neg, no_triple, no_expr, node, one as one_of, one_expr, one_triple, refer, shape, triple, arc, MaybeShapeExpr, MaybeTripleExpr, TripleExpr}
+use Rattle.schema_documents.specs.Tree.{Document}
 use Rattle.schema_documents.specs.declared.error.SchemaError.{SchemaError}
 use Rattle.schema_documents.specs.declared.error.SchemaError.TheVariants as SchemaErrors
-use Rattle.serde_json.specs.Data.{Data}
-use Rattle.shexj_reader.specs.Bytes.{IsCause, IsDocumentText}
-use Rattle.shexj_reader.specs.Documents.{SpellsDeclared, SpellsExpression, SpellsTripleExpr, SpellsValueExpr, SpellsValueNode}
+use Rattle.shexj_reader.specs.Bytes.{IsCause}
 use Rattle.shexj_reader.specs.Laws.{RefusedAreNone}
 use Rattle.shape_map.specs.declared.error.MapError.{MapError}
 use Rattle.shape_map.specs.declared.error.MapError.TheVariants as MapErrors
@@ -31,14 +29,13 @@ use Rattle.shape_map.specs.declared.items.Item.{Item}
 use Rattle.shape_map.specs.Selection.{UnlessMemory, refused}
 use Rattle.term_tokens.specs.Scopes.{scope_of}
 use Rattle.std.proofs.lemmas.Bool.{and_parts}
-use Rattle.std.specs.Prelude.{IsSome, Option, Some, None}
+use Rattle.std.specs.Prelude.{IsSome, None}
 use Rattle.iri_resolve.specs.Reference.{scheme_of}
 use Rattle.rdf_lex.specs.declared.prefixes.Prefixes.{Prefixes}
 use Rattle.rdf_lex.specs.Prefixes.{base_of, iri_under}
 use Rattle.command_words.specs.Checks.{is_base}
 use Rattle.shex_inputs.specs.Asked.{EndsAs, HoldsMap, base_alone, label_names, node_names}
 use Rattle.shex_inputs.specs.Held.{Held, HoldsSchema, IsHolding, IsTaken}
-use Rattle.shex_inputs.specs.Loading.{IsLoadable, IsLoadableExpr, IsLoadableExpression, IsLoadableTriple, IsLoadableValue}
 use Rattle.shex_inputs.specs.Named.{Inputs, IsFile, is_compact, source_name, source_of}
 use Rattle.shex_inputs.specs.Outcomes.{Explains, FaultsAs, IsBeforeMap, IsRefusalOf}
 use Rattle.shex_inputs.specs.Refusals.{AreUnread, IsRefused, Reaches}
@@ -83,50 +80,6 @@ fetch_before_map told name source before after blame act Memory other stay = tt
 -- the refusals of the reader of schemas
 pub schema_stops : RefusedAreNone → (bytes : List ℕ) (e : SchemaError) → IsCause bytes e → SchemaStops bytes e
 schema_stops law bytes e h = λ apart. (h, λ doc. law bytes e doc apart h)
-
--- a document that is read is loadable
-node_loadable : (e : ShapeExpr) (d : Data) → SpellsValueNode e d → IsLoadableValue (one_expr e)
-node_loadable (node c) d h = tt
-node_loadable (shape closed extra x) d h = absurd h
-node_loadable (conj es) d h = absurd h
-node_loadable (disj es) d h = absurd h
-node_loadable (neg e) d h = absurd h
-node_loadable (refer target) d h = absurd h
-
-value_loadable : (value : MaybeShapeExpr) (o : Option Data) → SpellsValueExpr value o → IsLoadableValue value
-value_loadable no_expr o h = tt
-value_loadable (one_expr e) (Some d) h = node_loadable e d h
-value_loadable (one_expr e) None h = absurd h
-
-triple_loadable : (t : TripleExpr) (d : Data) → SpellsTripleExpr t d → IsLoadableTriple t
-triple_loadable (triple name least most (arc inverse predicate value)) d h =
-    subst (λ b. IsLoadableTriple (triple name least most (arc b predicate value))) (sym h.forward) (h.at_least_once, (h.at_most_once, value_loadable value _ h.has_value))
-triple_loadable (triple name least most (each ts)) d h = absurd h
-triple_loadable (triple name least most (one_of ts)) d h = absurd h
-triple_loadable (triple name least most (include target)) d h = absurd h
-
-expression_loadable : (x : MaybeTripleExpr) (o : Option Data) → SpellsExpression x o → IsLoadableExpression x
-expression_loadable no_triple o h = tt
-expression_loadable (one_triple t) (Some d) h = triple_loadable t d h
-expression_loadable (one_triple t) None h = absurd h
-
-expr_loadable : (x : ShapeExpr) (d : Data) → SpellsDeclared x d → IsLoadableExpr x
-expr_loadable (node c) d h = tt
-expr_loadable (shape closed extra x) d h =
-    subst (λ b. IsLoadableExpr (shape b extra x)) (sym h.open_to) (subst (λ ps. IsLoadableExpr (shape false ps x)) (sym h.none_extra) (expression_loadable x _ h.has_expression))
-expr_loadable (conj es) d h = absurd h
-expr_loadable (disj es) d h = absurd h
-expr_loadable (neg e) d h = absurd h
-expr_loadable (refer target) d h = absurd h
-
-pub loadable : (doc : Document) (bytes : List ℕ) → IsDocumentText doc bytes → IsLoadable doc
-loadable doc bytes h = record {
-  none_imported = h.spelled.none_imported;
-  none_started = h.spelled.none_started;
-  decl = h.spelled.decl;
-  declares = h.spelled.declares;
-  expr = expr_loadable h.spelled.decl.expr h.spelled.only h.spelled.declared.has_expr;
-}
 
 -- a stop that is no fault of the files
 pub refused_faults : {E : Type 0} (memory : E) (refusal : E → Refusal) (e : E) (stop : InputError) (i : Inputs) (before after : ℕ) (blame : List ℕ) (act : Act) → IsRefusalOf memory refusal e stop → after ≡ before → FaultsAs i before after blame act stop

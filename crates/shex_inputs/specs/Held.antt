@@ -24,7 +24,7 @@ use Rattle.schema_tree.specs.Entries.{entry}
 use Rattle.schema_tree.specs.Loaded.{IsLoaded}
 use Rattle.shexj_reader.specs.Bytes.{IsDocumentText}
 use Rattle.shex_inputs.specs.declared.holding.Holding.{Holding}
-use Rattle.shex_inputs.specs.Loading.{IsBuilt, predicates_of}
+use Rattle.shex_inputs.specs.Loading.{IsBuilt, IsLoadable, predicates_of}
 use Rattle.shex_inputs.specs.Named.{Inputs, IsFile, is_compact}
 
 -- a schema and a graph in the numbers of one table of terms, and the base and the prefixes at the end of the data
@@ -38,12 +38,13 @@ pub record Held : Type 0 where
 abbrev pub held_by : Holding → Held
 held_by b = record { schema = b.schema; terms = b.terms; graph = b.graph.triples; names = context_of b.names }
 
--- the schema file, whose name is none of ShExC, holds the text of this document
+-- the schema file, whose name is none of ShExC, holds the text of this document, which can be put into numbers
 pub record HoldsSchema (told : Told) (i : Inputs) (doc : Document) : Type 0 where
   pub bytes : List ℕ
   pub file : IsFile told i.schema bytes
   pub in_json : is_compact i.schema ≡ false
   pub spelled : IsDocumentText doc bytes
+  pub loadable : IsLoadable doc
 
 -- the data file holds a document of these triples, in the format of the file's name and under the base of the data, with these
 -- base and prefixes at its end

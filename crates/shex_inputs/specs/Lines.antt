@@ -10,7 +10,8 @@ use Rattle.shex_inputs.specs.declared.error.Refusal.TheVariants as Refusals
 abbrev pub error_line : List ℕ → List ℕ → List ℕ → List ℕ
 error_line program place what = program ++ (codes ": " ++ (place ++ (codes ": " ++ (what ++ codes "\n"))))
 
--- why a file is refused: a schema whose file's name is one of ShExC is not built, and has no name of what is not
+-- why a file is refused: a schema in ShExC, by the name of its file, or whose document is not put into numbers yet is not built, and has no
+-- name of what is not
 abbrev pub refusal_text : Refusal → List ℕ
 refusal_text (Refusals.Size source) = codes "Size"
 refusal_text Refusals.NotBuilt = codes "NotBuilt"

@@ -25,7 +25,7 @@ use Rattle.shex_inputs.specs.declared.error.Source.{Source}
 use Rattle.shex_inputs.specs.declared.error.Source.TheVariants as Sources
 use Rattle.shex_inputs.specs.Asked.{EndsAs, HoldsMap, label_names, node_names}
 use Rattle.shex_inputs.specs.Held.{Held, HoldsSchema, IsHolding, IsTaken}
-use Rattle.shex_inputs.specs.Loading.{predicates_of}
+use Rattle.shex_inputs.specs.Loading.{IsLoadable, predicates_of}
 use Rattle.shex_inputs.specs.Named.{Inputs, IsFile, IsTooLong, is_compact, source_name}
 
 -- the steps come to a file of the inputs: those before it are taken
@@ -39,6 +39,15 @@ pub record IsCompactFile (told : Told) (i : Inputs) : Type 0 where
   pub bytes : List ℕ
   pub file : IsFile told i.schema bytes
   pub compact : is_compact i.schema ≡ true
+
+-- the schema file's bytes, within the limit, spell a document that is not put into numbers yet
+pub record IsUnbuilt (told : Told) (i : Inputs) : Type 0 where
+  pub bytes : List ℕ
+  pub file : IsFile told i.schema bytes
+  pub in_json : is_compact i.schema ≡ false
+  pub doc : Document
+  pub spelled : IsDocumentText doc bytes
+  pub unbuilt : ¬ IsLoadable doc
 
 -- the schema file's bytes, within the limit, have this cause, and they spell no document that is read
 pub record IsNoSchema (told : Told) (i : Inputs) (e : SchemaError) : Type 0 where
@@ -85,7 +94,7 @@ pub record IsUnresolved (told : Told) (i : Inputs) (e : MapError) : Type 0 where
 -- is by its bytes
 abbrev pub IsRefused : Told → Inputs → Refusal → Type 0
 IsRefused told i (Refusals.Size source) = Reaches told i source × IsTooLong told (source_name i source)
-IsRefused told i Refusals.NotBuilt = IsCompactFile told i
+IsRefused told i Refusals.NotBuilt = IsCompactFile told i ⊎ IsUnbuilt told i
 IsRefused told i (Refusals.Schema e) = IsNoSchema told i e
 IsRefused told i (Refusals.Data e) = AreUnread told i e
 IsRefused told i (Refusals.Map e) = IsNoMap told i e ⊎ IsUnresolved told i e

@@ -23,7 +23,7 @@ pub enum Source {
 pub enum Refusal {
     /// This file has more than 67,108,864 bytes.
     Size(Source),
-    /// The schema is in ShExC, by the name of its file, which is not read yet.
+    /// The schema is in ShExC, by the name of its file, which is not read yet; or its document is not put into numbers yet.
     NotBuilt,
     /// The bytes of the schema file spell no schema document that is read.
     Schema(SchemaError),

@@ -16,6 +16,7 @@ ghost use Rattle.shex_inputs.specs.Stops.{SchemaStops};
 use crate::data::load;
 use crate::error::{InputError, Refusal, Source, data_error, schema_error};
 use crate::fetch::fetch;
+use crate::loadable::is_loadable;
 use command_words::Inputs;
 use data_reader::Format;
 use graph_index::graph::Graph;
@@ -56,7 +57,8 @@ fn document_in(alloc: Global, source: &[u8]) -> Result<Doc, SchemaError>
     shexj_reader::read(alloc, source)
 }
 
-/// The schema document of the schema file. One in ShExC, by the end of its name, is not read.
+/// The schema document of the schema file. One in ShExC, by the end of its name, is not read, and one that is not put into numbers
+/// yet is not taken.
 fn read_schema<F: Files>(
     alloc: Global,
     files: &mut F,
@@ -74,7 +76,13 @@ fn read_schema<F: Files>(
         return Err(InputError::Refused(Refusal::NotBuilt));
     }
     match document_in(alloc, bytes.as_slice()) {
-        Ok(doc) => Ok(doc),
+        Ok(doc) => {
+            if is_loadable(&doc) {
+                Ok(doc)
+            } else {
+                Err(InputError::Refused(Refusal::NotBuilt))
+            }
+        }
         Err(error) => Err(schema_error(error)),
     }
 }

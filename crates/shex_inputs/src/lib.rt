@@ -8,6 +8,7 @@ mod holding;
 mod laws;
 mod lines;
 mod load;
+mod loadable;
 mod map;
 
 pub use error::{InputError, Refusal, Source};

@@ -9,16 +9,16 @@ pub because : (P Q : Fault → Type 0) (e : SchemaError) → ((f : Fault) → P 
 because P Q Errors.NotUtf8 w h = absurd h
 because P Q Errors.Json w h = absurd h
 because P Q (Errors.Syntax at) w h = absurd h
-because P Q Errors.External w h = absurd h
+because P Q Errors.External w h = w _ h
 because P Q (Errors.Prefix at) w h = absurd h
-because P Q Errors.Deep w h = absurd h
+because P Q Errors.Deep w h = w _ h
 because P Q (Errors.Key name) w h = w _ h
 because P Q (Errors.Form name) w h = w _ h
 because P Q Errors.Action w h = w _ h
 because P Q Errors.FloatFacet w h = w _ h
 because P Q Errors.FacetNumber w h = w _ h
 because P Q (Errors.Pattern e) w h = w _ h
-because P Q (Errors.NotBuilt name) w h = w _ h
+because P Q (Errors.NotBuilt name) w h = absurd h
 because P Q Errors.Memory w h = tt
 
 -- a `?` passes a refusal on

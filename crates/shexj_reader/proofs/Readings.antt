@@ -10,7 +10,7 @@ use Rattle.schema_documents.specs.declared.error.SchemaError.{SchemaError}
 use Rattle.schema_documents.specs.declared.error.SchemaError.TheVariants as Errors
 use Rattle.shexj_reader.specs.Bytes.{HasFault, IsCause, IsDocumentText}
 use Rattle.shexj_reader.specs.DocumentFaults.{DocumentFault}
-use Rattle.shexj_reader.specs.Documents.{SpellsDocument}
+use Rattle.shexj_reader.specs.Documents.{IsDocument, SpellsDocument}
 use Rattle.shexj_reader.specs.Faults.{Because}
 use Rattle.shexj_reader.proofs.DocumentLaws.{no_document_fault, one_document}
 
@@ -18,9 +18,9 @@ pub caused : (bytes : List ℕ) (d : Data) (e : SchemaError) → IsUtf8 bytes �
 caused bytes d Errors.NotUtf8 utf json h = absurd h
 caused bytes d Errors.Json utf json h = absurd h
 caused bytes d (Errors.Syntax at) utf json h = absurd h
-caused bytes d Errors.External utf json h = absurd h
+caused bytes d Errors.External utf json h = record { utf8 = utf; value = d; json = json; fault = h }
 caused bytes d (Errors.Prefix at) utf json h = absurd h
-caused bytes d Errors.Deep utf json h = absurd h
+caused bytes d Errors.Deep utf json h = record { utf8 = utf; value = d; json = json; fault = h }
 caused bytes d Errors.Memory utf json h = tt
 caused bytes d (Errors.Key name) utf json h = record { utf8 = utf; value = d; json = json; fault = h }
 caused bytes d (Errors.Form name) utf json h = record { utf8 = utf; value = d; json = json; fault = h }
@@ -28,16 +28,16 @@ caused bytes d Errors.Action utf json h = record { utf8 = utf; value = d; json =
 caused bytes d Errors.FloatFacet utf json h = record { utf8 = utf; value = d; json = json; fault = h }
 caused bytes d Errors.FacetNumber utf json h = record { utf8 = utf; value = d; json = json; fault = h }
 caused bytes d (Errors.Pattern e) utf json h = record { utf8 = utf; value = d; json = json; fault = h }
-caused bytes d (Errors.NotBuilt name) utf json h = record { utf8 = utf; value = d; json = json; fault = h }
+caused bytes d (Errors.NotBuilt name) utf json h = absurd h
 
 -- a refusal whose fault stands in a value that spells a document is want of memory
-unfaulty : (d : Data) (doc : Document) (e : SchemaError) → Because (λ f. DocumentFault f d) e → SpellsDocument doc d → e ≡ Errors.Memory
+unfaulty : (d : Data) (doc : Document) (e : SchemaError) → Because (λ f. DocumentFault f d) e → IsDocument doc d → e ≡ Errors.Memory
 unfaulty d doc Errors.NotUtf8 h s = absurd h
 unfaulty d doc Errors.Json h s = absurd h
 unfaulty d doc (Errors.Syntax at) h s = absurd h
-unfaulty d doc Errors.External h s = absurd h
+unfaulty d doc Errors.External h s = absurd (no_document_fault doc _ d h s)
 unfaulty d doc (Errors.Prefix at) h s = absurd h
-unfaulty d doc Errors.Deep h s = absurd h
+unfaulty d doc Errors.Deep h s = absurd (no_document_fault doc _ d h s)
 unfaulty d doc Errors.Memory h s = refl
 unfaulty d doc (Errors.Key name) h s = absurd (no_document_fault doc _ d h s)
 unfaulty d doc (Errors.Form name) h s = absurd (no_document_fault doc _ d h s)
@@ -45,21 +45,21 @@ unfaulty d doc Errors.Action h s = absurd (no_document_fault doc _ d h s)
 unfaulty d doc Errors.FloatFacet h s = absurd (no_document_fault doc _ d h s)
 unfaulty d doc Errors.FacetNumber h s = absurd (no_document_fault doc _ d h s)
 unfaulty d doc (Errors.Pattern e) h s = absurd (no_document_fault doc _ d h s)
-unfaulty d doc (Errors.NotBuilt name) h s = absurd (no_document_fault doc _ d h s)
+unfaulty d doc (Errors.NotBuilt name) h s = absurd h
 
 faulty : (bytes : List ℕ) (doc : Document) (e : SchemaError) → HasFault bytes e → IsDocumentText doc bytes → e ≡ Errors.Memory
 faulty bytes doc e h s =
     let json = h.json in let own = s.json in
     let same : s.value ≡ h.value = cc in
-    unfaulty h.value doc e h.fault (subst (SpellsDocument doc) same s.spelled)
+    unfaulty h.value doc e h.fault (record { spelled = subst (SpellsDocument doc) same s.spelled; within = s.within })
 
 pub only_memory : (bytes : List ℕ) (doc : Document) (e : SchemaError) → IsCause bytes e → IsDocumentText doc bytes → e ≡ Errors.Memory
 only_memory bytes doc Errors.NotUtf8 h s = absurd (h s.utf8)
 only_memory bytes doc Errors.Json h s = let none = h.1 in let json = s.json in cc
 only_memory bytes doc (Errors.Syntax at) h s = absurd h
-only_memory bytes doc Errors.External h s = absurd h
+only_memory bytes doc Errors.External h s = faulty bytes doc Errors.External h s
 only_memory bytes doc (Errors.Prefix at) h s = absurd h
-only_memory bytes doc Errors.Deep h s = absurd h
+only_memory bytes doc Errors.Deep h s = faulty bytes doc Errors.Deep h s
 only_memory bytes doc Errors.Memory h s = refl
 only_memory bytes doc (Errors.Key name) h s = faulty bytes doc (Errors.Key name) h s
 only_memory bytes doc (Errors.Form name) h s = faulty bytes doc (Errors.Form name) h s
@@ -67,7 +67,7 @@ only_memory bytes doc Errors.Action h s = faulty bytes doc Errors.Action h s
 only_memory bytes doc Errors.FloatFacet h s = faulty bytes doc Errors.FloatFacet h s
 only_memory bytes doc Errors.FacetNumber h s = faulty bytes doc Errors.FacetNumber h s
 only_memory bytes doc (Errors.Pattern e) h s = faulty bytes doc (Errors.Pattern e) h s
-only_memory bytes doc (Errors.NotBuilt name) h s = faulty bytes doc (Errors.NotBuilt name) h s
+only_memory bytes doc (Errors.NotBuilt name) h s = absurd h
 
 pub one_reading : (bytes : List ℕ) (a b : Document) → IsDocumentText a bytes → IsDocumentText b bytes → a ≡ b
 one_reading bytes a b h k =

@@ -9,15 +9,16 @@ use Rattle.schema_documents.specs.declared.error.SchemaError.{SchemaError}
 use Rattle.schema_documents.specs.declared.error.SchemaError.TheVariants as Errors
 use Rattle.shexj_reader.specs.Keys.{has_key, is_empty_list, is_list}
 
--- an unlisted key, a listed one whose value is not of its form, actions, the faults of facets, and a type or a key that is not read yet; names are bytes
+-- an unlisted key, a listed one whose value is not of its form, actions, an external shape expression, the faults of facets, and too deep an expression; names are bytes
 pub data Fault : Type 0 where
   key : List ℕ → Fault
   form : List ℕ → Fault
   action : Fault
+  external : Fault
   float_facet : Fault
   facet_number : Fault
   pattern : PatternError → Fault
-  not_built : List ℕ → Fault
+  deep : Fault
 
 -- memory ran out, or the fault of the refusal has the property
 abbrev pub Because : (Fault → Type 0) → SchemaError → Type 0
@@ -27,13 +28,13 @@ Because P (Errors.Syntax at) = ⊥
 Because P (Errors.Key name) = P (key (encode_utf8_all name))
 Because P (Errors.Form name) = P (form (encode_utf8_all name))
 Because P Errors.Action = P action
-Because P Errors.External = ⊥
+Because P Errors.External = P external
 Because P Errors.FloatFacet = P float_facet
 Because P Errors.FacetNumber = P facet_number
 Because P (Errors.Pattern e) = P (pattern e)
 Because P (Errors.Prefix at) = ⊥
-Because P Errors.Deep = ⊥
-Because P (Errors.NotBuilt name) = P (not_built (encode_utf8_all name))
+Because P Errors.Deep = P deep
+Because P (Errors.NotBuilt name) = ⊥
 Because P Errors.Memory = ⊤
 
 -- the object has a key that is none of these

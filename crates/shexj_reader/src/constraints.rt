@@ -8,11 +8,11 @@ ghost use Rattle.serde_json.specs.View.{view};
 ghost use Rattle.node_constraint.specs.Making.{HasOtherNumber, IsSound};
 ghost use Rattle.node_constraint.specs.declared.Kind4.{Kind4};
 ghost use Rattle.shexj_reader.specs.ConstraintFaults.{ConstraintFault, FacetFault, IsNoKind, NumberFault, PartsFault, PatternFault, count_keys, range_keys, small_count};
-ghost use Rattle.shexj_reader.specs.Constraints.{IsConstraint, IsKindWord, bound, count, facets_of, kind_word, listed, patterned};
+ghost use Rattle.shexj_reader.specs.Constraints.{IsConstraint, IsKindWord, bound, constraint_keys, count, facets_of, kind_word, listed, patterned};
 ghost use Rattle.shexj_reader.specs.Faults.{Because};
-ghost use Rattle.shexj_reader.specs.Keys.{type_of};
+ghost use Rattle.shexj_reader.specs.Keys.{type_of, with_id};
 
-use crate::objects::{bad_form, only_keys, only_plain, text_if_any};
+use crate::objects::{bad_form, only_own_keys, only_plain, text_if_any};
 use crate::values::read_value_set;
 use node_constraint::{Facet, Kind4, MakeError, NodeConstraint};
 use rdf_terms::text::Text;
@@ -23,9 +23,8 @@ use std::alloc::Global;
 /// The greatest length and the greatest number of digits that are read.
 const MAX_COUNT: u64 = 4294967295;
 
-/// The keys of a declared node constraint (ShEx 2.1, appendix A). One that is a value has those behind `id`.
-pub(crate) const DECLARED_KEYS: [&str; 18] = [
-    "id",
+/// The keys of a node constraint (ShEx 2.1, appendix A), but for the `id` of one that is declared.
+const CONSTRAINT_KEYS: [&str; 17] = [
     "annotations",
     "datatype",
     "flags",
@@ -190,18 +189,18 @@ fn make(
     }
 }
 
-/// The node constraint that the value, an object of that type, stands for, where no other keys than these may stand
+/// The node constraint that the value, an object of that type, stands for; only where it is labelled it may have an `id`
 /// (ShEx 2.1, section 5.4).
 pub(crate) fn read_constraint(
     alloc: Global,
     value: &Value,
-    keys: &[&str],
+    labelled: bool,
 ) -> Result<NodeConstraint, SchemaError>
     requires { type_of (view value.now) ≡ Some (codes "NodeConstraint") }
-    ensures ok { IfOk result (λ c. IsConstraint (map (λ k. k.now) keys.now) c (view value.now)) }
-    ensures cause { IfErr result (Because (λ f. ConstraintFault (map (λ k. k.now) keys.now) f (view value.now))) }
+    ensures ok { IfOk result (λ c. IsConstraint (with_id labelled constraint_keys) c (view value.now)) }
+    ensures cause { IfErr result (Because (λ f. ConstraintFault (with_id labelled constraint_keys) f (view value.now))) }
 {
-    only_keys(alloc, value, keys)?;
+    only_own_keys(alloc, value, labelled, &CONSTRAINT_KEYS)?;
     let kind = read_kind(alloc, value)?;
     let datatype = text_if_any(alloc, value, "datatype")?;
     let facets = read_facets(alloc, value)?;

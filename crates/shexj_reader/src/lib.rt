@@ -1,9 +1,14 @@
-//! A reader of schemas in ShExJ (ShEx 2.1, appendix A), as far as they are read: a Schema of one declaration, which is a
-//! node constraint or an open Shape without EXTRA with at most one TripleConstraint.
+//! A reader of schemas in ShExJ, the JSON syntax of ShEx 2.1 (appendix A). Semantic actions, external and abstract shape
+//! expressions are refused; annotations are passed over.
 #![tactic(auto)]
 
+mod cardinalities;
 mod constraints;
 mod documents;
+mod expressions;
+mod groups;
+mod kinds;
+mod labels;
 pub mod laws;
 mod objects;
 mod reading;

@@ -4,9 +4,9 @@ ghost use Rattle.std.specs.Prelude.{◌≡◌, ◌↔◌, ◌⊎◌, IfErr, IfOk
 ghost use Rattle.std.specs.List.{list_any};
 ghost use Rattle.std.specs.Str.{bytes_eq};
 ghost use Rattle.serde_json.specs.Find.{get};
-ghost use Rattle.serde_json.specs.View.{view};
-ghost use Rattle.shexj_reader.specs.Faults.{Because, HasActs, IsBad, IsNoList, IsUnknownKey, PlainFault, form, key, not_built};
-ghost use Rattle.shexj_reader.specs.Keys.{IsPlain, has_only, is_empty_list, is_object, text, text_if_any, type_of};
+ghost use Rattle.serde_json.specs.View.{items_view, view};
+ghost use Rattle.shexj_reader.specs.Faults.{Because, HasActs, IsBad, IsNoList, IsUnknownKey, PlainFault, form, key};
+ghost use Rattle.shexj_reader.specs.Keys.{IsPlain, flag, has_only, is_empty_list, is_object, members, text, text_if_any, texts, type_of, with_id};
 
 use rdf_terms::text::Text;
 use schema_documents::SchemaError;
@@ -23,16 +23,6 @@ pub(crate) fn bad_form(alloc: Global, key: &str) -> SchemaError
     }
 }
 
-/// The refusal of a type or a key that is not read yet.
-pub(crate) fn unbuilt(alloc: Global, name: &str) -> SchemaError
-    ensures { Because (λ f. f ≡ not_built name.now) result }
-{
-    match Text::from_str(alloc, name) {
-        Ok(name) => SchemaError::NotBuilt(name),
-        Err(_) => SchemaError::Memory,
-    }
-}
-
 /// The refusal of a key that is not listed.
 fn unlisted(alloc: Global, name: &str) -> SchemaError
     ensures { Because (λ f. f ≡ key name.now) result }
@@ -44,7 +34,7 @@ fn unlisted(alloc: Global, name: &str) -> SchemaError
 }
 
 /// Whether the key is one of the keys.
-pub(crate) fn is_one_of(key: &str, keys: &[&str]) -> bool
+fn is_one_of(key: &str, keys: &[&str]) -> bool
     ensures { result ≡ list_any (bytes_eq key.now) (map (λ k. k.now) keys.now) }
 {
     for own in keys {
@@ -55,21 +45,46 @@ pub(crate) fn is_one_of(key: &str, keys: &[&str]) -> bool
     false
 }
 
+/// Whether the key is one of the keys, or `id` where the object is labelled.
+fn is_own(key: &str, labelled: bool, keys: &[&str]) -> bool
+    ensures { result ≡ list_any (bytes_eq key.now) (with_id labelled (map (λ k. k.now) keys.now)) }
+{
+    if labelled {
+        key == "id" || is_one_of(key, keys)
+    } else {
+        is_one_of(key, keys)
+    }
+}
+
+/// Passes where the object has no other keys than these, and `id` where it is labelled.
+fn only_within(
+    alloc: Global,
+    value: &Value,
+    labelled: bool,
+    keys: &[&str],
+) -> Result<(), SchemaError>
+    requires { is_object (view value.now) ≡ true }
+    ensures ok { OnOk result (has_only (with_id labelled (map (λ k. k.now) keys.now)) (view value.now) ≡ true) }
+    ensures cause { IfErr result (Because (λ f. IsUnknownKey (with_id labelled (map (λ k. k.now) keys.now)) f (view value.now))) }
+{
+    let Some(members) = value.as_object() else {
+        unreachable!();
+    };
+    for (key, _) in members.iter() {
+        if !is_own(key.as_str(), labelled, keys) {
+            return Err(unlisted(alloc, key.as_str()));
+        }
+    }
+    Ok(())
+}
+
 /// Passes where the object has no other keys.
 pub(crate) fn only_listed(alloc: Global, value: &Value, keys: &[&str]) -> Result<(), SchemaError>
     requires { is_object (view value.now) ≡ true }
     ensures ok { OnOk result (has_only (map (λ k. k.now) keys.now) (view value.now) ≡ true) }
     ensures cause { IfErr result (Because (λ f. IsUnknownKey (map (λ k. k.now) keys.now) f (view value.now))) }
 {
-    let Some(members) = value.as_object() else {
-        unreachable!();
-    };
-    for (key, _) in members.iter() {
-        if !is_one_of(key.as_str(), keys) {
-            return Err(unlisted(alloc, key.as_str()));
-        }
-    }
-    Ok(())
+    only_within(alloc, value, false, keys)
 }
 
 /// Passes where the value, an object with a type, has no other keys.
@@ -78,7 +93,21 @@ pub(crate) fn only_keys(alloc: Global, value: &Value, keys: &[&str]) -> Result<(
     ensures ok { OnOk result (has_only (map (λ k. k.now) keys.now) (view value.now) ≡ true) }
     ensures cause { IfErr result (Because (λ f. IsUnknownKey (map (λ k. k.now) keys.now) f (view value.now))) }
 {
-    only_listed(alloc, value, keys)
+    only_within(alloc, value, false, keys)
+}
+
+/// Passes where the value, an object with a type, has no other keys, and `id` where it is labelled.
+pub(crate) fn only_own_keys(
+    alloc: Global,
+    value: &Value,
+    labelled: bool,
+    keys: &[&str],
+) -> Result<(), SchemaError>
+    requires { is_some (get (codes "type") (view value.now)) ≡ true }
+    ensures ok { OnOk result (has_only (with_id labelled (map (λ k. k.now) keys.now)) (view value.now) ≡ true) }
+    ensures cause { IfErr result (Because (λ f. IsUnknownKey (with_id labelled (map (λ k. k.now) keys.now)) f (view value.now))) }
+{
+    only_within(alloc, value, labelled, keys)
 }
 
 /// The text under a key.
@@ -114,6 +143,61 @@ pub(crate) fn text_if_any(
         }
         None => Err(bad_form(alloc, key)),
     }
+}
+
+/// The truth under a key, false where the key is absent.
+pub(crate) fn flag_at(alloc: Global, value: &Value, key: &str) -> Result<bool, SchemaError>
+    ensures ok { IfOk result (λ b. flag (get key.now (view value.now)) ≡ Some b) }
+    ensures cause { IfErr result (Because (λ f. IsBad key.now flag f (view value.now))) }
+{
+    let Some(child) = value.get(key) else {
+        return Ok(false);
+    };
+    match child.as_bool() {
+        Some(truth) => Ok(truth),
+        None => Err(bad_form(alloc, key)),
+    }
+}
+
+/// The texts of the list under a key, none where the key is absent.
+pub(crate) fn texts_at(alloc: Global, value: &Value, key: &str) -> Result<Vec<Text>, SchemaError>
+    ensures ok { IfOk result (λ v. texts (get key.now (view value.now)) ≡ Some v.items) }
+    ensures cause { IfErr result (Because (λ f. IsBad key.now texts f (view value.now))) }
+{
+    let mut all = Vec::new(alloc);
+    let Some(child) = value.get(key) else {
+        return Ok(all);
+    };
+    let Some(items) = child.as_array() else {
+        return Err(bad_form(alloc, key));
+    };
+    for item in items {
+        let Some(text) = item.as_str() else {
+            return Err(bad_form(alloc, key));
+        };
+        let own = Text::from_str(alloc, text)?;
+        all.push(own)?;
+    }
+    Ok(all)
+}
+
+/// The items of the list under a key, which is not empty.
+pub(crate) fn items_at<'a>(
+    alloc: Global,
+    value: &'a Value,
+    key: &str,
+) -> Result<&'a [Value], SchemaError>
+    ensures ok { IfOk result (λ s. members (get key.now (view value.now)) ≡ Some (items_view s.now)) }
+    ensures cause { IfErr result (Because (λ f. IsBad key.now members f (view value.now))) }
+{
+    let Some(items) = value.get(key).and_then(Value::as_array) else {
+        return Err(bad_form(alloc, key));
+    };
+    let items = items.as_slice();
+    if items.is_empty() {
+        return Err(bad_form(alloc, key));
+    }
+    Ok(items)
 }
 
 /// The type that an object names, if it names one.

@@ -14,9 +14,10 @@ use std::alloc::Global;
 
 /// The document that the bytes spell in ShExJ (ShEx 2.1, appendix A). IRIs are taken as they are written.
 ///
-/// It fails where the bytes spell no document that is read, with the first fault that is met. Bytes that are not UTF-8
-/// come first, then what is not JSON; in each object the type comes first, then keys that are not listed, then the values
-/// of keys, and the label of a declaration last.
+/// At most 64 shape and triple expressions may stand in one another; texts that refer to one do not count. It fails where
+/// the bytes spell no document within this limit, with the first fault that is met. Bytes that are not UTF-8 come first,
+/// then what is not JSON; in each object the type comes first, then keys that are not listed, then the values of keys, and
+/// the label of a declared shape expression last.
 pub fn read(alloc: Global, source: &[u8]) -> Result<Doc, SchemaError>
     ensures sound { IfOk result (λ d. IsDocumentText (document_of d) source.now) }
     ensures complete { (doc : Document) → IsDocumentText doc source.now → MatchResult result (λ d. document_of d ≡ doc) (λ e. e ≡ SchemaError.Memory) }

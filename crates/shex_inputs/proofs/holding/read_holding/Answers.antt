@@ -7,14 +7,14 @@ use Rattle.shex_inputs.specs.declared.error.Source.TheVariants.{Data}
 use Rattle.shex_inputs.specs.Held.{held_by}
 use Rattle.shex_inputs.specs.Named.{IsFile, inputs_with}
 use Rattle.shex_inputs.specs.Stops.{FetchStops}
-use Rattle.shex_inputs.proofs.Reading.{are_taken, base_scheme, data_explains, fetch_before_map, fetch_explains, loadable, refused_before_map, refused_faults}
+use Rattle.shex_inputs.proofs.Reading.{are_taken, base_scheme, data_explains, fetch_before_map, fetch_explains, refused_before_map, refused_faults}
 use Rattle.shex_inputs.proofs.holding.read_holding.Goals as goal
 
 pub load-requires-clause-scheme : goal.load-requires-clause-scheme
 load-requires-clause-scheme g c = base_scheme c.args.inputs.now.data_base.now c.requires.data_base
 
 pub load-requires-clause-loadable : goal.load-requires-clause-loadable
-load-requires-clause-loadable g c = let holds = c.in_ok-doc.ensures.taken (codes "") in loadable (document_of c.in_ok-doc.doc) holds.bytes holds.spelled
+load-requires-clause-loadable g c = (c.in_ok-doc.ensures.taken (codes "")).loadable
 
 pub returns-in_err-doc-clause-cause : goal.returns-in_err-doc-clause-cause
 returns-in_err-doc-clause-cause g c = λ map_name.

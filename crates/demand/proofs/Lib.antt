@@ -1,0 +1,12 @@
+pub mod Following
+pub mod Growing
+pub mod Listed
+pub mod Needing
+pub mod Numbers
+pub mod Opened
+pub mod PairOrder
+pub mod Reached
+pub mod Same
+pub mod SameShapes
+pub mod Starting
+pub mod Taken

@@ -1,0 +1,91 @@
+-- The pairs that roots reach.
+use Rattle.std.proofs.Common.{◌≡◌, ◌∙◌, ℕ, suc, ◌≤◌, inl, inr, List, [], ◌∷◌, refl, arith, sym, ap, subst, length, Result, Err, remove}
+use Rattle.std.proofs.lemmas.List.Edits.{length-remove}
+use Rattle.std.proofs.lemmas.List.Sorted.{Contains-permutation, IsPermutation-remove}
+use Rattle.std.proofs.lemmas.Option.{slice_get-get_or}
+use Rattle.std.specs.List.Sorted.{IsPermutation, IsStrictlySortedBy}
+use Rattle.std.specs.Prelude.{◌↔◌, Contains, Some}
+use Rattle.lists.specs.Distinct.{AreDistinct}
+use Rattle.rdf_terms.specs.declared.terms.Term.{Term}
+use Rattle.demand.specs.Orders.{compare_pairs, max_pairs}
+use Rattle.schema_tree.specs.declared.schema.Pair.{Pair}
+use Rattle.rdf_terms.specs.declared.terms.Triple.{Triple}
+use Rattle.schema_tree.specs.declared.schema.Schema.{Schema}
+use Rattle.schema_tree.specs.Entries.{pair_of}
+use Rattle.schema_tree.specs.Needs.{HoldNeeds, Leads, here, step}
+use Rattle.lists.proofs.Members.{in_rest, is_first, is_later}
+use Rattle.demand.specs.Closing.{GrowsByNeeds, IsStart, Starts, StopsAtStart, StopsByNeeds}
+use Rattle.demand.specs.Demand.{AreAsked, AreTooMany, IsAsked}
+use Rattle.demand.specs.declared.error.DemandError.{DemandError}
+use Rattle.demand.specs.declared.error.DemandError.TheVariants as Errors
+use Rattle.demand.specs.declared.reach.Root.{Root}
+
+-- a root reaches what needs lead to from where it starts
+pub to_asked : (s : Schema) (g : List Triple) (roots : List Root) (p q : Pair) → Starts s roots p → Leads s g p q → IsAsked s g roots q
+to_asked s g roots p q (r, held, (node, (sign, st))) leads = (r, held, (p.shape, sign, st, subst (λ m. Leads s g (pair_of m p.shape) q) node leads))
+
+closed_leads : (s : Schema) (g : List Triple) (seen : List Pair) → HoldNeeds s g seen → (p q : Pair) → Leads s g p q → Contains seen p → Contains seen q
+closed_leads s g seen closed p q here c = c
+closed_leads s g seen closed p q (step u need rest) c = closed_leads s g seen closed u q rest (closed p u c need)
+
+pub asked_exactly : (s : Schema) (g : List Triple) (roots : List Root) (start seen : List Pair) → IsStart s roots start → GrowsByNeeds s g start seen → HoldNeeds s g seen →
+    (q : Pair) → Contains seen q ↔ IsAsked s g roots q
+asked_exactly s g roots start seen starts led closed q = (
+  (λ c. let (p, of, leads) = led.1 q c in to_asked s g roots p q ((starts p).0 of) leads),
+  (λ (r, held, (i, sign, st, leads)). closed_leads s g seen closed (pair_of r.node i) q leads (led.0 (pair_of r.node i) ((starts (pair_of r.node i)).1 (r, held, (refl, (sign, st)))))),
+)
+
+pub too_many : (s : Schema) (g : List Triple) (roots : List Root) (start : List Pair) → IsStart s roots start → (e : DemandError) → StopsByNeeds s g start e → e ≡ Errors.Pairs → AreTooMany s g roots
+too_many s g roots start starts Errors.Pairs h is = record {
+  pairs = h.pairs;
+  distinct = h.distinct;
+  many = h.many;
+  reached = λ q c. (let (p, of, leads) = h.all q c in to_asked s g roots p q ((starts p).0 of) leads);
+}
+too_many s g roots start starts Errors.Memory h is = absurd (cc)
+
+pub too_many_roots : (s : Schema) (g : List Triple) (roots : List Root) (e : DemandError) → StopsAtStart s roots e → e ≡ Errors.Pairs → AreTooMany s g roots
+too_many_roots s g roots Errors.Pairs h is =
+    record { pairs = h.pairs; distinct = h.distinct; many = h.many; reached = λ q c. to_asked s g roots q q (h.all q c) here }
+too_many_roots s g roots Errors.Memory h is = absurd (cc)
+
+-- an error that is passed on
+pub passed_on : {A E : Type 0} (r : Result A E) (y x z : E) → r ≡ Err y → y ≡ x → r ≡ Err z → x ≡ z
+passed_on r y x z a same b = cc
+
+-- the same pairs in order
+pub asked_in_order : (s : Schema) (terms : List Term) (g : List Triple) (roots : List Root) (start seen list : List Pair) → IsStart s roots start → GrowsByNeeds s g start seen → HoldNeeds s g seen →
+    IsStrictlySortedBy (compare_pairs terms) list → ((q : Pair) → Contains list q ↔ Contains seen q) → AreAsked s terms g roots list
+asked_in_order s terms g roots start seen list starts led closed sorted same = record {
+  sorted = sorted;
+  exactly = λ q. (let e = asked_exactly s g roots start seen starts led closed q in ((λ c. e.0 ((same q).0 c)), (λ h. (same q).1 (e.1 h))));
+}
+
+pub closed_in_order : (s : Schema) (g : List Triple) (seen list : List Pair) → HoldNeeds s g seen → ((q : Pair) → Contains list q ↔ Contains seen q) → HoldNeeds s g list
+closed_in_order s g seen list closed same p q c need = (same q).1 (closed p q ((same p).0 c) need)
+
+-- distinct pairs of a list are at most as many as it has
+distinct_fits : (ps list : List Pair) → AreDistinct ps → ((q : Pair) → Contains ps q → Contains list q) → length ps ≤ length list
+distinct_fits [] list d inside = omega arith
+distinct_fits (x ∷ xs) list d inside = go (inside x (is_first x xs)) (λ i. distinct_fits xs (remove list i))
+  where
+    tail : AreDistinct xs
+    tail i j y a b = let e : suc i ≡ suc j = d (suc i) (suc j) y a b in omega (arith, e)
+
+    once : ¬ Contains xs x
+    once (j, l, e) = let f : 0 ≡ suc j = d 0 (suc j) x refl (slice_get-get_or xs j x l ∙ ap (λ u. Some u) e) in omega (arith, f)
+
+    go : Contains list x → ((i : ℕ) → AreDistinct xs → ((q : Pair) → Contains xs q → Contains (remove list i) q) → length xs ≤ length (remove list i)) → length (x ∷ xs) ≤ length list
+    go (i, within, at) deeper =
+        let perm : IsPermutation list (x ∷ remove list i) = IsPermutation-remove list i x within (sym at) in
+        let rest = deeper i tail (λ q c. elim (in_rest x (remove list i) q (Contains-permutation _ _ q perm (inside q (is_later x xs q c)))) [
+          | inl e ↦ absurd (once (subst (λ u. Contains xs u) (sym e) c))
+          | inr later ↦ later
+        ]) in
+        omega (arith, rest, length-remove list i within)
+
+-- what is given leaves no room for too many
+pub not_many : (s : Schema) (terms : List Term) (g : List Triple) (roots : List Root) (list : List Pair) → AreAsked s terms g roots list → length list ≤ max_pairs → ¬ AreTooMany s g roots
+not_many s terms g roots list asked few many =
+    let l = distinct_fits many.pairs list many.distinct (λ q c. (asked.exactly q).1 (many.reached q c)) in
+    let m = many.many in omega (arith, l, m, few)

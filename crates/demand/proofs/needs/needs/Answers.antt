@@ -1,0 +1,26 @@
+use Rattle.std.proofs.Common.{◌∙◌, ◌↔◌, ◌++◌, ap, refl, sym, subst, length, ltb-false, Contains}
+use borrow.Author.Tests.{ltb-true}
+use Rattle.std.specs.List.{flat_map}
+use Rattle.std.proofs.lemmas.Option.{slice_get_past, slice_get_read}
+use Rattle.schema_tree.specs.Needs.{Needs}
+use Rattle.lists.proofs.Members.{not_in_none}
+use Rattle.demand.specs.Needed.{needs_at}
+use Rattle.demand.proofs.Needing.{needs_exactly, needs_nothing}
+use Rattle.demand.proofs.needs.needs.Goals.{in-Some+in_ok-push_needs, in_default}
+use Rattle.demand.proofs.needs.needs.Goals as goal
+
+pub returns : goal.returns
+returns c = elim c.match-get.branch [
+  | in-Some+in_ok-push_needs w ↦ λ q.
+      subst (λ xs. Contains xs q ↔ Needs c.args.schema.now c.args.graph.now.triples c.args.pair q)
+      (sym (ap (λ v. v.items) w.found-is ∙ (w.in_ok-push_needs.ensures ∙ (ap (λ xs. xs ++ flat_map (needs_at c.args.terms.now c.args.graph.now.triples c.args.pair.node) w.as_slice.result.now) c.new-found.ensures.items
+      ∙ ap (λ xs. flat_map (needs_at c.args.terms.now c.args.graph.now.triples c.args.pair.node) xs) w.as_slice.ensures))))
+      (needs_exactly c.args.schema.now c.args.terms.now c.args.graph.now.triples c.args.links.now c.requires.links c.args.pair w.in-Some.own.now
+      (slice_get_read c.args.links.now (length c.args.links.now) c.args.pair.shape.0 w.in-Some.own.now refl
+      (ltb-true c.args.pair.shape.0 (length c.args.links.now) (sym w.in-Some.ensures.lookup.0)) w.in-Some.ensures.lookup.1) q)
+  | in_default w ↦ λ q. (
+    (λ d. absurd (not_in_none q (subst (λ xs. Contains xs q) (ap (λ v. v.items) w.found-is ∙ c.new-found.ensures.items) d))),
+    (λ need. absurd (needs_nothing c.args.schema.now c.args.terms.now c.args.graph.now.triples c.args.links.now c.requires.links c.args.pair
+        (slice_get_past c.args.links.now c.args.pair.shape.0 (ltb-false c.args.pair.shape.0 (length c.args.links.now) (sym w.in_default.ensures.lookup.0))) q need)),
+  )
+]

@@ -1,0 +1,13 @@
+//! The pairs of a node and a Shape that answers depend on.
+#![tactic(auto)]
+
+pub mod agenda;
+pub mod error;
+pub mod links;
+pub mod needs;
+pub mod order;
+pub mod reach;
+pub mod table;
+
+pub use error::DemandError;
+pub use reach::{Pairs, Root, close};

@@ -1,0 +1,99 @@
+//! The table that numbers pairs, and the order of pairs.
+ghost use Rattle.std.specs.Prelude.{List, ◌≡◌, ◌≤◌, ◌↔◌, [], length, slice_get, Some, IfOk, IfSome, IsNone, OnErr, OnOk, Contains};
+ghost use Rattle.lists.specs.Additions.{Adds};
+ghost use Rattle.lists.specs.Distinct.{AreDistinct};
+ghost use Rattle.demand.specs.Orders.{max_pairs};
+
+use indexmap::IndexSet;
+use schema_tree::schema::Pair;
+use std::alloc::Global;
+use std::marker::Model;
+
+/// The number of pairs that a table holds at most.
+pub const MAX_PAIRS: usize = 4_194_304;
+
+/// Why a pair was not put into a table.
+#[derive(Debug, Drop)]
+pub enum PairError {
+    /// The pair is new, and the table holds 4,194,304 pairs.
+    Full,
+    /// Memory ran out.
+    Memory,
+}
+
+/// A list of distinct pairs, at most 4,194,304 of them. A pair's number is its place in the list.
+#[derive(Drop)]
+pub struct PairTable {
+    pairs: IndexSet<Pair>,
+}
+
+impl Model for PairTable {
+    ghost use Rattle.std.specs.Prelude.{List, length, ◌≤◌};
+    ghost use Rattle.schema_tree.specs.declared.schema.Pair.{Pair};
+    ghost use Rattle.demand.specs.Orders.{max_pairs};
+
+    ghost Value = { List Pair };
+
+    ghost view = { λ t. t.pairs.keys };
+
+    ghost invariant = { λ t. length t.pairs.keys ≤ max_pairs };
+}
+
+impl PairTable {
+    /// The empty table.
+    pub fn new(alloc: Global) -> PairTable
+        ensures { result ≡ [] }
+    {
+        PairTable {
+            pairs: IndexSet::new(alloc),
+        }
+    }
+
+    /// How many pairs the table holds.
+    pub fn len(&self) -> usize
+        ensures count { result ≡ length self.now }
+        ensures few { result ≤ max_pairs }
+        ensures distinct { AreDistinct self.now }
+    {
+        self.pairs.len()
+    }
+
+    /// The pairs.
+    pub fn as_slice(&self) -> &[Pair]
+        ensures { result.now ≡ self.now }
+    {
+        self.pairs.as_slice()
+    }
+
+    /// Puts a pair, which goes last where it is new. It fails as `Full` where the pair is new and the table holds
+    /// 4,194,304 pairs; a refusal changes nothing.
+    pub fn put(&mut self, pair: Pair) -> Result<(), PairError>
+        ensures added { OnOk result (Adds self.old pair self.new) }
+        ensures full { (result ≡ Err PairError.Full) ↔ ((¬ Contains self.old pair) × (length self.old ≡ max_pairs)) }
+        ensures err { OnErr result (self.new ≡ self.old) }
+        ensures distinct { AreDistinct self.new }
+    {
+        let count = self.pairs.len();
+        if self.pairs.contains(&pair) {
+            return Ok(());
+        }
+        if count >= MAX_PAIRS {
+            return Err(PairError::Full);
+        }
+        match self.pairs.insert(pair) {
+            Ok(_) => Ok(()),
+            Err(_) => Err(PairError::Memory),
+        }
+    }
+
+    /// The number of the pair, and `None` exactly where the table does not hold it.
+    pub fn find(&self, pair: Pair) -> Option<u32>
+        ensures found { IfSome result (λ i. slice_get self.now i ≡ Some pair) }
+        ensures absent { IsNone result ↔ (¬ Contains self.now pair) }
+    {
+        match self.pairs.get_index_of(&pair) {
+            Some(place) => Some(place as u32),
+            None => None,
+        }
+    }
+}

@@ -1,0 +1,105 @@
+-- A pair that cannot match still cannot once more is known: more No of what it needs, and more Yes of what it needs by a
+-- negative edge.
+use Rattle.std.proofs.Common.{◌≡◌, inl, inr, List, [], Bool, true, false, suc, refl, sym, subst, ap}
+use Rattle.std.proofs.lemmas.Bool.{and_parts}
+use Rattle.std.specs.Prelude.{Contains, Option, Some, None}
+use Rattle.rdf_terms.proofs.SameTerms.{same_is}
+use Rattle.rdf_terms.specs.Graphs.{same_id}
+use Rattle.rdf_terms.specs.declared.terms.Term.{Term}
+use Rattle.rdf_terms.specs.declared.terms.Triple.{Triple}
+use Rattle.schema_tree.specs.declared.schema.ExprId.{ExprId}
+use Rattle.schema_tree.specs.declared.schema.Occurrence.{Occurrence}
+use Rattle.schema_tree.specs.declared.schema.Pair.{Pair}
+use Rattle.schema_tree.specs.declared.schema.Schema.{Schema}
+use Rattle.schema_tree.specs.declared.schema.Shape.{Shape}
+use Rattle.schema_tree.specs.declared.schema.ShapeId.{ShapeId}
+use Rattle.schema_tree.specs.declared.verdicts.Lean.TheVariants.{Possible}
+use Rattle.schema_tree.specs.declared.verdicts.Verdict.TheVariants.{Yes, No}
+use Rattle.schema_tree.specs.Edges.{IsExtra, StandsIn, StandsInValue}
+use Rattle.schema_tree.specs.Entries.{pair_of, shape_at}
+use Rattle.schema_tree.specs.Matches.{fits, near_end, other_end}
+use Rattle.schema_tree.specs.Needs.{Needs}
+use Rattle.schema_tree.specs.Places.{CanMatch, MayFail, MayHold, PairCanMatch}
+use Rattle.schema_tree.specs.Relevant.{is_forward}
+use Rattle.schema_tree.specs.Satisfies.{Sat}
+use Rattle.schema_tree.specs.Sure.{Known, PairIs}
+use Rattle.schema_tree.proofs.Leans.{places_weaker}
+use Rattle.schema_tree.proofs.ToPlaces.{forward_parts}
+use Rattle.removal_laws.proofs.Carried.{in_graph, sure_carries}
+use Rattle.locality_laws.specs.Local.{IsNegativeNeed}
+
+module _ (s : Schema) (terms : List Term) (g : List Triple) (a b : Known) (p : Pair)
+    (up : (q : Pair) (n : Needs s g p q) → IsNegativeNeed n → PairIs a q Yes → PairIs b q Yes) (down : (q : Pair) → Needs s g p q → PairIs a q No → PairIs b q No) where
+  module _ (sh : Shape) (is : shape_at s p.shape ≡ Some sh) where
+    -- the end of a triple with a Shape that stands in the value of an occurrence that fits it is needed
+    abbrev need_at :
+        (t : Triple) (o : Occurrence) → Contains g t → Contains sh.occs o → fits o p.node t ≡ true → (e : ExprId) → o.value ≡ Some e →
+        (i : ShapeId) (sign : Bool) → StandsIn s i e sign → Needs s g p (pair_of (other_end o.inverse t) i)
+    need_at t o held of fit e value i sign st = record {
+      shape = sh;
+      is = is;
+      occ = o;
+      of = of;
+      triple = t;
+      held = held;
+      fit = fit;
+      end = refl;
+      sign = sign;
+      stands = subst (λ v. StandsInValue s i v sign) (sym value) st;
+    }
+
+    -- the same where the occurrence is not inverse, so that the end is the object
+    abbrev need_out :
+        (t : Triple) (o : Occurrence) → Contains g t → Contains sh.occs o → o.inverse ≡ false → fits o p.node t ≡ true → (e : ExprId) → o.value ≡ Some e →
+        (i : ShapeId) (sign : Bool) → StandsIn s i e sign → Needs s g p (pair_of t.o i)
+    need_out t o held of forward fit e value i sign st = record {
+      shape = sh;
+      is = is;
+      occ = o;
+      of = of;
+      triple = t;
+      held = held;
+      fit = fit;
+      end = ap (λ c. other_end c t) (sym forward);
+      sign = sign;
+      stands = subst (λ v. StandsInValue s i v sign) (sym value) st;
+    }
+
+    hold_less :
+        (t : Triple) (o : Occurrence) → Contains g t → Contains sh.occs o → fits o p.node t ≡ true →
+        MayHold s terms b Possible (other_end o.inverse t) o.value → MayHold s terms a Possible (other_end o.inverse t) o.value
+    hold_less t o held of fit = go o.value refl
+      where
+        go : (x : Option ExprId) → o.value ≡ x → MayHold s terms b Possible (other_end o.inverse t) x → MayHold s terms a Possible (other_end o.inverse t) x
+        go None e h = h
+        go (Some d) e h = λ v. h
+            ((sure_carries s terms a b (other_end o.inverse t) (suc d.0) d).1
+            ((λ i sign st. down _ (need_at t o held of fit d e i sign st)), (λ i st. up _ (need_at t o held of fit d e i true st) (inl refl))) v)
+
+    fail_less :
+        (t : Triple) (o : Occurrence) → Contains g t → Contains sh.extra t.p → Contains sh.occs o → is_forward p.node t o ≡ true →
+        MayFail s terms b Possible t.o o.value → MayFail s terms a Possible t.o o.value
+    fail_less t o held extra of forward = go o.value refl
+      where
+        parts : (o.inverse ≡ false) × (fits o p.node t ≡ true)
+        parts = forward_parts (Sat s terms []) g sh p.node t o forward
+
+        same : o.predicate ≡ t.p
+        same = same_is o.predicate t.p (and_parts (same_id o.predicate t.p) (same_id (near_end o.inverse t) p.node) parts.1).0
+
+        is_extra : IsExtra sh.extra o
+        is_extra = (parts.0, subst (λ u. Contains sh.extra u) (sym same) extra)
+
+        go : (x : Option ExprId) → o.value ≡ x → MayFail s terms b Possible t.o x → MayFail s terms a Possible t.o x
+        go None e h = h
+        go (Some d) e h = λ v. h
+            ((sure_carries s terms a b t.o (suc d.0) d).0
+            ((λ i sign st. up _ (need_out t o held of parts.0 parts.1 d e i sign st) (inr is_extra)), (λ i st. down _ (need_out t o held of parts.0 parts.1 d e i true st))) v)
+
+  pub match_falls : PairCanMatch s terms g b Possible p → PairCanMatch s terms g a Possible p
+  match_falls = go (shape_at s p.shape) refl
+    where
+      go : (x : Option Shape) → shape_at s p.shape ≡ x → CanMatch s terms g b Possible p.node x → CanMatch s terms g a Possible p.node x
+      go None is h = h
+      go (Some sh) is h =
+          places_weaker _ _ _ _ sh p.node (λ t. Contains g t) (hold_less sh is) (fail_less sh is) g _ (in_graph s terms g sh p.node) h

@@ -1,0 +1,7 @@
+pub mod Alike
+pub mod Bounding
+pub mod Counting
+pub mod Falling
+pub mod Refined
+pub mod Stratum
+pub mod Whole

@@ -1,0 +1,24 @@
+//! The laws. Each function claims some of them by its contract, and does nothing when called.
+
+ghost use Rattle.locality_laws.specs.Bounds.{NeedsAreCounted, StrataAreBounded};
+ghost use Rattle.locality_laws.specs.Laws.{RefinementIsLocal, RefinementOverKeptIsLocal, RefinementOverOthersIsLocal, VerdictIsOne};
+
+use schema_tree::laws::refinement_is_one;
+
+/// Claims that refinement says of a pair what the pairs that it needs make sure: it does not depend on what else is
+/// refined, so that each pair has one verdict, and pairs that are known already need not be refined again.
+pub fn refinement_is_local()
+    ensures closed { RefinementIsLocal }
+    ensures others { RefinementOverOthersIsLocal }
+    ensures kept { RefinementOverKeptIsLocal }
+    ensures one { VerdictIsOne }
+{
+    refinement_is_one();
+}
+
+/// Claims that refinement on all strata costs no more looks than 2 × k + 3 at each narrow pair, where k is the number of
+/// pairs that it needs, and that tests of needs count these.
+pub fn strata_are_bounded()
+    ensures strata { StrataAreBounded }
+    ensures needs { NeedsAreCounted }
+{}

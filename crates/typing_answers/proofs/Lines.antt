@@ -1,0 +1,29 @@
+-- Node lines, places and claims that grow by one.
+use Rattle.std.proofs.Common.{◌≡◌, ℕ, ◌<◌, ◌+◌, List, [], ◌∷◌, ◌++◌, length, take, get_or, sym, ◌∙◌, ap, subst, map}
+use Rattle.std.specs.Prelude.{Some, slice_get}
+use Rattle.std.specs.List.{AllByRecursion, AllZip}
+use Rattle.std.proofs.lemmas.List.{map-append, take_more}
+use Rattle.lists.proofs.Beside.{zip_push}
+use Rattle.lists.proofs.Quantifiers.{all_append}
+use Rattle.rdf_terms.specs.declared.terms.TermId.{TermId}
+use Rattle.proof_file.specs.Accepts.{AreNumbers}
+use Rattle.rdf_terms.specs.declared.terms.Term.{Term}
+use Rattle.rdf_terms.specs.Values.{IsValue}
+
+-- one more line for one more number
+pub numbers_more : (terms lines more : List Term) (nodes : List TermId) (i : ℕ) (d : TermId) (t : Term) → i < length nodes → slice_get terms (get_or nodes i d).0 ≡ Some t → more ≡ lines ++ t ∷ [] →
+    AreNumbers terms lines (take i nodes) → AreNumbers terms more (take (i + 1) nodes)
+numbers_more terms lines more nodes i d t inside at pushed so_far =
+    ap (map (λ (n : TermId). slice_get terms n.0)) (take_more nodes i d inside)
+    ∙ map-append (λ (n : TermId). slice_get terms n.0) (take i nodes) (get_or nodes i d ∷ [])
+    ∙ (λ k. so_far k ++ at k ∷ [])
+    ∙ sym (map-append (λ (x : Term). Some x) lines (t ∷ []))
+    ∙ ap (map (λ (x : Term). Some x)) (sym pushed)
+
+pub values_more : (lines more : List Term) (t : Term) → AllByRecursion IsValue lines → IsValue t → more ≡ lines ++ t ∷ [] → AllByRecursion IsValue more
+values_more lines more t all one pushed = subst (AllByRecursion IsValue) (sym pushed) (all_append IsValue lines (t ∷ []) all (one, tt))
+
+-- one more beside one more that is read
+pub zip_on : {A B : Type 0} (R : A → B → Type 0) (xs : List A) (ys more : List B) (i : ℕ) (d : A) (y : B) → i < length xs → AllZip R (take i xs) ys → R (get_or xs i d) y → more ≡ ys ++ y ∷ [] → AllZip R (take (i + 1) xs) more
+zip_on R xs ys more i d y inside h r pushed =
+    subst (λ zs. AllZip R (take (i + 1) xs) zs) (sym pushed) (subst (λ zs. AllZip R zs (ys ++ y ∷ [])) (sym (take_more xs i d inside)) (zip_push R (take i xs) ys (get_or xs i d) y h r))

@@ -1,0 +1,4 @@
+pub mod Replies
+pub mod Numbering
+pub mod Proofs
+pub mod Laws

@@ -1,0 +1,112 @@
+//! The node lines of a proof.
+
+ghost use Rattle.std.specs.Prelude.{◌≡◌, ◌≤◌, ◌<◌, ◌+◌, ◌^◌, ◌↔◌, ◌⊎◌, ◌++◌, Contains, IfOk, Some, length, map, slice_get};
+ghost use Rattle.std.specs.List.{AllByRecursion, AllZip};
+ghost use Rattle.std.specs.List.Sorted.{IsStrictlySortedBy};
+ghost use Rattle.rdf_terms.specs.Order.{compare_at};
+ghost use Rattle.rdf_terms.specs.Values.{IsValue};
+ghost use Rattle.rdf_terms.specs.declared.terms.TermId.{TermId as Id};
+ghost use Rattle.proof_file.specs.Accepts.{AreNumbers};
+ghost use Rattle.schema_tree.specs.declared.schema.Answer.{Answer as Given};
+ghost use Rattle.typing_answers.specs.Numbering.{IsPlace};
+
+use rdf_terms::order::{compare_ids, put_in_order};
+use rdf_terms::table::TermTable;
+use rdf_terms::terms::{Term, TermId};
+use rdf_terms::values::term_is_value;
+use schema_tree::schema::Answer;
+use std::alloc::{AllocError, Global};
+
+/// The nodes of answers, in their order.
+fn answered_nodes(alloc: Global, answers: &[Answer]) -> Result<Vec<TermId>, AllocError>
+    ensures { IfOk result (λ v. v.items ≡ map (λ x. x.node) answers.now) }
+{
+    answers.iter().map(|x| x.node).collect(alloc)
+}
+
+/// The nodes of answers, and then these.
+fn collected(
+    alloc: Global,
+    recorded: &[TermId],
+    answers: &[Answer],
+) -> Result<Vec<TermId>, AllocError>
+    ensures { IfOk result (λ v. v.items ≡ map (λ x. x.node) answers.now ++ recorded.now) }
+{
+    let mut nodes = answered_nodes(alloc, answers)?;
+    nodes.extend_from_slice(recorded)?;
+    Ok(nodes)
+}
+
+/// The nodes of records and of answers, each once, in the order of their texts.
+pub(crate) fn nodes_of(
+    alloc: Global,
+    terms: &TermTable,
+    recorded: &[TermId],
+    answers: &[Answer],
+) -> Result<Vec<TermId>, AllocError>
+    ensures sorted { IfOk result (λ v. IsStrictlySortedBy (compare_at terms.now) v.items) }
+    ensures exactly { IfOk result (λ v. (n : Id) → Contains v.items n ↔ (Contains recorded.now n ⊎ ((x : Given) × Contains answers.now x × (x.node ≡ n)))) }
+    ensures few { IfOk result (λ v. length v.items ≤ length recorded.now + length answers.now) }
+{
+    let mut nodes = collected(alloc, recorded, answers)?;
+    put_in_order(terms, &mut nodes)?;
+    Ok(nodes)
+}
+
+/// The number of a node among nodes in order that have it.
+pub(crate) fn place_of(terms: &TermTable, nodes: &[TermId], node: TermId) -> u32
+    requires sorted { IsStrictlySortedBy (compare_at terms.now) nodes.now }
+    requires few { length nodes.now < 2 ^ 32 }
+    requires held { Contains nodes.now node }
+    ensures { slice_get nodes.now result ≡ Some node }
+{
+    match nodes.binary_search_by(|n| compare_ids(terms, *n, node)) {
+        Ok(place) => place as u32,
+        Err(_) => unreachable!(),
+    }
+}
+
+/// The number that each node has among nodes in order that have them all.
+pub(crate) fn places_of(
+    alloc: Global,
+    terms: &TermTable,
+    nodes: &[TermId],
+    recorded: &[TermId],
+) -> Result<Vec<u32>, AllocError>
+    requires sorted { IsStrictlySortedBy (compare_at terms.now) nodes.now }
+    requires few { length nodes.now < 2 ^ 32 }
+    requires held { (n : Id) → Contains recorded.now n → Contains nodes.now n }
+    ensures { IfOk result (λ v. AllZip (IsPlace nodes.now) recorded.now v.items) }
+{
+    let mut places = Vec::new(alloc);
+    for node in recorded {
+        places.push(place_of(terms, nodes, *node))?;
+    }
+    Ok(places)
+}
+
+/// A copy of the term.
+fn line(alloc: Global, term: &Term) -> Result<Term, AllocError>
+    ensures copy { IfOk result (λ t. t ≡ term.now) }
+    ensures value { IsValue term.now }
+{
+    term_is_value(term);
+    term.try_clone(alloc)
+}
+
+/// The terms of nodes.
+pub(crate) fn lines(
+    alloc: Global,
+    terms: &TermTable,
+    nodes: &[TermId],
+) -> Result<Vec<Term>, AllocError>
+    requires { (n : Id) → Contains nodes.now n → n.0 < length terms.now }
+    ensures numbers { IfOk result (λ v. AreNumbers terms.now v.items nodes.now) }
+    ensures values { IfOk result (λ v. AllByRecursion IsValue v.items) }
+{
+    let mut lines = Vec::new(alloc);
+    for node in nodes {
+        lines.push(line(alloc, terms.get(*node))?)?;
+    }
+    Ok(lines)
+}

@@ -1,0 +1,67 @@
+//! The proof that is stored for answers.
+
+ghost use Rattle.std.specs.Prelude.{ℕ, IfOk, List};
+ghost use Rattle.rdf_terms.specs.declared.terms.Triple.{Triple as Arc};
+ghost use Rattle.schema_tree.specs.declared.schema.Pair.{Pair as Held};
+ghost use Rattle.schema_tree.specs.declared.schema.Schema.{Schema as Tree};
+ghost use Rattle.schema_tree.specs.Sure.{Known};
+ghost use Rattle.lists.specs.Distinct.{AreDistinct};
+ghost use Rattle.typing_answers.specs.Laws.{AreLaws};
+ghost use Rattle.typing_answers.specs.Proofs.{AreInRange, AreShownFor, IsProofOf};
+
+use crate::claims::claims_of;
+use crate::nodes::{lines, nodes_of, places_of};
+use crate::sections::moved_sections;
+use proof_file::Proof;
+use rdf_terms::items::Items;
+use rdf_terms::laws::texts_are_distinct;
+use rdf_terms::table::TermTable;
+use schema_tree::laws::{layers_are_meanings, strata_are_least};
+use schema_tree::schema::Answer;
+use std::alloc::{AllocError, Global};
+use typing_refiner::records::Records;
+
+/// The laws that tie a stored proof to the verdicts.
+fn laws(terms: &TermTable)
+    ensures laws { AreLaws }
+    ensures distinct { AreDistinct terms.now }
+{
+    let _count = terms.len();
+    layers_are_meanings();
+    strata_are_least();
+    texts_are_distinct();
+}
+
+/// The proof of answers that are sure by the verdicts which these records show. Its node lines are the nodes of the records
+/// and of the answers, each once in the order of their texts, its sections are those of the records, and its claims are the
+/// answers in their order. There are at most 4,194,304 nodes of records and 1,000,000 answers.
+pub fn proof_of(
+    alloc: Global,
+    terms: &TermTable,
+    records: Records,
+    answers: &[Answer],
+) -> Result<Proof, AllocError>
+    requires { AreInRange terms.now records.nodes.items records.sections.items answers.now }
+    ensures { IfOk result (λ p. (s : Tree) (g : List Arc) (f : List ℕ) (pairs : List Held) (budget : ℕ) (verdicts : Known) →
+        AreShownFor s terms.now g f pairs budget verdicts records.nodes.items records.sections.items answers.now →
+        IsProofOf f s terms.now g pairs budget answers.now p) }
+{
+    laws(terms);
+    let Records {
+        nodes: own,
+        sections,
+    } = records;
+    let recorded = own.as_slice();
+    let distinct = nodes_of(alloc, terms, recorded, answers)?;
+    let nodes = distinct.as_slice();
+    let places = places_of(alloc, terms, nodes, recorded)?;
+    let numbers = places.as_slice();
+    let renumbered = moved_sections(alloc, sections, numbers)?;
+    let terms_of_nodes = lines(alloc, terms, nodes)?;
+    let claims = claims_of(alloc, terms, nodes, answers)?;
+    Ok(Proof {
+        nodes: Items::of(terms_of_nodes),
+        sections: Items::of(renumbered),
+        claims: Items::of(claims),
+    })
+}

@@ -1,0 +1,59 @@
+use Rattle.std.proofs.Common.{◌≡◌, ◌≢◌, ◌∙◌, ◌++◌, ◌∷◌, [], inl, map, sym, ap, refl, subst, suc, length, Contains, arith}
+use Rattle.std.proofs.lemmas.List.{map-append}
+use Rattle.schema_tree.specs.declared.verdicts.Verdict.TheVariants.{No, Unknown}
+use Rattle.typing_refiner.proofs.Removals.{further_as, still}
+use Rattle.typing_refiner.proofs.Gone.{one_more_gone}
+use Rattle.typing_refiner.proofs.Steps.{all_wait, fewer_left, nearer, unknown_no}
+use Rattle.typing_refiner.proofs.Spending.{changed}
+use Rattle.typing_refiner.proofs.ground.Ground.remove_next.Goals as goal
+
+pub returns-in-Placed-clause-looked : goal.returns-in-Placed-clause-looked
+returns-in-Placed-clause-looked g c =
+    λ lower r. still c.args.self.now c.requires.ready _ lower c.args.stratum c.args.marks.now _ c.args.at c.args.agenda.now r c.in_ok-look.field-0
+    c.in_ok-look.ensures.outcome c.in-Placed.field-0 c.in-Placed.is
+
+pub returns-in-Placed-clause-all : goal.returns-in-Placed-clause-all
+returns-in-Placed-clause-all g c = c.requires.all
+
+pub returns-in-Placed-clause-nearer : goal.returns-in-Placed-clause-nearer
+returns-in-Placed-clause-nearer g c = inl (refl, refl)
+
+pub returns-clause-looked : goal.returns-clause-looked
+returns-clause-looked g c =
+    λ lower r. further_as c.args.self.now c.requires.ready _ lower c.args.stratum c.args.marks.now _ c.args.at c.args.agenda.now r c.in_ok-look.field-0
+    c.in_ok-look.ensures.outcome c.in-Never.states c.in-Never.is c.requires.least c.pair_of-pair.result c.pair_of-pair.ensures
+    c.set_mark.new.marks c.set_mark.ensures _ (ap (λ rs. map (λ r. r.pair) rs) c.in_ok-push-in-Never.ensures.items ∙ map-append (λ r. r.pair) c.args.gone.now.items _)
+    c.put_back.new.agenda c.in_ok-put_back-in-Never.ensures
+
+pub returns-clause-all : goal.returns-clause-all
+returns-clause-all g c =
+    all_wait c.args.self.now c.args.stratum Unknown No unknown_no c.args.marks.now c.args.at c.args.agenda.now c.put_back.new.agenda c.set_mark.new.marks c.set_mark.ensures
+    c.requires.waits c.requires.least c.requires.all c.in_ok-put_back-in-Never.ensures
+
+pub returns-clause-nearer : goal.returns-clause-nearer
+returns-clause-nearer g c =
+    nearer c.args.self.now c.args.stratum Unknown No unknown_no c.args.marks.now c.args.at c.args.agenda.now c.put_back.new.agenda c.set_mark.new.marks c.set_mark.ensures
+    c.requires.waits c.requires.least c.requires.all c.in_ok-put_back-in-Never.ensures c.len-count.ensures.few
+
+pub returns-clause-paid : goal.returns-clause-paid
+returns-clause-paid g c = λ width give.
+    let less = changed c.args.self.now width c.args.stratum Unknown No unknown_no c.args.marks.now c.args.at c.args.agenda.now c.put_back.new.agenda c.set_mark.new.marks c.set_mark.ensures
+    c.requires.waits c.in_ok-put_back-in-Never.ensures in
+    let spent = c.in_ok-look.ensures.spent width give in omega (arith, less, spent)
+
+pub returns-in-Placed-clause-states : goal.returns-in-Placed-clause-states
+returns-in-Placed-clause-states g c = λ lower r all. all
+
+pub next_rank-rank-requires : goal.next_rank-rank-requires
+next_rank-rank-requires g c =
+    let e = ap length c.as_slice.ensures.value in let f = c.requires.ready.few in let l = c.requires.few in omega (arith, e, f, l)
+
+pub returns-clause-few : goal.returns-clause-few
+returns-clause-few g c =
+    fewer_left Unknown No unknown_no c.args.marks.now c.args.at c.set_mark.new.marks c.set_mark.ensures c.requires.waits.1 c.args.gone.now.items c.push.new.self.items _ c.in_ok-push-in-Never.ensures.items
+
+pub returns-clause-states : goal.returns-clause-states
+returns-clause-states g c =
+    λ lower r all. one_more_gone c.args.self.now _ lower c.args.stratum c.args.marks.now c.args.gone.now.items c.push.new.self.items _
+    (record { at = c.args.at; pair = c.pair_of-pair.result; rank = c.next_rank-rank.result; states = c.kept-states.result }) c.in_ok-look.field-0 r all c.in_ok-look.ensures.outcome c.pair_of-pair.ensures c.in-Never.states c.in-Never.is
+    c.kept-states.ensures (let e = ap length c.as_slice.ensures.value in let n = c.next_rank-rank.ensures in omega (arith, e, n)) c.in_ok-push-in-Never.ensures.items

@@ -1,0 +1,18 @@
+use Rattle.std.proofs.Common.{◌≡◌, ◌∙◌, ◌≤◌, ap, length, refl, subst, sym}
+use Rattle.demand.specs.Orders.{max_pairs}
+use Rattle.typing_refiner.proofs.Grounded.{narrow_at, needing_at, tested}
+use Rattle.typing_refiner.proofs.refining.refine_in.Goals as goal
+
+pub refine_shown-requires : goal.refine_shown-requires
+refine_shown-requires g c = record {
+  ready = record {
+    loaded = c.requires.loaded;
+    sealed = c.requires.sealed;
+    distinct = c.len-count.ensures.distinct;
+    sorted = c.requires.sorted;
+    few = subst (λ n. n ≤ max_pairs) c.len-count.ensures.count c.len-count.ensures.few;
+    tested = tested c.width_is_one.ensures.one c.args.schema.now c.args.terms.now c.args.graph.now.triples c.args.budget c.args.table.now c.args.narrow.now c.args.narrow.now refl c.requires.narrow;
+    narrow = narrow_at c.width_is_one.ensures.one c.args.schema.now c.args.terms.now c.args.graph.now.triples c.args.budget c.args.table.now c.args.narrow.now c.args.narrow.now refl c.requires.narrow c.requires.budget;
+    needing = needing_at (λ l. l.items) c.args.schema.now c.args.graph.now.triples c.args.table.now c.args.needing.now c.args.needing.now refl c.requires.needing;
+  };
+}

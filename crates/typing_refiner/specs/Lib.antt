@@ -1,0 +1,11 @@
+pub mod Ready
+pub mod Refined
+pub mod Refinement
+pub mod Spent
+pub mod Statements
+pub mod Building
+pub mod Records
+pub mod Laws
+pub mod Confirmed
+pub mod Evidence
+pub mod Filing

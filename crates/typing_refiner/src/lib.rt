@@ -1,0 +1,16 @@
+//! What is known of pairs: removal of those that cannot match, and confirmation of the others, stratum by stratum.
+#![tactic(auto)]
+
+pub mod building;
+pub mod confirmation;
+pub mod ground;
+pub mod laws;
+pub mod marks;
+pub mod records;
+pub mod refining;
+pub mod removal;
+pub mod strata_loop;
+pub mod wanted;
+
+pub use refining::{Refined, refine};
+pub use wanted::Wanted;

@@ -1,0 +1,163 @@
+//! Removal of the pairs of a stratum that cannot match.
+
+ghost use Rattle.std.specs.Prelude.{ℕ, ◌≡◌, ◌<◌, ◌≤◌, ◌+◌, ◌⊎◌, ◌↔◌, [], Contains, IfOk, OnOk, Some, length, map, slice_get, slice_set};
+ghost use Rattle.schema_tree.specs.Sure.{Known};
+ghost use Rattle.schema_tree.specs.declared.verdicts.Verdict.TheVariants.{Unknown};
+ghost use Rattle.schema_tree.specs.declared.schema.Pair.{Pair as Held};
+ghost use Rattle.typing_refiner.specs.declared.wanted.Wanted.TheVariants as Wanteds;
+ghost use Rattle.typing_refiner.specs.Spent.{GiveWidths, look_cost, phase_ticks, still_to_tick};
+ghost use Rattle.typing_refiner.specs.Ready.{AllWait, IsBefore, IsNearer, IsOpen, IsReady, IsRemoving, Waits, count_of};
+ghost use Rattle.typing_refiner.specs.Records.{HaveStates, pairs_gone};
+
+use crate::ground::Ground;
+use crate::wanted::Wanted;
+use bag_match::Outcome;
+use demand::agenda::Agenda;
+use rdf_terms::items::Items;
+use schema_tree::schema::Pair;
+use schema_tree::sure::View;
+use schema_tree::verdicts::{Lean, State, Verdict};
+use std::alloc::{AllocError, Global};
+use std::sync::ledger::Ledger;
+use tally::Steps;
+
+/// A pair that went, and the states that showed that it cannot match.
+#[derive(Debug, Drop)]
+pub struct Removed {
+    /// Its number.
+    pub at: u32,
+    /// The pair.
+    pub pair: Pair,
+    /// Its place among those that went from its stratum, from 1.
+    pub rank: u32,
+    /// The states.
+    pub states: Items<State>,
+}
+
+/// Marks a pair.
+pub(crate) fn set_mark(marks: &mut [Verdict], at: u32, mark: Verdict)
+    requires { at < length marks.old }
+    ensures { marks.new ≡ slice_set marks.old at mark }
+{
+    marks[at as usize] = mark;
+}
+
+/// Puts numbers on an agenda.
+fn put_all(agenda: &mut Agenda, numbers: &[u32]) -> Result<(), AllocError>
+    ensures { OnOk result ((q : ℕ) → Contains agenda.new q ↔ (Contains agenda.old q ⊎ Contains numbers.now q)) }
+{
+    for number in numbers {
+        agenda.put(*number)?;
+    }
+    Ok(())
+}
+
+/// The rank of the pair that goes next.
+fn next_rank(gone: &[Removed]) -> u32
+    requires { length gone.now < 4294967295 }
+    ensures { result ≡ length gone.now + 1 }
+{
+    gone.len() as u32 + 1
+}
+
+impl Ground<'_> {
+    /// The states where records are wanted, and else none.
+    fn kept(&self, alloc: Global, states: Items<State>) -> Items<State>
+        ensures { (self.now.wanted ≡ Wanteds.Records) → result ≡ states }
+    {
+        match self.wanted {
+            Wanted::Records => states,
+            Wanted::Verdicts => Items::of(Vec::new(alloc)),
+        }
+    }
+
+    /// Looks at the pair of a number, the least of those that are to be looked at: where it cannot match, it goes.
+    fn remove_next<K: View, L: Ledger>(
+        &self,
+        alloc: Global,
+        kept: &K,
+        stratum: u32,
+        at: u32,
+        marks: &mut [Verdict],
+        gone: &mut Vec<Removed>,
+        agenda: &mut Agenda,
+        steps: &mut Steps<L>,
+    ) -> Result<(), AllocError>
+        requires ready { IsReady self.now }
+        requires there { at < length self.now.table.now }
+        requires marked { length marks.old ≡ length self.now.table.now }
+        requires least { (i : ℕ) → Contains agenda.old i → at < i }
+        requires waits { Waits self.now stratum marks.old Unknown at }
+        requires few { length gone.old.items < length self.now.table.now }
+        requires all { AllWait self.now stratum marks.old Unknown agenda.old }
+        ensures looked { OnOk result ((lower : Known) →
+            IsRemoving self.now (K.known kept.now) lower stratum marks.old (map (λ r. r.pair) gone.old.items) (λ i. Contains agenda.old i ⊎ (i ≡ at)) →
+            IsRemoving self.now (K.known kept.now) lower stratum marks.new (map (λ r. r.pair) gone.new.items) (λ i. Contains agenda.new i)) }
+        ensures states { OnOk result ((lower : Known) →
+            IsRemoving self.now (K.known kept.now) lower stratum marks.old (pairs_gone gone.old.items) (λ i. Contains agenda.old i ⊎ (i ≡ at)) →
+            HaveStates self.now lower gone.old.items → HaveStates self.now lower gone.new.items) }
+        ensures all { OnOk result (AllWait self.now stratum marks.new Unknown agenda.new) }
+        ensures few { OnOk result (length gone.new.items + count_of Unknown marks.new ≤ length gone.old.items + count_of Unknown marks.old) }
+        ensures nearer { OnOk result (IsNearer (length self.now.table.now) Unknown marks.old agenda.old marks.new agenda.new) }
+        ensures spent { (width : Held → ℕ) → GiveWidths self.now width → steps.new ≤ steps.old + look_cost self.now width at }
+        ensures paid { (width : Held → ℕ) → GiveWidths self.now width → OnOk result (steps.new + still_to_tick self.now width stratum Unknown marks.new agenda.new ≤ steps.old + (still_to_tick self.now width stratum Unknown marks.old agenda.old + look_cost self.now width at)) }
+    {
+        match self.look(alloc, kept, marks, Lean::Possible, at, steps)? {
+            Outcome::Placed(_) => Ok(()),
+            Outcome::Never(states) => {
+                let pair = self.pair_of(at);
+                let states = self.kept(alloc, states);
+                let rank = next_rank(gone.as_slice());
+                gone.push(Removed {
+                    at,
+                    pair,
+                    rank,
+                    states,
+                })?;
+                set_mark(marks, at, Verdict::No);
+                self.put_back(stratum, at, marks, Verdict::Unknown, agenda)?;
+                let _count = agenda.len();
+                Ok(())
+            }
+        }
+    }
+
+    /// Removes the open pairs of a stratum that cannot match, the first of them next, until there is none; `members` are
+    /// the numbers of the open pairs.
+    pub fn remove<K: View, L: Ledger>(
+        &self,
+        alloc: Global,
+        kept: &K,
+        stratum: u32,
+        members: &[u32],
+        marks: &mut [Verdict],
+        steps: &mut Steps<L>,
+    ) -> Result<Vec<Removed>, AllocError>
+        requires ready { IsReady self.now }
+        requires marked { length marks.old ≡ length self.now.table.now }
+        requires members { (i : ℕ) → Contains members.now i ↔ IsOpen self.now stratum i }
+        requires fresh { (i : ℕ) → Contains members.now i → slice_get marks.old i ≡ Some Unknown }
+        ensures spent { (width : Held → ℕ) → GiveWidths self.now width → steps.new ≤ steps.old + phase_ticks self.now width stratum }
+        ensures states { IfOk result (λ gone. (lower : Known) → IsBefore self.now (K.known kept.now) lower stratum marks.old → HaveStates self.now lower gone.items) }
+        ensures few { IfOk result (λ gone. length gone.items ≤ length self.now.table.now) }
+        ensures removed { IfOk result (λ gone. (lower : Known) → IsBefore self.now (K.known kept.now) lower stratum marks.old →
+            IsRemoving self.now (K.known kept.now) lower stratum marks.new (map (λ r. r.pair) gone.items) (λ i. ⊥)) }
+    {
+        let mut agenda = Agenda::new(alloc);
+        put_all(&mut agenda, members)?;
+        let mut gone = Vec::new(alloc);
+        while let Some(at) = agenda.take_least() {
+            self.remove_next(
+                alloc,
+                kept,
+                stratum,
+                at,
+                marks,
+                &mut gone,
+                &mut agenda,
+                steps,
+            )?;
+        }
+        Ok(gone)
+    }
+}
