@@ -5,6 +5,7 @@ use Rattle.std.proofs.lemmas.List.Sorted.{Contains-permutation, IsPermutation-re
 use Rattle.std.proofs.lemmas.Option.{slice_get-get_or}
 use Rattle.std.specs.List.Sorted.{IsPermutation, IsStrictlySortedBy}
 use Rattle.std.specs.Prelude.{◌↔◌, Contains, Some}
+use Rattle.lists.proofs.Among.{few_among}
 use Rattle.lists.specs.Distinct.{AreDistinct}
 use Rattle.rdf_terms.specs.declared.terms.Term.{Term}
 use Rattle.demand.specs.Orders.{compare_pairs, max_pairs}
@@ -64,28 +65,8 @@ asked_in_order s terms g roots start seen list starts led closed sorted same = r
 pub closed_in_order : (s : Schema) (g : List Triple) (seen list : List Pair) → HoldNeeds s g seen → ((q : Pair) → Contains list q ↔ Contains seen q) → HoldNeeds s g list
 closed_in_order s g seen list closed same p q c need = (same q).1 (closed p q ((same p).0 c) need)
 
--- distinct pairs of a list are at most as many as it has
-distinct_fits : (ps list : List Pair) → AreDistinct ps → ((q : Pair) → Contains ps q → Contains list q) → length ps ≤ length list
-distinct_fits [] list d inside = omega arith
-distinct_fits (x ∷ xs) list d inside = go (inside x (is_first x xs)) (λ i. distinct_fits xs (remove list i))
-  where
-    tail : AreDistinct xs
-    tail i j y a b = let e : suc i ≡ suc j = d (suc i) (suc j) y a b in omega (arith, e)
-
-    once : ¬ Contains xs x
-    once (j, l, e) = let f : 0 ≡ suc j = d 0 (suc j) x refl (slice_get-get_or xs j x l ∙ ap (λ u. Some u) e) in omega (arith, f)
-
-    go : Contains list x → ((i : ℕ) → AreDistinct xs → ((q : Pair) → Contains xs q → Contains (remove list i) q) → length xs ≤ length (remove list i)) → length (x ∷ xs) ≤ length list
-    go (i, within, at) deeper =
-        let perm : IsPermutation list (x ∷ remove list i) = IsPermutation-remove list i x within (sym at) in
-        let rest = deeper i tail (λ q c. elim (in_rest x (remove list i) q (Contains-permutation _ _ q perm (inside q (is_later x xs q c)))) [
-          | inl e ↦ absurd (once (subst (λ u. Contains xs u) (sym e) c))
-          | inr later ↦ later
-        ]) in
-        omega (arith, rest, length-remove list i within)
-
 -- what is given leaves no room for too many
 pub not_many : (s : Schema) (terms : List Term) (g : List Triple) (roots : List Root) (list : List Pair) → AreAsked s terms g roots list → length list ≤ max_pairs → ¬ AreTooMany s g roots
 not_many s terms g roots list asked few many =
-    let l = distinct_fits many.pairs list many.distinct (λ q c. (asked.exactly q).1 (many.reached q c)) in
+    let l = few_among many.pairs list many.distinct (λ q c. (asked.exactly q).1 (many.reached q c)) in
     let m = many.many in omega (arith, l, m, few)

@@ -1,6 +1,6 @@
 -- Lists side by side.
 use Rattle.std.proofs.lemmas.List.{take_more}
-use Rattle.std.proofs.Common.{◌≡◌, ℕ, ◌<◌, ◌+◌, ◌++◌, take, List, [], ◌∷◌, sym, ◌∙◌, ap, subst, length, get_or, inl, inr}
+use Rattle.std.proofs.Common.{◌≡◌, ℕ, ◌<◌, ◌+◌, ◌++◌, take, List, [], ◌∷◌, sym, ◌∙◌, ap, subst, refl, suc, length, get_or, inl, inr}
 use Rattle.std.specs.Prelude.{Contains}
 use Rattle.std.specs.List.{AllZip}
 use Rattle.lists.proofs.Members.{not_in_none, in_rest, is_first, is_later}
@@ -43,3 +43,15 @@ zip_push R (z ∷ xs) (w ∷ ys) x y h r = (h.0, zip_push R xs ys x y h.1 r)
 pub zip_more : {A B : Type 0} (R : A → B → Type 0) (xs : List A) (ys : List B) (i : ℕ) (x : A) (y : B) → i < length xs → x ≡ get_or xs i x → AllZip R (take i xs) ys → R x y → AllZip R (take (i + 1) xs) (ys ++ y ∷ [])
 zip_more R xs ys i x y inside read h r =
     subst (λ zs. AllZip R zs (ys ++ y ∷ [])) (sym (take_more xs i x inside ∙ ap (λ z. take i xs ++ z ∷ []) (sym read))) (zip_push R (take i xs) ys x y h r)
+
+-- one more beside one more that is read
+pub zip_on : {A B : Type 0} (R : A → B → Type 0) (xs : List A) (ys more : List B) (i : ℕ) (d : A) (y : B) → i < length xs → AllZip R (take i xs) ys → R (get_or xs i d) y → more ≡ ys ++ y ∷ [] → AllZip R (take (i + 1) xs) more
+zip_on R xs ys more i d y inside h r pushed =
+    subst (λ zs. AllZip R (take (i + 1) xs) zs) (sym pushed) (subst (λ zs. AllZip R zs (ys ++ y ∷ [])) (sym (take_more xs i d inside)) (zip_push R (take i xs) ys (get_or xs i d) y h r))
+
+-- lists side by side are as long as one another
+pub same_length : {X Y : Type 0} (R : X → Y → Type 0) (xs : List X) (ys : List Y) → AllZip R xs ys → length xs ≡ length ys
+same_length R [] [] are = refl
+same_length R [] (y ∷ ys) are = absurd are
+same_length R (x ∷ xs) [] are = absurd are
+same_length R (x ∷ xs) (y ∷ ys) are = ap suc (same_length R xs ys are.1)

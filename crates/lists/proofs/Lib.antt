@@ -1,4 +1,5 @@
 pub mod Additions
+pub mod Among
 pub mod Beside
 pub mod Decided
 pub mod Distinct

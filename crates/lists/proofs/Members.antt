@@ -2,7 +2,7 @@
 use Rattle.std.proofs.Common.{append_assoc, add-one, ◌≡◌, zero, suc, ◌⊎◌, inl, inr, List, [], ◌∷◌, refl, arith, sym, subst, ap, ◌∙◌, map, Bool, true, false, ℕ, ◌<◌, ◌++◌, length, ◌+◌, take, get_or, ◌-◌, drop}
 use Rattle.std.proofs.Math.Seq.{drop-cons, take-length}
 use Rattle.std.specs.Prelude.{Contains, Some, slice_get, ◌||◌}
-use Rattle.std.proofs.lemmas.Option.{slice_get_within, get_or_from_slice_get}
+use Rattle.std.proofs.lemmas.Option.{slice_get_within, slice_get-get_or, get_or_from_slice_get}
 use Rattle.std.specs.List.{flat_map, list_any}
 use Rattle.std.proofs.lemmas.List.Elements.{Contains-append_left, Contains-append_right, Contains-append_cases}
 
@@ -112,3 +112,7 @@ yields_on all yielded rest behind x e f = e ∙ ap (λ (v : List _). yielded ++ 
 -- and that item is of the list
 pub yields_there : {X : Type 0} (all yielded rest behind : List X) (x : X) → all ≡ yielded ++ rest → rest ≡ x ∷ behind → Contains all x
 yields_there all yielded rest behind x e f = subst (λ zs. Contains zs x) (sym e) (Contains-append_right yielded rest x (subst (λ zs. Contains zs x) (sym f) (is_first x behind)))
+
+-- an item has a place
+pub place_of : {X : Type 0} (xs : List X) (x : X) → Contains xs x → (i : ℕ) × (slice_get xs i ≡ Some x)
+place_of xs x (i, inside, e) = (i, slice_get-get_or xs i x inside ∙ ap (λ y. Some y) e)

@@ -5,14 +5,14 @@ use Rattle.std.proofs.lemmas.List.Sorted.{Contains-permutation, IsPermutation-re
 use Rattle.std.specs.List.Sorted.{IsPermutation}
 use Rattle.std.specs.Prelude.{◌↔◌, Contains, Some, slice_get}
 use Rattle.lists.specs.Distinct.{AreDistinct}
-use Rattle.lists.proofs.Members.{got_in, in_rest, is_first, is_later, not_in_none}
+use Rattle.lists.proofs.Among.{few_among}
+use Rattle.lists.proofs.Members.{got_in, in_rest, is_first, is_later, not_in_none, place_of}
 use Rattle.rdf_terms.specs.declared.terms.Triple.{Triple}
 use Rattle.schema_tree.specs.declared.schema.Pair.{Pair}
 use Rattle.schema_tree.specs.declared.schema.Schema.{Schema}
 use Rattle.schema_tree.specs.Needs.{Needs}
 use Rattle.removal_laws.specs.Costs.{bit, needs_count, total}
 use Rattle.locality_laws.specs.Bounds.{AreNeedTests, NeedsAreCounted, NeedsSoMany}
-use Rattle.locality_laws.proofs.Refined.{place_of}
 
 -- the first item of distinct ones is none of the others, and these are distinct
 behind_distinct : (x : Pair) (xs : List Pair) → AreDistinct (x ∷ xs) → AreDistinct xs
@@ -26,20 +26,6 @@ with_first x xs none d zero zero y a b = refl
 with_first x xs none d zero (suc j) y a b = absurd (none (let e : x ≡ y = cc in subst (λ z. Contains xs z) (sym e) (got_in xs j y b)))
 with_first x xs none d (suc i) zero y a b = absurd (none (let e : x ≡ y = cc in subst (λ z. Contains xs z) (sym e) (got_in xs i y a)))
 with_first x xs none d (suc i) (suc j) y a b = ap suc (d i j y a b)
-
--- distinct pairs of a list are at most as many as it has
-pub distinct_fits : (ps list : List Pair) → AreDistinct ps → ((q : Pair) → Contains ps q → Contains list q) → length ps ≤ length list
-distinct_fits [] list d inside = omega arith
-distinct_fits (x ∷ xs) list d inside = go (inside x (is_first x xs)) (λ i. distinct_fits xs (remove list i))
-  where
-    go : Contains list x → ((i : ℕ) → AreDistinct xs → ((q : Pair) → Contains xs q → Contains (remove list i) q) → length xs ≤ length (remove list i)) → length (x ∷ xs) ≤ length list
-    go (i, within, at) deeper =
-        let perm : IsPermutation list (x ∷ remove list i) = IsPermutation-remove list i x within (sym at) in
-        let rest = deeper i (behind_distinct x xs d) (λ q c. elim (in_rest x (remove list i) q (Contains-permutation _ _ q perm (inside q (is_later x xs q c)))) [
-          | inl e ↦ absurd (first_once x xs d (subst (λ u. Contains xs u) (sym e) c))
-          | inr later ↦ later
-        ]) in
-        omega (arith, rest, length-remove list i within)
 
 -- the pairs whose places pass a test
 abbrev picked : (ℕ → Bool) → List Pair → List Pair
@@ -116,8 +102,8 @@ module _ (s : Schema) (g : List Triple) (pairs : List Pair) (need : ℕ → ℕ 
     where
       to : NeedsSoMany s g pairs p k → k ≡ needs_count cost need (length pairs) i
       to h =
-          let a = distinct_fits h.needed mine h.distinct (λ q c. (mine_exactly q).1 ((h.exactly q).0 c)) in
-          let b = distinct_fits mine h.needed (picked_distinct (λ at. need at i) pairs distinct) (λ q c. (h.exactly q).1 ((mine_exactly q).0 c)) in
+          let a = few_among h.needed mine h.distinct (λ q c. (mine_exactly q).1 ((h.exactly q).0 c)) in
+          let b = few_among mine h.needed (picked_distinct (λ at. need at i) pairs distinct) (λ q c. (h.exactly q).1 ((mine_exactly q).0 c)) in
           let m = mine_many in
           let n = h.count in
           omega (arith, a, b, m, n)

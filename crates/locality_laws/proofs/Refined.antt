@@ -2,7 +2,7 @@
 use Rattle.std.proofs.Common.{◌≡◌, ◌∙◌, ℕ, zero, suc, ◌<◌, ◌≤◌, inl, inr, List, [], ◌∷◌, arith, sym, subst, ap, take}
 use Rattle.std.proofs.lemmas.Option.{slice_get-get_or}
 use Rattle.std.specs.Prelude.{Contains, Some, slice_get}
-use Rattle.lists.proofs.Members.{in_rest, not_in_none}
+use Rattle.lists.proofs.Members.{in_rest, not_in_none, place_of}
 use Rattle.rdf_terms.specs.declared.terms.Term.{Term}
 use Rattle.rdf_terms.specs.declared.terms.Triple.{Triple}
 use Rattle.schema_tree.specs.declared.schema.Pair.{Pair}
@@ -13,10 +13,6 @@ use Rattle.schema_tree.specs.Removal.{AreRefinedBelow, IsNarrow, IsRefinedAt}
 use Rattle.schema_tree.specs.Sure.{Known, PairIs}
 use Rattle.locality_laws.specs.Local.{AreRefinedOn}
 use Rattle.locality_laws.proofs.Alike.{SameOn, by_members, not_raised, raised, same_through}
-
--- an item has a place
-pub place_of : (xs : List Pair) (q : Pair) → Contains xs q → (i : ℕ) × (slice_get xs i ≡ Some q)
-place_of xs q (i, l, e) = (i, slice_get-get_or xs i q l ∙ ap (λ u. Some u) e)
 
 -- an item of the first so many has an earlier place
 pub in_take : (xs : List Pair) (n : ℕ) (q : Pair) → Contains (take n xs) q → (j : ℕ) × (j < n) × (slice_get xs j ≡ Some q)

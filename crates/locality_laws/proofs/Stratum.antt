@@ -3,7 +3,7 @@ use Rattle.std.proofs.Common.{◌≡◌, ℕ, zero, suc, ◌<◌, ◌≤◌, ◌
 use Rattle.std.proofs.lemmas.List.Elements.{Contains-append_cases, Contains-append_left, Contains-append_right}
 use Rattle.std.specs.Prelude.{Contains, Some, slice_get}
 use Rattle.lists.proofs.Decided.{Decided, decide_member}
-use Rattle.lists.proofs.Members.{got_in}
+use Rattle.lists.proofs.Members.{got_in, place_of}
 use Rattle.rdf_terms.specs.declared.terms.Term.{Term}
 use Rattle.rdf_terms.specs.declared.terms.Triple.{Triple}
 use Rattle.schema_tree.specs.declared.schema.Pair.{Pair}
@@ -21,7 +21,7 @@ use Rattle.removal_laws.proofs.Carried.{match_up}
 use Rattle.locality_laws.specs.Local.{IsNegativeNeed}
 use Rattle.locality_laws.proofs.Alike.{SameOn, by_members, in_neither, no_other, not_among, raised}
 use Rattle.locality_laws.proofs.Falling.{match_falls}
-use Rattle.locality_laws.proofs.Refined.{gone_narrow, in_take, kept_narrow, kept_stays, place_of}
+use Rattle.locality_laws.proofs.Refined.{gone_narrow, in_take, kept_narrow, kept_stays}
 
 -- the pairs X are refined over lx, and the pairs Y over ly, on the stratum k. Of the pairs that a pair of both needs, those
 -- of lower strata are known alike; those of the stratum are pairs of both that are not known yet, or they are none of X,

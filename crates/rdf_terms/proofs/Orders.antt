@@ -1,5 +1,5 @@
 -- The order of numbers is total, tells numbers apart, and puts a list of them into one order.
-use Rattle.std.proofs.Common.{◌≡◌, ℕ, List, refl, ap, sym, ◌∙◌, get_or, Bool, true, false, nat_eq, [], subst, ◌<◌, length, map, Ok, Err}
+use Rattle.std.proofs.Common.{◌≡◌, ℕ, zero, suc, List, refl, ap, sym, ◌∙◌, get_or, Bool, true, false, nat_eq, [], ◌∷◌, subst, arith, ◌<◌, length, map, Ok, Err}
 use Rattle.std.proofs.lemmas.Bool.{eqb-true, eq-eqb}
 use Rattle.std.proofs.lemmas.Cmp.{then_total, nat_cmp_total}
 use Rattle.std.specs.Cmp.{IsTotalOrder, on_total, tied_itself, unsigned_ties}
@@ -15,7 +15,10 @@ use Rattle.std.specs.List.Retain.{IsFiltered, DiffersFromLast}
 use Rattle.std.specs.List.Sorted.{IsPermutation, IsSorted, IsStrictlySortedBy, IsBinarySearchResult}
 use Rattle.std.proofs.lemmas.Option.{slice_get-get_or}
 use Rattle.std.proofs.lemmas.List.{map-id}
+use Rattle.std.proofs.lemmas.Map.Keys.{sorted_head, sorted_tail}
 use Rattle.lists.proofs.Halving.{not_missed, one_place}
+use Rattle.lists.proofs.Members.{got_in}
+use Rattle.lists.proofs.Quantifiers.{all_at}
 use Rattle.rdf_terms.proofs.SameTerms.{same_is}
 use Rattle.rdf_terms.specs.declared.terms.Term.{Term}
 use Rattle.rdf_terms.specs.declared.terms.TermId.{TermId}
@@ -89,3 +92,13 @@ module _ (terms : List Term) (nodes : List TermId) (n : TermId) where
 pub nodes_once : (terms : List Term) (nodes : List TermId) → IsStrictlySortedBy (compare_at terms) nodes → (k j : ℕ) (n : TermId) → slice_get nodes k ≡ Some n → slice_get nodes j ≡ Some n → k ≡ j
 nodes_once terms nodes up k j n a b =
     one_place (compare_at terms) (id_total terms) (λ m. m) nodes (subst (IsStrictlySortedBy (compare_at terms)) (sym (map-id nodes)) up) k j n n a b refl
+
+-- a node at a lower place comes first
+pub comes_first : (terms : List Term) (nodes : List TermId) → IsStrictlySortedBy (compare_at terms) nodes → (i j : ℕ) (n m : TermId) → slice_get nodes i ≡ Some n → slice_get nodes j ≡ Some m → i < j → compare_at terms n m ≡ Less
+comes_first terms [] up i j n m at is less = cc
+comes_first terms (k ∷ nodes) up i zero n m at is less = absurd (omega (arith, less))
+comes_first terms (k ∷ nodes) up zero (suc j) n m at is less =
+    let first : k ≡ n = cc in
+    subst (λ z. compare_at terms z m ≡ Less) first (all_at (λ y. compare_at terms k y ≡ Less) nodes m (sorted_head (compare_at terms) k nodes up) (got_in nodes j m is))
+comes_first terms (k ∷ nodes) up (suc i) (suc j) n m at is less =
+    comes_first terms nodes (sorted_tail (compare_at terms) k nodes up) i j n m at is (omega (arith, less))

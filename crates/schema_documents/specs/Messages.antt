@@ -20,5 +20,4 @@ schema_text SchemaErrors.FacetNumber = codes "FacetNumber"
 schema_text (SchemaErrors.Pattern error) = codes "Pattern(" ++ (pattern_text error ++ codes ")")
 schema_text (SchemaErrors.Prefix at) = codes "Prefix(" ++ (decimal at ++ codes ")")
 schema_text SchemaErrors.Deep = codes "Deep"
-schema_text (SchemaErrors.NotBuilt name) = codes "NotBuilt(" ++ (encode_utf8_all name ++ codes ")")
 schema_text SchemaErrors.Memory = codes "Memory"

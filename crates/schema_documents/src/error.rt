@@ -37,8 +37,6 @@ pub enum SchemaError {
     Prefix(u64),
     /// Brackets or expressions nest too deep.
     Deep,
-    /// A type, or a key of a type, that is not read yet.
-    NotBuilt(Text),
     /// Memory ran out.
     Memory,
 }
@@ -63,7 +61,6 @@ impl fmt::Display for SchemaError {
             SchemaError::Pattern(error) => write!(f, "Pattern({error})"),
             SchemaError::Prefix(at) => write!(f, "Prefix({at})"),
             SchemaError::Deep => f.write_str("Deep"),
-            SchemaError::NotBuilt(name) => write!(f, "NotBuilt({})", name.as_str()),
             SchemaError::Memory => f.write_str("Memory"),
         }
     }

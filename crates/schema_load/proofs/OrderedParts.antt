@@ -8,7 +8,7 @@ use Rattle.lists.proofs.Quantifiers.{all_append, all_at}
 use Rattle.schema_documents.specs.Tree.{Declaration, Document, MaybeShapeExpr, MaybeTripleExpr, ShapeExpr, ShapeExprs, TripleBody, TripleExpr, TripleExprs, arc, conj, disj, each, include, more_exprs, more_triples, neg, no_expr, no_exprs, no_triple, no_triples, node, one, one_expr, one_triple, refer, shape, triple}
 use Rattle.schema_load.specs.declared.part.Part.{Part}
 use Rattle.schema_load.specs.declared.part.Part.TheVariants as Parts
-use Rattle.schema_load.specs.Ordered.{AreOrderedDecls, AreOrderedExprs, AreOrderedTriples, IsOrderedBody, IsOrderedDocument, IsOrderedExpr, IsOrderedExpression, IsOrderedTriple, IsOrderedValue}
+use Rattle.schema_documents.specs.Ordered.{AreOrderedDecls, AreOrderedExprs, AreOrderedTriples, IsOrderedBody, IsOrderedDocument, IsOrderedExpr, IsOrderedExpression, IsOrderedTriple, IsOrderedValue}
 use Rattle.schema_load.specs.Parts.{AreOrdered}
 use Rattle.schema_load.specs.Reading.{lay, lay_all, lay_body, lay_decls, lay_form, lay_start, lay_triple, lay_triples, lay_value, parts_of, root_start, size_of, size_of_start, size_of_triple}
 

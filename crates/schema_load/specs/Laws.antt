@@ -8,7 +8,7 @@ use Rattle.schema_tree.specs.declared.schema.Schema.{Schema}
 use Rattle.schema_tree.specs.declared.schema.Target.{Target}
 use Rattle.schema_tree.specs.Loaded.{IsLoaded}
 use Rattle.schema_load.specs.declared.error.LoadError.{LoadError}
-use Rattle.schema_load.specs.Ordered.{IsOrderedDocument}
+use Rattle.schema_documents.specs.Ordered.{IsOrderedDocument}
 use Rattle.schema_load.specs.Parts.{AreOrdered, IsHeldBy, is_entry}
 use Rattle.schema_load.specs.Reading.{parts_of}
 use Rattle.schema_load.specs.Refusals.{IsRefused}

@@ -5,7 +5,6 @@ pub mod Graph
 pub mod Laws
 pub mod Messages
 pub mod Names
-pub mod Ordered
 pub mod Parts
 pub mod Reading
 pub mod Refusals

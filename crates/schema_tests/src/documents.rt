@@ -42,8 +42,6 @@ fn a_refusal_has_the_name_of_a_key(rt: HostRuntime) -> Result<(), Fail> {
     assert!(rt; has_text(alloc, key, "Key(shape)")?);
     let form = SchemaError::Form(Text::from_str(alloc, "min")?);
     assert!(rt; has_text(alloc, form, "Form(min)")?);
-    let unread = SchemaError::NotBuilt(Text::from_str(alloc, "ShapeAnd")?);
-    assert!(rt; has_text(alloc, unread, "NotBuilt(ShapeAnd)")?);
     Ok(())
 }
 

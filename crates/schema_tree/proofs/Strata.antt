@@ -9,7 +9,10 @@ use Rattle.lists.proofs.Members.{not_in_none, in_rest}
 use Rattle.std.proofs.lemmas.Option.{slice_get_within}
 use Rattle.schema_tree.specs.declared.schema.Schema.{Schema}
 use Rattle.schema_tree.specs.declared.schema.ShapeId.{ShapeId}
-use Rattle.schema_tree.specs.Edges.{Edge, IsNegative, level, IsStratified, Path, stay, by_any, by_negative, IsStratum}
+use Rattle.schema_tree.specs.declared.schema.ExprId.{ExprId}
+use Rattle.schema_tree.specs.declared.schema.Expr.TheVariants as Exprs
+use Rattle.schema_tree.specs.Loaded.{IsLoaded}
+use Rattle.schema_tree.specs.Edges.{StandsIn, itself, in_and, in_or, in_not, Edge, IsNegative, level, IsStratified, Path, stay, by_any, by_negative, IsStratum}
 use Rattle.schema_tree.specs.Cycles.{HasNegatedCycle, AreLinked, AreLinkedBadly, IsNegatedCycle}
 use Rattle.lists.proofs.Quantifiers.{all_of}
 use Rattle.schema_tree.proofs.Below.{past_end}
@@ -17,6 +20,14 @@ use Rattle.schema_tree.proofs.Below.{past_end}
 -- an edge leads from a Shape that is there
 pub edge_from : (s : Schema) (i j : ShapeId) → Edge s i j → i.0 < length s.shapes
 edge_from s i j e = slice_get_within s.shapes i.0 e.shape e.is
+
+module _ (s : Schema) (loaded : IsLoaded s) where
+  -- what stands in an entry is a Shape that is there
+  pub stands_there : (t : ShapeId) (e : ExprId) (sign : Bool) → StandsIn s t e sign → t.0 < length s.shapes
+  stands_there t e sign (itself is) = loaded.refers e (Exprs.Shape t) is
+  stands_there t e sign (in_and es d is c rest) = stands_there t d sign rest
+  stands_there t e sign (in_or es d is c rest) = stands_there t d sign rest
+  stands_there t e _ (in_not {sign = b} d is rest) = stands_there t d b rest
 
 -- an edge before the edges of a path
 link :

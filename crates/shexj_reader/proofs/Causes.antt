@@ -18,7 +18,6 @@ because P Q Errors.Action w h = w _ h
 because P Q Errors.FloatFacet w h = w _ h
 because P Q Errors.FacetNumber w h = w _ h
 because P Q (Errors.Pattern e) w h = w _ h
-because P Q (Errors.NotBuilt name) w h = absurd h
 because P Q Errors.Memory w h = tt
 
 -- a `?` passes a refusal on

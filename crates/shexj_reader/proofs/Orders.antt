@@ -10,7 +10,7 @@ use Rattle.schema_documents.specs.Tree.{Declaration, Document, MaybeShapeExpr, M
 use Rattle.shexj_reader.specs.Bytes.{IsDocumentText}
 use Rattle.shexj_reader.specs.Documents.{SpellsDeclaration, SpellsDeclarations, SpellsShapes}
 use Rattle.shexj_reader.specs.Expressions.{SpellsBody, SpellsExpr, SpellsExpression, SpellsExprs, SpellsTripleExpr, SpellsTripleExprs, SpellsValueExpr}
-use Rattle.shexj_reader.specs.Ordered.{AreOrderedDecls, AreOrderedExprs, AreOrderedTriples, IsOrderedBody, IsOrderedDocument, IsOrderedExpr, IsOrderedExpression, IsOrderedTriple, IsOrderedValue}
+use Rattle.schema_documents.specs.Ordered.{AreOrderedDecls, AreOrderedExprs, AreOrderedTriples, IsOrderedBody, IsOrderedDocument, IsOrderedExpr, IsOrderedExpression, IsOrderedTriple, IsOrderedValue}
 
 -- 1 is not above 1
 once : (low : ℕ) (high : Bound) (b : TripleBody) (name : Option Label) (d : Data) → SpellsBody b name low high d → IsOrdered low high

@@ -28,7 +28,6 @@ caused bytes d Errors.Action utf json h = record { utf8 = utf; value = d; json =
 caused bytes d Errors.FloatFacet utf json h = record { utf8 = utf; value = d; json = json; fault = h }
 caused bytes d Errors.FacetNumber utf json h = record { utf8 = utf; value = d; json = json; fault = h }
 caused bytes d (Errors.Pattern e) utf json h = record { utf8 = utf; value = d; json = json; fault = h }
-caused bytes d (Errors.NotBuilt name) utf json h = absurd h
 
 -- a refusal whose fault stands in a value that spells a document is want of memory
 unfaulty : (d : Data) (doc : Document) (e : SchemaError) → Because (λ f. DocumentFault f d) e → IsDocument doc d → e ≡ Errors.Memory
@@ -45,7 +44,6 @@ unfaulty d doc Errors.Action h s = absurd (no_document_fault doc _ d h s)
 unfaulty d doc Errors.FloatFacet h s = absurd (no_document_fault doc _ d h s)
 unfaulty d doc Errors.FacetNumber h s = absurd (no_document_fault doc _ d h s)
 unfaulty d doc (Errors.Pattern e) h s = absurd (no_document_fault doc _ d h s)
-unfaulty d doc (Errors.NotBuilt name) h s = absurd h
 
 faulty : (bytes : List ℕ) (doc : Document) (e : SchemaError) → HasFault bytes e → IsDocumentText doc bytes → e ≡ Errors.Memory
 faulty bytes doc e h s =
@@ -67,7 +65,6 @@ only_memory bytes doc Errors.Action h s = faulty bytes doc Errors.Action h s
 only_memory bytes doc Errors.FloatFacet h s = faulty bytes doc Errors.FloatFacet h s
 only_memory bytes doc Errors.FacetNumber h s = faulty bytes doc Errors.FacetNumber h s
 only_memory bytes doc (Errors.Pattern e) h s = faulty bytes doc (Errors.Pattern e) h s
-only_memory bytes doc (Errors.NotBuilt name) h s = absurd h
 
 pub one_reading : (bytes : List ℕ) (a b : Document) → IsDocumentText a bytes → IsDocumentText b bytes → a ≡ b
 one_reading bytes a b h k =

@@ -41,4 +41,3 @@ IsCause bytes Errors.Action = HasFault bytes Errors.Action
 IsCause bytes Errors.FloatFacet = HasFault bytes Errors.FloatFacet
 IsCause bytes Errors.FacetNumber = HasFault bytes Errors.FacetNumber
 IsCause bytes (Errors.Pattern e) = HasFault bytes (Errors.Pattern e)
-IsCause bytes (Errors.NotBuilt name) = ⊥

@@ -34,7 +34,6 @@ Because P Errors.FacetNumber = P facet_number
 Because P (Errors.Pattern e) = P (pattern e)
 Because P (Errors.Prefix at) = ⊥
 Because P Errors.Deep = P deep
-Because P (Errors.NotBuilt name) = ⊥
 Because P Errors.Memory = ⊤
 
 -- the object has a key that is none of these

@@ -4,7 +4,7 @@ use Rattle.schema_documents.specs.Tree.{Document}
 use Rattle.schema_documents.specs.declared.error.SchemaError.{SchemaError}
 use Rattle.schema_documents.specs.declared.error.SchemaError.TheVariants as Errors
 use Rattle.shexj_reader.specs.Bytes.{IsCause, IsDocumentText}
-use Rattle.shexj_reader.specs.Ordered.{IsOrderedDocument}
+use Rattle.schema_documents.specs.Ordered.{IsOrderedDocument}
 
 -- the same bytes spell one document at most
 abbrev pub DocumentsAreOne : Type 0

@@ -13,6 +13,5 @@ pub mod ExpressionFaults
 pub mod Documents
 pub mod DocumentFaults
 pub mod Within
-pub mod Ordered
 pub mod Bytes
 pub mod Laws

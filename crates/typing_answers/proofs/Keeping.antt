@@ -24,7 +24,7 @@ use Rattle.rdf_terms.specs.Values.{IsValue}
 use Rattle.rdf_terms.specs.Written.{term_text}
 use Rattle.rdf_terms.specs.declared.terms.Term.{Term}
 use Rattle.rdf_terms.specs.declared.terms.TermId.{TermId}
-use Rattle.rdf_terms.proofs.Orders.{id_itself, id_total, nodes_once}
+use Rattle.rdf_terms.proofs.Orders.{comes_first, id_itself, id_total, nodes_once}
 use Rattle.rdf_terms.proofs.TermTexts.{whole_term}
 use Rattle.schema_tree.specs.Targets.{target_text}
 use Rattle.schema_tree.specs.Rising.{Rises, RisesFrom}
@@ -76,16 +76,6 @@ module _ (terms : List Term) (distinct : AreDistinct terms) (law : TextsAreDisti
       lines_rise_from m u nodes lines is whole.0 up rest whole.1
 
 -- ---- the order of records
-
--- a node at a lower place comes first
-comes_first : (terms : List Term) (nodes : List TermId) → IsStrictlySortedBy (compare_at terms) nodes → (i j : ℕ) (n m : TermId) → slice_get nodes i ≡ Some n → slice_get nodes j ≡ Some m → i < j → compare_at terms n m ≡ Less
-comes_first terms [] up i j n m at is less = cc
-comes_first terms (k ∷ nodes) up i zero n m at is less = absurd (omega (arith, less))
-comes_first terms (k ∷ nodes) up zero (suc j) n m at is less =
-    let first : k ≡ n = cc in
-    subst (λ z. compare_at terms z m ≡ Less) first (all_at (λ y. compare_at terms k y ≡ Less) nodes m (sorted_head (compare_at terms) k nodes up) (got_in nodes j m is))
-comes_first terms (k ∷ nodes) up (suc i) (suc j) n m at is less =
-    comes_first terms nodes (sorted_tail (compare_at terms) k nodes up) i j n m at is (omega (arith, less))
 
 ordered : (a b : ℕ) → (a < b) ⊎ ((a ≡ b) ⊎ (b < a))
 ordered a b = go (nat_cmp a b) (ranked a b (nat_cmp a b) refl)

@@ -4,7 +4,7 @@ use Rattle.std.specs.Prelude.{Contains, Some, slice_get, ◌↔◌}
 use Rattle.std.proofs.lemmas.List.{map-append}
 use Rattle.std.proofs.lemmas.List.Elements.{Contains-append_cases}
 use Rattle.std.proofs.lemmas.Option.{slice_get-get_or}
-use Rattle.lists.proofs.Members.{not_in_none}
+use Rattle.lists.proofs.Members.{not_in_none, place_of}
 use Rattle.rdf_terms.specs.declared.terms.Term.{Term}
 use Rattle.rdf_terms.specs.declared.terms.Triple.{Triple}
 use Rattle.schema_tree.specs.declared.schema.Pair.{Pair}
@@ -15,10 +15,6 @@ use Rattle.schema_tree.specs.Edges.{level}
 use Rattle.schema_tree.specs.Sure.{Known, PairIs}
 use Rattle.removal_laws.specs.Marks.{KnowSame}
 use Rattle.typing_refiner.specs.Evidence.{AreRemovals, Removal, pairs_removed}
-
--- an item has a place
-pub placed : {X : Type 0} (xs : List X) (x : X) → Contains xs x → (i : ℕ) × (slice_get xs i ≡ Some x)
-placed xs x (i, inside, e) = (i, slice_get-get_or xs i x inside ∙ ap (λ y. Some y) e)
 
 -- two that know the same pairs answer alike
 pub know_alike : (a b : Known) → KnowSame a b → (p : Pair) (v : Verdict) → PairIs a p v ↔ PairIs b p v
@@ -48,7 +44,7 @@ module _ (s : Schema) (terms : List Term) (g : List Triple) (f : List ℕ) (pair
   no_below zero known all h p c = absurd (not_in_none p (subst (λ xs. Contains xs p) h.1 c))
   no_below (suc k) known all (lower, low, gone, kept, before, at, turn, yes_is, no_is, whole) p c = elim (Contains-append_cases lower.no (pairs_removed gone) p (subst (λ xs. Contains xs p) no_is c)) [
     | inl h ↦ higher k p (no_below k lower low before p h)
-    | inr h ↦ (let (i, there) = placed (pairs_removed gone) p h in let narrow = (at.in_turn i p there).0.0 in (narrow.0, omega (arith, narrow.1)))
+    | inr h ↦ (let (i, there) = place_of (pairs_removed gone) p h in let narrow = (at.in_turn i p there).0.0 in (narrow.0, omega (arith, narrow.1)))
   ]
 
   -- no pair is both
@@ -61,7 +57,7 @@ module _ (s : Schema) (terms : List Term) (g : List Triple) (f : List ℕ) (pair
       cases (inl a) (inl b) deeper = deeper a b
       cases (inl a) (inr b) deeper =
           let less = (yes_below k lower low before p a).1 in
-          let (i, there) = placed (pairs_removed gone) p b in
+          let (i, there) = place_of (pairs_removed gone) p b in
           let narrow = (at.in_turn i p there).0.0 in
           absurd (omega (arith, less, narrow.1))
       cases (inr a) (inl b) deeper =

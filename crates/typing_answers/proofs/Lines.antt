@@ -22,8 +22,3 @@ numbers_more terms lines more nodes i d t inside at pushed so_far =
 
 pub values_more : (lines more : List Term) (t : Term) → AllByRecursion IsValue lines → IsValue t → more ≡ lines ++ t ∷ [] → AllByRecursion IsValue more
 values_more lines more t all one pushed = subst (AllByRecursion IsValue) (sym pushed) (all_append IsValue lines (t ∷ []) all (one, tt))
-
--- one more beside one more that is read
-pub zip_on : {A B : Type 0} (R : A → B → Type 0) (xs : List A) (ys more : List B) (i : ℕ) (d : A) (y : B) → i < length xs → AllZip R (take i xs) ys → R (get_or xs i d) y → more ≡ ys ++ y ∷ [] → AllZip R (take (i + 1) xs) more
-zip_on R xs ys more i d y inside h r pushed =
-    subst (λ zs. AllZip R (take (i + 1) xs) zs) (sym pushed) (subst (λ zs. AllZip R zs (ys ++ y ∷ [])) (sym (take_more xs i d inside)) (zip_push R (take i xs) ys (get_or xs i d) y h r))

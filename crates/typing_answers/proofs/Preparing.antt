@@ -4,7 +4,7 @@ use Rattle.std.specs.Prelude.{Contains, Option, Some, None, slice_get}
 use Rattle.std.proofs.lemmas.List.{length-map}
 use Rattle.std.proofs.lemmas.List.Elements.{Contains-append_cases, Contains-append_left, Contains-append_right}
 use Rattle.std.proofs.lemmas.Option.{slice_get_within}
-use Rattle.lists.specs.Distinct.{AreDistinct}
+use Rattle.lists.proofs.Among.{few_among}
 use Rattle.lists.proofs.Members.{in_map, in_rest, is_first, is_later}
 use Rattle.rdf_terms.specs.declared.terms.Term.{Term}
 use Rattle.rdf_terms.specs.declared.terms.TermId.{TermId}
@@ -25,6 +25,7 @@ use Rattle.proof_file.specs.declared.Section.{Section}
 use Rattle.schema_tree.specs.Targets.{target_text}
 use Rattle.shape_map.specs.Answers.{IsAsked}
 use Rattle.shape_map.specs.declared.resolve.Association.{Association}
+use Rattle.schema_tree.proofs.Strata.{stands_there}
 use Rattle.demand.specs.Demand.{AreAsked}
 use Rattle.demand.specs.Orders.{max_pairs}
 use Rattle.demand.specs.declared.reach.Root.{Root}
@@ -38,40 +39,7 @@ use Rattle.typing_refiner.specs.Evidence.{AreShownBy, IsListed}
 use Rattle.typing_refiner.specs.Evidence.{AreAccepted as AcceptsAll}
 use Rattle.typing_answers.specs.Proofs.{AreInRange, AreShownFor, CanBeClaimed, HasLines}
 use Rattle.typing_answers.specs.Replies.{AreSureAnswers, IsSureAnswer, given, left, none}
-use Rattle.typing_answers.proofs.Knowing.{placed}
 use Rattle.typing_answers.proofs.Proving.{is_record, of_pair}
-
--- ---- distinct items among others are no more than these
-
-divided : {X : Type 0} (ys : List X) (x : X) → Contains ys x → (a b : List X) × (ys ≡ a ++ x ∷ b)
-divided [] x c = absurd (omega (arith, c.1))
-divided (y ∷ ys) x c = go (in_rest y ys x c) (λ later. divided ys x later)
-  where
-    go : (y ≡ x) ⊎ Contains ys x → (Contains ys x → (a b : List _) × (ys ≡ a ++ x ∷ b)) → (a b : List _) × (y ∷ ys ≡ a ++ x ∷ b)
-    go (inl e) deeper = ([], ys, ap (λ z. z ∷ ys) e)
-    go (inr later) deeper = let (a, b, e) = deeper later in (y ∷ a, b, ap (λ zs. y ∷ zs) e)
-
-pub few_among : {X : Type 0} (xs ys : List X) → AreDistinct xs → ((x : X) → Contains xs x → Contains ys x) → length xs ≤ length ys
-few_among [] ys once among = omega arith
-few_among {X} (x ∷ xs) ys once among =
-    let (a, b, e) = divided ys x (among x (is_first x xs)) in
-    let rest : length xs ≤ length (a ++ b) = few_among xs (a ++ b) (λ i j z p q. (let same = once (suc i) (suc j) z p q in omega (arith, same))) (λ z c. others a b e z c) in
-    omega (arith, rest, ap length e, length-append a (x ∷ b), length-append a b)
-  where
-    differs : (z : X) → Contains xs z → x ≡ z → ⊥
-    differs z c same =
-        let (k, at) = placed xs z c in
-        let one = once 0 (suc k) x refl (at ∙ ap (λ w. Some w) (sym same)) in
-        absurd (omega (arith, one))
-
-    others : (a b : List X) → ys ≡ a ++ x ∷ b → (z : X) → Contains xs z → Contains (a ++ b) z
-    others a b e z c = elim (Contains-append_cases a (x ∷ b) z (subst (λ v. Contains v z) e (among z (is_later x xs z c)))) [
-      | inl in_a ↦ Contains-append_left a b z in_a
-      | inr later ↦ elim (in_rest x b z later) [
-        | inl same ↦ absurd (differs z c same)
-        | inr in_b ↦ Contains-append_right a b z in_b
-      ]
-    ]
 
 -- ---- what is shown is in range
 
@@ -120,16 +88,9 @@ module _ (s : Schema) (terms : List Term) (verdicts : Known) where
 -- ---- the pairs that a node with an expression reaches
 
 module _ (s : Schema) (g : List Triple) (loaded : IsLoaded s) where
-  -- what stands in an expression is a Shape of the schema
-  pub stands_there : (i : ShapeId) (e : ExprId) (sign : Bool) → StandsIn s i e sign → i.0 < length s.shapes
-  stands_there i e sign (itself at) = loaded.refers e _ at
-  stands_there i e sign (in_and es d at held deeper) = stands_there i d _ deeper
-  stands_there i e sign (in_or es d at held deeper) = stands_there i d _ deeper
-  stands_there i e sign (in_not d at deeper) = stands_there i d _ deeper
-
   in_value : (i : ShapeId) (value : Option ExprId) (sign : Bool) → StandsInValue s i value sign → i.0 < length s.shapes
   in_value i None sign h = absurd h
-  in_value i (Some e) sign h = stands_there i e sign h
+  in_value i (Some e) sign h = stands_there s loaded i e sign h
 
   end_is : (P : TermId → Type 0) → ((t : Triple) → Contains g t → P t.s × P t.o) → (inverse : Bool) (t : Triple) → Contains g t → P (other_end inverse t)
   end_is P ends false t c = (ends t c).1
@@ -145,7 +106,7 @@ module _ (s : Schema) (g : List Triple) (loaded : IsLoaded s) where
 
     -- is on the node, or on an end of a triple, and has a Shape of the schema
     pub reached : (n : TermId) (e : ExprId) (q : Pair) → P n → Reaches s g n e q → P q.node × (q.shape.0 < length s.shapes)
-    reached n e q fine (i, sign, stands, leads) = leads_to (record { node = n; shape = i }) q (fine, stands_there i e sign stands) leads
+    reached n e q fine (i, sign, stands, leads) = leads_to (record { node = n; shape = i }) q (fine, stands_there s loaded i e sign stands) leads
 
     -- so do the pairs that are asked for
     pub asked_fit : (terms : List Term) (roots : List Root) (pairs : List Pair) → ((r : Root) → Contains roots r → P r.node) → AreAsked s terms g roots pairs → (p : Pair) → Contains pairs p → P p.node × (p.shape.0 < length s.shapes)

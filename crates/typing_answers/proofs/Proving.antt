@@ -4,7 +4,7 @@ use Rattle.std.specs.Prelude.{Contains, Some, slice_get, ◌↔◌}
 use Rattle.std.specs.List.{AllByRecursion, AllZip}
 use Rattle.std.specs.List.Sorted.{IsStrictlySortedBy}
 use Rattle.lists.specs.Distinct.{AreDistinct}
-use Rattle.lists.proofs.Beside.{beside, beside_back}
+use Rattle.lists.proofs.Beside.{beside, beside_back, same_length}
 use Rattle.lists.proofs.Members.{got_in, in_flat_map}
 use Rattle.rdf_terms.specs.Order.{compare_at}
 use Rattle.rdf_terms.specs.Values.{IsValue}
@@ -33,7 +33,7 @@ use Rattle.typing_answers.specs.Proofs.{AreInRange, AreShownFor, IsAnswered, IsP
 use Rattle.typing_answers.proofs.Accepting.{are_accepted, claims_give}
 use Rattle.typing_answers.proofs.Keeping.{AreLinesFit, all_records_rise, keeps, no_feeds, sections_rise}
 use Rattle.typing_answers.proofs.Knowing.{know_in_turn, no_below, yes_below}
-use Rattle.typing_answers.proofs.Renumbering.{as_many, is_known, records_know, renumbered}
+use Rattle.typing_answers.proofs.Renumbering.{is_known, records_know, renumbered}
 
 -- what is made of the records and of the answers
 pub record AreMade (terms : List Term) (own : List TermId) (sections : List Section) (answers : List Answer) (nodes : List TermId) (p : Proof) : Type 0 where
@@ -50,7 +50,7 @@ pub counted_by : (terms : List Term) (own recorded nodes : List TermId) (section
     (x : Section) (r : Record) → Contains sections x → Contains x.records r → r.node < length numbers
 counted_by terms own recorded nodes sections answers places numbers lent made range zip x r held in_x =
     let inside = range.counted x r held in_x in
-    omega (arith, inside, ap length lent, ap length made, as_many (IsPlace nodes) recorded places zip)
+    omega (arith, inside, ap length lent, ap length made, same_length (IsPlace nodes) recorded places zip)
 
 -- the parts as they are lent and made
 pub made_of : (terms : List Term) (own recorded distinct nodes : List TermId) (sections moved : List Section) (answers : List Answer) (places numbers : List ℕ) (lines a : List Term) (b : List Section) (claims d : List Claim) →

@@ -3,7 +3,7 @@ use Rattle.std.proofs.Common.{◌≡◌, ◌∙◌, ap, sym, subst, refl, ℕ, z
 use Rattle.std.specs.Prelude.{Some, Contains, get_or, slice_get, option_map}
 use Rattle.std.specs.List.{AllZip, flat_map}
 use Rattle.std.proofs.lemmas.Option.{slice_get-get_or}
-use Rattle.lists.proofs.Beside.{beside, beside_back}
+use Rattle.lists.proofs.Beside.{beside, beside_back, same_length}
 use Rattle.lists.proofs.Members.{from_flat_map, from_map, in_flat_map, in_map, in_one, is_first, is_later, not_in_none}
 use Rattle.rdf_terms.specs.declared.terms.Term.{Term}
 use Rattle.rdf_terms.specs.declared.terms.TermId.{TermId}
@@ -31,12 +31,6 @@ place_at [] others (k ∷ places) are i n at = absurd are
 place_at (m ∷ nodes) others [] are i n at = absurd are
 place_at (m ∷ nodes) others (k ∷ places) are zero n at = are.0 ∙ at
 place_at (m ∷ nodes) others (k ∷ places) are (suc i) n at = place_at nodes others places are.1 i n at
-
-pub as_many : {X Y : Type 0} (R : X → Y → Type 0) (xs : List X) (ys : List Y) → AllZip R xs ys → length xs ≡ length ys
-as_many R [] [] are = refl
-as_many R [] (y ∷ ys) are = absurd are
-as_many R (x ∷ xs) [] are = absurd are
-as_many R (x ∷ xs) (y ∷ ys) are = ap suc (as_many R xs ys are.1)
 
 -- the records all count the nodes
 abbrev pub AreCounted : List TermId → List Record → Type 0

@@ -8,6 +8,7 @@ use Rattle.std.specs.List.{AllByRecursion}
 use Rattle.std.specs.List.Sorted.{IsPermutation}
 use Rattle.std.specs.Prelude.{Contains, Option, Some, None, slice_get, slice_index}
 use Rattle.bag_match.proofs.Neighbours.{relevant_few}
+use Rattle.lists.proofs.Among.{few_among}
 use Rattle.lists.proofs.Decided.{Decided}
 use Rattle.lists.proofs.Members.{in_rest, is_first, is_later, not_in_none}
 use Rattle.lists.proofs.Quantifiers.{all_of}
@@ -93,29 +94,10 @@ states_fine hold fail g sh n ts few states listed = by (decide_shut g sh n)
 
 -- ---- ranks
 
-distinct_fits : (ps list : List Pair) → AreDistinct ps → ((q : Pair) → Contains ps q → Contains list q) → length ps ≤ length list
-distinct_fits [] list d inside = omega arith
-distinct_fits (x ∷ xs) list d inside = go (inside x (is_first x xs)) (λ i. distinct_fits xs (remove list i))
-  where
-    tail : AreDistinct xs
-    tail i j y a b = let e : suc i ≡ suc j = d (suc i) (suc j) y a b in omega (arith, e)
-
-    once : ¬ Contains xs x
-    once (j, l, e) = let f : 0 ≡ suc j = d 0 (suc j) x refl (slice_get-get_or xs j x l ∙ ap (λ u. Some u) e) in omega (arith, f)
-
-    go : Contains list x → ((i : ℕ) → AreDistinct xs → ((q : Pair) → Contains xs q → Contains (remove list i) q) → length xs ≤ length (remove list i)) → length (x ∷ xs) ≤ length list
-    go (i, within, at) deeper =
-        let perm : IsPermutation list (x ∷ remove list i) = IsPermutation-remove list i x within (sym at) in
-        let rest = deeper i tail (λ q c. elim (in_rest x (remove list i) q (Contains-permutation _ _ q perm (inside q (is_later x xs q c)))) [
-          | inl e ↦ absurd (once (subst (λ u. Contains xs u) (sym e) c))
-          | inr later ↦ later
-        ]) in
-        omega (arith, rest, length-remove list i within)
-
 module _ (s : Schema) (terms : List Term) (g : List Triple) (f : List ℕ) (pairs : List Pair) (budget : ℕ) (loaded : IsLoaded s) (few_triples : length g ≤ 4294967295) (few_pairs : length pairs ≤ 4294967295)
     (known : Known) (all : List Removal) (refined : AreRemovals s terms g f pairs budget (suc (top_of f)) known all) where
   gone_few : (k : ℕ) (h : HasRecordsAt s terms g f pairs budget known (ranks_of all) k) → length h.gone ≤ length pairs
-  gone_few k h = distinct_fits h.gone pairs once inside
+  gone_few k h = few_among h.gone pairs once inside
     where
       once : AreDistinct h.gone
       once i j q at_i at_j = elim (cases_lt i j) [

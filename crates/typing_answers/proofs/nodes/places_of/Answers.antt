@@ -1,6 +1,6 @@
 use Rattle.std.proofs.lemmas.List.Elements.{Contains-get_or}
 use Rattle.typing_answers.specs.Numbering.{IsPlace}
-use Rattle.typing_answers.proofs.Lines.{zip_on}
+use Rattle.lists.proofs.Beside.{zip_on}
 use Rattle.typing_answers.proofs.nodes.places_of.Goals as goal
 
 pub place_of-requires-clause-held : goal.place_of-requires-clause-held
