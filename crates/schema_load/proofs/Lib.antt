@@ -32,3 +32,7 @@ pub mod Built
 pub mod Placed
 pub mod Visits
 pub mod OrderedParts
+pub mod Grouping
+pub mod Closing
+pub mod Opening
+pub mod Grouped

@@ -18,34 +18,34 @@ use Rattle.schema_load.proofs.Stuck.{reach_more}
 
 -- ---- lists by index
 
-get_left : {X : Type 0} (xs ys : List X) (i : ℕ) (x : X) → slice_get xs i ≡ Some x → slice_get (xs ++ ys) i ≡ Some x
+pub get_left : {X : Type 0} (xs ys : List X) (i : ℕ) (x : X) → slice_get xs i ≡ Some x → slice_get (xs ++ ys) i ≡ Some x
 get_left [] ys i x e = absurd (let bad : ⊥ = cc in bad)
 get_left (y ∷ xs) ys zero x e = e
 get_left (y ∷ xs) ys (suc i) x e = get_left xs ys i x e
 
-get_right : {X : Type 0} (xs ys : List X) (k : ℕ) (x : X) → slice_get ys k ≡ Some x → slice_get (xs ++ ys) (length xs + k) ≡ Some x
+pub get_right : {X : Type 0} (xs ys : List X) (k : ℕ) (x : X) → slice_get ys k ≡ Some x → slice_get (xs ++ ys) (length xs + k) ≡ Some x
 get_right [] ys k x e = subst (λ n. slice_get ys n ≡ Some x) (let h : k ≡ 0 + k = omega arith in h) e
 get_right (y ∷ xs) ys k x e = subst (λ n. slice_get (y ∷ (xs ++ ys)) n ≡ Some x) (let h : suc (length xs + k) ≡ suc (length xs) + k = omega arith in h) (get_right xs ys k x e)
 
-get_last : {X : Type 0} (xs : List X) (x : X) → slice_get (xs ++ x ∷ []) (length xs) ≡ Some x
+pub get_last : {X : Type 0} (xs : List X) (x : X) → slice_get (xs ++ x ∷ []) (length xs) ≡ Some x
 get_last xs x = subst (λ n. slice_get (xs ++ x ∷ []) n ≡ Some x) (let h : length xs + 0 ≡ length xs = omega arith in h) (get_right xs (x ∷ []) 0 x refl)
 
 only_one : {X : Type 0} (v w : X) (j : ℕ) → slice_get (v ∷ []) j ≡ Some w → (j ≡ 0) × (v ≡ w)
 only_one v w zero e = (refl, let same : v ≡ w = cc in same)
 only_one v w (suc j) e = absurd (let bad : ⊥ = cc in bad)
 
-split_one : {X : Type 0} (xs : List X) (v w : X) (i : ℕ) → slice_get (xs ++ v ∷ []) i ≡ Some w → (slice_get xs i ≡ Some w) ⊎ ((i ≡ length xs) × (v ≡ w))
+pub split_one : {X : Type 0} (xs : List X) (v w : X) (i : ℕ) → slice_get (xs ++ v ∷ []) i ≡ Some w → (slice_get xs i ≡ Some w) ⊎ ((i ≡ length xs) × (v ≡ w))
 split_one xs v w i e = elim (append_cases xs (v ∷ []) i w e) [
   | inl (lt, at) ↦ inl at
   | inr (j, is, at) ↦ (let (none, same) = only_one v w j at in inr (omega arith, same))
 ]
 
-entered_is : (ns : List ℕ) (k : ℕ) (w : Visit) → slice_get (map Enter ns) k ≡ Some w → (q : ℕ) × (Enter q ≡ w) × (slice_get ns k ≡ Some q)
+pub entered_is : (ns : List ℕ) (k : ℕ) (w : Visit) → slice_get (map Enter ns) k ≡ Some w → (q : ℕ) × (Enter q ≡ w) × (slice_get ns k ≡ Some q)
 entered_is [] k w e = absurd (let bad : ⊥ = cc in bad)
 entered_is (n ∷ ns) zero w e = (n, (let same : Enter n ≡ w = cc in same), refl)
 entered_is (n ∷ ns) (suc k) w e = entered_is ns k w e
 
-entered_at : (ns : List ℕ) (k q : ℕ) → slice_get ns k ≡ Some q → slice_get (map Enter ns) k ≡ Some (Enter q)
+pub entered_at : (ns : List ℕ) (k q : ℕ) → slice_get ns k ≡ Some q → slice_get (map Enter ns) k ≡ Some (Enter q)
 entered_at [] k q e = absurd (let bad : ⊥ = cc in bad)
 entered_at (n ∷ ns) zero q e = let same : n ≡ q = cc in ap (λ z. Some (Enter z)) same
 entered_at (n ∷ ns) (suc k) q e = entered_at ns k q e

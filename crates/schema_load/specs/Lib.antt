@@ -1,7 +1,9 @@
 pub mod Building
+pub mod Circles
 pub mod Faults
 pub mod Given
 pub mod Graph
+pub mod Groups
 pub mod Laws
 pub mod Messages
 pub mod Names

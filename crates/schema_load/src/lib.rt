@@ -10,6 +10,7 @@ mod entries;
 pub mod error;
 mod exprs;
 mod given;
+mod groups;
 mod heads;
 mod labels;
 pub mod laws;

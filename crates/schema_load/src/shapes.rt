@@ -10,7 +10,7 @@ ghost use Rattle.schema_load.specs.Stands.{IsBody, IsShapeAt, IsTerm};
 ghost use Rattle.schema_load.specs.Unfolding.{IsReady};
 
 use crate::part::{Part, ShapePart};
-use crate::unfolding::{Unfolder, find_iri};
+use crate::unfolding::{Room, Unfolder, find_iri};
 use rdf_terms::items::Items;
 use rdf_terms::table::TermTable;
 use rdf_terms::terms::TermId;
@@ -46,7 +46,8 @@ impl Unfolder<'_> {
     {
         match body {
             Some(place) => {
-                let count = self.unfold(alloc, place, occs)?;
+                let mut room = Room::new();
+                let count = self.unfold(alloc, place, occs, &mut room)?;
                 Ok(Some(Body::of(count)))
             }
             None => Ok(None),

@@ -20,7 +20,7 @@ pub enum Visit {
 }
 
 /// A visit to each place.
-fn all_visits(alloc: Global, count: usize) -> Result<Vec<Visit>, AllocError>
+pub fn all_visits(alloc: Global, count: usize) -> Result<Vec<Visit>, AllocError>
     ensures { IfOk result (λ visits. AreEntered count visits.items) }
 {
     let mut visits: Vec<Visit> = Vec::new(alloc);
@@ -31,7 +31,7 @@ fn all_visits(alloc: Global, count: usize) -> Result<Vec<Visit>, AllocError>
 }
 
 /// Adds visits to places.
-fn enter_all(visits: &mut Vec<Visit>, places: &[usize]) -> Result<(), AllocError>
+pub fn enter_all(visits: &mut Vec<Visit>, places: &[usize]) -> Result<(), AllocError>
     ensures { OnOk result (visits.new.items ≡ visits.old.items ++ map Enter places.now) }
 {
     for place in places {

@@ -1,6 +1,6 @@
 //! Triple expressions with their inclusions unfolded.
 
-ghost use Rattle.std.specs.Prelude.{List, ℕ, ◌≡◌, ◌++◌, ◌<◌, Contains, IfOk, Some, get_or, length, option_map, slice_get};
+ghost use Rattle.std.specs.Prelude.{List, ℕ, ◌≡◌, ◌++◌, ◌+◌, ◌*◌, ◌<◌, ◌≤◌, Contains, IfErr, IfOk, OnOk, Some, get_or, length, option_map, slice_get};
 ghost use Rattle.rdf_terms.specs.declared.terms.Term.TheVariants as Terms;
 ghost use Rattle.tally.specs.Plan.{plan_of, plans_of};
 ghost use Rattle.schema_tree.specs.declared.schema.Occurrence.{Occurrence};
@@ -80,6 +80,39 @@ fn repeated(alloc: Global, min: u32, max: Bound, count: Count) -> Result<Count, 
     Ok(Count::Many(min, max, Box::new(alloc, count)?))
 }
 
+/// The triple expressions that are unfolded into one Shape are at most so many, each inclusion of one counted. Where each
+/// group has a member, 256 occurrences no deeper than 256 have no more.
+const MOST_UNFOLDED: u32 = 65_536;
+
+/// How many more triple expressions may be unfolded into a Shape.
+#[derive(Drop)]
+pub struct Room {
+    left: u32,
+}
+
+impl Room {
+    /// All that a Shape has.
+    pub fn new() -> Room
+        ensures { result.left ≡ 65536 }
+    {
+        Room {
+            left: MOST_UNFOLDED,
+        }
+    }
+
+    /// Takes the place of one more. Where there is none, the Shape counts as too big for the memory.
+    fn take(&mut self) -> Result<(), AllocError>
+        ensures taken { OnOk result (self.new.left + 1 ≡ self.old.left) }
+        ensures full { IfErr result (λ e. self.old.left ≡ 0) }
+    {
+        if self.left == 0 {
+            return Err(AllocError);
+        }
+        self.left -= 1;
+        Ok(())
+    }
+}
+
 /// What triple expressions are unfolded by.
 #[derive(Clone, Copy)]
 pub struct Unfolder<'a> {
@@ -103,6 +136,7 @@ impl Unfolder<'_> {
         alloc: Global,
         place: usize,
         occs: &mut Vec<Occurrence>,
+        room: &mut Room,
     ) -> Result<Count, AllocError>
         requires ready { IsReady self.now }
         requires here { IsTripleAt self.now.parts.now place }
@@ -110,9 +144,10 @@ impl Unfolder<'_> {
         ensures { IfOk result (λ count. (added : List Occurrence) × (occs.new.items ≡ occs.old.items ++ added) ×
             Unfolds self.now.terms.now self.now.parts.now (number_in self.now.numbers.now) place (length occs.old.items) (plan_of count) added) }
     {
+        room.take()?;
         match &self.parts[place] {
             Part::Triple(triple) => {
-                let count = self.unfold_form(alloc, place, &triple.form, occs)?;
+                let count = self.unfold_form(alloc, place, &triple.form, occs, room)?;
                 repeated(alloc, triple.min, triple.max, count)
             }
             _ => unreachable!(),
@@ -127,6 +162,7 @@ impl Unfolder<'_> {
         place: usize,
         form: &TripleForm,
         occs: &mut Vec<Occurrence>,
+        room: &mut Room,
     ) -> Result<Count, AllocError>
         requires ready { IsReady self.now }
         requires here { IsFormAt self.now.parts.now place form.now }
@@ -136,11 +172,11 @@ impl Unfolder<'_> {
     {
         match form {
             TripleForm::Each(members) => {
-                let counts = self.unfold_members(alloc, place, members.as_slice(), occs)?;
+                let counts = self.unfold_members(alloc, place, members.as_slice(), occs, room)?;
                 Ok(Count::Each(counts))
             }
             TripleForm::One(members) => {
-                let counts = self.unfold_members(alloc, place, members.as_slice(), occs)?;
+                let counts = self.unfold_members(alloc, place, members.as_slice(), occs, room)?;
                 Ok(Count::One(counts))
             }
             TripleForm::Arc(arc) => {
@@ -149,7 +185,7 @@ impl Unfolder<'_> {
                 occs.push(occurrence)?;
                 Ok(Count::Sym(symbol))
             }
-            TripleForm::Include(_) => self.unfold(alloc, self.targets[place], occs),
+            TripleForm::Include(_) => self.unfold(alloc, self.targets[place], occs, room),
         }
     }
 
@@ -161,6 +197,7 @@ impl Unfolder<'_> {
         place: usize,
         members: &[usize],
         occs: &mut Vec<Occurrence>,
+        room: &mut Room,
     ) -> Result<Vec<Count>, AllocError>
         requires ready { IsReady self.now }
         requires below { AreBelow self.now.parts.now self.now.depths.now members.now place }
@@ -170,7 +207,7 @@ impl Unfolder<'_> {
     {
         let mut counts: Vec<Count> = Vec::new(alloc);
         for member in members {
-            let count = self.unfold(alloc, *member, occs)?;
+            let count = self.unfold(alloc, *member, occs, room)?;
             counts.push(count)?;
         }
         Ok(counts)
