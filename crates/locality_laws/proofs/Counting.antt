@@ -21,7 +21,7 @@ behind_distinct x xs d i j y a b = let e : suc i ≡ suc j = d (suc i) (suc j) y
 first_once : (x : Pair) (xs : List Pair) → AreDistinct (x ∷ xs) → ¬ Contains xs x
 first_once x xs d c = let (j, at) = place_of xs x c in let f : 0 ≡ suc j = d 0 (suc j) x refl at in omega (arith, f)
 
-with_first : (x : Pair) (xs : List Pair) → ¬ Contains xs x → AreDistinct xs → AreDistinct (x ∷ xs)
+pub with_first : (x : Pair) (xs : List Pair) → ¬ Contains xs x → AreDistinct xs → AreDistinct (x ∷ xs)
 with_first x xs none d zero zero y a b = refl
 with_first x xs none d zero (suc j) y a b = absurd (none (let e : x ≡ y = cc in subst (λ z. Contains xs z) (sym e) (got_in xs j y b)))
 with_first x xs none d (suc i) zero y a b = absurd (none (let e : x ≡ y = cc in subst (λ z. Contains xs z) (sym e) (got_in xs i y a)))
@@ -70,7 +70,7 @@ picked_distinct t (p ∷ ps) d = go (t 0) (picked_distinct (λ j. t (suc j)) ps 
     go false rest = rest
 
 -- a sum from its first number on
-total_first : (φ : ℕ → ℕ) (n : ℕ) → total φ (suc n) ≡ φ 0 + total (λ j. φ (suc j)) n
+pub total_first : (φ : ℕ → ℕ) (n : ℕ) → total φ (suc n) ≡ φ 0 + total (λ j. φ (suc j)) n
 total_first φ zero = refl
 total_first φ (suc n) = let deeper = total_first φ n in omega (arith, deeper)
 

@@ -19,8 +19,7 @@ use Rattle.schema_tree.specs.Typings.{top_of}
 use Rattle.schema_tree.proofs.Decide.{same_pairs}
 use Rattle.removal_laws.specs.Marks.{known_by, marked, outside}
 use Rattle.removal_laws.proofs.Known.{from_outside, to_outside}
-use Rattle.schema_tree.specs.Laws.{RefinementExists}
-use Rattle.locality_laws.specs.Laws.{RefinementIsLocal, RefinementOverKeptIsLocal, RefinementOverOthersIsLocal, VerdictIsOne}
+use Rattle.locality_laws.specs.Laws.{RefinementIsLocal, RefinementOverKeptIsLocal, RefinementOverOthersIsLocal}
 use Rattle.locality_laws.specs.Local.{AreKept, AreRefinedOn, IsNegativeNeed, IsOfOthers, IsVerdict}
 use Rattle.locality_laws.proofs.Alike.{SameOn, both_unknown, by_members, one_verdict, raised, same_through, same_turned, some_verdict}
 use Rattle.locality_laws.proofs.Refined.{by_lists, from_nothing, other_stratum, others_same, still_unknown}
@@ -148,15 +147,6 @@ closed_local s terms g f budget pairs all known whole closed_pairs closed_all re
     (λ u q c n none. absurd (none (closed_pairs u q c n))) (λ u q c n negative none. absurd (none (closed_pairs u q c n))) (suc (top_of f)) known whole
     (from_nothing s terms g f budget pairs (suc (top_of f)) known refined) (from_nothing s terms g f budget all (suc (top_of f)) whole refined_all)
     (λ u q c d n none lt. absurd (none (closed_pairs u q c n))) p held held_all v
-
-pub verdict_one : RefinementExists → VerdictIsOne
-verdict_one exists s terms g f budget pairs loaded distinct closed p held =
-    let (known, refined) = exists s terms g f pairs budget loaded distinct in
-    let (v, is) = some_verdict known p in (
-      v,
-      (λ all whole apart closed_all held_all refined_all. (closed_local s terms g f budget pairs all known whole closed closed_all refined refined_all p held held_all v).0 is),
-      (λ w h. one_verdict known p v w is (h pairs known distinct closed held refined)),
-    )
 
 -- a need is along an edge, which is negative where the need is by a negative edge
 abbrev edge_of : (s : Schema) (g : List Triple) (p q : Pair) → Needs s g p q → Edge s p.shape q.shape

@@ -1,17 +1,18 @@
 -- Laws: refinement of some pairs says of them what refinement of all that they need says (own).
 use Rattle.std.specs.Prelude.{ℕ, suc, List, [], ◌≡◌, ◌↔◌, Contains}
-use Rattle.lists.specs.Distinct.{AreDistinct}
 use Rattle.rdf_terms.specs.declared.terms.Term.{Term}
+use Rattle.rdf_terms.specs.declared.terms.TermId.{TermId}
 use Rattle.rdf_terms.specs.declared.terms.Triple.{Triple}
 use Rattle.schema_tree.specs.declared.schema.Pair.{Pair}
 use Rattle.schema_tree.specs.declared.schema.Schema.{Schema}
 use Rattle.schema_tree.specs.declared.verdicts.Verdict.{Verdict}
+use Rattle.schema_tree.specs.declared.verdicts.Verdict.TheVariants.{No, Unknown, Yes}
 use Rattle.schema_tree.specs.Edges.{IsStratified}
 use Rattle.schema_tree.specs.Loaded.{IsLoaded}
-use Rattle.schema_tree.specs.Needs.{HoldNeeds}
+use Rattle.schema_tree.specs.Needs.{HoldNeeds, LeadsToNarrow}
 use Rattle.schema_tree.specs.Removal.{IsRefined}
 use Rattle.schema_tree.specs.Sure.{Known, PairIs}
-use Rattle.schema_tree.specs.Typings.{top_of}
+use Rattle.schema_tree.specs.Typings.{HoldsEnds, IsTheTyping, top_of}
 use Rattle.removal_laws.specs.Marks.{known_by}
 use Rattle.locality_laws.specs.Local.{AreKept, AreRefinedOn, IsOfOthers, IsVerdict}
 
@@ -39,9 +40,22 @@ RefinementOverKeptIsLocal =
     AreRefinedOn s terms g f pairs budget (known_by kept pairs []) (suc (top_of f)) known →
     (p : Pair) (v : Verdict) → Contains pairs p → PairIs known p v → IsVerdict s terms g f budget p v
 
--- each of distinct pairs that have all that they need has one verdict
+-- each pair has one verdict
 abbrev pub VerdictIsOne : Type 0
 VerdictIsOne =
-    (s : Schema) (terms : List Term) (g : List Triple) (f : List ℕ) (budget : ℕ) (pairs : List Pair) → IsLoaded s → AreDistinct pairs →
-    HoldNeeds s g pairs → (p : Pair) → Contains pairs p →
+    (s : Schema) (terms : List Term) (g : List Triple) (f : List ℕ) (budget : ℕ) → IsLoaded s → (p : Pair) →
     (v : Verdict) × IsVerdict s terms g f budget p v × ((w : Verdict) → IsVerdict s terms g f budget p w → v ≡ w)
+
+-- from a pair whose verdict is Unknown needs lead to one whose Width is above the budget
+abbrev pub UnknownIsWide : Type 0
+UnknownIsWide =
+    (s : Schema) (terms : List Term) (g : List Triple) (f : List ℕ) (budget : ℕ) → IsLoaded s → IsStratified s f → (p : Pair) →
+    IsVerdict s terms g f budget p Unknown → ¬ LeadsToNarrow s terms g budget p
+
+-- a complete typing over terms that hold the node of a pair and the graph's ends has the pair where its verdict is Yes, and not
+-- where it is No
+abbrev pub VerdictIsTrue : Type 0
+VerdictIsTrue =
+    (s : Schema) (terms : List Term) (g : List Triple) (f : List ℕ) (budget : ℕ) (U : List TermId) (T : List Pair) →
+    IsLoaded s → IsTheTyping s terms g f U T → HoldsEnds U g → (p : Pair) → Contains U p.node →
+    (IsVerdict s terms g f budget p Yes → Contains T p) × (IsVerdict s terms g f budget p No → ¬ Contains T p)

@@ -1,19 +1,28 @@
 //! The laws. Each function claims some of them by its contract, and does nothing when called.
 
 ghost use Rattle.locality_laws.specs.Bounds.{NeedsAreCounted, StrataAreBounded};
-ghost use Rattle.locality_laws.specs.Laws.{RefinementIsLocal, RefinementOverKeptIsLocal, RefinementOverOthersIsLocal, VerdictIsOne};
+ghost use Rattle.locality_laws.specs.Laws.{RefinementIsLocal, RefinementOverKeptIsLocal, RefinementOverOthersIsLocal, UnknownIsWide, VerdictIsOne, VerdictIsTrue};
 
-use schema_tree::laws::refinement_is_one;
+use schema_tree::laws::{refinement_is_complete, refinement_is_one, refinement_is_true};
 
 /// Claims that refinement says of a pair what the pairs that it needs make sure: it does not depend on what else is
-/// refined, so that each pair has one verdict, and pairs that are known already need not be refined again.
+/// refined, so that pairs that are known already need not be refined again.
 pub fn refinement_is_local()
     ensures closed { RefinementIsLocal }
     ensures others { RefinementOverOthersIsLocal }
     ensures kept { RefinementOverKeptIsLocal }
+{}
+
+/// Claims that refinement gives each pair one verdict, which is Unknown only where the pair leads to one whose Width is
+/// above the budget, and else true of the complete typing.
+pub fn verdict_is_one()
     ensures one { VerdictIsOne }
+    ensures wide { UnknownIsWide }
+    ensures true_verdict { VerdictIsTrue }
 {
     refinement_is_one();
+    refinement_is_complete();
+    refinement_is_true();
 }
 
 /// Claims that refinement on all strata costs no more looks than 2 × k + 3 at each narrow pair, where k is the number of

@@ -139,12 +139,12 @@ module _ (s : Schema) (terms : List Term) (g : List Triple) (a b : Known) (lean 
         (e : ExprId) → o.value ≡ Some e → AreAlike s terms a b (other_end o.inverse t) e
     alike_at t held o of fit e value i sign st = same (pair_of (other_end o.inverse t) i) (need_of s g p sh is t held o of fit e value i sign st)
 
-    hold_at :
+    pub hold_at :
         (t : Triple) (o : Occurrence) → Contains g t → Contains sh.occs o → fits o p.node t ≡ true →
         MayHold s terms a lean (other_end o.inverse t) o.value → MayHold s terms b lean (other_end o.inverse t) o.value
     hold_at t o held of fit = hold_alike s terms a b (other_end o.inverse t) lean o.value (alike_at t held o of fit)
 
-    fail_at :
+    pub fail_at :
         (t : Triple) (o : Occurrence) → Contains g t → Contains sh.extra t.p → Contains sh.occs o → is_forward p.node t o ≡ true →
         MayFail s terms a lean t.o o.value → MayFail s terms b lean t.o o.value
     fail_at t o held extra of forward =

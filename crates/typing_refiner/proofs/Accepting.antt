@@ -356,7 +356,7 @@ module _ (s : Schema) (terms : List Term) (g : List Triple) (f : List ℕ) (pair
       by q at is on (Plus places) e shows =
           let h : Contains known.yes q × AreLeastFor s terms g known q.node (shape_at s q.shape) places = subst (Shows s terms g f pairs budget known all q) e shows in
           let (sh, there) = with_verdict q (inl h.0) in
-          let least = places_same s terms g known (whole_view (yes_of x p) (no_of x p)) q.node (shape_at s q.shape) places whole_same h.1 in
+          let least = places_same s terms g known (whole_view (yes_of x p) (no_of x p)) q places whole_same h.1 in
           let here : slice_get s.shapes r.shape ≡ Some sh = ap (slice_get s.shapes) is ∙ there in
           subst (λ z. IsAccepted x p (in_section k z)) (the_record (Plus places) e)
           (subst (λ z. IsAccepted x p (in_section z (record { node = r.node; shape = r.shape; kind = Plus places }))) (ap (λ z. level f (record { 0 = z })) is ∙ on)

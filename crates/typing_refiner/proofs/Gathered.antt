@@ -155,7 +155,7 @@ module _ (h : Ground) (ready : IsReady h) (wanted : h.wanted ≡ Wanteds.Records
             let least = places r c got p (subst (λ j. slice_get h.table.now j ≡ Some p) (sym is) at) in
             subst (ShowsIt p) (sym kind) (
               has_mark i p at mark,
-              places_same h.schema.now h.terms.now h.graph.now.triples (known_of h nothing_known marks) known p.node (shape_at h.schema.now p.shape) c.places shown.before.knows least,
+              places_same h.schema.now h.terms.now h.graph.now.triples (known_of h nothing_known marks) known p c.places shown.before.knows least,
             )
 
     complete : (i : ℕ) (p : Pair) → slice_get h.table.now i ≡ Some p → Contains known.yes p ⊎ Contains known.no p → IsSaid (final empty none all confirmed) i
@@ -189,19 +189,11 @@ module _ (h : Ground) (ready : IsReady h) (wanted : h.wanted ≡ Wanteds.Records
       records_rise = filed.records_rise;
     }
 
-    shows_all : Claim
-    shows_all = (known, gone, are, same_known, records)
+    pub gathered : Claim
+    gathered = (known, gone, are, same_known, records)
       where
         same_known : KnowSame (verdicts_of h.table.now marks) known
         same_known = (
           ((λ q c. shown.before.knows.0.0 q ((plain h.table.now marks).0.1 q c)), (λ q c. (plain h.table.now marks).0.0 q (shown.before.knows.0.1 q c))),
           ((λ q c. shown.before.knows.1.0 q ((plain h.table.now marks).1.1 q c)), (λ q c. (plain h.table.now marks).1.0 q (shown.before.knows.1.1 q c))),
         )
-
-  -- whatever view knows nothing
-  pub gathered : (base : Known) → base.yes ≡ [] → base.no ≡ [] → IsShownOver h base (known_by base h.table.now []) (suc (top_of h.strata.now)) marks all → HavePlaces h (known_of h base marks) confirmed → Claim
-  gathered base a b =
-      subst (λ z. IsShownOver h z (known_by z h.table.now []) (suc (top_of h.strata.now)) marks all → HavePlaces h (known_of h z marks) confirmed → Claim) same (λ shown places. shows_all shown places)
-    where
-      same : nothing_known ≡ base
-      same = λ i. record { yes = sym a i; no = sym b i }

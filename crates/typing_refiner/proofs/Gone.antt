@@ -36,7 +36,7 @@ one_more_gone h base lower k marks gone new Todo x o removing all outcome at sta
     subst (HaveStates h lower) (sym is) (push_gone (λ ps y. HasStates h lower ps y) gone x all (
       rank ∙ ap suc (sym (length-map gone (λ y. y.pair))),
       at,
-      (λ wanted. subst (λ z. AreStatesFor h.schema.now h.terms.now h.graph.now.triples (known_without lower (pairs_gone gone)) x.pair.node (shape_at h.schema.now x.pair.shape) z) (sym (held wanted)) (states_same h.schema.now h.terms.now h.graph.now.triples (known_of h base marks) (known_without lower (pairs_gone gone)) x.pair.node (shape_at h.schema.now x.pair.shape) states removing.knows
+      (λ wanted. subst (λ z. AreStatesFor h.schema.now h.terms.now h.graph.now.triples (known_without lower (pairs_gone gone)) x.pair.node (shape_at h.schema.now x.pair.shape) z) (sym (held wanted)) (states_same h.schema.now h.terms.now h.graph.now.triples (known_of h base marks) (known_without lower (pairs_gone gone)) x.pair states removing.knows
           (subst (λ z. IsOutcome h.schema.now h.terms.now h.graph.now.triples (known_of h base marks) Possible x.pair z) never (outcome x.pair at)))),
     ))
 

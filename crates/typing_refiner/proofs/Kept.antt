@@ -16,7 +16,7 @@ use Rattle.schema_tree.specs.Sure.{Known, PairIs}
 use Rattle.lists.proofs.Members.{got_in}
 use Rattle.removal_laws.proofs.Carried.{match_up}
 use Rattle.removal_laws.proofs.Known.{held_at}
-use Rattle.typing_refiner.specs.Refined.{AreRefinedOn}
+use Rattle.locality_laws.specs.Local.{AreRefinedOn}
 
 module _ (s : Schema) (terms : List Term) (g : List Triple) (f : List ℕ) (pairs : List Pair) (budget : ℕ) (first : Known)
     (out : (q : Pair) → Contains first.yes q ⊎ Contains first.no q → ¬ Contains pairs q) where

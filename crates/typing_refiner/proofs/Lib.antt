@@ -14,6 +14,9 @@ pub mod Steps
 pub mod Confirmations
 pub mod Strata
 pub mod Spending
+pub mod Bounded
+pub mod CutOff
+pub mod Others
 pub mod Indexing
 pub mod Grounded
 pub mod Verdicts

@@ -1,5 +1,5 @@
 -- Pairs that are confirmed, one after another.
-use Rattle.std.proofs.Common.{◌≡◌, ◌∙◌, ℕ, zero, suc, ◌<◌, ◌≤◌, ◌+◌, ◌⊎◌, inl, inr, List, [], ◌∷◌, ◌++◌, arith, refl, sym, ap, subst, length, map}
+use Rattle.std.proofs.Common.{◌≡◌, ◌∙◌, ℕ, zero, suc, ◌<◌, ◌≤◌, ◌+◌, ◌⊎◌, inl, inr, List, [], ◌∷◌, ◌++◌, arith, refl, sym, ap, subst, length, map, true}
 use Rattle.std.proofs.lemmas.List.{map-append}
 use Rattle.std.specs.Prelude.{◌↔◌, Contains, Option, Some, None, slice_get}
 use Rattle.lists.specs.Distinct.{AreDistinct}
@@ -8,6 +8,7 @@ use Rattle.schema_tree.specs.declared.verdicts.Lean.TheVariants.{Impossible}
 use Rattle.schema_tree.specs.declared.verdicts.Verdict.{Verdict}
 use Rattle.schema_tree.specs.declared.verdicts.Verdict.TheVariants.{Yes, No, Unknown}
 use Rattle.schema_tree.specs.Sure.{Known}
+use Rattle.schema_tree.specs.Width.{IsWithinWidth}
 use Rattle.schema_tree.specs.Typings.{top_of}
 use Rattle.lists.proofs.Members.{got_in, not_in_none}
 use Rattle.std.proofs.lemmas.List.Elements.{Contains-append_cases}
@@ -17,7 +18,11 @@ use Rattle.typing_refiner.specs.declared.ground.Ground.{Ground}
 use Rattle.typing_refiner.specs.declared.strata_loop.Confirmed.{Confirmed}
 use Rattle.typing_refiner.specs.Confirmed.{HasPlacesAt, HavePlaces, numbers_of}
 use Rattle.typing_refiner.specs.Ready.{IsReady, known_of}
-use Rattle.typing_refiner.specs.Records.{MatchesAt}
+use Rattle.typing_refiner.specs.Records.{AreShown, IsShownOver, MatchesAt}
+use Rattle.typing_refiner.specs.Spent.{narrow_test}
+use Rattle.typing_refiner.specs.declared.removal.Removed.{Removed}
+use Rattle.std.proofs.lemmas.Option.{slice_get-get_or}
+use Rattle.typing_refiner.proofs.Spending.{narrow_true}
 use Rattle.typing_refiner.specs.Refined.{IsRefinedOver}
 use Rattle.typing_refiner.proofs.Kept.{yes_matches}
 use Rattle.typing_refiner.proofs.Strata.{AreBelow, begun_with, below_pass, below_put, marks_of_none}
@@ -54,6 +59,10 @@ out_of v pairs others q c = elim (Contains-append_cases (marked v pairs []) (out
   | inr o ↦ (to_outside pairs others q o).1
 ]
 
+-- what is known before is of none of the pairs
+pub none_inside : (base : Known) (pairs : List Pair) (q : Pair) → Contains (known_by base pairs []).yes q ⊎ Contains (known_by base pairs []).no q → ¬ Contains pairs q
+none_inside base pairs q c = elim c [ inl y ↦ out_of Yes pairs base.yes q y | inr n ↦ out_of No pairs base.no q n ]
+
 pub all_match :
     (h : Ground) → IsReady h → (base : Known) (old marks : List Verdict) → length old ≡ length h.table.now → ((i : ℕ) → i < length old → slice_get old i ≡ Some Unknown) →
     IsRefinedOver h base (known_of h base old) (suc (top_of h.strata.now)) marks → (i : ℕ) → slice_get marks i ≡ Some Yes → MatchesAt h (known_of h base marks) i
@@ -66,7 +75,27 @@ all_match h ready base old marks same unknown r i mark p at =
     first = begun_with base h.table.now old same unknown
 
     out : (q : Pair) → Contains (known_of h base old).yes q ⊎ Contains (known_of h base old).no q → ¬ Contains h.table.now q
-    out q c = elim c [
-      | inl y ↦ out_of Yes h.table.now base.yes q (subst (λ v. Contains v.yes q) first y)
-      | inr n ↦ out_of No h.table.now base.no q (subst (λ v. Contains v.no q) first n)
-    ]
+    out q c = none_inside base h.table.now q (subst (λ v. Contains v.yes q ⊎ Contains v.no q) first c)
+
+-- ---- and is narrow
+
+yes_within : (h : Ground) (first : Known) → ((q : Pair) → Contains first.yes q ⊎ Contains first.no q → ¬ Contains h.table.now q) → (k : ℕ) (known : Known) (all : List (List Removed)) →
+    AreShown h first k known all → (p : Pair) → Contains h.table.now p → Contains known.yes p → IsWithinWidth h.schema.now h.terms.now h.graph.now.triples h.budget p
+yes_within h first out zero known all (a, b, e) p inside c = absurd (out p (inl (subst (λ xs. Contains xs p) a c)) inside)
+yes_within h first out (suc k) known all (lower, rest, gone, kept, before, r, states, a, b, e) p inside c = go (Contains-append_cases lower.yes kept p (subst (λ xs. Contains xs p) a c)) (λ l. yes_within h first out k lower rest before p inside l)
+  where
+    go : Contains lower.yes p ⊎ Contains kept p → (Contains lower.yes p → IsWithinWidth h.schema.now h.terms.now h.graph.now.triples h.budget p) →
+        IsWithinWidth h.schema.now h.terms.now h.graph.now.triples h.budget p
+    go (inl l) deeper = deeper l
+    go (inr n) deeper = (r.confirmed p n).0.2
+
+pub all_narrow : (h : Ground) → IsReady h → (base : Known) (k : ℕ) (marks : List Verdict) (all : List (List Removed)) → IsShownOver h base (known_by base h.table.now []) k marks all →
+    (i : ℕ) → i < length h.table.now → slice_get marks i ≡ Some Yes → narrow_test h i ≡ true
+all_narrow h ready base k marks all shown i inside mark = by (slice_get h.table.now i) refl
+  where
+    by : (o : Option Pair) → slice_get h.table.now i ≡ o → narrow_test h i ≡ true
+    by None e = absurd (let there = slice_get-get_or h.table.now i (record { node = record { 0 = 0 }; shape = record { 0 = 0 } }) inside in let both : Some _ ≡ None = sym there ∙ e in cc)
+    by (Some p) e =
+        narrow_true h ready i p e
+        (yes_within h (known_by base h.table.now []) (none_inside base h.table.now) k shown.known all shown.are p (got_in h.table.now i p e)
+        (shown.before.knows.0.0 p (is_yes base h.table.now ready.distinct marks i p e mark)))

@@ -10,19 +10,24 @@ use Rattle.removal_laws.proofs.Bound.{begin, mark, on_true, pop}
 use Rattle.removal_laws.specs.Costs.{potential, total}
 use Rattle.typing_refiner.specs.declared.ground.Ground.{Ground}
 use Rattle.typing_refiner.specs.Ready.{AllWait, GoesBack, IsAmong, IsOpen, IsReady, Waits}
-use Rattle.typing_refiner.specs.Spent.{cost_of_pair, is_among, is_of, is_some_true, look_cost, need_test, open_cost, open_test, phase_ticks, still_to_tick}
+use Rattle.schema_tree.specs.Width.{IsWithinWidth}
+use Rattle.typing_refiner.specs.Spent.{cost_of_pair, is_among, is_of, is_some_true, look_cost, narrow_test, need_test, open_cost, open_test, phase_ticks, record_ticks, record_ticks_below, still_to_tick}
 use Rattle.typing_refiner.proofs.Steps.{within}
 
--- the number of an open pair passes the test
-pub opens : (h : Ground) → IsReady h → (k i : ℕ) → IsOpen h k i → open_test h k i ≡ true
-opens h ready k i (p, is, narrow) = both_true (by (slice_get h.narrow.now i) refl) (ap (λ o. is_of h k o) is ∙ eq-eqb _ k narrow.1)
+-- the number of a narrow pair passes the test
+pub narrow_true : (h : Ground) → IsReady h → (i : ℕ) (p : Pair) → slice_get h.table.now i ≡ Some p → IsWithinWidth h.schema.now h.terms.now h.graph.now.triples h.budget p → narrow_test h i ≡ true
+narrow_true h ready i p is narrow = by (slice_get h.narrow.now i) refl
   where
     inside : i < length h.narrow.now
     inside = let w = slice_get_within h.table.now i p is in let e = ready.tested in omega arith
 
     by : (o : Option Bool) → slice_get h.narrow.now i ≡ o → is_some_true (slice_get h.narrow.now i) ≡ true
     by None e = absurd (let there = slice_get-get_or h.narrow.now i false inside in let both : Some _ ≡ None = sym there ∙ e in cc)
-    by (Some b) e = ap is_some_true e ∙ (ready.narrow i p b is e).1 narrow.2
+    by (Some b) e = ap is_some_true e ∙ (ready.narrow i p b is e).1 narrow
+
+-- and that of an open one passes its test
+pub opens : (h : Ground) → IsReady h → (k i : ℕ) → IsOpen h k i → open_test h k i ≡ true
+opens h ready k i (p, is, narrow) = both_true (narrow_true h ready i p is narrow.2) (ap (λ o. is_of h k o) is ∙ eq-eqb _ k narrow.1)
 
 pub open_cost_is : (h : Ground) (width : Pair → ℕ) → IsReady h → (k i : ℕ) → IsOpen h k i → open_cost h width k i ≡ look_cost h width i
 open_cost_is h width ready k i o = ap (λ b. cond b (look_cost h width i) 0) (opens h ready k i o)
@@ -79,3 +84,27 @@ spent_all φ start now k n le h = let p = total_part φ k n le in omega (arith, 
 
 pub spent_next : (φ : ℕ → ℕ) (start now next k n : ℕ) → k < n → now ≤ start + total φ k → next ≤ now + φ k → next ≤ start + total φ n
 spent_next φ start now next k n lt h more = let p = total_part φ (suc k) n (omega arith) in omega (arith, p, h, more)
+
+-- ---- one look at each narrow pair
+
+-- a look at one more, which is narrow
+pub recorded_more : (h : Ground) (width : Pair → ℕ) (start now next at : ℕ) → narrow_test h at ≡ true → now ≤ start + record_ticks_below h width at → next ≤ now + look_cost h width at →
+    next ≤ start + record_ticks_below h width (at + 1)
+recorded_more h width start now next at narrow before more =
+    let one : cond (narrow_test h at) (look_cost h width at) 0 ≡ look_cost h width at = ap (λ b. cond b (look_cost h width at) 0) narrow in
+    let a = total_more (λ i. cond (narrow_test h i) (look_cost h width i) 0) at in
+    omega (arith, before, more, one, a)
+
+-- none at one more
+pub recorded_pass : (h : Ground) (width : Pair → ℕ) (start now at : ℕ) → now ≤ start + record_ticks_below h width at → now ≤ start + record_ticks_below h width (at + 1)
+recorded_pass h width start now at before = spent_all (λ i. cond (narrow_test h i) (look_cost h width i) 0) start now at (at + 1) (omega arith) before
+
+-- and so for all
+pub recorded_all : (h : Ground) (width : Pair → ℕ) (start now at : ℕ) → at ≤ length h.table.now → now ≤ start + record_ticks_below h width at → now ≤ start + record_ticks h width
+unfolding record_ticks
+recorded_all h width start now at inside before = spent_all (λ i. cond (narrow_test h i) (look_cost h width i) 0) start now at (length h.table.now) inside before
+
+pub recorded_next : (h : Ground) (width : Pair → ℕ) (start now next at : ℕ) → at < length h.table.now → narrow_test h at ≡ true → now ≤ start + record_ticks_below h width at →
+    next ≤ now + look_cost h width at → next ≤ start + record_ticks h width
+recorded_next h width start now next at inside narrow before more =
+    recorded_all h width start next (at + 1) (omega (arith, inside)) (recorded_more h width start now next at narrow before more)

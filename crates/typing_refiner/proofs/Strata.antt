@@ -22,7 +22,8 @@ use Rattle.removal_laws.proofs.Confirming.{above, refined}
 use Rattle.removal_laws.proofs.Removing.{ended, low}
 use Rattle.typing_refiner.specs.declared.ground.Ground.{Ground}
 use Rattle.typing_refiner.specs.Ready.{IsBefore, IsConfirming, IsLow, IsOpen, IsReady, IsRemoving, known_of}
-use Rattle.typing_refiner.specs.Refined.{AreRefinedFrom, AreRefinedOn, IsRefinedOn, IsRefinedOver, IsStratumDone, verdicts_of}
+use Rattle.locality_laws.specs.Local.{AreRefinedOn}
+use Rattle.typing_refiner.specs.Refined.{AreRefinedFrom, IsRefinedOn, IsRefinedOver, IsStratumDone, verdicts_of}
 use Rattle.typing_refiner.specs.Statements.{IsRefinementOf}
 
 top_push : (xs : List ℕ) (x : ℕ) → top_of (xs ++ x ∷ []) ≡ max (top_of xs) x

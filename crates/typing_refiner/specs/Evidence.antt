@@ -85,10 +85,6 @@ module _ (s : Schema) (terms : List Term) (g : List Triple) (f : List ℕ) (pair
 abbrev pub AreFine : List Section → Type 0
 AreFine sections = (k : ℕ) (r : Record) → IsListed sections k r → IsKind r.kind
 
--- nothing is known
-abbrev pub KnowsNothing : Known → Type 0
-KnowsNothing known = (known.yes ≡ []) × (known.no ≡ [])
-
 -- the two are of the same node and Shape and say the same, each with its own list of nodes
 abbrev pub IsSameRecord : List TermId → List TermId → Record → Record → Type 0
 IsSameRecord nodes lines a b =

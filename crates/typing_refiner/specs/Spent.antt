@@ -5,7 +5,8 @@ use Rattle.schema_tree.specs.declared.verdicts.Verdict.{Verdict}
 use Rattle.schema_tree.specs.Edges.{level}
 use Rattle.schema_tree.specs.Width.{HasWidth}
 use Rattle.bag_match.specs.Bounds.{most_ticks}
-use Rattle.removal_laws.specs.Costs.{is_on, phase_cost, potential}
+use Rattle.removal_laws.specs.Costs.{is_on, phase_cost, potential, total}
+use Rattle.locality_laws.specs.Bounds.{cost_where}
 use Rattle.typing_refiner.specs.declared.ground.Ground.{Ground}
 
 -- what one look at a pair ticks at most, where this is its Width
@@ -29,9 +30,13 @@ abbrev pub is_of : Ground → ℕ → Option Pair → Bool
 is_of h k None = false
 is_of h k (Some p) = nat_eq (level h.strata.now p.shape) k
 
--- the number is that of a narrow pair of the stratum
+-- the number is that of a narrow pair
+abbrev pub narrow_test : Ground → ℕ → Bool
+narrow_test h i = is_some_true (slice_get h.narrow.now i)
+
+-- and it is one of the stratum
 abbrev pub open_test : Ground → ℕ → ℕ → Bool
-open_test h k i = is_some_true (slice_get h.narrow.now i) && is_of h k (slice_get h.table.now i)
+open_test h k i = narrow_test h i && is_of h k (slice_get h.table.now i)
 
 -- the same of the open pairs of a stratum alone
 abbrev pub open_cost : Ground → (Pair → ℕ) → ℕ → ℕ → ℕ
@@ -52,3 +57,11 @@ still_to_tick h width k v marks agenda = potential (open_cost h width k) (need_t
 -- what a phase ticks at most: at each open pair once, and once for each pair that it needs
 unfoldable pub phase_ticks : Ground → (Pair → ℕ) → ℕ → ℕ
 phase_ticks h width k = phase_cost (open_cost h width k) (need_test h) (length h.table.now)
+
+-- what one look at each narrow pair ticks at most, up to a number
+abbrev pub record_ticks_below : Ground → (Pair → ℕ) → ℕ → ℕ
+record_ticks_below h width n = total (cost_where (narrow_test h) (look_cost h width)) n
+
+-- the same of all, which is what their records tick at most
+unfoldable pub record_ticks : Ground → (Pair → ℕ) → ℕ
+record_ticks h width = record_ticks_below h width (length h.table.now)

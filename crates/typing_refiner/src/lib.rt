@@ -3,6 +3,7 @@
 
 pub mod building;
 pub mod confirmation;
+pub mod found;
 pub mod ground;
 pub mod laws;
 pub mod marks;
@@ -12,5 +13,6 @@ pub mod removal;
 pub mod strata_loop;
 pub mod wanted;
 
-pub use refining::{Refined, refine};
+pub use found::Refined;
+pub use refining::{refine, refine_from};
 pub use wanted::Wanted;

@@ -1,6 +1,6 @@
 //! Verdicts on pairs by refinement.
 
-ghost use Rattle.std.specs.Prelude.{ℕ, ◌≡◌, ◌≤◌, ◌<◌, ◌-◌, ◌^◌, IfOk, length, map};
+ghost use Rattle.std.specs.Prelude.{ℕ, ◌≡◌, ◌≤◌, ◌<◌, ◌+◌, ◌-◌, ◌^◌, IfOk, length, map};
 ghost use Rattle.std.specs.List.Sorted.{IsStrictlySortedBy};
 ghost use Rattle.graph_index.specs.Contents.{IsSealedWith};
 ghost use Rattle.lists.specs.Distinct.{AreDistinct};
@@ -8,125 +8,37 @@ ghost use Rattle.schema_tree.specs.declared.schema.Pair.{Pair as Held};
 ghost use Rattle.schema_tree.specs.Edges.{IsStratified};
 ghost use Rattle.schema_tree.specs.Loaded.{IsLoaded};
 ghost use Rattle.schema_tree.specs.Needs.{HoldNeeds};
-ghost use Rattle.schema_tree.specs.Sure.{PairIs};
 ghost use Rattle.demand.specs.Orders.{compare_pairs, max_pairs};
+ghost use Rattle.locality_laws.specs.Local.{AreKept};
 ghost use Rattle.removal_laws.specs.Marks.{known_by};
 ghost use Rattle.typing_refiner.specs.declared.wanted.Wanted.TheVariants as Wanteds;
 ghost use Rattle.typing_refiner.specs.Building.{AreNeeds, AreWidths, is_within, wide_of};
-ghost use Rattle.typing_refiner.specs.Evidence.{AreAccepted, AreFine, AreShownBy, KnowsNothing};
+ghost use Rattle.typing_refiner.specs.Evidence.{AreAccepted, AreFine, AreShownBy};
 ghost use Rattle.typing_refiner.specs.Refined.{IsRefinedOn, verdicts_of};
 ghost use Rattle.typing_refiner.specs.Refinement.{known_by_it};
-ghost use Rattle.typing_refiner.specs.Statements.{AreTrue, AreTrueByAll, IsRefinementOf, IsUnknownOnlyWide};
+ghost use Rattle.typing_refiner.specs.Statements.{AreTrue, AreTrueByAll, AreVerdictsOn, CountNeeds, IsRefinementOf, IsUnknownOnlyWide, most_of};
 
-use crate::building::{WidePair, needing, table_of, tell_widths};
+use crate::building::{needing, table_of, tell_widths};
+use crate::found::{Nothing, Refined};
 use crate::ground::Ground;
-use crate::records::Records;
 use crate::strata_loop::Verdicts;
 use crate::wanted::Wanted;
 use demand::Pairs;
 use demand::links::links;
 use demand::table::PairTable;
 use graph_index::graph::Graph;
-use proof_file::Section;
+use locality_laws::laws::{refinement_is_local, strata_are_bounded, verdict_is_one};
 use rdf_terms::table::TermTable;
-use rdf_terms::terms::TermId;
 use schema_tree::laws::{
     refinement_is_complete, refinement_is_true, strata_are_alike, typing_is_one, width_is_one,
 };
 use schema_tree::schema::{Pair, Schema};
 use schema_tree::sure::View;
-use schema_tree::verdicts::Verdict;
 use std::alloc::{AllocError, Global};
-use std::marker::{Brand, Model};
+use std::marker::Brand;
 use std::sync::ledger::{Blank, Ledger};
 use strata::list::Strata;
 use tally::Steps;
-
-/// A view that knows nothing.
-#[derive(Clone, Copy, Debug)]
-pub struct Nothing;
-
-impl View for Nothing {
-    ghost use Rattle.std.specs.Prelude.{[]};
-
-    ghost known = { λ v. record { yes = []; no = [] } };
-
-    fn pair(&self, _pair: Pair) -> Verdict {
-        Verdict::Unknown
-    }
-}
-
-/// The verdicts of refinement on pairs, and what shows them.
-#[derive(Drop)]
-pub struct Refined {
-    table: PairTable,
-    marks: Vec<Verdict>,
-    wide: Vec<WidePair>,
-    records: Records,
-}
-
-impl Model for Refined {
-    ghost use Rattle.typing_refiner.specs.Refinement.{Refinement};
-
-    ghost Value = { Refinement };
-
-    ghost view = { λ r. record { pairs = r.table; marks = r.marks.items; wide = r.wide.items; nodes = r.records.nodes.items; sections = r.records.sections.items } };
-}
-
-impl View for Refined {
-    ghost use Rattle.typing_refiner.specs.Refinement.{known_by_it};
-
-    ghost known = { λ r. known_by_it r };
-
-    fn pair(&self, pair: Pair) -> Verdict {
-        let _count = self.table.len();
-        match self.table.find(pair) {
-            Some(place) => match self.marks.get(place as usize) {
-                Some(mark) => *mark,
-                None => Verdict::Unknown,
-            },
-            None => Verdict::Unknown,
-        }
-    }
-}
-
-impl Refined {
-    /// The verdict on a pair, without taking memory.
-    pub fn verdict(&self, pair: Pair) -> Verdict
-        ensures { PairIs (known_by_it self.now) pair result }
-    {
-        self.pair(pair)
-    }
-
-    /// The pairs whose Width is above the budget, in order, without taking memory.
-    pub fn wide(&self) -> &[WidePair]
-        ensures { result.now ≡ self.now.wide }
-    {
-        self.wide.as_slice()
-    }
-
-    /// The records of each stratum that has some, whose nodes are counted by `nodes`, without taking memory.
-    pub fn sections(&self) -> &[Section]
-        ensures { result.now ≡ self.now.sections }
-    {
-        self.records.sections.as_slice()
-    }
-
-    /// The nodes of the records in the order of their texts, without taking memory.
-    pub fn nodes(&self) -> &[TermId]
-        ensures { result.now ≡ self.now.nodes }
-    {
-        self.records.nodes.as_slice()
-    }
-
-    /// The records and their nodes, without taking memory.
-    pub fn into_records(self) -> Records
-        ensures nodes { result.nodes.items ≡ self.nodes }
-        ensures sections { result.sections.items ≡ self.sections }
-    {
-        self.records
-    }
-}
 
 /// The verdicts on the pairs of a table, and records of them where these are wanted.
 fn refine_in<K: View, L: Ledger>(
@@ -150,9 +62,12 @@ fn refine_in<K: View, L: Ledger>(
     requires narrow { (width : Held → ℕ) → AreWidths schema.now terms.now graph.now.triples width → narrow.now ≡ map (is_within width budget) table.now }
     requires needing { AreNeeds schema.now graph.now.triples table.now (map (λ l. l.items) needing.now) }
     ensures refined { IfOk result (λ v. IsRefinedOn schema.now terms.now graph.now.triples strata.now table.now budget (K.known kept.now) (known_by (K.known kept.now) table.now v.marks.items)) }
-    ensures shown { (wanted ≡ Wanteds.Records) → KnowsNothing (K.known kept.now) → IfOk result (λ v. AreShownBy schema.now terms.now graph.now.triples strata.now table.now budget (verdicts_of table.now v.marks.items) v.records.nodes.items v.records.sections.items) }
+    ensures shown { (wanted ≡ Wanteds.Records) → HoldNeeds schema.now graph.now.triples table.now → IfOk result (λ v. AreShownBy schema.now terms.now graph.now.triples strata.now table.now budget (verdicts_of table.now v.marks.items) v.records.nodes.items v.records.sections.items) }
+    ensures bounded { (width count : Held → ℕ) → AreWidths schema.now terms.now graph.now.triples width → CountNeeds schema.now graph.now.triples table.now count →
+        steps.new ≤ steps.old + most_of schema.now terms.now graph.now.triples budget width count table.now }
 {
     width_is_one();
+    strata_are_bounded();
     let _count = table.len();
     let ground = Ground {
         schema,
@@ -169,7 +84,7 @@ fn refine_in<K: View, L: Ledger>(
 }
 
 /// Refines pairs over what is kept of others.
-pub fn refine_over<K: View, L: Ledger>(
+fn refine_over<K: View, L: Ledger>(
     alloc: Global,
     schema: &Schema,
     graph: &Graph,
@@ -190,7 +105,9 @@ pub fn refine_over<K: View, L: Ledger>(
     ensures refined { IfOk result (λ r. IsRefinedOn schema.now terms.now graph.now.triples strata.now pairs.now budget (K.known kept.now) (known_by (K.known kept.now) pairs.now r.marks)) }
     ensures table { IfOk result (λ r. r.pairs ≡ pairs.now) }
     ensures wide { IfOk result (λ r. (width : Held → ℕ) → AreWidths schema.now terms.now graph.now.triples width → r.wide ≡ wide_of width budget pairs.now) }
-    ensures shown { (wanted ≡ Wanteds.Records) → KnowsNothing (K.known kept.now) → IfOk result (λ r. AreShownBy schema.now terms.now graph.now.triples strata.now pairs.now budget (known_by_it r) r.nodes r.sections) }
+    ensures shown { (wanted ≡ Wanteds.Records) → HoldNeeds schema.now graph.now.triples pairs.now → IfOk result (λ r. AreShownBy schema.now terms.now graph.now.triples strata.now pairs.now budget (known_by_it r) r.nodes r.sections) }
+    ensures bounded { (width count : Held → ℕ) → AreWidths schema.now terms.now graph.now.triples width → CountNeeds schema.now graph.now.triples pairs.now count →
+        steps.new ≤ steps.old + most_of schema.now terms.now graph.now.triples budget width count pairs.now }
 {
     let told = tell_widths(alloc, schema, graph, terms, pairs, budget)?;
     let table = table_of(alloc, pairs)?;
@@ -218,6 +135,68 @@ pub fn refine_over<K: View, L: Ledger>(
     })
 }
 
+/// The verdicts of refinement on a list of pairs, over what is kept of those that they need besides: on each pair of the
+/// list the verdict that refinement of all that it needs would give, and Unknown on every other. For each pair whose Width
+/// is within the budget it ticks at most (2 × k + 3) × (d + 1) × Width times, where k is how many pairs of the list it needs
+/// and d is how many of its node's triples are relevant. The records are made as those of `refine`, and show the verdicts
+/// where the list holds all that it needs.
+pub fn refine_from<K: View, L: Ledger>(
+    alloc: Global,
+    schema: &Schema,
+    graph: &Graph,
+    terms: &TermTable,
+    strata: &Strata,
+    pairs: &[Pair],
+    kept: &K,
+    budget: u64,
+    steps: &mut Steps<L>,
+) -> Result<Refined, AllocError>
+    requires loaded { IsLoaded schema.now }
+    requires sealed { IsSealedWith terms.now graph.now }
+    requires stratified { IsStratified schema.now strata.now }
+    requires distinct { AreDistinct pairs.now }
+    requires sorted { IsStrictlySortedBy (compare_pairs terms.now) pairs.now }
+    requires few { length pairs.now ≤ max_pairs }
+    requires budget { budget < 2 ^ 64 - 1 }
+    requires kept { AreKept schema.now terms.now graph.now.triples strata.now budget (K.known kept.now) pairs.now }
+
+    // The verdicts are those of refinement of all that the list needs, and true of every complete typing, by whichever strata.
+    ensures verdicts { IfOk result (λ r. AreVerdictsOn schema.now terms.now graph.now.triples strata.now budget pairs.now (known_by_it r)) }
+    ensures true_by_all { IfOk result (λ r. AreTrueByAll schema.now terms.now graph.now.triples strata.now budget pairs.now (known_by_it r)) }
+
+    // A pair of the list is Unknown only where it reaches one whose Width is above the budget.
+    ensures only_wide { IfOk result (λ r. IsUnknownOnlyWide schema.now terms.now graph.now.triples strata.now budget pairs.now (known_by_it r)) }
+    ensures wide { IfOk result (λ r. (width : Held → ℕ) → AreWidths schema.now terms.now graph.now.triples width → r.wide ≡ wide_of width budget pairs.now) }
+
+    // Where the list holds all that it needs, the records show exactly the verdicts, and are accepted.
+    ensures records { HoldNeeds schema.now graph.now.triples pairs.now → IfOk result (λ r. AreShownBy schema.now terms.now graph.now.triples strata.now pairs.now budget (known_by_it r) r.nodes r.sections) }
+    ensures fine { HoldNeeds schema.now graph.now.triples pairs.now → IfOk result (λ r. AreFine r.sections) }
+    ensures accepted { HoldNeeds schema.now graph.now.triples pairs.now → IfOk result (λ r. AreAccepted schema.now terms.now graph.now.triples strata.now pairs.now r.nodes r.sections) }
+
+    // However it ends, it ticks at most so often.
+    ensures bounded { (width count : Held → ℕ) → AreWidths schema.now terms.now graph.now.triples width → CountNeeds schema.now graph.now.triples pairs.now count →
+        steps.new ≤ steps.old + most_of schema.now terms.now graph.now.triples budget width count pairs.now }
+{
+    refinement_is_local();
+    verdict_is_one();
+    typing_is_one();
+    strata_are_alike();
+    // The length of a graph tells contracts that it is within the limit.
+    let _held = graph.len();
+    refine_over(
+        alloc,
+        schema,
+        graph,
+        terms,
+        strata.list(),
+        pairs,
+        kept,
+        budget,
+        Wanted::Records,
+        steps,
+    )
+}
+
 /// Refines pairs, and counts steps that nobody reads.
 fn refine_with<L: Ledger>(
     blank: Blank,
@@ -235,6 +214,7 @@ fn refine_with<L: Ledger>(
     requires some { 0 < blank.parts }
     requires loaded { IsLoaded schema.now }
     requires sealed { IsSealedWith terms.now graph.now }
+    requires closed { HoldNeeds schema.now graph.now.triples pairs.now }
     requires distinct { AreDistinct pairs.now }
     requires sorted { IsStrictlySortedBy (compare_pairs terms.now) pairs.now }
     requires few { length pairs.now ≤ max_pairs }

@@ -1,6 +1,6 @@
 //! Refinement of all strata, from the lowest on.
 
-ghost use Rattle.std.specs.Prelude.{ℕ, [], suc, ◌≡◌, ◌<◌, ◌≤◌, ◌+◌, ◌*◌, ◌↔◌, ◌⊎◌, List, Contains, IfOk, OnOk, Some, length, map, max, slice_get};
+ghost use Rattle.std.specs.Prelude.{ℕ, [], suc, true, ◌≡◌, ◌<◌, ◌≤◌, ◌+◌, ◌*◌, ◌↔◌, ◌⊎◌, List, Contains, IfOk, OnOk, Some, length, map, max, slice_get};
 ghost use Rattle.schema_tree.specs.Sure.{Known};
 ghost use Rattle.schema_tree.specs.Typings.{top_of};
 ghost use Rattle.schema_tree.specs.declared.verdicts.Verdict.TheVariants.{Unknown, Yes};
@@ -8,14 +8,15 @@ ghost use Rattle.typing_refiner.specs.Ready.{IsBefore, IsOpen, IsReady, known_of
 ghost use Rattle.removal_laws.specs.Marks.{known_by};
 ghost use Rattle.removal_laws.specs.Costs.{total};
 ghost use Rattle.schema_tree.specs.declared.schema.Pair.{Pair as Held};
-ghost use Rattle.typing_refiner.specs.Spent.{GiveWidths, phase_ticks};
+ghost use Rattle.typing_refiner.specs.Spent.{GiveWidths, narrow_test, phase_ticks, record_ticks};
 ghost use Rattle.typing_refiner.specs.Confirmed.{HavePlaces, numbers_of};
 ghost use Rattle.typing_refiner.specs.Records.{HaveStates, IsShownOver, MatchesAt};
 ghost use Rattle.typing_refiner.specs.declared.wanted.Wanted.TheVariants as Wanteds;
 ghost use Rattle.schema_tree.specs.declared.schema.ShapeId.{ShapeId as OfShape};
 ghost use Rattle.schema_tree.specs.Edges.{level};
 ghost use Rattle.typing_refiner.specs.Building.{HasAt};
-ghost use Rattle.typing_refiner.specs.Evidence.{AreShownBy, KnowsNothing};
+ghost use Rattle.schema_tree.specs.Needs.{HoldNeeds};
+ghost use Rattle.typing_refiner.specs.Evidence.{AreShownBy};
 ghost use Rattle.typing_refiner.specs.Refined.{IsRefinedOn, IsRefinedOver, IsStratumDone, verdicts_of};
 
 use crate::building::{add_number, empty_lists};
@@ -186,6 +187,8 @@ impl Ground<'_> {
     ) -> Result<Vec<Confirmed>, AllocError>
         requires ready { IsReady self.now }
         requires matches { (i : ℕ) → slice_get marks.now i ≡ Some Yes → MatchesAt self.now (known_of self.now (K.known kept.now) marks.now) i }
+        requires narrow { (i : ℕ) → i < length self.now.table.now → slice_get marks.now i ≡ Some Yes → narrow_test self.now i ≡ true }
+        ensures spent { (width : Held → ℕ) → GiveWidths self.now width → steps.new ≤ steps.old + record_ticks self.now width }
         ensures numbers { IfOk result (λ v. (i : ℕ) → Contains (numbers_of v.items) i ↔ ((i < length self.now.table.now) × (slice_get marks.now i ≡ Some Yes))) }
         ensures places { IfOk result (λ v. HavePlaces self.now (known_of self.now (K.known kept.now) marks.now) v.items) }
     {
@@ -210,6 +213,7 @@ impl Ground<'_> {
         steps: &mut Steps<L>,
     ) -> Result<Refining, AllocError>
         requires ready { IsReady self.now }
+        ensures spent { (width : Held → ℕ) → GiveWidths self.now width → steps.new ≤ steps.old + total (λ k. 2 * phase_ticks self.now width k) (suc (top_of self.now.strata.now)) }
         ensures refined { IfOk result (λ v. IsRefinedOn self.now.schema.now self.now.terms.now self.now.graph.now.triples self.now.strata.now self.now.table.now self.now.budget (K.known kept.now) (known_by (K.known kept.now) self.now.table.now v.marks.items)) }
         ensures matches { IfOk result (λ v. (i : ℕ) → slice_get v.marks.items i ≡ Some Yes → MatchesAt self.now (known_of self.now (K.known kept.now) v.marks.items) i) }
         ensures shown { IfOk result (λ v. IsShownOver self.now (K.known kept.now) (known_by (K.known kept.now) self.now.table.now []) (suc (top_of self.now.strata.now)) v.marks.items (map (λ x. x.items) v.gone.items)) }
@@ -231,7 +235,8 @@ impl Ground<'_> {
         requires ready { IsReady self.now }
         requires matches { (i : ℕ) → slice_get marks.now i ≡ Some Yes → MatchesAt self.now (known_of self.now (K.known kept.now) marks.now) i }
         requires shown { IsShownOver self.now (K.known kept.now) (known_by (K.known kept.now) self.now.table.now []) (suc (top_of self.now.strata.now)) marks.now (map (λ x. x.items) gone.items) }
-        ensures { (self.now.wanted ≡ Wanteds.Records) → KnowsNothing (K.known kept.now) → IfOk result (λ r. AreShownBy self.now.schema.now self.now.terms.now self.now.graph.now.triples self.now.strata.now self.now.table.now self.now.budget (verdicts_of self.now.table.now marks.now) r.nodes.items r.sections.items) }
+        ensures spent { (width : Held → ℕ) → GiveWidths self.now width → steps.new ≤ steps.old + record_ticks self.now width }
+        ensures shown { (self.now.wanted ≡ Wanteds.Records) → HoldNeeds self.now.schema.now self.now.graph.now.triples self.now.table.now → IfOk result (λ r. AreShownBy self.now.schema.now self.now.terms.now self.now.graph.now.triples self.now.strata.now self.now.table.now self.now.budget (verdicts_of self.now.table.now marks.now) r.nodes.items r.sections.items) }
     {
         let confirmed = self.confirmations(alloc, kept, marks, steps)?;
         let mut kinds = no_kinds(alloc, self.table.len())?;
@@ -249,8 +254,10 @@ impl Ground<'_> {
         steps: &mut Steps<L>,
     ) -> Result<Verdicts, AllocError>
         requires ready { IsReady self.now }
+        ensures spent { (width : Held → ℕ) → GiveWidths self.now width →
+            steps.new ≤ steps.old + (total (λ k. 2 * phase_ticks self.now width k) (suc (top_of self.now.strata.now)) + record_ticks self.now width) }
         ensures refined { IfOk result (λ v. IsRefinedOn self.now.schema.now self.now.terms.now self.now.graph.now.triples self.now.strata.now self.now.table.now self.now.budget (K.known kept.now) (known_by (K.known kept.now) self.now.table.now v.marks.items)) }
-        ensures shown { (self.now.wanted ≡ Wanteds.Records) → KnowsNothing (K.known kept.now) → IfOk result (λ v. AreShownBy self.now.schema.now self.now.terms.now self.now.graph.now.triples self.now.strata.now self.now.table.now self.now.budget (verdicts_of self.now.table.now v.marks.items) v.records.nodes.items v.records.sections.items) }
+        ensures shown { (self.now.wanted ≡ Wanteds.Records) → HoldNeeds self.now.schema.now self.now.graph.now.triples self.now.table.now → IfOk result (λ v. AreShownBy self.now.schema.now self.now.terms.now self.now.graph.now.triples self.now.strata.now self.now.table.now self.now.budget (verdicts_of self.now.table.now v.marks.items) v.records.nodes.items v.records.sections.items) }
     {
         let Refining { marks, gone } = self.refine_all(alloc, kept, steps)?;
         match self.wanted {

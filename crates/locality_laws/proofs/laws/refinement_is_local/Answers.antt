@@ -1,4 +1,4 @@
-use Rattle.locality_laws.proofs.Whole.{closed_local, kept_local, others_local, verdict_one}
+use Rattle.locality_laws.proofs.Whole.{closed_local, kept_local, others_local}
 use Rattle.locality_laws.proofs.laws.refinement_is_local.Goals as goal
 
 pub returns-clause-closed : goal.returns-clause-closed
@@ -9,6 +9,3 @@ returns-clause-others c = others_local
 
 pub returns-clause-kept : goal.returns-clause-kept
 returns-clause-kept c = kept_local
-
-pub returns-clause-one : goal.returns-clause-one
-returns-clause-one c = verdict_one c.refinement_is_one.ensures.exists

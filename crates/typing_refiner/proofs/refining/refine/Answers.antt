@@ -1,4 +1,5 @@
-use Rattle.std.proofs.Common.{subst}
+use Rattle.std.proofs.Common.{subst, sym}
+use Rattle.schema_tree.specs.Needs.{HoldNeeds}
 use Rattle.typing_refiner.proofs.Tops.{ok_accepted, ok_by_all, ok_fine, ok_shown, ok_true, ok_wide}
 use Rattle.typing_refiner.proofs.refining.refine.Goals as goal
 
@@ -31,3 +32,6 @@ pub returns-clause-fine : goal.returns-clause-fine
 returns-clause-fine c = λ wanted.
     ok_fine c.args.schema.now c.args.terms.now c.args.graph.now.triples c.args.strata.now c.args.budget c.args.pairs.now c.refine_with.result c.requires.loaded c.len-held.result
     c.len-held.ensures.count c.len-held.ensures.few c.list-list.ensures.few (returns-clause-records c wanted)
+
+pub refine_with-requires-clause-closed : goal.refine_with-requires-clause-closed
+refine_with-requires-clause-closed c = subst (HoldNeeds c.args.schema.now c.args.graph.now.triples) (sym c.list-list.ensures.list) c.requires.closed

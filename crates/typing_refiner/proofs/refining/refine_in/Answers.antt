@@ -1,5 +1,8 @@
-use Rattle.std.proofs.Common.{◌≡◌, ◌∙◌, ◌≤◌, ap, length, refl, subst, sym}
+use Rattle.std.proofs.Common.{◌≡◌, ◌∙◌, ◌≤◌, suc, ap, arith, length, refl, subst, sym}
 use Rattle.demand.specs.Orders.{max_pairs}
+use Rattle.schema_tree.specs.Typings.{top_of}
+use Rattle.typing_refiner.specs.declared.ground.Ground.{Ground}
+use Rattle.typing_refiner.proofs.Bounded.{bounded}
 use Rattle.typing_refiner.proofs.Grounded.{narrow_at, needing_at, tested}
 use Rattle.typing_refiner.proofs.refining.refine_in.Goals as goal
 
@@ -16,3 +19,12 @@ refine_shown-requires g c = record {
     needing = needing_at (λ l. l.items) c.args.schema.now c.args.graph.now.triples c.args.table.now c.args.needing.now c.args.needing.now refl c.requires.needing;
   };
 }
+
+pub returns-clause-bounded : goal.returns-clause-bounded
+returns-clause-bounded g c = λ width count widths counts.
+    let spent = c.refine_shown.ensures.spent width widths in
+    let ground : Ground =
+    record { schema = c.args.schema; graph = c.args.graph; terms = c.args.terms; strata = c.args.strata; table = c.args.table; narrow = c.args.narrow; needing = c.args.needing; budget = c.args.budget; wanted = c.args.wanted } in
+    let all = bounded ground width count (c.requires.narrow width widths) c.requires.budget c.len-count.ensures.distinct c.requires.needing c.strata_are_bounded.ensures.strata c.strata_are_bounded.ensures.needs
+    counts (suc (top_of c.args.strata.now)) in
+    omega (arith, spent, all)

@@ -6,7 +6,7 @@ use Rattle.schema_tree.specs.Sure.{PairIs}
 use Rattle.schema_tree.specs.declared.verdicts.Verdict.TheVariants.{Unknown}
 use Rattle.typing_refiner.specs.Refinement.{known_by_it}
 use Rattle.typing_refiner.proofs.Verdicts.{told_in, told_none, told_out}
-use Rattle.typing_refiner.proofs.refining.RefinedView.pair.Goals as goal
+use Rattle.typing_refiner.proofs.found.RefinedView.pair.Goals as goal
 
 pub returns-in-Some-get : goal.returns-in-Some-get
 returns-in-Some-get c =

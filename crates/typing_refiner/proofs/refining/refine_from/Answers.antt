@@ -1,0 +1,35 @@
+use Rattle.std.proofs.Common.{refl}
+use Rattle.typing_refiner.proofs.Others.{ok_true_by_all, ok_unknown, ok_verdicts}
+use Rattle.typing_refiner.proofs.Tops.{ok_accepted, ok_fine, ok_shown}
+use Rattle.typing_refiner.proofs.refining.refine_from.Goals as goal
+
+pub returns-clause-verdicts : goal.returns-clause-verdicts
+returns-clause-verdicts g c =
+    ok_verdicts c.args.schema.now c.args.terms.now c.args.graph.now.triples c.args.strata.now c.args.budget c.args.pairs.now c.requires.loaded c.requires.stratified
+    (g.K.View.known c.args.kept.now) c.list.result.now c.refine_over.result c.list.ensures c.refinement_is_local.ensures.kept c.requires.kept c.requires.distinct
+    c.refine_over.ensures.refined c.refine_over.ensures.table
+
+pub returns-clause-only_wide : goal.returns-clause-only_wide
+returns-clause-only_wide g c =
+    ok_unknown c.args.schema.now c.args.terms.now c.args.graph.now.triples c.args.strata.now c.args.budget c.args.pairs.now c.requires.loaded c.requires.stratified
+    c.refine_over.result c.verdict_is_one.ensures.wide (returns-clause-verdicts g c)
+
+pub returns-clause-true_by_all : goal.returns-clause-true_by_all
+returns-clause-true_by_all g c =
+    ok_true_by_all c.args.schema.now c.args.terms.now c.args.graph.now.triples c.args.strata.now c.args.budget c.args.pairs.now c.requires.loaded c.requires.stratified
+    c.refine_over.result c.verdict_is_one.ensures.true_verdict c.typing_is_one.ensures.exists c.strata_are_alike.ensures.typings (returns-clause-verdicts g c)
+
+pub returns-clause-records : goal.returns-clause-records
+returns-clause-records g c = λ closed.
+    ok_shown c.args.schema.now c.args.terms.now c.args.graph.now.triples c.args.strata.now c.args.budget c.args.pairs.now c.args.pairs.now c.list.result.now c.refine_over.result
+    refl c.list.ensures (c.refine_over.ensures.shown refl closed)
+
+pub returns-clause-accepted : goal.returns-clause-accepted
+returns-clause-accepted g c = λ closed.
+    ok_accepted c.args.schema.now c.args.terms.now c.args.graph.now.triples c.args.strata.now c.args.budget c.args.pairs.now c.refine_over.result c.requires.stratified
+    (returns-clause-records g c closed)
+
+pub returns-clause-fine : goal.returns-clause-fine
+returns-clause-fine g c = λ closed.
+    ok_fine c.args.schema.now c.args.terms.now c.args.graph.now.triples c.args.strata.now c.args.budget c.args.pairs.now c.refine_over.result c.requires.loaded c.len-held.result
+    c.len-held.ensures.count c.len-held.ensures.few c.requires.few (returns-clause-records g c closed)
