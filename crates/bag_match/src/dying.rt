@@ -32,13 +32,13 @@ fn fitting(o: Occurrence, node: TermId, triples: &[Triple]) -> u32
     count
 }
 
-/// How many of the triples from a place on the occurrence fits.
-fn fitting_after(o: Occurrence, node: TermId, triples: &RelevantTriples<'_>, done: usize) -> u32
+/// How many of the relevant triples the occurrence fits.
+fn fitting_relevant(o: Occurrence, node: TermId, triples: &RelevantTriples<'_>) -> u32
     requires { length triples.now < 2 ^ 31 }
-    ensures { result ≡ count_fits o node (drop done triples.now) }
+    ensures { result ≡ count_fits o node triples.now }
 {
     let mut count = 0;
-    for i in done..triples.len() {
+    for i in 0..triples.len() {
         if o.fits(node, triples.at(i)) {
             count += 1;
         }
@@ -58,7 +58,7 @@ pub fn fits_of(
 {
     let mut left = Vec::with_capacity(alloc, occs.len())?;
     for o in occs {
-        left.push(fitting_after(*o, node, triples, 0))?;
+        left.push(fitting_relevant(*o, node, triples))?;
     }
     Ok(left)
 }
@@ -192,7 +192,7 @@ fn front(numbers: &[u32], count: usize) -> &[u32]
 
 /// Whether a state with these counts is dead, where the later triples are those of one list, and those of another that
 /// are no self-loops. It takes no memory.
-pub fn is_dead_before(
+pub fn is_dead_by_arcs(
     shape: &Shape,
     node: TermId,
     counts: &[u32],
@@ -209,44 +209,5 @@ pub fn is_dead_before(
     let occs = shape.occs.as_slice();
     let mut left = [0u32; 256];
     fill_left(left.as_mut_slice(), occs, node, outs, ins);
-    is_dead(shape, counts, front(left.as_slice(), occs.len()))
-}
-
-/// Puts at the place of each occurrence how many of the triples from a place on it fits.
-fn fill_later(
-    left: &mut [u32],
-    occs: &[Occurrence],
-    node: TermId,
-    triples: &RelevantTriples<'_>,
-    done: usize,
-)
-    requires room { length occs.now ≤ length left.old }
-    requires few { length triples.now < 2 ^ 31 }
-    ensures len { length left.new ≡ length left.old }
-    ensures left { (i : ℕ) → i < length occs.now → slice_index left.new i ≡ fitting node (drop done triples.now) (slice_get occs.now i) }
-{
-    for i in 0..occs.len() {
-        left[i] = fitting_after(occs[i], node, triples, done);
-    }
-}
-
-/// Whether the state with so many of the triples done and these counts is dead. It takes no memory.
-pub fn is_dead_after(
-    shape: &Shape,
-    node: TermId,
-    triples: &RelevantTriples<'_>,
-    done: usize,
-    counts: &[u32],
-) -> bool
-    requires body { BodyOk shape.now.occs shape.now.body }
-    requires few { length shape.now.occs ≤ 256 }
-    requires few_triples { length triples.now < 2 ^ 31 }
-    requires one_each { length counts.now ≡ length shape.now.occs }
-    requires small { (i : ℕ) → slice_index counts.now i ≤ 2 ^ 31 }
-    ensures { IsTrue result ↔ IsDead shape.now node triples.now (state_of done counts.now) }
-{
-    let occs = shape.occs.as_slice();
-    let mut left = [0u32; 256];
-    fill_later(left.as_mut_slice(), occs, node, triples, done);
     is_dead(shape, counts, front(left.as_slice(), occs.len()))
 }

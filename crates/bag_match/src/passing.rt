@@ -8,7 +8,7 @@ ghost use Rattle.schema_tree.specs.Loaded.{IsLoaded};
 ghost use Rattle.bag_match.specs.Later.{IsDeadOf, IsStateOf, is_kept};
 
 use crate::arcs::fits_any;
-use crate::dying::is_dead_before;
+use crate::dying::is_dead_by_arcs;
 use graph_index::graph::Graph;
 use rdf_terms::terms::{TermId, Triple};
 use schema_tree::schema::{Occurrence, Pair, Schema};
@@ -87,7 +87,7 @@ pub fn dead(schema: &Schema, graph: &Graph, pair: Pair, state: &State) -> bool
     let occs = shape.occs.as_slice();
     let out = place_behind(outs, occs, node, false, state.done as usize);
     let inward = place_behind(ins, occs, node, true, out.left);
-    is_dead_before(
+    is_dead_by_arcs(
         shape,
         node,
         state.counts.as_slice(),

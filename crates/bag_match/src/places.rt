@@ -133,7 +133,7 @@ impl<V: View> Judge for Values<'_, V> {
 }
 
 /// Whether some occurrence takes arcs out and fits the triple.
-pub fn fits_some(occs: &[Occurrence], node: TermId, triple: Triple) -> bool
+pub fn fits_any_forward(occs: &[Occurrence], node: TermId, triple: Triple) -> bool
     ensures { result ≡ list_any (is_forward node triple) occs.now }
 {
     for o in occs {
@@ -200,7 +200,7 @@ fn may_stay_out<J: Judge>(
     ensures { IfOk result (λ b. IsTrue b ↔ MayStayOut (J.hold judge.now) (J.fail judge.now) shape.now node triple (list_any (is_forward node triple) shape.now.occs)) }
 {
     let occs = shape.occs.as_slice();
-    if !fits_some(occs, node, triple) {
+    if !fits_any_forward(occs, node, triple) {
         return Ok(!shape.closed);
     }
     if !is_among(shape.extra.as_slice(), triple.p) {
@@ -228,7 +228,7 @@ fn may_take<J: Judge>(
 }
 
 /// Whether the place is allowed for the triple at the node.
-pub fn is_allowed<J: Judge>(
+fn is_allowed<J: Judge>(
     alloc: Global,
     judge: &J,
     shape: &Shape,
@@ -278,7 +278,7 @@ pub fn are_allowed<J: Judge>(
 }
 
 /// The place that is the occurrence of this number.
-pub fn occurrence(i: usize) -> Place
+fn occurrence(i: usize) -> Place
     requires { i < 256 }
     ensures { result ≡ At i }
 {

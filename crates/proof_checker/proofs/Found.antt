@@ -1,9 +1,10 @@
 -- The first check that fails, and the first item that is not accepted.
-use Rattle.std.proofs.Common.{◌≡◌, ℕ, zero, suc, ◌+◌, ◌^◌, ◌<◌, ◌≤◌, inl, inr, length, get_or, take, drop, map, List, [], ◌∷◌, ◌++◌, refl, arith, ap, sym, subst, ◌∙◌}
+use Rattle.std.proofs.Common.{◌≡◌, ℕ, zero, suc, ◌+◌, ◌^◌, ◌<◌, ◌≤◌, inl, inr, length, get_or, take, drop, map, List, [], ◌∷◌, ◌++◌, refl, arith, ap, sym, subst, ◌∙◌, Bool, true, false, true≢false, not}
 use Rattle.std.proofs.lemmas.List.{take_all, take_more, take-append-drop, append_assoc, append-nil, length-append}
 use Rattle.std.proofs.lemmas.Grind.{flat_map-append}
 use Rattle.std.proofs.lemmas.Option.{slice_get-get_or}
-use Rattle.std.specs.Prelude.{Option, Some, None, IfSome, slice_get}
+use Rattle.std.specs.Prelude.{Option, Some, None, IfSome, IsTrue, ◌↔◌, slice_get}
+use Rattle.std.specs.Bool.{then_some}
 use Rattle.std.specs.List.{AllByRecursion}
 use Rattle.rdf_terms.specs.declared.terms.TermId.{TermId}
 use Rattle.schema_tree.specs.declared.schema.ExprId.{ExprId}
@@ -104,7 +105,7 @@ module _ (x : Setting) (p : Proof) where
       go (Minus rank states) (Some w) h = inr (within, inr (inside, inr (lev, h)))
 
   -- a claim whose target's expression has not the verdict
-  pub claim_fails :
+  claim_fails :
       (c : Claim) (n : TermId) (e : ExprId) → slice_get x.nodes c.node ≡ Some n → c.node < length x.nodes →
       ((d : ExprId) → IsTarget x.schema c.target d → d ≡ e) →
       (¬ IsSure x.schema x.terms (whole_view (yes_of x p) (no_of x p)) n e (verdict_of c.holds)) →
@@ -114,11 +115,20 @@ module _ (x : Setting) (p : Proof) where
       fails : ¬ PassesClaim x p c (Some n)
       fails (d, target, held) = not_sure (subst (λ z. IsSure x.schema x.terms (whole_view (yes_of x p) (no_of x p)) n z (verdict_of c.holds)) (one d target) held)
 
-  pub claim_passes :
+  claim_passes :
       (c : Claim) (n : TermId) (e : ExprId) → slice_get x.nodes c.node ≡ Some n → c.node < length x.nodes → IsTarget x.schema c.target e →
       IsSure x.schema x.terms (whole_view (yes_of x p) (no_of x p)) n e (verdict_of c.holds) →
       FoundBy (Passes x p (is_claim c)) (checks_of (is_claim c)) None
   claim_passes c n e at within target held = (within, (subst (λ y. PassesClaim x p c y) (sym at) (e, target, held), tt))
+
+  -- whether the claim's verdict is the one that is sure decides on its last check
+  pub claim_found :
+      (c : Claim) (n : TermId) (e : ExprId) → slice_get x.nodes c.node ≡ Some n → c.node < length x.nodes → IsTarget x.schema c.target e →
+      ((d : ExprId) → IsTarget x.schema c.target d → d ≡ e) → (b : Bool) →
+      (IsTrue b ↔ IsSure x.schema x.terms (whole_view (yes_of x p) (no_of x p)) n e (verdict_of c.holds)) →
+      FoundBy (Passes x p (is_claim c)) (checks_of (is_claim c)) (then_some (not b) Whys.Claim)
+  claim_found c n e at within target one true same = claim_passes c n e at within target (same.0 refl)
+  claim_found c n e at within target one false same = claim_fails c n e at within one (λ sure. true≢false (sym (same.1 sure)))
 
   pub found_some : (item : Item) (o : Option Why) (w : Why) → o ≡ Some w → FoundBy (Passes x p item) (checks_of item) o → FailsAt (Passes x p item) (checks_of item) w
   found_some item o w is found = subst (λ z. FoundBy (Passes x p item) (checks_of item) z) is found

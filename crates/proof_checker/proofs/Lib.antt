@@ -1,6 +1,7 @@
 pub mod Noted
 pub mod Known
 pub mod Stating
+pub mod Layered
 pub mod Alike
 pub mod Found
 pub mod TakenUp

@@ -1,25 +1,23 @@
 -- States and their counts, one at a time.
 use Rattle.std.proofs.Common.{◌≡◌, ℕ, suc, ◌+◌, ◌<◌, ◌≤◌, ◌⊎◌, inl, inr, length, get_or, List, [], ◌∷◌, refl, arith, ap, sym, subst, ◌∙◌, Bool, true, false, take, true≢false}
 use Rattle.std.proofs.lemmas.List.{take_all, take_more}
-use Rattle.std.proofs.lemmas.Bool.{cases_lt}
 use Rattle.std.proofs.lemmas.List.Elements.{Contains-append_cases}
 use Rattle.std.proofs.lemmas.Option.{slice_get-get_or}
-use Rattle.std.specs.Prelude.{Contains, IfOk, IsTrue, Result, Ok, Err, Option, Some, ◌↔◌, slice_get}
+use Rattle.std.specs.Prelude.{Contains, IsTrue, Option, Some, ◌↔◌, slice_get, slice_index, ◌^◌, drop}
 use Rattle.rdf_terms.specs.declared.terms.TermId.{TermId}
 use Rattle.rdf_terms.specs.declared.terms.Triple.{Triple}
 use Rattle.schema_tree.specs.declared.schema.ExprId.{ExprId}
 use Rattle.schema_tree.specs.declared.schema.Shape.{Shape}
+use Rattle.schema_tree.specs.declared.schema.Occurrence.{Occurrence}
 use Rattle.schema_tree.specs.declared.verdicts.Place.{Place}
-use Rattle.schema_tree.specs.declared.verdicts.Place.TheVariants.{At, Rest}
 use Rattle.schema_tree.specs.declared.verdicts.State.{State}
-use Rattle.schema_tree.specs.Places.{IsAllowed}
 use Rattle.schema_tree.specs.States.{IsCovered, IsDead, after, opening}
 use Rattle.proof_file.specs.Accepts.{AreStates}
-use Rattle.bag_match.specs.Counts.{raised, state_of}
-use Rattle.proof_checker.specs.Stated.{AreShaped, IsSettled, LeadsOn}
-use Rattle.bag_match.proofs.Stepping.{after_is as after_place}
-use Rattle.bag_match.proofs.Offered.{allowed_there}
-use Rattle.lists.proofs.Members.{in_one}
+use Rattle.bag_match.specs.Counts.{AreLeft, raised, state_of}
+use Rattle.bag_match.specs.Least.{ArePlacesFor}
+use Rattle.proof_checker.specs.Stated.{AllLeadOn, AreShaped, DecideSettled, IsSettled, IsShapedAt}
+use Rattle.bag_match.proofs.Stepping.{after_is as after_place, drop_few, left_few, places_now}
+use Rattle.lists.proofs.Members.{in_one, item_there, not_in_none}
 
 suc-add_one : (k : ℕ) → suc k ≡ k + 1
 suc-add_one k = omega arith
@@ -60,73 +58,102 @@ take_cases xs i d x within h = elim (Contains-append_cases (take i xs) (get_or x
 pub all_taken : {X : Type 0} (xs : List X) (i : ℕ) (x : X) → length xs ≤ i → Contains xs x → Contains (take i xs) x
 all_taken xs i x past h = subst (λ zs. Contains zs x) (sym (take_all i xs past)) h
 
-pub both_ok : {T E : Type 0} (r : Result T E) (P Q : T → Type 0) → IfOk r P → IfOk r Q → IfOk r (λ x. P x × Q x)
-both_ok (Ok x) P Q p q = (p, q)
-both_ok (Err e) P Q p q = tt
-
 -- of two ways the first fails
 pub second_way : {A B : Type 0} (b : Bool) → (¬ A) → (IsTrue b ↔ B) → IsTrue b ↔ (A ⊎ B)
 second_way b not_a same = ((λ h. inr (same.0 h)), λ way. elim way [ inl a ↦ absurd (not_a a) | inr h ↦ same.1 h ])
 
-module _ (hold fail : TermId → Option ExprId → Type 0) (sh : Shape) (n : TermId) (ts : List Triple) (states : List State) where
-  -- an allowed place leads on where the state after it is covered
-  pub leads : (done : ℕ) (counts : List ℕ) (p : Place) (u t : Triple) (now : List ℕ) (b : Bool) → now ≡ raised counts p → u ≡ t →
-      IsAllowed hold fail sh n u p → (IsTrue b ↔ IsCovered sh n ts states (state_of (done + 1) now)) →
-      IsTrue b ↔ LeadsOn hold fail sh n ts states (state_of done counts) t p
-  leads done counts p u t now b is same allowed covered =
-      let at : state_of (done + 1) now ≡ after p (state_of done counts) = ap (λ z. state_of (done + 1) z) is ∙ sym (after_is done counts p) in (
-        (λ h allow. subst (λ x. IsCovered sh n ts states x) at (covered.0 h)),
-        λ on. covered.1 (subst (λ x. IsCovered sh n ts states x) (sym at) (on (subst (λ v. IsAllowed hold fail sh n v p) same allowed))),
-      )
+-- a count with the later triples that fit is small
+pub sums_fit : (occs : List Occurrence) (n : TermId) (ts : List Triple) (done : ℕ) (counts left : List ℕ) → AreLeft occs n (drop done ts) left → length ts < 2 ^ 31 →
+    ((i : ℕ) → slice_index counts i < 2 ^ 31 + 1) → (i : ℕ) → slice_index counts i + slice_index left i < 2 ^ 32
+sums_fit occs n ts done counts left held few small i =
+    let a = small i in
+    let b = left_few occs n (drop done ts) left held i in
+    let c = drop_few done ts in
+    omega (arith, a, b, c, few)
 
-  -- a place that is not allowed leads on
-  pub leads_nowhere : (x : State) (p : Place) (u t : Triple) → u ≡ t → (¬ IsAllowed hold fail sh n u p) → LeadsOn hold fail sh n ts states x t p
-  leads_nowhere x p u t same not_so allowed = absurd (not_so (subst (λ v. IsAllowed hold fail sh n v p) (sym same) allowed))
+-- the counts of a state of a layer, as they are lent
+module _ (sh : Shape) (ts : List Triple) (done : ℕ) (x : State) (counts : List ℕ) (lent : counts ≡ x.counts) (shaped : IsShapedAt sh ts done x) where
+  pub layer_state : state_of done counts ≡ x
+  layer_state = λ i. record { done = sym shaped.0 i; counts = lent i }
 
-  -- all places lead on where the occurrences and the remainder do
-  pub all_places : (x : State) (t : Triple) (b : Bool) → ((j : ℕ) → j < length sh.occs → LeadsOn hold fail sh n ts states x t (At j)) →
-      (IsTrue b ↔ LeadsOn hold fail sh n ts states x t Rest) → IsTrue b ↔ ((p : Place) → LeadsOn hold fail sh n ts states x t p)
-  all_places x t b at same = ((λ h p. each h p), λ all. same.1 (all Rest))
-    where
-      each : IsTrue b → (p : Place) → LeadsOn hold fail sh n ts states x t p
-      each h Rest = same.0 h
-      each h (At j) = λ allowed. at j (allowed_there hold fail sh n t (At j) allowed) allowed
+  pub layer_long : length counts ≡ length sh.occs
+  layer_long = let (long, most, few) = shaped.1 in ap (λ z. length z) lent ∙ long
 
-  -- one more occurrence leads on
-  pub one_more_leads : (x : State) (t : Triple) (i : ℕ) (p : Place) → p ≡ At i → ((j : ℕ) → j < i → LeadsOn hold fail sh n ts states x t (At j)) →
-      LeadsOn hold fail sh n ts states x t p → (j : ℕ) → j < i + 1 → LeadsOn hold fail sh n ts states x t (At j)
-  one_more_leads x t i p is before own j lt = elim (cases_lt j i) [
-    | inl below ↦ before j below
-    | inr past ↦
-        let same : At i ≡ At j = ap (λ k. At k) (omega (arith, past, lt)) in
-        subst (λ q. LeadsOn hold fail sh n ts states x t q) (is ∙ same) own
+  pub layer_small : length ts < 2 ^ 31 → (i : ℕ) → slice_index counts i < 2 ^ 31
+  layer_small little i =
+      let (long, most, few) = shaped.1 in
+      let le : slice_index counts i ≤ length ts = subst (λ z. slice_index z i ≤ length ts) (sym lent) (few i) in
+      omega (arith, le, little)
+
+module _ (sh : Shape) (n : TermId) (ts : List Triple) (states : List State) where
+  -- a place leads on where the state of the raised counts is covered
+  pub leads : (done : ℕ) (counts : List ℕ) (p : Place) (now : List ℕ) (b : Bool) → now ≡ raised counts p →
+      (IsTrue b ↔ IsCovered sh n ts states (state_of (done + 1) now)) → IsTrue b ↔ IsCovered sh n ts states (after p (state_of done counts))
+  leads done counts p now b is covered =
+      subst (λ x. IsTrue b ↔ IsCovered sh n ts states x) (ap (λ z. state_of (done + 1) z) is ∙ sym (after_is done counts p)) covered
+
+  -- one more of the places leads on
+  pub one_more_leads : (x : State) (places : List Place) (i : ℕ) (d : Place) → i < length places → AllLeadOn sh n ts states x (take i places) →
+      IsCovered sh n ts states (after (get_or places i d) x) → AllLeadOn sh n ts states x (take (i + 1) places)
+  one_more_leads x places i d within before own q h = elim (take_cases places i d q within h) [
+    | inl front ↦ before q front
+    | inr same ↦ subst (λ r. IsCovered sh n ts states (after r x)) same own
   ]
 
-  -- a living state with triples left is settled where each place leads on
-  pub settled_alive : (x : State) (counts : List ℕ) (b : Bool) → counts ≡ x.counts → x.done < length ts → (¬ IsDead sh n ts (state_of x.done counts)) →
-      ((t : Triple) → slice_get ts x.done ≡ Some t → IsTrue b ↔ ((p : Place) → LeadsOn hold fail sh n ts states (state_of x.done counts) t p)) →
-      IsTrue b ↔ IsSettled hold fail sh n ts states x
-  settled_alive x counts b same within alive all =
-      subst (λ z. IsTrue b ↔ IsSettled hold fail sh n ts states (state_of x.done z)) same
-      ((λ h. inr (within, λ t at p. (all t at).0 h p)), λ settled. back settled)
+module _ (hold fail : TermId → Option ExprId → Type 0) (sh : Shape) (n : TermId) (ts : List Triple) (states : List State) where
+  -- a living state with triples left is settled where each place that is allowed for the next leads on
+  pub settled_alive : (done : ℕ) (counts : List ℕ) (places : List Place) (b : Bool) → done < length ts → (¬ IsDead sh n ts (state_of done counts)) →
+      ((t : Triple) → slice_get ts done ≡ Some t → ArePlacesFor hold fail sh n t places) →
+      (IsTrue b ↔ AllLeadOn sh n ts states (state_of done counts) places) → IsTrue b ↔ IsSettled hold fail sh n ts states (state_of done counts)
+  settled_alive done counts places b within alive are all =
+      ((λ h. inr (within, λ t at p allowed. all.0 h p (((are t at).same p).1 allowed))), λ settled. back settled)
     where
-      back : IsSettled hold fail sh n ts states (state_of x.done counts) → IsTrue b
+      back : IsSettled hold fail sh n ts states (state_of done counts) → IsTrue b
       back (inl dead) = absurd (alive dead)
-      back (inr on) = first ts x.done within (λ t at. all t at) on.1
-        where
-          first : (us : List Triple) (i : ℕ) → i < length us → ((t : Triple) → slice_get us i ≡ Some t → IsTrue b ↔ ((p : Place) → LeadsOn hold fail sh n ts states (state_of x.done counts) t p)) →
-              ((t : Triple) → slice_get us i ≡ Some t → (p : Place) → LeadsOn hold fail sh n ts states (state_of x.done counts) t p) → IsTrue b
-          first [] i lt f g = absurd (omega (arith, lt))
-          first (u ∷ us) i lt f g = (f (get_or (u ∷ us) i u) (slice_get-get_or (u ∷ us) i u lt)).1 (g (get_or (u ∷ us) i u) (slice_get-get_or (u ∷ us) i u lt))
+      back (inr on) =
+          let (d, offered) = places_now hold fail sh n ts done places within are in
+          all.1 (λ p h. on.1 (get_or ts done d) (slice_get-get_or ts done d within) p ((offered.same p).0 h))
 
--- some state that is not settled refutes the states
-pub states_fail : (hold fail : TermId → Option ExprId → Type 0) (sh : Shape) (n : TermId) (ts : List Triple) (states : List State) (b : Bool) →
-    AreShaped sh ts states → IsCovered sh n ts states (opening sh) →
-    (IsTrue b → (x : State) → Contains states x → IsSettled hold fail sh n ts states x) →
-    (b ≡ false → (x : State) × Contains states x × (¬ IsSettled hold fail sh n ts states x)) →
-    IsTrue b ↔ AreStates hold fail sh n ts states
-states_fail hold fail sh n ts states true shaped opened settled unsettled =
-    ((λ h. states_from hold fail sh n ts states shaped opened (settled refl)), λ h. refl)
-states_fail hold fail sh n ts states false shaped opened settled unsettled =
-    let (x, held, not_so) = unsettled refl in
+  -- a state with all triples done is settled where it is dead
+  pub settled_last : (x : State) → x.done ≡ length ts → IsSettled hold fail sh n ts states x → IsDead sh n ts x
+  settled_last x last (inl dead) = dead
+  settled_last x last (inr on) = absurd (let lt = on.0 in omega (arith, last, lt))
+
+  -- one more state is settled
+  pub one_more_settled : (some : List State) (i : ℕ) (x : State) → i < length some → x ≡ get_or some i x → ((y : State) → Contains (take i some) y → IsSettled hold fail sh n ts states y) →
+      IsSettled hold fail sh n ts states x → (y : State) → Contains (take (i + 1) some) y → IsSettled hold fail sh n ts states y
+  one_more_settled some i x within is before own y h = elim (take_cases some i x y within h) [
+    | inl front ↦ before y front
+    | inr same ↦ subst (λ z. IsSettled hold fail sh n ts states z) (is ∙ same) own
+  ]
+
+  -- all of them are
+  pub all_are : (some : List State) (i : ℕ) → length some ≤ i → ((y : State) → Contains (take i some) y → IsSettled hold fail sh n ts states y) → DecideSettled hold fail sh n ts states some true
+  all_are some i past each = record {
+    settled = λ so x h. each x (all_taken some i x past h);
+    unsettled = λ e. absurd (true≢false e);
+  }
+
+  -- of none all are
+  pub none_are : (some : List State) → length some ≡ 0 → DecideSettled hold fail sh n ts states some true
+  none_are [] none = record {
+    settled = λ so x h. absurd (not_in_none x h);
+    unsettled = λ e. absurd (true≢false e);
+  }
+  none_are (x ∷ some) none = absurd (omega (arith, none))
+
+  -- one is not
+  pub one_is_not : (some : List State) (i : ℕ) (x : State) → i < length some → x ≡ get_or some i x → (¬ IsSettled hold fail sh n ts states x) → DecideSettled hold fail sh n ts states some false
+  one_is_not some i x within is not_so = record {
+    settled = λ so. absurd (true≢false (sym so));
+    unsettled = λ e. (x, item_there some i x within is, not_so);
+  }
+
+-- whether all are settled decides whether the states show that no places match
+pub states_decide : (hold fail : TermId → Option ExprId → Type 0) (sh : Shape) (n : TermId) (ts : List Triple) (states : List State) (b : Bool) →
+    AreShaped sh ts states → IsCovered sh n ts states (opening sh) → DecideSettled hold fail sh n ts states states b → IsTrue b ↔ AreStates hold fail sh n ts states
+states_decide hold fail sh n ts states true shaped opened decided =
+    ((λ h. states_from hold fail sh n ts states shaped opened (decided.settled refl)), λ h. refl)
+states_decide hold fail sh n ts states false shaped opened decided =
+    let (x, held, not_so) = decided.unsettled refl in
     ((λ h. absurd (true≢false (sym h))), λ h. absurd (states_settled hold fail sh n ts states h x held not_so))

@@ -1,5 +1,5 @@
 -- What is asked of the states of a record that refutes, one at a time.
-use Rattle.std.specs.Prelude.{ℕ, List, ◌^◌, ◌≡◌, ◌<◌, ◌≤◌, ◌⊎◌, Contains, Option, Some, length, slice_get, slice_index}
+use Rattle.std.specs.Prelude.{ℕ, Bool, false, List, ◌^◌, ◌≡◌, ◌<◌, ◌≤◌, ◌⊎◌, Contains, IsTrue, Option, Some, length, slice_get, slice_index}
 use Rattle.std.specs.Cmp.Lexicographic.{slice_cmp}
 use Rattle.std.specs.Ordering.{nat_cmp, ordering_then}
 use Rattle.std.specs.declared.cmp.Ordering.{Ordering}
@@ -38,6 +38,14 @@ IsShaped sh ts x = IsShapedBy (length sh.occs) (length ts) x
 abbrev pub AreShaped : Shape → List Triple → List State → Type 0
 AreShaped sh ts states = AreShapedBy (length sh.occs) (length ts) states
 
+-- a state that is so, with so many triples done
+abbrev pub IsShapedAt : Shape → List Triple → ℕ → State → Type 0
+IsShapedAt sh ts done x = (x.done ≡ done) × IsShaped sh ts x
+
+-- each of the places leads to a state that is listed or dead
+abbrev pub AllLeadOn : Shape → TermId → List Triple → List State → State → List Place → Type 0
+AllLeadOn sh n ts states x places = (p : Place) → Contains places p → IsCovered sh n ts states (after p x)
+
 module _ (hold fail : TermId → Option ExprId → Type 0) (sh : Shape) (n : TermId) (ts : List Triple) (states : List State) where
   -- where the place is allowed for the triple, the state after it is listed or dead
   abbrev pub LeadsOn : State → Triple → Place → Type 0
@@ -48,3 +56,8 @@ module _ (hold fail : TermId → Option ExprId → Type 0) (sh : Shape) (n : Ter
   IsSettled x =
       IsDead sh n ts x
       ⊎ ((x.done < length ts) × ((t : Triple) → slice_get ts x.done ≡ Some t → (p : Place) → LeadsOn x t p))
+
+  -- the test says whether each of some states is settled
+  pub record DecideSettled (some : List State) (test : Bool) : Type 0 where
+    pub settled : IsTrue test → (x : State) → Contains some x → IsSettled x
+    pub unsettled : test ≡ false → (x : State) × Contains some x × (¬ IsSettled x)

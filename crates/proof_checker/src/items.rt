@@ -151,11 +151,8 @@ impl ProofInSetting<'_> {
         if !self.values_fit(alloc, stratum, shape, node, &triples, places)? {
             return Ok(Some(Why::Value));
         }
-        if have_counts(alloc, shape, places)? {
-            Ok(None)
-        } else {
-            Ok(Some(Why::Counts))
-        }
+        let counts = have_counts(alloc, shape, places)?;
+        Ok((!counts).then_some(Why::Counts))
     }
 
     /// The check of states, if it fails.
@@ -177,11 +174,8 @@ impl ProofInSetting<'_> {
             return Ok(None);
         }
         let triples = relevant(alloc, self.graph, shape, node)?;
-        if self.states_refute(alloc, stratum, rank, shape, node, &triples, states)? {
-            Ok(None)
-        } else {
-            Ok(Some(Why::States))
-        }
+        let refuted = self.states_refute(alloc, stratum, rank, shape, node, &triples, states)?;
+        Ok((!refuted).then_some(Why::States))
     }
 
     /// The first check that fails of those that look at the node and the Shape of a record.
@@ -242,11 +236,8 @@ impl ProofInSetting<'_> {
         let Some(expr) = self.schema.target(&claim.target) else {
             return Ok(Some(Why::Claim));
         };
-        if self.is_sure(alloc, *node, expr, claim.holds)? {
-            Ok(None)
-        } else {
-            Ok(Some(Why::Claim))
-        }
+        let sure = self.is_sure(alloc, *node, expr, claim.holds)?;
+        Ok((!sure).then_some(Why::Claim))
     }
 
     /// Whether all records make sure that the node satisfies the expression, or that it does not.

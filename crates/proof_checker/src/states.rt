@@ -1,18 +1,18 @@
 //! Whether states leave no match.
 
-ghost use Rattle.std.specs.Prelude.{◌≡◌, ◌↔◌, ◌<◌, ◌≤◌, ◌+◌, ◌^◌, ℕ, Contains, false, IfOk, IsTrue, Some, length, slice_get, slice_index};
+ghost use Rattle.std.specs.Prelude.{◌≡◌, ◌↔◌, ◌<◌, ◌≤◌, ◌+◌, ◌^◌, ℕ, Contains, IfOk, IsTrue, Some, drop, length, slice_get, slice_index, take};
 ghost use Rattle.rdf_terms.specs.declared.terms.Triple.{Triple};
-ghost use Rattle.schema_tree.specs.declared.verdicts.Place.{Place};
 ghost use Rattle.schema_tree.specs.declared.verdicts.State.{State};
-ghost use Rattle.schema_tree.specs.States.{IsCovered, opening, IsStateBefore};
-ghost use Rattle.bag_match.specs.Counts.{state_of};
+ghost use Rattle.schema_tree.specs.States.{IsCovered, after, opening, IsStateBefore};
+ghost use Rattle.bag_match.specs.Counts.{AreLeft, ArePlacesOf, IsPlaceOf, state_of};
+ghost use Rattle.bag_match.specs.Least.{ArePlacesFor};
 ghost use Rattle.proof_file.specs.Accepts.{AreStates};
 ghost use Rattle.schema_tree.specs.Rising.{Rises};
-ghost use Rattle.proof_checker.specs.Stated.{AreShaped, AreShapedBy, IsListed, IsSettled, IsShaped, IsShapedBy, LeadsOn, compare_states};
+ghost use Rattle.proof_checker.specs.Stated.{AllLeadOn, AreShaped, AreShapedBy, DecideSettled, IsListed, IsSettled, IsShapedBy, IsShapedAt, compare_states};
 
 use bag_match::arcs::RelevantTriples;
-use bag_match::dying::is_dead_after;
-use bag_match::places::{Judge, is_allowed, occurrence};
+use bag_match::dying::{fits_of, is_dead, pass_next};
+use bag_match::places::{Judge, allowed_places};
 use bag_match::raising::{raised, zeros};
 use rdf_terms::terms::TermId;
 use schema_tree::schema::Shape;
@@ -76,6 +76,22 @@ fn are_shaped(states: &[State], occurrences: usize, triples: usize) -> bool
     true
 }
 
+/// How many states at the front have so many triples done.
+fn layer_len(states: &[State], done: usize) -> usize
+    requires rising { Rises IsStateBefore states.now }
+    requires from { (x : State) → Contains states.now x → done ≤ x.done }
+    ensures within { result ≤ length states.now }
+    ensures layer { (x : State) → Contains (take result states.now) x → x.done ≡ done }
+    ensures later { (x : State) → Contains (drop result states.now) x → done < x.done }
+{
+    for i in 0..states.len() {
+        if states[i].done as usize != done {
+            return i;
+        }
+    }
+    states.len()
+}
+
 /// A Shape at a node, with its relevant triples in their order, states in their order, and what judges values.
 #[derive(Drop)]
 pub struct Listing<'a, J> {
@@ -92,97 +108,181 @@ pub struct Listing<'a, J> {
 }
 
 impl<J: Judge> Listing<'_, J> {
-    /// Whether a state with these triples done and these counts is listed or dead.
-    fn is_covered(&self, done: usize, counts: &[u32]) -> bool
+    /// Whether a state with these triples done and these counts is listed or dead, where `left` says how many of the later
+    /// triples each occurrence fits.
+    fn is_covered(&self, done: usize, counts: &[u32], left: &[u32]) -> bool
         requires listed { IsListed self.now.shape.now self.now.triples.now self.now.states.now }
         requires one_each { length counts.now ≡ length self.now.shape.now.occs }
         requires small { (i : ℕ) → slice_index counts.now i < 2 ^ 31 + 1 }
         requires within { done ≤ length self.now.triples.now }
+        requires left { AreLeft self.now.shape.now.occs self.now.node (drop done self.now.triples.now) left.now }
         ensures { IsTrue result ↔ IsCovered self.now.shape.now self.now.node self.now.triples.now self.now.states.now (state_of done counts.now) }
     {
         if is_listed(self.states, done as u32, counts) {
             return true;
         }
-        is_dead_after(self.shape, self.node, self.triples, done, counts)
+        is_dead(self.shape, counts, left)
     }
 
-    /// Whether the place is not allowed for the next triple, or leads to a state that is listed or dead.
+    /// Whether the state that the place leads to is listed or dead, where `behind` says how many of the triples behind the
+    /// next each occurrence fits.
     fn leads_on(
         &self,
         alloc: Global,
         done: usize,
         counts: &[u32],
         place: Place,
+        behind: &[u32],
     ) -> Result<bool, AllocError>
-        requires ready { J.ready self.now.judge.now }
         requires listed { IsListed self.now.shape.now self.now.triples.now self.now.states.now }
         requires one_each { length counts.now ≡ length self.now.shape.now.occs }
         requires small { (i : ℕ) → slice_index counts.now i < 2 ^ 31 }
         requires within { done < length self.now.triples.now }
-        ensures { IfOk result (λ b. (t : Triple) → slice_get self.now.triples.now done ≡ Some t →
-            IsTrue b ↔ LeadsOn (J.hold self.now.judge.now) (J.fail self.now.judge.now) self.now.shape.now self.now.node self.now.triples.now self.now.states.now (state_of done counts.now) t place) }
+        requires there { IsPlaceOf (length counts.now) place }
+        requires behind { AreLeft self.now.shape.now.occs self.now.node (drop (done + 1) self.now.triples.now) behind.now }
+        ensures { IfOk result (λ b. IsTrue b ↔ IsCovered self.now.shape.now self.now.node self.now.triples.now self.now.states.now (after place (state_of done counts.now))) }
     {
-        let triple = self.triples.at(done);
-        if !is_allowed(alloc, self.judge, self.shape, self.node, triple, place)? {
-            return Ok(true);
-        }
         let after = raised(alloc, counts, place)?;
-        Ok(self.is_covered(done + 1, after.as_slice()))
+        Ok(self.is_covered(done + 1, after.as_slice(), behind))
     }
 
-    /// Whether each place does so.
-    fn all_lead_on(&self, alloc: Global, done: usize, counts: &[u32]) -> Result<bool, AllocError>
-        requires ready { J.ready self.now.judge.now }
+    /// Whether each of the places does so.
+    fn all_lead_on(
+        &self,
+        alloc: Global,
+        done: usize,
+        counts: &[u32],
+        places: &[Place],
+        behind: &[u32],
+    ) -> Result<bool, AllocError>
         requires listed { IsListed self.now.shape.now self.now.triples.now self.now.states.now }
         requires one_each { length counts.now ≡ length self.now.shape.now.occs }
         requires small { (i : ℕ) → slice_index counts.now i < 2 ^ 31 }
         requires within { done < length self.now.triples.now }
-        ensures { IfOk result (λ b. (t : Triple) → slice_get self.now.triples.now done ≡ Some t →
-            IsTrue b ↔ ((p : Place) → LeadsOn (J.hold self.now.judge.now) (J.fail self.now.judge.now) self.now.shape.now self.now.node self.now.triples.now self.now.states.now (state_of done counts.now) t p)) }
+        requires there { ArePlacesOf (length counts.now) places.now }
+        requires behind { AreLeft self.now.shape.now.occs self.now.node (drop (done + 1) self.now.triples.now) behind.now }
+        ensures { IfOk result (λ b. IsTrue b ↔ AllLeadOn self.now.shape.now self.now.node self.now.triples.now self.now.states.now (state_of done counts.now) places.now) }
     {
-        for i in 0..self.shape.occs.as_slice().len() {
-            if !self.leads_on(alloc, done, counts, occurrence(i))? {
-                return Ok(false);
-            }
-        }
-        self.leads_on(alloc, done, counts, Place::Rest)
-    }
-
-    /// Whether the state is dead, or has triples left and leads to states that are listed or dead.
-    fn is_settled(&self, alloc: Global, state: &State) -> Result<bool, AllocError>
-        requires ready { J.ready self.now.judge.now }
-        requires listed { IsListed self.now.shape.now self.now.triples.now self.now.states.now }
-        requires shaped { IsShaped self.now.shape.now self.now.triples.now state.now }
-        ensures { IfOk result (λ b. IsTrue b ↔ IsSettled (J.hold self.now.judge.now) (J.fail self.now.judge.now) self.now.shape.now self.now.node self.now.triples.now self.now.states.now state.now) }
-    {
-        let done = state.done as usize;
-        let counts = state.counts.as_slice();
-        if is_dead_after(self.shape, self.node, self.triples, done, counts) {
-            return Ok(true);
-        }
-        if done < self.triples.len() {
-            self.all_lead_on(alloc, done, counts)
-        } else {
-            Ok(false)
-        }
-    }
-
-    /// Whether each listed state is so.
-    fn all_settled(&self, alloc: Global) -> Result<bool, AllocError>
-        requires ready { J.ready self.now.judge.now }
-        requires listed { IsListed self.now.shape.now self.now.triples.now self.now.states.now }
-        requires shaped { AreShaped self.now.shape.now self.now.triples.now self.now.states.now }
-        ensures settled { IfOk result (λ b. IsTrue b → (x : State) → Contains self.now.states.now x →
-            IsSettled (J.hold self.now.judge.now) (J.fail self.now.judge.now) self.now.shape.now self.now.node self.now.triples.now self.now.states.now x) }
-        ensures unsettled { IfOk result (λ b. b ≡ false → (x : State) × Contains self.now.states.now x
-            × (¬ IsSettled (J.hold self.now.judge.now) (J.fail self.now.judge.now) self.now.shape.now self.now.node self.now.triples.now self.now.states.now x)) }
-    {
-        for state in self.states {
-            if !self.is_settled(alloc, state)? {
+        for place in places {
+            if !self.leads_on(alloc, done, counts, *place, behind)? {
                 return Ok(false);
             }
         }
         Ok(true)
+    }
+
+    /// Whether a state with so many triples done, but not all, and these counts is dead, or each of the places, which are
+    /// those that are allowed for the next triple, leads to a state that is listed or dead.
+    fn is_settled(
+        &self,
+        alloc: Global,
+        done: usize,
+        counts: &[u32],
+        places: &[Place],
+        left: &[u32],
+        behind: &[u32],
+    ) -> Result<bool, AllocError>
+        requires listed { IsListed self.now.shape.now self.now.triples.now self.now.states.now }
+        requires one_each { length counts.now ≡ length self.now.shape.now.occs }
+        requires small { (i : ℕ) → slice_index counts.now i < 2 ^ 31 }
+        requires within { done < length self.now.triples.now }
+        requires places { (t : Triple) → slice_get self.now.triples.now done ≡ Some t →
+            ArePlacesFor (J.hold self.now.judge.now) (J.fail self.now.judge.now) self.now.shape.now self.now.node t places.now }
+        requires left { AreLeft self.now.shape.now.occs self.now.node (drop done self.now.triples.now) left.now }
+        requires behind { AreLeft self.now.shape.now.occs self.now.node (drop (done + 1) self.now.triples.now) behind.now }
+        ensures { IfOk result (λ b. IsTrue b ↔
+            IsSettled (J.hold self.now.judge.now) (J.fail self.now.judge.now) self.now.shape.now self.now.node self.now.triples.now self.now.states.now (state_of done counts.now)) }
+    {
+        if is_dead(self.shape, counts, left) {
+            return Ok(true);
+        }
+        self.all_lead_on(alloc, done, counts, places, behind)
+    }
+
+    /// Whether each state of a layer is so. All of them have so many triples done, but not all.
+    fn is_layer_settled(
+        &self,
+        alloc: Global,
+        done: usize,
+        layer: &[State],
+        left: &[u32],
+        behind: &[u32],
+    ) -> Result<bool, AllocError>
+        requires ready { J.ready self.now.judge.now }
+        requires listed { IsListed self.now.shape.now self.now.triples.now self.now.states.now }
+        requires within { done < length self.now.triples.now }
+        requires layer { (x : State) → Contains layer.now x → IsShapedAt self.now.shape.now self.now.triples.now done x }
+        requires left { AreLeft self.now.shape.now.occs self.now.node (drop done self.now.triples.now) left.now }
+        requires behind { AreLeft self.now.shape.now.occs self.now.node (drop (done + 1) self.now.triples.now) behind.now }
+        ensures { IfOk result (DecideSettled (J.hold self.now.judge.now) (J.fail self.now.judge.now) self.now.shape.now self.now.node self.now.triples.now self.now.states.now layer.now) }
+    {
+        if layer.is_empty() {
+            return Ok(true);
+        }
+        let triple = self.triples.at(done);
+        let places = allowed_places(alloc, self.judge, self.shape, self.node, triple)?;
+        for state in layer {
+            let counts = state.counts.as_slice();
+            if !self.is_settled(alloc, done, counts, places.as_slice(), left, behind)? {
+                return Ok(false);
+            }
+        }
+        Ok(true)
+    }
+
+    /// Whether each of the states, which have all triples done, is dead.
+    fn are_dead(&self, states: &[State], left: &[u32]) -> bool
+        requires listed { IsListed self.now.shape.now self.now.triples.now self.now.states.now }
+        requires last { (x : State) → Contains states.now x → IsShapedAt self.now.shape.now self.now.triples.now (length self.now.triples.now) x }
+        requires left { AreLeft self.now.shape.now.occs self.now.node (drop (length self.now.triples.now) self.now.triples.now) left.now }
+        ensures { DecideSettled (J.hold self.now.judge.now) (J.fail self.now.judge.now) self.now.shape.now self.now.node self.now.triples.now self.now.states.now states.now result }
+    {
+        for state in states {
+            if !is_dead(self.shape, state.counts.as_slice(), left) {
+                return false;
+            }
+        }
+        true
+    }
+
+    /// How many of the triples behind the next each occurrence fits, where `left` says it of the next and those behind it.
+    fn behind_next(&self, alloc: Global, done: usize, left: &[u32]) -> Result<Vec<u32>, AllocError>
+        requires within { done < length self.now.triples.now }
+        requires left { AreLeft self.now.shape.now.occs self.now.node (drop done self.now.triples.now) left.now }
+        ensures { IfOk result (λ v. AreLeft self.now.shape.now.occs self.now.node (drop (done + 1) self.now.triples.now) v.items) }
+    {
+        let mut behind = left.to_vec(alloc)?;
+        pass_next(
+            &mut behind,
+            self.shape.occs.as_slice(),
+            self.node,
+            self.triples,
+            done,
+        );
+        Ok(behind)
+    }
+
+    /// Whether each listed state is dead, or has triples left and leads to states that are listed or dead, where `fits` says
+    /// how many of the triples each occurrence fits.
+    fn all_settled(&self, alloc: Global, fits: Vec<u32>) -> Result<bool, AllocError>
+        requires ready { J.ready self.now.judge.now }
+        requires listed { IsListed self.now.shape.now self.now.triples.now self.now.states.now }
+        requires shaped { AreShaped self.now.shape.now self.now.triples.now self.now.states.now }
+        requires fits { AreLeft self.now.shape.now.occs self.now.node self.now.triples.now fits.items }
+        ensures { IfOk result (DecideSettled (J.hold self.now.judge.now) (J.fail self.now.judge.now) self.now.shape.now self.now.node self.now.triples.now self.now.states.now self.now.states.now) }
+    {
+        let mut left = fits;
+        let mut rest = self.states;
+        for done in 0..self.triples.len() {
+            let (layer, later) = rest.split_at(layer_len(rest, done));
+            let behind = self.behind_next(alloc, done, left.as_slice())?;
+            if !self.is_layer_settled(alloc, done, layer, left.as_slice(), behind.as_slice())? {
+                return Ok(false);
+            }
+            left = behind;
+            rest = later;
+        }
+        Ok(self.are_dead(rest, left.as_slice()))
     }
 
     /// Whether each state has its counts, and neither more triples done nor a count than there are triples.
@@ -196,13 +296,14 @@ impl<J: Judge> Listing<'_, J> {
         )
     }
 
-    /// Whether the opening state is listed or dead.
-    fn is_opened(&self, alloc: Global) -> Result<bool, AllocError>
+    /// Whether the opening state is listed or dead, where `fits` says how many of the triples each occurrence fits.
+    fn is_opened(&self, alloc: Global, fits: &[u32]) -> Result<bool, AllocError>
         requires listed { IsListed self.now.shape.now self.now.triples.now self.now.states.now }
+        requires fits { AreLeft self.now.shape.now.occs self.now.node self.now.triples.now fits.now }
         ensures { IfOk result (λ b. IsTrue b ↔ IsCovered self.now.shape.now self.now.node self.now.triples.now self.now.states.now (opening self.now.shape.now)) }
     {
         let none = zeros(alloc, self.shape.occs.as_slice().len())?;
-        Ok(self.is_covered(0, none.as_slice()))
+        Ok(self.is_covered(0, none.as_slice(), fits))
     }
 
     /// Whether the states show that no allowed places match.
@@ -214,9 +315,11 @@ impl<J: Judge> Listing<'_, J> {
         if !self.are_shaped() {
             return Ok(false);
         }
-        if !self.is_opened(alloc)? {
+        let occs = self.shape.occs.as_slice();
+        let fits = fits_of(alloc, occs, self.node, self.triples)?;
+        if !self.is_opened(alloc, fits.as_slice())? {
             return Ok(false);
         }
-        self.all_settled(alloc)
+        self.all_settled(alloc, fits)
     }
 }

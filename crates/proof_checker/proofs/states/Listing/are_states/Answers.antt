@@ -1,11 +1,10 @@
-use Rattle.std.proofs.Common.{refl, sym, true≢false, false, ◌∙◌, ◌≡◌}
-use Rattle.std.specs.Prelude.{IsTrue, Contains, ◌↔◌}
+use Rattle.std.proofs.Common.{refl, sym, true≢false, ◌∙◌}
+use Rattle.std.specs.Prelude.{IsTrue, ◌↔◌}
 use Rattle.std.proofs.lemmas.Result.{IfOk-weaker}
-use Rattle.schema_tree.specs.declared.verdicts.State.{State}
 use Rattle.proof_file.specs.Accepts.{AreStates}
-use Rattle.proof_checker.specs.Stated.{IsSettled}
+use Rattle.proof_checker.specs.Stated.{DecideSettled}
 use Rattle.lists.proofs.Tests.{neither}
-use Rattle.proof_checker.proofs.Stating.{both_ok, states_fail, states_shaped}
+use Rattle.proof_checker.proofs.Stating.{states_decide, states_shaped}
 use Rattle.proof_checker.proofs.states.Listing.are_states.Goals as goal
 
 pub returns-then-not-are_shaped : goal.returns-then-not-are_shaped
@@ -20,8 +19,7 @@ all_settled-requires-clause-shaped g c = c.if-not-are_shaped.ensures.0 refl
 pub returns : goal.returns
 returns g c =
     IfOk-weaker c.all_settled.result
-    (λ b. (IsTrue b → (x : State) → Contains c.args.self.now.states.now x → IsSettled (g.J.Judge.hold c.args.self.now.judge.now) (g.J.Judge.fail c.args.self.now.judge.now) c.args.self.now.shape.now c.args.self.now.node c.args.self.now.triples.now c.args.self.now.states.now x)
-    × (b ≡ false → (x : State) × Contains c.args.self.now.states.now x × (¬ IsSettled (g.J.Judge.hold c.args.self.now.judge.now) (g.J.Judge.fail c.args.self.now.judge.now) c.args.self.now.shape.now c.args.self.now.node c.args.self.now.triples.now c.args.self.now.states.now x)))
+    (DecideSettled (g.J.Judge.hold c.args.self.now.judge.now) (g.J.Judge.fail c.args.self.now.judge.now) c.args.self.now.shape.now c.args.self.now.node c.args.self.now.triples.now c.args.self.now.states.now c.args.self.now.states.now)
     (λ b. IsTrue b ↔ AreStates (g.J.Judge.hold c.args.self.now.judge.now) (g.J.Judge.fail c.args.self.now.judge.now) c.args.self.now.shape.now c.args.self.now.node c.args.self.now.triples.now c.args.self.now.states.now)
-    (λ b both. states_fail (g.J.Judge.hold c.args.self.now.judge.now) (g.J.Judge.fail c.args.self.now.judge.now) c.args.self.now.shape.now c.args.self.now.node c.args.self.now.triples.now c.args.self.now.states.now b (c.if-not-are_shaped.ensures.0 refl) (c.in_ok-is_opened.ensures.0 c.if-not-branch.false) both.0 both.1)
-    (both_ok c.all_settled.result _ _ c.all_settled.ensures.settled c.all_settled.ensures.unsettled)
+    (λ b decided. states_decide (g.J.Judge.hold c.args.self.now.judge.now) (g.J.Judge.fail c.args.self.now.judge.now) c.args.self.now.shape.now c.args.self.now.node c.args.self.now.triples.now c.args.self.now.states.now b (c.if-not-are_shaped.ensures.0 refl) (c.in_ok-is_opened.ensures.0 c.if-not-branch.false) decided)
+    c.all_settled.ensures

@@ -1,18 +1,36 @@
-use Rattle.std.proofs.Common.{subst, sym, true≢false, ◌≡◌, ◌<◌, ◌∙◌}
-use Rattle.std.specs.Prelude.{IsTrue, Some, slice_get, ◌↔◌}
+use Rattle.std.proofs.Common.{arith, get_or, inl, refl, subst, sym, true≢false}
+use Rattle.std.specs.Prelude.{IsTrue, ◌↔◌}
 use Rattle.std.proofs.lemmas.Result.{IfOk-weaker}
-use Rattle.rdf_terms.specs.declared.terms.Triple.{Triple}
-use Rattle.schema_tree.specs.declared.verdicts.Place.{Place}
-use Rattle.bag_match.specs.Counts.{state_of}
-use Rattle.proof_checker.specs.Stated.{IsSettled, LeadsOn}
-use Rattle.proof_checker.proofs.Stating.{settled_alive}
+use Rattle.lists.proofs.Tests.{holds_so}
+use Rattle.bag_match.specs.Counts.{ArePlacesOf, state_of}
+use Rattle.bag_match.proofs.Stepping.{places_now, places_there}
+use Rattle.proof_checker.specs.Stated.{AllLeadOn, IsSettled}
+use Rattle.proof_checker.proofs.Stating.{settled_alive, sums_fit}
 use Rattle.proof_checker.proofs.states.Listing.is_settled.Goals as goal
 
-pub returns-then-done-len : goal.returns-then-done-len
-returns-then-done-len g c =
+pub is_dead-requires-clause-small : goal.is_dead-requires-clause-small
+is_dead-requires-clause-small g c =
+    sums_fit c.args.self.now.shape.now.occs c.args.self.now.node c.args.self.now.triples.now c.args.done c.args.counts.now c.args.left.now c.requires.left c.requires.listed.few
+    (λ i. let lt = c.requires.small i in omega (arith, lt))
+
+pub returns-then-is_dead : goal.returns-then-is_dead
+returns-then-is_dead g c =
+    holds_so (IsSettled (g.J.Judge.hold c.args.self.now.judge.now) (g.J.Judge.fail c.args.self.now.judge.now) c.args.self.now.shape.now c.args.self.now.node c.args.self.now.triples.now c.args.self.now.states.now (state_of c.args.done c.args.counts.now))
+    (inl ((c.if-is_dead.ensures c.args.self.now.node c.args.self.now.triples.now c.args.done c.requires.left).0 refl))
+
+pub all_lead_on-requires-clause-there : goal.all_lead_on-requires-clause-there
+all_lead_on-requires-clause-there g c =
+    let (d, offered) = places_now (g.J.Judge.hold c.args.self.now.judge.now) (g.J.Judge.fail c.args.self.now.judge.now) c.args.self.now.shape.now c.args.self.now.node c.args.self.now.triples.now c.args.done c.args.places.now c.requires.within c.requires.places in
+    subst (λ k. ArePlacesOf k c.args.places.now) (sym c.requires.one_each)
+    (places_there (g.J.Judge.hold c.args.self.now.judge.now) (g.J.Judge.fail c.args.self.now.judge.now) c.args.self.now.shape.now c.args.self.now.node c.args.self.now.triples.now (get_or c.args.self.now.triples.now c.args.done d) c.args.places.now offered)
+
+pub returns : goal.returns
+returns g c =
     IfOk-weaker c.all_lead_on.result
-    (λ b. (t : Triple) → slice_get c.args.self.now.triples.now c.args.state.now.done ≡ Some t → IsTrue b ↔ ((p : Place) → LeadsOn (g.J.Judge.hold c.args.self.now.judge.now) (g.J.Judge.fail c.args.self.now.judge.now) c.args.self.now.shape.now c.args.self.now.node c.args.self.now.triples.now c.args.self.now.states.now (state_of c.args.state.now.done c.as_slice-counts.result.now) t p))
-    (λ b. IsTrue b ↔ IsSettled (g.J.Judge.hold c.args.self.now.judge.now) (g.J.Judge.fail c.args.self.now.judge.now) c.args.self.now.shape.now c.args.self.now.node c.args.self.now.triples.now c.args.self.now.states.now c.args.state.now)
-    (λ b all. settled_alive (g.J.Judge.hold c.args.self.now.judge.now) (g.J.Judge.fail c.args.self.now.judge.now) c.args.self.now.shape.now c.args.self.now.node c.args.self.now.triples.now c.args.self.now.states.now c.args.state.now c.as_slice-counts.result.now b c.as_slice-counts.ensures (subst (λ m. c.args.state.now.done < m) c.len.ensures c.if-done-len.true)
-    (λ dead. true≢false (sym (c.is_dead_after.ensures.1 dead) ∙ c.if-is_dead_after.false)) all)
+    (λ b. IsTrue b ↔ AllLeadOn c.args.self.now.shape.now c.args.self.now.node c.args.self.now.triples.now c.args.self.now.states.now (state_of c.args.done c.args.counts.now) c.args.places.now)
+    (λ b. IsTrue b ↔ IsSettled (g.J.Judge.hold c.args.self.now.judge.now) (g.J.Judge.fail c.args.self.now.judge.now) c.args.self.now.shape.now c.args.self.now.node c.args.self.now.triples.now c.args.self.now.states.now (state_of c.args.done c.args.counts.now))
+    (λ b all. settled_alive (g.J.Judge.hold c.args.self.now.judge.now) (g.J.Judge.fail c.args.self.now.judge.now) c.args.self.now.shape.now c.args.self.now.node c.args.self.now.triples.now c.args.self.now.states.now
+    c.args.done c.args.counts.now c.args.places.now b c.requires.within
+    (λ dead. true≢false (sym ((c.if-is_dead.ensures c.args.self.now.node c.args.self.now.triples.now c.args.done c.requires.left).1 dead)))
+    c.requires.places all)
     c.all_lead_on.ensures

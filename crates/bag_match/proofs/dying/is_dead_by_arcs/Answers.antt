@@ -1,7 +1,7 @@
 use Rattle.std.proofs.Common.{◌++◌, ◌≤◌, ℕ, ap, arith, length}
 use Rattle.std.proofs.lemmas.List.{length-replicate}
 use Rattle.bag_match.proofs.Filled.{inward, left_of, sums_small}
-use Rattle.bag_match.proofs.dying.is_dead_before.Goals as goal
+use Rattle.bag_match.proofs.dying.is_dead_by_arcs.Goals as goal
 
 pub is_dead-requires-clause-beside : goal.is_dead-requires-clause-beside
 is_dead-requires-clause-beside c =

@@ -1,0 +1,119 @@
+-- States in their order, a layer after another: those with so many triples done.
+use Rattle.std.proofs.Common.{◌≡◌, ℕ, zero, suc, ◌+◌, ◌<◌, ◌≤◌, ◌⊎◌, inl, inr, length, get_or, take, drop, List, [], ◌∷◌, arith, ap, sym, subst, ◌∙◌, Bool, true}
+use Rattle.std.proofs.lemmas.Bool.{cases_lt}
+use Rattle.std.proofs.lemmas.List.{take-append-drop}
+use Rattle.std.proofs.lemmas.List.Elements.{Contains-append_cases, Contains-append_left, Contains-append_right}
+use Rattle.std.specs.Prelude.{Contains, Option}
+use Rattle.rdf_terms.specs.declared.terms.TermId.{TermId}
+use Rattle.rdf_terms.specs.declared.terms.Triple.{Triple}
+use Rattle.schema_tree.specs.declared.schema.ExprId.{ExprId}
+use Rattle.schema_tree.specs.declared.schema.Shape.{Shape}
+use Rattle.schema_tree.specs.declared.verdicts.State.{State}
+use Rattle.schema_tree.specs.Rising.{Rises, RisesFrom}
+use Rattle.schema_tree.specs.States.{IsStateBefore}
+use Rattle.lists.proofs.Members.{in_rest, is_first, is_later, not_in_none}
+use Rattle.proof_checker.specs.Stated.{AreShaped, DecideSettled, IsSettled, IsShapedAt}
+
+-- ---- the front of a list, and what is behind it
+
+in_front : {X : Type 0} (xs : List X) (k : ℕ) (x : X) → Contains (take k xs) x → Contains xs x
+in_front xs k x h = subst (λ zs. Contains zs x) (take-append-drop k xs) (Contains-append_left (take k xs) (drop k xs) x h)
+
+behind_front : {X : Type 0} (xs : List X) (k : ℕ) (x : X) → Contains (drop k xs) x → Contains xs x
+behind_front xs k x h = subst (λ zs. Contains zs x) (take-append-drop k xs) (Contains-append_right (take k xs) (drop k xs) x h)
+
+front_or_behind : {X : Type 0} (xs : List X) (k : ℕ) (x : X) → Contains xs x → Contains (take k xs) x ⊎ Contains (drop k xs) x
+front_or_behind xs k x h = Contains-append_cases (take k xs) (drop k xs) x (subst (λ zs. Contains zs x) (sym (take-append-drop k xs)) h)
+
+-- ---- states that rise
+
+later_rise : (x : State) (xs : List State) → RisesFrom IsStateBefore x xs → Rises IsStateBefore xs
+later_rise x [] h = tt
+later_rise x (y ∷ ys) (before, rest) = rest
+
+behind_rise : (xs : List State) (k : ℕ) → Rises IsStateBefore xs → Rises IsStateBefore (drop k xs)
+behind_rise xs zero h = h
+behind_rise [] (suc k) h = tt
+behind_rise (x ∷ xs) (suc k) h = behind_rise xs k (later_rise x xs h)
+
+before_done : (a b : State) → IsStateBefore a b → a.done ≤ b.done
+before_done a b (inl lt) = omega (arith, lt)
+before_done a b (inr (same, less)) = omega (arith, same)
+
+-- no state has fewer triples done than the first
+first_done : (x : State) (xs : List State) → RisesFrom IsStateBefore x xs → (y : State) → Contains xs y → x.done ≤ y.done
+first_done x [] h y c = absurd (not_in_none y c)
+first_done x (z ∷ zs) (before, rest) y c =
+    let le = before_done x z before in
+    elim (in_rest z zs y c) [
+      | inl same ↦ subst (λ w. x.done ≤ w.done) same le
+      | inr later ↦ let more = first_done z zs rest y later in omega (arith, le, more)
+    ]
+
+-- behind the states with so many triples done are those with more
+pub past_layer : (xs : List State) (k done : ℕ) (r : State) → Rises IsStateBefore xs → ((x : State) → Contains xs x → done ≤ x.done) →
+    k < length xs → r ≡ get_or xs k r → (¬ (r.done ≡ done)) → (x : State) → Contains (drop k xs) x → done < x.done
+past_layer [] k done r rises from within is stops x c = absurd (omega (arith, within))
+past_layer (y ∷ ys) zero done r rises from within is stops x c =
+    let le = from y (is_first y ys) in
+    let lt : done < y.done = elim (cases_lt done y.done) [
+      | inl less ↦ less
+      | inr ge ↦ absurd (stops (ap (λ z. z.done) is ∙ (let same : y.done ≡ done = omega (arith, le, ge) in same)))
+    ] in
+    elim (in_rest y ys x c) [
+      | inl same ↦ subst (λ w. done < w.done) same lt
+      | inr later ↦ let more = first_done y ys rises x later in omega (arith, lt, more)
+    ]
+past_layer (y ∷ ys) (suc k) done r rises from within is stops x c =
+    past_layer ys k done r (later_rise y ys rises) (λ z h. from z (is_later y ys z h)) (omega (arith, within)) is stops x c
+
+-- ---- the states that are settled so far
+
+module _ (hold fail : TermId → Option ExprId → Type 0) (sh : Shape) (n : TermId) (ts : List Triple) (states : List State) where
+  -- each state is settled, or is one of the rest, which have so many triples done and more
+  pub record AreSettledBefore (done : ℕ) (rest : List State) : Type 0 where
+    pub rising : Rises IsStateBefore rest
+    pub from : (x : State) → Contains rest x → done ≤ x.done
+    pub held : (x : State) → Contains rest x → Contains states x
+    pub settled : (x : State) → Contains states x → Contains rest x ⊎ IsSettled hold fail sh n ts states x
+
+  module _ (done : ℕ) (rest : List State) (before : AreSettledBefore done rest) where
+    -- those of the next layer have so many triples done
+    pub layer_shaped : AreShaped sh ts states → (layer : List State) (k : ℕ) → layer ≡ take k rest → ((x : State) → Contains (take k rest) x → x.done ≡ done) →
+        (x : State) → Contains layer x → IsShapedAt sh ts done x
+    layer_shaped shaped layer k is at x h =
+        let there : Contains (take k rest) x = subst (λ xs. Contains xs x) is h in
+        (at x there, shaped x (before.held x (in_front rest k x there)))
+
+    -- a layer that is settled leaves those behind it
+    pub layer_settled : (layer later : List State) (k : ℕ) (b : Bool) → layer ≡ take k rest → later ≡ drop k rest →
+        ((x : State) → Contains (drop k rest) x → done < x.done) → DecideSettled hold fail sh n ts states layer b → b ≡ true → AreSettledBefore (done + 1) later
+    layer_settled layer later k b is behind more decided so = subst (λ xs. AreSettledBefore (done + 1) xs) (sym behind) (record {
+      rising = behind_rise rest k before.rising;
+      from = λ x h. let lt = more x h in omega (arith, lt);
+      held = λ x h. before.held x (behind_front rest k x h);
+      settled = λ x h. each x (before.settled x h);
+    })
+      where
+        each : (x : State) → Contains rest x ⊎ IsSettled hold fail sh n ts states x → Contains (drop k rest) x ⊎ IsSettled hold fail sh n ts states x
+        each x (inr settled) = inr settled
+        each x (inl held) = elim (front_or_behind rest k x held) [
+          | inl front ↦ inr (decided.settled so x (subst (λ xs. Contains xs x) (sym is) front))
+          | inr later ↦ inl later
+        ]
+
+  -- what is left has all triples done
+  pub last_shaped : (done : ℕ) (rest : List State) → length ts ≤ done → AreSettledBefore done rest → AreShaped sh ts states →
+      (x : State) → Contains rest x → IsShapedAt sh ts (length ts) x
+  last_shaped done rest past before shaped x h =
+      let (long, most, small) = shaped x (before.held x h) in
+      let le = before.from x h in
+      (omega (arith, past, le, most), (long, most, small))
+
+  -- the rest decides
+  pub rest_decides : (done : ℕ) (rest : List State) (b : Bool) → AreSettledBefore done rest → DecideSettled hold fail sh n ts states rest b →
+      DecideSettled hold fail sh n ts states states b
+  rest_decides done rest b before decided = record {
+    settled = λ so x h. elim (before.settled x h) [ inl left ↦ decided.settled so x left | inr settled ↦ settled ];
+    unsettled = λ e. let (x, h, open_still) = decided.unsettled e in (x, before.held x h, open_still);
+  }
