@@ -1,4 +1,4 @@
-//! The table that numbers pairs, and the order of pairs.
+//! The table that numbers pairs.
 ghost use Rattle.std.specs.Prelude.{List, ◌≡◌, ◌≤◌, ◌↔◌, [], length, slice_get, Some, IfOk, IfSome, IsNone, OnErr, OnOk, Contains};
 ghost use Rattle.lists.specs.Additions.{Adds};
 ghost use Rattle.lists.specs.Distinct.{AreDistinct};

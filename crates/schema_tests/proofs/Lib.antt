@@ -1,4 +1,4 @@
 mod CheckedSchemas
 mod SampledMatches
+mod SampledRefinements
 mod SampledStrata
-mod SampledTypings

@@ -23,7 +23,7 @@ use std::test::Fail;
 const CHAIN: u32 = 100_000;
 
 /// The terms 0 `<http://d/c>`, 1 `<http://d/p>`, 2 `<http://d/a>`, 3 `<http://d/b>` and 4 `<http://d/d>`.
-fn table(alloc: Global) -> Result<TermTable, Fail> {
+pub fn table(alloc: Global) -> Result<TermTable, Fail> {
     let mut terms = TermTable::new(alloc);
     for name in ["c", "p", "a", "b", "d"] {
         put(alloc, &mut terms, name)?;
@@ -32,7 +32,7 @@ fn table(alloc: Global) -> Result<TermTable, Fail> {
 }
 
 /// Puts the IRI of that name into the table.
-fn put(alloc: Global, terms: &mut TermTable, name: &str) -> Result<(), Fail> {
+pub fn put(alloc: Global, terms: &mut TermTable, name: &str) -> Result<(), Fail> {
     let iri = format!(in alloc; "http://d/{name}")?;
     terms.put(Term::Iri(Text::from_str(alloc, iri.as_str())?))?;
     Ok(())

@@ -1,4 +1,4 @@
-//! Constraints, schemas, strata, matches, proofs and typings, called as the crates above call them. The crates themselves have no tests, since one with tests is proved twice.
+//! Schemas, documents, strata, pairs, verdicts, counts and matches, called as the crates above call them. The crates themselves have no tests, since one with tests is proved twice.
 #![tactic(auto)]
 
 #[cfg(test)]
@@ -11,10 +11,12 @@ mod documents;
 #[cfg(test)]
 mod levels;
 #[cfg(test)]
+mod loading;
+#[cfg(test)]
 mod matches;
 #[cfg(test)]
-mod schemas;
+mod refinements;
 #[cfg(test)]
-mod typings;
+mod schemas;
 #[cfg(test)]
 mod verdicts;

@@ -70,7 +70,7 @@ fn sealed(alloc: Global, terms: &TermTable, triples: &[(u32, u32, u32)]) -> Resu
 }
 
 /// An occurrence with the predicate.
-fn arc(inverse: bool, predicate: u32, value: Option<ExprId>) -> Occurrence
+pub fn arc(inverse: bool, predicate: u32, value: Option<ExprId>) -> Occurrence
     ensures { result.value ≡ value }
 {
     Occurrence {
@@ -171,7 +171,7 @@ fn none(alloc: Global) -> Result<Body, AllocError>
 }
 
 /// Both occurrences, once each.
-fn both(alloc: Global) -> Result<Body, AllocError>
+pub fn both(alloc: Global) -> Result<Body, AllocError>
     ensures { IfOk result (λ b. (o p : Occ) → BodyOk (o ∷ p ∷ []) (Some b)) }
 {
     let members = pair(alloc, Count::Sym(0), Count::Sym(1))?;

@@ -1,6 +1,5 @@
 -- The answers to associations (ShapeMap Structure and Language, section 4).
 use Rattle.std.specs.Prelude.{List, ◌≡◌, ◌<◌, length}
-use Rattle.std.specs.List.{AllZip}
 use Rattle.rdf_terms.specs.declared.terms.Term.{Term}
 use Rattle.rdf_terms.specs.declared.terms.Triple.{Triple}
 use Rattle.schema_tree.specs.declared.schema.Answer.{Answer}
@@ -19,7 +18,3 @@ pub record IsAnswerTo (s : Schema) (terms : List Term) (g : List Triple) (a : As
   pub node : x.node ≡ a.node
   pub target : x.target ≡ a.target
   pub truth : IsTruth s terms g a.node a.expr x.holds
-
--- each association has its answer, in their order
-abbrev pub AreAnswersTo : Schema → List Term → List Triple → List Association → List Answer → Type 0
-AreAnswersTo s terms g asked answers = AllZip (IsAnswerTo s terms g) asked answers

@@ -1,8 +1,7 @@
 pub mod Asking
 pub mod Counted
+pub mod Demanded
 pub mod Exclusive
 pub mod Fetched
 pub mod Holdings
 pub mod Reading
-pub mod Standing
-pub mod Trees

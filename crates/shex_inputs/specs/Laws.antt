@@ -1,5 +1,7 @@
 -- What files that are told hold is one thing. Each law is claimed by a function of `src/laws.rt`.
 use Rattle.std.specs.Prelude.{ℕ, List, ◌≡◌, ◌≢◌, Option, Some}
+use Rattle.shex_io.specs.Files.{Told}
+use Rattle.schema_tree.specs.Loaded.{IsLoaded}
 use Rattle.shex_inputs.specs.declared.error.Refusal.{Refusal}
 use Rattle.shex_inputs.specs.declared.error.Source.{Source}
 use Rattle.shex_inputs.specs.declared.error.Source.TheVariants.{Map}
@@ -35,6 +37,10 @@ module _ (contents : List ℕ → Option (List ℕ)) (i : Inputs) where
   LeftIsOne =
       (refusal : Refusal) → IsRefused (Some contents) i refusal →
       ((other : Refusal) → IsRefused (Some contents) i other → source_of refusal ≡ source_of other) × ((source : Source) → ¬ IsAbsent (Some contents) i source)
+
+-- the schema that is held is loaded
+abbrev pub TakenIsLoaded : Type 0
+TakenIsLoaded = (told : Told) (i : Inputs) (h : Held) → IsTaken told i h → IsLoaded h.schema
 
 -- all of these
 abbrev pub InputsAreOne : Type 0

@@ -1,6 +1,5 @@
 pub mod Named
 pub mod Held
-pub mod Loading
 pub mod Asked
 pub mod Refusals
 pub mod Outcomes

@@ -1,7 +1,11 @@
 -- The lines that programs print to their errors.
-use Rattle.std.specs.Prelude.{ℕ, List, ◌++◌, codes}
+use Rattle.std.specs.Prelude.{ℕ, List, [], ◌∷◌, ◌++◌, codes}
+use Rattle.std.specs.Fmt.{decimal}
+use Rattle.std.specs.List.{flat_map}
 use Rattle.graph_index.specs.Messages.{data_text}
 use Rattle.schema_documents.specs.Messages.{schema_text}
+use Rattle.schema_load.specs.Messages.{load_text}
+use Rattle.schema_tree.specs.declared.schema.ShapeId.{ShapeId}
 use Rattle.shape_map.specs.Messages.{map_text}
 use Rattle.shex_inputs.specs.declared.error.Refusal.{Refusal}
 use Rattle.shex_inputs.specs.declared.error.Refusal.TheVariants as Refusals
@@ -10,11 +14,18 @@ use Rattle.shex_inputs.specs.declared.error.Refusal.TheVariants as Refusals
 abbrev pub error_line : List ℕ → List ℕ → List ℕ → List ℕ
 error_line program place what = program ++ (codes ": " ++ (place ++ (codes ": " ++ (what ++ codes "\n"))))
 
--- why a file is refused: a schema in ShExC, by the name of its file, or whose document is not put into numbers yet is not built, and has no
--- name of what is not
+-- the Shapes of a cycle by their numbers, with a comma between two
+abbrev pub cycle_text : List ShapeId → List ℕ
+cycle_text [] = []
+cycle_text (i ∷ more) = codes "#" ++ (decimal i.0 ++ flat_map (λ j. codes ",#" ++ decimal j.0) more)
+
+-- why a file is refused: NotBuilt is a schema in ShExC, by the name of its file, or one with imports
 abbrev pub refusal_text : Refusal → List ℕ
 refusal_text (Refusals.Size source) = codes "Size"
 refusal_text Refusals.NotBuilt = codes "NotBuilt"
 refusal_text (Refusals.Schema error) = schema_text error
+refusal_text (Refusals.Load error) = load_text error
+refusal_text (Refusals.NegatedCycle cycle) = codes "NegatedCycle(" ++ (cycle_text cycle ++ codes ")")
 refusal_text (Refusals.Data error) = data_text error
 refusal_text (Refusals.Map error) = map_text error
+refusal_text Refusals.Pairs = codes "Pairs"

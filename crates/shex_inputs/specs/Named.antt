@@ -42,8 +42,11 @@ abbrev pub source_of : Refusal → Source
 source_of (Refusals.Size source) = source
 source_of Refusals.NotBuilt = Schema
 source_of (Refusals.Schema error) = Schema
+source_of (Refusals.Load error) = Schema
+source_of (Refusals.NegatedCycle cycle) = Schema
 source_of (Refusals.Data error) = Data
 source_of (Refusals.Map error) = Map
+source_of Refusals.Pairs = Map
 
 -- the name is that of a schema in ShExC
 abbrev pub is_compact : List ℕ → Bool

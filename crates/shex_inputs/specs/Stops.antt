@@ -1,5 +1,5 @@
 -- How the functions inside the crate stop. Of want of memory nothing is said.
-use Rattle.std.specs.Prelude.{ℕ, List, [], ◌≡◌, ◌≢◌, ◌≤◌}
+use Rattle.std.specs.Prelude.{ℕ, List, [], ◌≡◌, ◌≢◌, ◌≤◌, ⊤}
 use Rattle.shex_io.specs.Faults.{Rose}
 use Rattle.shex_io.specs.Files.{Told}
 use Rattle.shex_io.specs.declared.files.Act.{Act}
@@ -26,9 +26,19 @@ use Rattle.shex_inputs.specs.declared.error.InputError.{InputError}
 use Rattle.shex_inputs.specs.declared.error.InputError.TheVariants.{Refused, Failed, Memory}
 use Rattle.shex_inputs.specs.declared.error.Refusal.TheVariants as Refusals
 use Rattle.shex_inputs.specs.declared.error.Source.{Source}
-use Rattle.shex_inputs.specs.Held.{Held, IsHolding}
+use Rattle.lists.specs.Additions.{AddsAll}
+use Rattle.demand.specs.declared.error.DemandError.{DemandError}
+use Rattle.demand.specs.declared.error.DemandError.TheVariants as DemandErrors
+use Rattle.strata.specs.declared.list.StrataError.{StrataError}
+use Rattle.strata.specs.declared.list.StrataError.TheVariants as StrataErrors
+use Rattle.schema_load.specs.Refusals.{IsRefused as IsRefusedDocuments}
+use Rattle.schema_load.specs.Stands.{Stands}
+use Rattle.schema_load.specs.declared.error.LoadError.TheVariants as LoadErrors
+use Rattle.schema_tree.specs.Cycles.{IsNegatedCycle}
+use Rattle.schema_tree.specs.declared.schema.Schema.{Schema}
+use Rattle.shex_inputs.specs.declared.error.Refusal.{Refusal}
+use Rattle.shex_inputs.specs.Held.{alone, predicates_in}
 use Rattle.shex_inputs.specs.Named.{IsTooLong}
-use Rattle.shex_inputs.specs.Refusals.{IsDataCause}
 
 -- a file is too long, it was not fetched, or memory ran out
 abbrev pub FetchStops : Told → List ℕ → Source → ℕ → ℕ → List ℕ → Act → InputError → Type 0
@@ -49,11 +59,29 @@ AreUnreadable format base first bytes =
 abbrev pub ReadingStops : Format → List ℕ → List Term → List ℕ → ReadError → Type 0
 ReadingStops format base first bytes e = e ≢ ReadErrors.Memory → DataExplains format base e bytes first [] × AreUnreadable format base first bytes
 
--- data are not read into the table of the schema document
-abbrev pub LoadingStops : Format → List ℕ → Document → List ℕ → ReadError → Type 0
-LoadingStops format base doc bytes e =
-    e ≢ ReadErrors.Memory → IsDataCause format base doc bytes e
-    × ((last : Context) (triples : List TermTriple) → IsData format base (last, triples) bytes → (h : Held) → ¬ IsHolding doc triples h)
+-- the document stands for no schema with strata, for this cause
+abbrev pub SchemaIsRefused : Document → Refusal → Type 0
+SchemaIsRefused doc Refusals.NotBuilt = doc.imports ≢ []
+SchemaIsRefused doc (Refusals.Load e) = (doc.imports ≡ []) × (e ≢ LoadErrors.Memory) × IsRefusedDocuments (alone doc) [] e
+SchemaIsRefused doc (Refusals.NegatedCycle cycle) =
+    (doc.imports ≡ []) × (first : List Term) × (s : Schema) × AddsAll [] (predicates_in doc) first × Stands (alone doc) first s × IsNegatedCycle s cycle
+SchemaIsRefused doc refusal = ⊥
+
+-- a document is not loaded: it stands for no schema with strata, or memory ran out
+abbrev pub LoadStops : Document → InputError → Type 0
+LoadStops doc (Refused refusal) = SchemaIsRefused doc refusal
+LoadStops doc (Failed source) = ⊥
+LoadStops doc Memory = ⊤
+
+-- the stop that the error of strata is
+abbrev pub strata_stop : StrataError → InputError
+strata_stop (StrataErrors.NegatedCycle cycle) = Refused (Refusals.NegatedCycle cycle)
+strata_stop StrataErrors.Memory = Memory
+
+-- the stop that the error of the pairs that are asked for is
+abbrev pub demand_stop : DemandError → InputError
+demand_stop DemandErrors.Pairs = Refused Refusals.Pairs
+demand_stop DemandErrors.Memory = Memory
 
 -- bytes are no map
 abbrev pub MapStops : Scope → Scope → List ℕ → MapError → Type 0

@@ -1,6 +1,6 @@
-//! The schema of a document and the graph of data in one table.
+//! A schema and the graph of data in one table.
 
-ghost use Rattle.std.specs.Prelude.{◌≡◌, ◌≤◌, ◌+◌, ◌*◌, All, IfErr, IfOk, IsSome, List, OnOk, [], length};
+ghost use Rattle.std.specs.Prelude.{◌≡◌, All, IfErr, IfOk, IsSome, List, OnOk, []};
 ghost use Rattle.iri_resolve.specs.Reference.{scheme_of};
 ghost use Rattle.rdf_lex.specs.Prefixes.{base_of};
 ghost use Rattle.lists.specs.Distinct.{AreDistinct};
@@ -8,19 +8,17 @@ ghost use Rattle.graph_index.specs.Laws.{IsOfTable};
 ghost use Rattle.graph_index.specs.declared.loading.TermTriple.{TermTriple};
 ghost use Rattle.graph_index.specs.Loading.{IsWithin, Loads};
 ghost use Rattle.data_reader.specs.Documents.{IsData, context_of};
-ghost use Rattle.schema_documents.specs.Tree.{document_of};
-ghost use Rattle.shex_inputs.specs.Held.{HasRoom, IsHolding, held_by};
-ghost use Rattle.shex_inputs.specs.Loading.{IsLoadable};
-ghost use Rattle.shex_inputs.specs.Stops.{LoadingStops, ReadingStops};
+ghost use Rattle.schema_documents.specs.Tree.{Document};
+ghost use Rattle.shex_inputs.specs.Held.{IsHolding, IsSchemaOf, held_by};
+ghost use Rattle.shex_inputs.specs.Stops.{ReadingStops};
 
 use crate::holding::Holding;
-use crate::load::{in_numbers, make_schema, only_declaration};
+use crate::schema::Loaded;
 use data_reader::Format;
 use graph_index::graph::Graph;
 use graph_index::read_error::ReadError;
 use rdf_lex::Prefixes;
 use rdf_terms::table::TermTable;
-use schema_documents::{Decl, Doc};
 use std::alloc::Global;
 
 /// The graph of a source in a format, whose terms the table takes up, and the base and the prefixes at its end.
@@ -33,7 +31,6 @@ fn read_data(
 ) -> Result<(Graph, Prefixes), ReadError>
     requires { IsSome (scheme_of base.now) }
     ensures read { IfOk result (λ r. (triples : List TermTriple) × IsData format base.now (context_of r.1, triples) source.now × Loads terms.old [] triples terms.new r.0.triples) }
-    ensures few { IfOk result (λ r. length terms.new ≤ length terms.old + 3 * length r.0.triples) }
     ensures within { IfOk result (λ r. IsWithin terms.new r.0.triples) }
     ensures scheme { IfOk result (λ r. IsSome (scheme_of (base_of r.1))) }
     ensures distinct { OnOk result (AreDistinct terms.new) }
@@ -48,34 +45,32 @@ fn read_data(
     Ok((graph, names))
 }
 
-/// The schema of a document, and what a source in a format holds under a base.
-pub fn load(
+/// What a source in a format holds under a base, whose terms go into the table of a loaded schema.
+pub fn hold(
     alloc: Global,
-    doc: Doc,
+    loaded: Loaded,
     format: Format,
     base: &str,
     source: &[u8],
 ) -> Result<Holding, ReadError>
     requires scheme { IsSome (scheme_of base.now) }
-    requires loadable { IsLoadable (document_of doc) }
-    ensures read { IfOk result (λ b. (triples : List TermTriple) × IsData format base.now (context_of b.names, triples) source.now × IsHolding (document_of doc) triples (held_by b)) }
-    ensures room { IfOk result (λ b. HasRoom (held_by b)) }
-    ensures scheme { IfOk result (λ b. IsSome (scheme_of (base_of b.names))) }
-    ensures of_table { IfOk result (λ b. All (IsOfTable b.terms) b.graph.triples) }
-    ensures unread { IfErr result (LoadingStops format base.now (document_of doc) source.now) }
+    ensures read { (doc : Document) → IsSchemaOf doc loaded.terms loaded.schema loaded.strata →
+        IfOk result (λ h. (triples : List TermTriple) × IsData format base.now (context_of h.names, triples) source.now × IsHolding doc triples (held_by h)) }
+    ensures schema { IfOk result (λ h. h.schema ≡ loaded.schema) }
+    ensures scheme { IfOk result (λ h. IsSome (scheme_of (base_of h.names))) }
+    ensures of_table { IfOk result (λ h. All (IsOfTable h.terms) h.graph.triples) }
+    ensures unread { IfErr result (ReadingStops format base.now loaded.terms source.now) }
 {
-    let Decl { label, expr } = only_declaration(doc);
-    let mut terms = TermTable::new(alloc);
-    let Ok(declared) = in_numbers(expr, &mut terms) else {
-        return Err(ReadError::Memory);
-    };
-    let Ok(schema) = make_schema(alloc, label, declared) else {
-        return Err(ReadError::Memory);
-    };
+    let Loaded {
+        schema,
+        strata,
+        mut terms,
+    } = loaded;
     let (graph, names) = read_data(alloc, format, base, source, &mut terms)?;
     Ok(Holding {
         terms,
         schema,
+        strata,
         graph,
         names,
     })

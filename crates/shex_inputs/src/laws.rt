@@ -1,12 +1,23 @@
-//! The law of inputs, for callers' proofs: its contract is the law, and it does nothing when called.
+//! The laws of inputs, for callers' proofs: the contract of each function is the law, and it does nothing when called.
 
-ghost use Rattle.shex_inputs.specs.Laws.{InputsAreOne};
+ghost use Rattle.shex_inputs.specs.Laws.{InputsAreOne, TakenIsLoaded};
 
 /// What files that are told hold is one thing: it is taken, or one file is refused or absent.
 pub fn inputs_are_one()
     ensures { InputsAreOne }
 {
+    taken_is_loaded();
+    schema_load::laws::documents_stand_for_one();
+    schema_tree::laws::strata_are_least();
     shexj_reader::laws::documents_are_one();
     data_reader::data_are_one();
     shape_map::laws::maps_are_one();
+}
+
+/// The schema that files hold is loaded.
+pub fn taken_is_loaded()
+    ensures { TakenIsLoaded }
+{
+    shexj_reader::laws::documents_are_ordered();
+    schema_load::laws::standing_is_loaded();
 }

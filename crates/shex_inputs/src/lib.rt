@@ -7,13 +7,12 @@ mod fetch;
 mod holding;
 mod laws;
 mod lines;
-mod load;
-mod loadable;
 mod map;
+mod schema;
 
 pub use error::{InputError, Refusal, Source};
 pub use fetch::MAX_FILE;
 pub use holding::{Holding, read_holding};
-pub use laws::inputs_are_one;
+pub use laws::{inputs_are_one, taken_is_loaded};
 pub use lines::{error_line, refusal_text};
-pub use map::read_map;
+pub use map::{Asked, read_map};

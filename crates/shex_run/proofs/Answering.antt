@@ -29,6 +29,9 @@ use Rattle.shex_run.specs.Outcomes.{Reaches, ReachesProof}
 use Rattle.shex_run.specs.Proofs.{AreAnswers, IsCutStore, IsDueProof, IsStoredProofOf, Stores}
 use Rattle.shex_run.specs.Statuses.{status_of}
 use Rattle.shex_run.specs.Stopping.{Explains, FaultsAs, LeavesStored, ProofStops, stop_of}
+use Rattle.shex_run.specs.Texts.{notes_of}
+use Rattle.shex_run.specs.Wide.{AreWide}
+use Rattle.typing_refiner.specs.declared.building.WidePair.{WidePair}
 use Rattle.shex_run.specs.Tasks.{IsInputOf, IsToCheck, IsToValidate, act_of, inputs_of, name_of}
 
 -- what a stop says of the cause, the faults and the store
@@ -71,46 +74,61 @@ input_stopped told after c before later blame act Errors.Memory of cause still s
 
 -- ---- `validate`
 
-module _ (told : Told) (c : Command) (map_name : Text) (proof_name : Option Text) (task : IsToValidate c map_name proof_name) (q : Question) (answers : List Answer) (are : AreAnswers told c q answers)
-    (text : List ℕ) (status : ℕ) (text_is : text ≡ result_text q.terms answers) (status_is : status ≡ status_of q.associations answers) where
-  -- without a name nothing is stored
-  pub unstored : proof_name ≡ None → (after : Told) → after ≡ told → IsResponse told after c status text
-  unstored nothing after same = inl (record {
+-- an answer to `validate`, before anything is stored
+pub record IsDue (told : Told) (c : Command) (map_name : Text) (proof_name : Option Text) (budget : ℕ) (q : Question) (answers : List Answer) (status : ℕ) (text notes : List ℕ) : Type 0 where
+  pub task : IsToValidate c map_name proof_name budget
+  pub are : AreAnswers told c q budget answers
+  pub status_is : status ≡ status_of q.associations answers
+  pub text_is : text ≡ result_text q.terms answers
+  pub wide : List WidePair
+  pub are_wide : AreWide q.held.schema q.terms q.held.graph budget q.pairs wide
+  pub notes_are : notes ≡ notes_of q budget answers wide
+
+module _ (told : Told) (c : Command) (map_name : Text) (proof_name : Option Text) (budget : ℕ) (q : Question) (answers : List Answer) (status : ℕ) (text notes : List ℕ) (due : IsDue told c map_name proof_name budget q answers status text notes) where
+  -- what is due is the response once the proof is stored
+  responds : (after : Told) → Stores told after proof_name (IsStoredProofOf q budget answers) → IsResponse told after c status text notes
+  responds after stored = inl (record {
     map_name = map_name;
     proof_name = proof_name;
-    task = task;
+    budget = budget;
+    task = due.task;
     question = q;
     answers = answers;
-    are_answers = are;
-    stored = subst (λ p. Stores told after p (IsStoredProofOf q answers)) (sym nothing) same;
-    status_is = status_is;
-    text_is = text_is;
+    are_answers = due.are;
+    stored = stored;
+    status_is = due.status_is;
+    text_is = due.text_is;
+    wide = due.wide;
+    are_wide = due.are_wide;
+    notes_are = due.notes_are;
   })
 
-  module _ (name bytes : List ℕ) (named : proof_name ≡ Some name) (proof : IsStoredProofOf q answers bytes) where
-    due : IsDueProof told c name bytes
-    due = record { map_name = map_name; task = subst (λ p. IsToValidate c map_name p) named task; question = q; answers = answers; are_answers = are; proof = proof }
+  -- without a name nothing is stored
+  pub unstored : proof_name ≡ None → (after : Told) → after ≡ told → IsResponse told after c status text notes
+  unstored nothing after same = responds after (subst (λ p. Stores told after p (IsStoredProofOf q budget answers)) (sym nothing) same)
 
-    pub stored : (after : Told) → Holds after name (Some bytes) → KeepsOthers told after name → IsResponse told after c status text
-    stored after held others = inl (record {
+  module _ (name bytes : List ℕ) (named : proof_name ≡ Some name) (proof : IsStoredProofOf q budget answers bytes) where
+    due_proof : IsDueProof told c name bytes
+    due_proof = record {
       map_name = map_name;
-      proof_name = proof_name;
-      task = task;
+      budget = budget;
+      task = subst (λ p. IsToValidate c map_name p budget) named due.task;
       question = q;
       answers = answers;
-      are_answers = are;
-      stored = subst (λ p. Stores told after p (IsStoredProofOf q answers)) (sym named) (bytes, proof, held, others);
-      status_is = status_is;
-      text_is = text_is;
-    })
+      are_answers = due.are;
+      proof = proof;
+    }
+
+    pub stored : (after : Told) → Holds after name (Some bytes) → KeepsOthers told after name → IsResponse told after c status text notes
+    stored after held others = responds after (subst (λ p. Stores told after p (IsStoredProofOf q budget answers)) (sym named) (bytes, proof, held, others))
 
     cut : (after : Told) → HoldsPart told after name bytes → KeepsOthers told after name → IsCutStore told after c
-    cut after part others = record { name = name; bytes = bytes; due = due; part = part; others = others }
+    cut after part others = record { name = name; bytes = bytes; due = due_proof; part = part; others = others }
 
     reached : (file : File) → file ≡ Files.Proof → Reaches told c file
     reached file e =
         subst (λ f. Reaches told c f) (sym e)
-        (subst (λ t. ReachesProof told c t) (sym task.task) (name, (bytes, due)))
+        (subst (λ t. ReachesProof told c t) (sym due.task) (name, (bytes, due_proof)))
 
     pub store_stopped : (after : Told) (before later : ℕ) (blame : List ℕ) (act : Act) (stop : Stop) → ProofStops name Acts.Store before later blame act stop → HoldsPart told after name bytes → KeepsOthers told after name → Stopped told after c before later blame act stop
     store_stopped after before later blame act (Stops.Refused refusal) h part others = absurd h
@@ -121,10 +139,10 @@ module _ (told : Told) (c : Command) (map_name : Text) (proof_name : Option Text
     }
       where
         own_name : name ≡ name_of c file
-        own_name = sym (ap (λ f. name_of c f) e ∙ ap (λ t. unwrap_or (proof_of t) []) task.task ∙ ap (λ p. unwrap_or p []) named)
+        own_name = sym (ap (λ f. name_of c f) e ∙ ap (λ t. unwrap_or (proof_of t) []) due.task ∙ ap (λ p. unwrap_or p []) named)
 
         own_act : Acts.Store ≡ act_of c.task file
-        own_act = sym (ap (λ f. act_of c.task f) e ∙ ap (λ t. act_of t Files.Proof) task.task)
+        own_act = sym (ap (λ f. act_of c.task f) e ∙ ap (λ t. act_of t Files.Proof) due.task)
     store_stopped after before later blame act Stops.Memory h part others = record { cause = tt; faults = h; stored = inr (cut after part others) }
 
 -- ---- `check`
@@ -149,8 +167,8 @@ module _ (told : Told) (c : Command) (b : Held) (taken : IsTaken told (inputs_of
     given : IsGiven told c b bytes
     given = record { taken = taken; name = name; task = is; held = held }
 
-    pub confirmed : (after : Told) → after ≡ told → (text : List ℕ) → Confirms b bytes text → IsResponse told after c 0 text
-    confirmed after same text k = inr (record { checked = record { held = b; bytes = bytes; given = given; confirmed = k }; unstored = same; status_is = refl })
+    pub confirmed : (after : Told) → after ≡ told → (text : List ℕ) → Confirms b bytes text → IsResponse told after c 0 text []
+    confirmed after same text k = inr (record { checked = record { held = b; bytes = bytes; given = given; confirmed = k }; unstored = same; status_is = refl; notes_are = refl })
 
     pub confirm_stopped : (after : Told) → after ≡ told → (before later : ℕ) (blame : List ℕ) (act : Act) → later ≡ before → (stop : Stop) → ConfirmStops b bytes stop → Stopped told after c before later blame act stop
     confirm_stopped after same before later blame act still (Stops.Refused (Refusals.Input refusal)) h = absurd h

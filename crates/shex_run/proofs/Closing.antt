@@ -1,13 +1,16 @@
 -- What the ways to end say of the status.
-use Rattle.std.proofs.Common.{◌≡◌, ◌∙◌, ap, sym, subst, refl, List, ℕ, [], ◌⊎◌, inl, inr, ◌<◌, arith, append-nil}
-use Rattle.std.specs.Prelude.{Option, Some, None}
+use Rattle.std.proofs.Common.{◌≡◌, ◌∙◌, ap, sym, subst, refl, List, ℕ, [], ◌++◌, ◌⊎◌, inl, inr, ◌<◌, arith, append-nil, length, map, Bool, true, false}
+use Rattle.std.specs.Prelude.{Option, Some, None, if◌then◌else◌, nat_lt}
+use Rattle.std.proofs.lemmas.List.{length-map}
 use Rattle.clap.specs.Words.{Text}
 use Rattle.lists.specs.Distinct.{AreDistinct}
 use Rattle.rdf_terms.specs.declared.terms.Term.{Term}
 use Rattle.schema_tree.specs.declared.schema.Answer.{Answer}
 use Rattle.shex_io.specs.Faults.{Rose}
 use Rattle.shex_io.specs.Files.{Holds, HoldsPart, KeepsOthers, Told}
-use Rattle.shex_io.specs.Sinks.{GainsPrefix}
+use Rattle.shex_io.specs.Sinks.{Gains, GainsPrefix}
+use Rattle.shape_map.specs.declared.resolve.Association.{Association}
+use Rattle.typing_refiner.specs.declared.building.WidePair.{WidePair}
 use Rattle.proof_checker.specs.declared.checking.CheckError.{CheckError}
 use Rattle.proof_checker.specs.Checks.{IsFullFor}
 use Rattle.command_words.specs.Asked.{Command, IsAsked, IsFirstFault}
@@ -19,10 +22,12 @@ use Rattle.shex_inputs.specs.Asked.{IsAskedOf, Question}
 use Rattle.shex_inputs.specs.Held.{Held}
 use Rattle.shex_run.specs.declared.stop.File.{File}
 use Rattle.shex_run.specs.Checking.{IsFull, IsGiven, IsRejected, Rejects}
-use Rattle.shex_run.specs.Endings.{Ends, FilesSeen, IsAnswered, IsPartlyStored, IsPrintedInPart, IsRefusalLine, IsRefusedBy, IsRejectedBy, IsRespondedTo, IsResponse, IsUnprinted, IsWhollyStored, IsWordsLine, KeepsTold, MayPrintInPart, PrintsTo, SinkSeen, answer_in_part, answered, failed, faulty, line_in_part, refused, rejected, wanting}
+use Rattle.shex_run.specs.Endings.{Ends, FilesSeen, IsAnswered, IsPartlyStored, IsPrintedInPart, IsRefusalLine, IsRefusedBy, IsRejectedBy, IsRespondedTo, IsResponse, IsUnprinted, IsWhollyStored, IsWordsLine, KeepsTold, MayPrintInPart, PrintsBoth, PrintsTo, SinkSeen, answer_in_part, answered, failed, faulty, line_in_part, notes_in_part, refused, rejected, wanting}
 use Rattle.shex_run.specs.Outcomes.{AreTaken, IsAbsent, IsRefused, TakesFor}
 use Rattle.shex_run.specs.Proofs.{Accepted, IsStoredProofOf, Stores}
-use Rattle.shex_run.specs.Statuses.{Concludes, IsInterrupted}
+use Rattle.shex_run.specs.Printing.{IsCut}
+use Rattle.shex_run.specs.Statuses.{Concludes, IsAnswering, IsInterrupted, are_wanted, status_by}
+use Rattle.shex_run.specs.Texts.{notes_by, wide_lines}
 use Rattle.shex_run.specs.Tasks.{IsToValidate, inputs_of}
 use Rattle.shex_run.proofs.Exclusive.{AreOne, asked_not_absent, asked_not_refused, check_not_refused, full_not_absent, full_not_wish, given_not_absent, no_both, one_given, refused_not_absent}
 use Rattle.shex_run.proofs.Settled.{accepted_not_full, accepted_not_rejected, rejected_not_full}
@@ -42,15 +47,23 @@ five_interrupts : (status : ℕ) → (status ≡ 5) ⊎ IsInterrupted status →
 five_interrupts status (inl h) = inl h
 five_interrupts status (inr h) = h
 
--- the status of answers is 0 or 1
-zero_or_one : (status wanted : ℕ) → (wanted ≡ 0) ⊎ (wanted ≡ 1) → (status ≡ wanted) → (status ≡ 0) ⊎ (status ≡ 1)
-zero_or_one status wanted (inl e) h = inl (h ∙ e)
-zero_or_one status wanted (inr e) h = inr (h ∙ e)
+-- what is cut off interrupts
+cut_interrupts : (sink : SinkSeen) (text : List ℕ) (status : ℕ) → IsCut sink.got sink.got_after sink.faults sink.faults_after text status → IsInterrupted status
+cut_interrupts sink text status (inl h) = inr (inl h.0)
+cut_interrupts sink text status (inr h) = inr (inr h.0)
+
+wanted_both : (out err : SinkSeen) (text notes : List ℕ) (wanted status : ℕ) → PrintsBoth out err text notes wanted status → (status ≡ wanted) ⊎ IsInterrupted status
+wanted_both out err text notes wanted status (inl h) = wanted_or err notes wanted status h.2
+wanted_both out err text notes wanted status (inr h) = inr (cut_interrupts out text status h.0)
+
+-- the status of answers
+answering : (status wanted : ℕ) → IsAnswering wanted → (status ≡ wanted) → IsAnswering status
+answering status wanted low h = subst IsAnswering (sym h) low
 
 module _ (words : List Text) (c : Command) (is_asked : IsAsked words c) (law : AnswersAreOne) where
   -- what is said of the words is said of what they ask
-  responded : (told after : Told) (status : ℕ) (text : List ℕ) → IsRespondedTo told after words status text → IsResponse told after c status text
-  responded told after status text r = subst (λ a. IsResponse told after a status text) (law.commands words r.command c r.is_asked is_asked) r.response
+  responded : (told after : Told) (status : ℕ) (text notes : List ℕ) → IsRespondedTo told after words status text notes → IsResponse told after c status text notes
+  responded told after status text notes r = subst (λ a. IsResponse told after a status text notes) (law.commands words r.command c r.is_asked is_asked) r.response
 
   -- a file of the inputs is refused, or the table is full
   abbrev IsLeft : Told → Type 0
@@ -72,9 +85,9 @@ module _ (words : List Text) (c : Command) (is_asked : IsAsked words c) (law : A
     -- where the inputs are taken, the command concludes unless the call is interrupted
     pub taken_ends : AreTaken files.told c → Ends words files out err status → Concludes c.task status ⊎ IsInterrupted status
     taken_ends taken (faulty line by left quiet prints) = absurd (not_faulty line by)
-    taken_ends taken (answered text wanted low r same prints quiet) = elim (responded files.told files.told_after wanted text r) [
-      | inl a ↦ or_interrupted (Concludes c.task status) wanted status (λ h. subst (λ t. Concludes t status) (sym a.task.task) (zero_or_one status wanted low h)) (wanted_or out text wanted status prints)
-      | inr k ↦ or_interrupted (Concludes c.task status) wanted status (λ h. subst (λ t. Concludes t status) (sym k.checked.given.task) (inl (h ∙ k.status_is))) (wanted_or out text wanted status prints)
+    taken_ends taken (answered text notes wanted low r same prints) = elim (responded files.told files.told_after wanted text notes r) [
+      | inl a ↦ or_interrupted (Concludes c.task status) wanted status (λ h. subst (λ t. Concludes t status) (sym a.task) (answering status wanted low h)) (wanted_both out err text notes wanted status prints)
+      | inr k ↦ or_interrupted (Concludes c.task status) wanted status (λ h. subst (λ t. Concludes t status) (sym k.checked.given.task) (inl (h ∙ k.status_is))) (wanted_both out err text notes wanted status prints)
     ]
     taken_ends taken (refused line by left quiet prints) = or_interrupted (Concludes c.task status) 3 status (λ h. go (refusal_of files.told line by) c.task refl taken h) (wanted_or err line 3 status prints)
       where
@@ -89,39 +102,47 @@ module _ (words : List Text) (c : Command) (is_asked : IsAsked words c) (law : A
     taken_ends taken (wanting stored same quiet also h) = inr (inr (inr h))
 
     -- the proof that is asked for, under this name
-    module _ (map name : Text) (to : IsToValidate c map (Some name)) where
-      same_proof : (m : Text) (p : Option Text) (n : ℕ) → validation m p n ≡ validation map (Some name) to.budget → p ≡ Some name
+    module _ (map name : Text) (budget : ℕ) (to : IsToValidate c map (Some name) budget) where
+      same_proof : (m : Text) (p : Option Text) (n : ℕ) → validation m p n ≡ validation map (Some name) budget → p ≡ Some name
       same_proof m p n h = ap proof_of h
 
-      whole : (text : List ℕ) (wanted : ℕ) → IsResponse files.told files.told_after c wanted text → IsWhollyStored files.told files.told_after c name
-      whole text wanted (inl a) = go a.proof_name (same_proof a.map_name a.proof_name a.task.budget (sym a.task.task ∙ to.task)) a.task a.stored
+      whole : (text notes : List ℕ) (wanted : ℕ) → IsResponse files.told files.told_after c wanted text notes → IsWhollyStored files.told files.told_after c name
+      whole text notes wanted (inl a) = go a.proof_name (same_proof a.map_name a.proof_name a.budget (sym a.task ∙ to)) a.task a.stored
         where
-          go : (p : Option Text) → p ≡ Some name → IsToValidate c a.map_name p → Stores files.told files.told_after p (IsStoredProofOf a.question a.answers) → IsWhollyStored files.told files.told_after c name
+          go : (p : Option Text) → p ≡ Some name → IsToValidate c a.map_name p a.budget → Stores files.told files.told_after p (IsStoredProofOf a.question a.budget a.answers) → IsWhollyStored files.told files.told_after c name
           go None e task stored = absurd cc
           go (Some other) e task (x, proof, held, others) =
               let same : other ≡ name = cc in (
                 x,
-                record { map_name = a.map_name; task = subst (λ z. IsToValidate c a.map_name (Some z)) same task; question = a.question; answers = a.answers; are_answers = a.are_answers; proof = proof },
+                record {
+                  map_name = a.map_name;
+                  budget = a.budget;
+                  task = subst (λ z. IsToValidate c a.map_name (Some z) a.budget) same task;
+                  question = a.question;
+                  answers = a.answers;
+                  are_answers = a.are_answers;
+                  proof = proof;
+                },
                 subst (λ z. Holds files.told_after z (Some x)) same held,
                 subst (λ z. KeepsOthers files.told files.told_after z) same others,
               )
-      whole text wanted (inr k) = absurd (no_both map (Some name) to.budget k.checked.given.name (sym to.task ∙ k.checked.given.task))
+      whole text notes wanted (inr k) = absurd (no_both map (Some name) budget k.checked.given.name (sym to ∙ k.checked.given.task))
 
       taken : AreTaken files.told c → (q : Question) × IsAskedOf files.told (inputs_of c) q
-      taken h = subst (λ t. TakesFor files.told c t) to.task h
+      taken h = subst (λ t. TakesFor files.told c t) to h
 
       -- where its inputs are taken and a sink alone failed, it is stored whole
       pub whole_ends : AreTaken files.told c → Ends words files out err status → status ≡ 7 → ¬ Rose files.faults files.faults_after → IsWhollyStored files.told files.told_after c name
       whole_ends h (faulty line by left quiet prints) at still = absurd (not_faulty line by)
-      whole_ends h (answered text wanted low r same prints quiet) at still = whole text wanted (responded files.told files.told_after wanted text r)
+      whole_ends h (answered text notes wanted low r same prints) at still = whole text notes wanted (responded files.told files.told_after wanted text notes r)
       whole_ends h (refused line by left quiet prints) at still = go (refusal_of files.told line by)
         where
           go : IsLeft files.told → IsWhollyStored files.told files.told_after c name
           go (inl (refusal, cause)) = let (q, asked) = taken h in absurd (asked_not_refused files.told contents told c one q asked refusal cause)
-          go (inr full) = absurd (full_not_wish files.told contents told c one map (Some name) to full)
+          go (inr full) = absurd (full_not_wish files.told contents told c one map (Some name) budget to full)
       whole_ends h (rejected line by left quiet prints) at still =
           let (k, x, given, rejects) = rejection_of files.told line by in
-          absurd (no_both map (Some name) to.budget given.name (sym to.task ∙ given.task))
+          absurd (no_both map (Some name) budget given.name (sym to ∙ given.task))
       whole_ends h (failed line by have quiet prints) at still = absurd (still by.rose)
       whole_ends h (wanting stored same quiet also e) at still = absurd (omega (arith, e, at))
 
@@ -150,15 +171,15 @@ module _ (words : List Text) (c : Command) (is_asked : IsAsked words c) (law : A
       refused_full (inl (refusal, cause)) = absurd (check_not_refused files.told contents told c one b given.name given.taken given.task refusal cause)
       refused_full (inr full) = same_full full
 
-      no_wish : (text : List ℕ) (wanted : ℕ) → IsAnswered files.told files.told_after c wanted text → ⊥
-      no_wish text wanted a = no_both a.map_name a.proof_name a.task.budget given.name (sym a.task.task ∙ given.task)
+      no_wish : (text notes : List ℕ) (wanted : ℕ) → IsAnswered files.told files.told_after c wanted text notes → ⊥
+      no_wish text notes wanted a = no_both a.map_name a.proof_name a.budget given.name (sym a.task ∙ given.task)
 
       -- a proof that is accepted is said to be
       pub accepted_ends : (terms : List Term) (answers : List Answer) → Accepted b bytes terms answers → Ends words files out err status → (status ≡ 0) ⊎ IsInterrupted status
       accepted_ends terms answers a (faulty line by left quiet prints) = absurd (not_faulty line by)
-      accepted_ends terms answers a (answered text wanted low r same prints quiet) = elim (responded files.told files.told_after wanted text r) [
-        | inl x ↦ absurd (no_wish text wanted x)
-        | inr k ↦ or_interrupted (status ≡ 0) wanted status (λ h. h ∙ k.status_is) (wanted_or out text wanted status prints)
+      accepted_ends terms answers a (answered text notes wanted low r same prints) = elim (responded files.told files.told_after wanted text notes r) [
+        | inl x ↦ absurd (no_wish text notes wanted x)
+        | inr k ↦ or_interrupted (status ≡ 0) wanted status (λ h. h ∙ k.status_is) (wanted_both out err text notes wanted status prints)
       ]
       accepted_ends terms answers a (refused line by left quiet prints) =
           absurd (accepted_not_full b distinct bytes terms answers a (refused_full (refusal_of files.told line by)))
@@ -171,8 +192,8 @@ module _ (words : List Text) (c : Command) (is_asked : IsAsked words c) (law : A
       -- and one that is rejected too
       rejected_ends_so : (rejection : CheckError) → Rejects b bytes rejection → Ends words files out err status → (status ≡ 6) ⊎ IsInterrupted status
       rejected_ends_so rejection is (faulty line by left quiet prints) = absurd (not_faulty line by)
-      rejected_ends_so rejection is (answered text wanted low r same prints quiet) = elim (responded files.told files.told_after wanted text r) [
-        | inl x ↦ absurd (no_wish text wanted x)
+      rejected_ends_so rejection is (answered text notes wanted low r same prints) = elim (responded files.told files.told_after wanted text notes r) [
+        | inl x ↦ absurd (no_wish text notes wanted x)
         | inr k ↦ absurd (accepted_not_rejected b distinct bytes k.checked.confirmed.terms k.checked.confirmed.answers rejection
             (same_accepted k.checked.held k.checked.bytes k.checked.confirmed.terms k.checked.confirmed.answers k.checked.given k.checked.confirmed.accepted) is)
       ]
@@ -185,8 +206,8 @@ module _ (words : List Text) (c : Command) (is_asked : IsAsked words c) (law : A
       -- a table that is full is said to be
       full_ends : IsFullFor b.terms bytes → Ends words files out err status → (status ≡ 3) ⊎ IsInterrupted status
       full_ends full (faulty line by left quiet prints) = absurd (not_faulty line by)
-      full_ends full (answered text wanted low r same prints quiet) = elim (responded files.told files.told_after wanted text r) [
-        | inl x ↦ absurd (no_wish text wanted x)
+      full_ends full (answered text notes wanted low r same prints) = elim (responded files.told files.told_after wanted text notes r) [
+        | inl x ↦ absurd (no_wish text notes wanted x)
         | inr k ↦ absurd (accepted_not_full b distinct bytes k.checked.confirmed.terms k.checked.confirmed.answers
             (same_accepted k.checked.held k.checked.bytes k.checked.confirmed.terms k.checked.confirmed.answers k.checked.given k.checked.confirmed.accepted) full)
       ]
@@ -206,7 +227,7 @@ module _ (words : List Text) (c : Command) (is_asked : IsAsked words c) (law : A
 
     pub refused_ends : (refusal : Refusal) → IsRefused files.told c refusal → Ends words files out err status → (status ≡ 3) ⊎ IsInterrupted status
     refused_ends refusal cause (faulty line by left quiet prints) = absurd (not_faulty line by)
-    refused_ends refusal cause (answered text wanted low r same prints quiet) = elim (responded files.told files.told_after wanted text r) [
+    refused_ends refusal cause (answered text notes wanted low r same prints) = elim (responded files.told files.told_after wanted text notes r) [
       | inl x ↦ absurd (asked_not_refused files.told contents told c one x.question x.are_answers.asked refusal cause)
       | inr k ↦ absurd (check_not_refused files.told contents told c one k.checked.held k.checked.given.name k.checked.given.taken k.checked.given.task refusal cause)
     ]
@@ -220,8 +241,8 @@ module _ (words : List Text) (c : Command) (is_asked : IsAsked words c) (law : A
     -- where a file is absent, the call is interrupted
     pub absent_ends : (file : File) → IsAbsent files.told c file → Ends words files out err status → IsInterrupted status
     absent_ends file absent (faulty line by left quiet prints) = absurd (not_faulty line by)
-    absent_ends file absent (answered text wanted low r same prints quiet) = elim (responded files.told files.told_after wanted text r) [
-      | inl x ↦ absurd (asked_not_absent files.told contents told c one x.map_name x.proof_name x.task x.question x.are_answers.asked file absent)
+    absent_ends file absent (answered text notes wanted low r same prints) = elim (responded files.told files.told_after wanted text notes r) [
+      | inl x ↦ absurd (asked_not_absent files.told contents told c one x.map_name x.proof_name x.budget x.task x.question x.are_answers.asked file absent)
       | inr k ↦ absurd (given_not_absent files.told contents told c one k.checked.held k.checked.bytes file k.checked.given absent)
     ]
     absent_ends file absent (refused line by left quiet prints) = go (refusal_of files.told line by)
@@ -249,18 +270,27 @@ prefix_of sink text wanted status low (inl h) (inr at) = let e : status ≡ want
 prefix_of sink text wanted status low (inr (inl h)) at = h.1
 prefix_of sink text wanted status low (inr (inr h)) at = h.1
 
+prefix_of_cut : (sink : SinkSeen) (text : List ℕ) (status : ℕ) → IsCut sink.got sink.got_after sink.faults sink.faults_after text status → GainsPrefix sink.got sink.got_after text
+prefix_of_cut sink text status (inl h) = h.1
+prefix_of_cut sink text status (inr h) = h.1
+
 -- the status of a response is low
-low_wanted : (wanted : ℕ) → (wanted ≡ 0) ⊎ (wanted ≡ 1) → wanted < 2
+low_wanted : (wanted : ℕ) → IsAnswering wanted → wanted < 5
 low_wanted wanted (inl e) = omega (arith, e)
-low_wanted wanted (inr e) = omega (arith, e)
+low_wanted wanted (inr (inl e)) = omega (arith, e)
+low_wanted wanted (inr (inr e)) = omega (arith, e)
 
 -- what is printed where a call is interrupted by a sink or by want of memory
 partly_printed : (words : List Text) (files : FilesSeen) (out err : SinkSeen) (status : ℕ) → Ends words files out err status → (status ≡ 7) ⊎ (status ≡ 8) →
     IsPrintedInPart words files out err ⊎ ((status ≡ 8) × IsUnprinted words files out err)
 partly_printed words files out err status (faulty line by left quiet prints) at = inl (line_in_part line (inl (inl by, left)) quiet (prefix_of err line 2 status (omega arith) prints at))
-partly_printed words files out err status (answered text wanted low r same prints quiet) at =
+partly_printed words files out err status (answered text notes wanted low r same prints) at =
     let under = low_wanted wanted low in
-    inl (answer_in_part text wanted r same (prefix_of out text wanted status (omega (arith, under)) prints at) quiet)
+    inl (both_in_part text notes wanted r same (omega (arith, under)) prints)
+  where
+    both_in_part : (text notes : List ℕ) (wanted : ℕ) → IsRespondedTo files.told files.told_after words wanted text notes → files.faults_after ≡ files.faults → wanted < 7 → PrintsBoth out err text notes wanted status → IsPrintedInPart words files out err
+    both_in_part text notes wanted r same under (inl h) = notes_in_part text notes wanted r same h.0 (prefix_of err notes wanted status under h.2 at)
+    both_in_part text notes wanted r same under (inr (cut, quiet)) = answer_in_part text notes wanted r same (prefix_of_cut out text status cut) quiet
 partly_printed words files out err status (refused line by left quiet prints) at = inl (line_in_part line (inl (inr (inl by), left)) quiet (prefix_of err line 3 status (omega arith) prints at))
 partly_printed words files out err status (rejected line by left quiet prints) at = inl (line_in_part line (inl (inr (inr by), left)) quiet (prefix_of err line 6 status (omega arith) prints at))
 partly_printed words files out err status (failed line by have quiet prints) at = inl (line_in_part line (inr (by, have)) quiet (prefix_of err line 5 status (omega arith) prints at))
@@ -286,12 +316,20 @@ other_status sink text wanted status other differs low (inl h) at = differs (sym
 other_status sink text wanted status other differs low (inr (inl h)) at = let e : status ≡ 7 = h.0 in absurd (omega (arith, e, at, low))
 other_status sink text wanted status other differs low (inr (inr h)) at = let e : status ≡ 8 = h.0 in absurd (omega (arith, e, at, low))
 
+other_cut : (sink : SinkSeen) (text : List ℕ) (status other : ℕ) → other < 7 → IsCut sink.got sink.got_after sink.faults sink.faults_after text status → status ≡ other → ⊥
+other_cut sink text status other low (inl h) at = let e : status ≡ 7 = h.0 in absurd (omega (arith, e, at, low))
+other_cut sink text status other low (inr h) at = let e : status ≡ 8 = h.0 in absurd (omega (arith, e, at, low))
+
+other_both : (out err : SinkSeen) (text notes : List ℕ) (wanted status other : ℕ) → ¬ (wanted ≡ other) → other < 7 → PrintsBoth out err text notes wanted status → status ≡ other → ⊥
+other_both out err text notes wanted status other differs low (inl h) at = other_status err notes wanted status other differs low h.2 at
+other_both out err text notes wanted status other differs low (inr h) at = other_cut out text status other low h.0 at
+
 -- 5 comes only where a fault of the files rose
 pub five_rose : (words : List Text) (files : FilesSeen) (out err : SinkSeen) (status : ℕ) → Ends words files out err status → status ≡ 5 → Rose files.faults files.faults_after
 five_rose words files out err status (faulty line by left quiet prints) at = absurd (other_status err line 2 status 5 (λ e. absurd (omega (arith, e))) (omega arith) prints at)
-five_rose words files out err status (answered text wanted low r same prints quiet) at =
+five_rose words files out err status (answered text notes wanted low r same prints) at =
     let under = low_wanted wanted low in
-    absurd (other_status out text wanted status 5 (λ e. absurd (omega (arith, e, under))) (omega arith) prints at)
+    absurd (other_both out err text notes wanted status 5 (λ e. absurd (omega (arith, e, under))) (omega arith) prints at)
 five_rose words files out err status (refused line by left quiet prints) at = absurd (other_status err line 3 status 5 (λ e. absurd (omega (arith, e))) (omega arith) prints at)
 five_rose words files out err status (rejected line by left quiet prints) at = absurd (other_status err line 6 status 5 (λ e. absurd (omega (arith, e))) (omega arith) prints at)
 five_rose words files out err status (failed line by have quiet prints) at = by.rose
@@ -303,11 +341,16 @@ seven_of sink text wanted status low (inl h) at = let e : status ≡ wanted = h.
 seven_of sink text wanted status low (inr (inl h)) at = h.2
 seven_of sink text wanted status low (inr (inr h)) at = let e : status ≡ 8 = h.0 in absurd (omega (arith, e, at))
 
+seven_both : (out err : SinkSeen) (text notes : List ℕ) (wanted status : ℕ) → wanted < 7 → PrintsBoth out err text notes wanted status → status ≡ 7 → Rose out.faults out.faults_after ⊎ Rose err.faults err.faults_after
+seven_both out err text notes wanted status low (inl h) at = inr (seven_of err notes wanted status low h.2 at)
+seven_both out err text notes wanted status low (inr (inl cut, quiet)) at = inl cut.2
+seven_both out err text notes wanted status low (inr (inr cut, quiet)) at = let e : status ≡ 8 = cut.0 in absurd (omega (arith, e, at))
+
 pub seven_rose : (words : List Text) (files : FilesSeen) (out err : SinkSeen) (status : ℕ) → Ends words files out err status → status ≡ 7 → Rose out.faults out.faults_after ⊎ Rose err.faults err.faults_after
 seven_rose words files out err status (faulty line by left quiet prints) at = inr (seven_of err line 2 status (omega arith) prints at)
-seven_rose words files out err status (answered text wanted low r same prints quiet) at =
+seven_rose words files out err status (answered text notes wanted low r same prints) at =
     let under = low_wanted wanted low in
-    inl (seven_of out text wanted status (omega (arith, under)) prints at)
+    seven_both out err text notes wanted status (omega (arith, under)) prints at
 seven_rose words files out err status (refused line by left quiet prints) at = inr (seven_of err line 3 status (omega arith) prints at)
 seven_rose words files out err status (rejected line by left quiet prints) at = inr (seven_of err line 6 status (omega arith) prints at)
 seven_rose words files out err status (failed line by have quiet prints) at = inr (seven_of err line 5 status (omega arith) prints at)
@@ -323,35 +366,43 @@ held_part (Some old) None name bytes held others = others
 held_part (Some old) (Some new) name bytes held others = inr (bytes, ([], sym (append-nil bytes)), held)
 
 module _ (told after : Told) (words : List Text) where
-  stored_partly : (status : ℕ) (text : List ℕ) (c : Command) → IsAsked words c → (a : IsAnswered told after c status text) → (name : Option Text) → a.proof_name ≡ name → Stores told after name (IsStoredProofOf a.question a.answers) → IsPartlyStored told after words
-  stored_partly status text c is_asked a None is same = inl same
-  stored_partly status text c is_asked a (Some name) is (bytes, proof, held, others) = inr (
+  stored_partly : (status : ℕ) (text notes : List ℕ) (c : Command) → IsAsked words c → (a : IsAnswered told after c status text notes) → (name : Option Text) → a.proof_name ≡ name → Stores told after name (IsStoredProofOf a.question a.budget a.answers) → IsPartlyStored told after words
+  stored_partly status text notes c is_asked a None is same = inl same
+  stored_partly status text notes c is_asked a (Some name) is (bytes, proof, held, others) = inr (
     c,
     is_asked,
     record {
       name = name;
       bytes = bytes;
-      due = record { map_name = a.map_name; task = subst (λ n. IsToValidate c a.map_name n) is a.task; question = a.question; answers = a.answers; are_answers = a.are_answers; proof = proof };
+      due = record {
+        map_name = a.map_name;
+        budget = a.budget;
+        task = subst (λ n. IsToValidate c a.map_name n a.budget) is a.task;
+        question = a.question;
+        answers = a.answers;
+        are_answers = a.are_answers;
+        proof = proof;
+      };
       part = held_part told after name bytes held others;
       others = others;
     },
   )
 
-  responded_partly : (status : ℕ) (text : List ℕ) → IsRespondedTo told after words status text → IsPartlyStored told after words
-  responded_partly status text r = go r.response
+  responded_partly : (status : ℕ) (text notes : List ℕ) → IsRespondedTo told after words status text notes → IsPartlyStored told after words
+  responded_partly status text notes r = go r.response
     where
-      go : IsResponse told after r.command status text → IsPartlyStored told after words
-      go (inl a) = stored_partly status text r.command r.is_asked a a.proof_name refl a.stored
+      go : IsResponse told after r.command status text notes → IsPartlyStored told after words
+      go (inl a) = stored_partly status text notes r.command r.is_asked a a.proof_name refl a.stored
       go (inr k) = inl k.unstored
 
   partly_kept : IsPartlyStored told after words → KeepsTold told after words
   partly_kept (inl same) = inl same
-  partly_kept (inr (c, is_asked, cut)) = inr (c, is_asked, (cut.due.map_name, cut.name, cut.due.task, cut.others))
+  partly_kept (inr (c, is_asked, cut)) = inr (c, is_asked, (cut.due.map_name, cut.name, cut.due.budget, cut.due.task, cut.others))
 
 -- however a call ends, no more than the proof is stored
 pub ends_partly : (words : List Text) (files : FilesSeen) (out err : SinkSeen) (status : ℕ) → Ends words files out err status → IsPartlyStored files.told files.told_after words
 ends_partly words files out err status (faulty line by left quiet prints) = inl left.told_same
-ends_partly words files out err status (answered text wanted low r same prints quiet) = responded_partly files.told files.told_after words wanted text r
+ends_partly words files out err status (answered text notes wanted low r same prints) = responded_partly files.told files.told_after words wanted text notes r
 ends_partly words files out err status (refused line by left quiet prints) = inl left.told_same
 ends_partly words files out err status (rejected line by left quiet prints) = inl left.told_same
 ends_partly words files out err status (failed line by have quiet prints) = have.stored
@@ -370,8 +421,70 @@ two_or sink text status (inr (inr h)) = inr (inr h.0)
 -- where the words are at fault, they are refused
 pub faulty_ends : (words : List Text) (files : FilesSeen) (out err : SinkSeen) (status : ℕ) → AnswersAreOne → (f : Fault) → IsFirstFault words f → Ends words files out err status → (status ≡ 2) ⊎ ((status ≡ 7) ⊎ (status ≡ 8))
 faulty_ends words files out err status law f is (faulty line by left quiet prints) = two_or err line status prints
-faulty_ends words files out err status law f is (answered text wanted low r same prints quiet) = absurd (law.apart words r.command f r.is_asked is)
+faulty_ends words files out err status law f is (answered text notes wanted low r same prints) = absurd (law.apart words r.command f r.is_asked is)
 faulty_ends words files out err status law f is (refused line by left quiet prints) = absurd (law.apart words by.command f by.is_asked is)
 faulty_ends words files out err status law f is (rejected line by left quiet prints) = absurd (law.apart words by.command f by.is_asked is)
 faulty_ends words files out err status law f is (failed line by have quiet prints) = absurd (law.apart words by.command f by.is_asked is)
 faulty_ends words files out err status law f is (wanting stored same quiet also h) = inr (inr h)
+
+-- ---- nothing is noted
+
+-- what is no 4 has answers to all
+enough : (wants : List Bool) (answers : List Answer) → ¬ (status_by wants answers ≡ 4) → nat_lt (length answers) (length wants) ≡ false
+unfolding status_by
+enough wants answers other = go (nat_lt (length answers) (length wants)) other
+  where
+    go : (b : Bool) → ¬ (◌≡◌ {A = ℕ} (if b then 4 else if are_wanted wants answers then 0 else 1) 4) → b ≡ false
+    go true h = absurd (h refl)
+    go false h = refl
+
+none_noted : (terms : List Term) (asked budget : ℕ) (answers : List Answer) (wide : List WidePair) → nat_lt (length answers) asked ≡ false → notes_by terms asked budget answers wide ≡ []
+unfolding notes_by
+none_noted terms asked budget answers wide enough_given = ap (λ b. if b then wide_lines terms budget wide else []) enough_given
+
+low_status : (status : ℕ) → (status ≡ 0) ⊎ (status ≡ 1) → ¬ (status ≡ 4)
+low_status status (inl e) h = absurd (omega (arith, e, h))
+low_status status (inr e) h = absurd (omega (arith, e, h))
+
+-- with 0 and 1 nothing is noted
+unnoted : (told after : Told) (words : List Text) (wanted : ℕ) (text notes : List ℕ) → (wanted ≡ 0) ⊎ (wanted ≡ 1) → IsRespondedTo told after words wanted text notes → notes ≡ []
+unnoted told after words wanted text notes low r = go r.response
+  where
+    go : IsResponse told after r.command wanted text notes → notes ≡ []
+    go (inr k) = k.notes_are
+    go (inl a) =
+        a.notes_are
+        ∙ none_noted a.question.terms (length a.question.associations) a.budget a.answers a.wide
+        (ap (λ n. nat_lt (length a.answers) n) (sym (length-map a.question.associations (λ (z : Association). z.want)))
+        ∙ enough (map (λ (z : Association). z.want) a.question.associations) a.answers (λ e. low_status wanted low (a.status_is ∙ e)))
+
+gains_none : (before after : Option (List ℕ)) (notes : List ℕ) → notes ≡ [] → Gains before after notes → after ≡ before
+gains_none None None notes none gains = refl
+gains_none None (Some new) notes none gains = absurd gains
+gains_none (Some old) None notes none gains = absurd gains
+gains_none (Some old) (Some new) notes none gains = ap (λ z. Some z) (gains ∙ ap (λ n. old ++ n) none ∙ append-nil old)
+
+quiet_status : (sink : SinkSeen) (text : List ℕ) (wanted status : ℕ) → 1 < wanted → wanted < 7 → PrintsTo sink text wanted status → (status ≡ 0) ⊎ (status ≡ 1) → ⊥
+quiet_status sink text wanted status above below prints (inl e) = other_status sink text wanted status 0 (λ h. absurd (omega (arith, above, h))) (omega arith) prints e
+quiet_status sink text wanted status above below prints (inr e) = other_status sink text wanted status 1 (λ h. absurd (omega (arith, above, h))) (omega arith) prints e
+
+cut_high : (sink : SinkSeen) (text : List ℕ) (status : ℕ) → IsCut sink.got sink.got_after sink.faults sink.faults_after text status → (status ≡ 0) ⊎ (status ≡ 1) → ⊥
+cut_high sink text status cut (inl e) = other_cut sink text status 0 (omega arith) cut e
+cut_high sink text status cut (inr e) = other_cut sink text status 1 (omega arith) cut e
+
+pub ends_quietly : (words : List Text) (files : FilesSeen) (out err : SinkSeen) (status : ℕ) → Ends words files out err status → (status ≡ 0) ⊎ (status ≡ 1) → err.got_after ≡ err.got
+ends_quietly words files out err status (faulty line by left quiet prints) low = absurd (quiet_status err line 2 status (omega arith) (omega arith) prints low)
+ends_quietly words files out err status (answered text notes wanted how r same prints) low = go prints
+  where
+    go : PrintsBoth out err text notes wanted status → err.got_after ≡ err.got
+    go (inl (gains, still, inl (is, noted, more))) = gains_none err.got err.got_after notes (unnoted files.told files.told_after words wanted text notes (at_wanted low) r) noted
+      where
+        at_wanted : (status ≡ 0) ⊎ (status ≡ 1) → (wanted ≡ 0) ⊎ (wanted ≡ 1)
+        at_wanted (inl e) = inl (sym is ∙ e)
+        at_wanted (inr e) = inr (sym is ∙ e)
+    go (inl (gains, still, inr cut)) = absurd (cut_high err notes status cut low)
+    go (inr (cut, quiet)) = quiet.got_same
+ends_quietly words files out err status (refused line by left quiet prints) low = absurd (quiet_status err line 3 status (omega arith) (omega arith) prints low)
+ends_quietly words files out err status (rejected line by left quiet prints) low = absurd (quiet_status err line 6 status (omega arith) (omega arith) prints low)
+ends_quietly words files out err status (failed line by have quiet prints) low = absurd (quiet_status err line 5 status (omega arith) (omega arith) prints low)
+ends_quietly words files out err status (wanting stored same quiet also h) low = also.got_same

@@ -12,17 +12,19 @@ use Rattle.proof_checker.specs.declared.checking.CheckError.{CheckError}
 use Rattle.proof_checker.specs.declared.checking.CheckError.TheVariants as Errors
 use Rattle.proof_checker.specs.Checks.{FailsAs}
 use Rattle.shex_inputs.specs.Held.{Held}
-use Rattle.simple_typing.specs.Simple.{IsSimpleSchema}
 use Rattle.shex_run.specs.Checking.{ConfirmStops, IsTrueOf}
 use Rattle.shex_run.specs.Proofs.{Accepted}
 use Rattle.shex_run.specs.Stopping.{check_stop}
 use Rattle.schema_tree.proofs.OneStrata.{strata_one}
-use Rattle.simple_typing.proofs.Flat.{has_typing}
+use Rattle.schema_tree.proofs.Strata.{stratum_stratified}
 
-pub is_true : (h : Held) → IsLoaded h.schema → IsSimpleSchema h.schema → TypingExists → Soundness → (bytes : List ℕ) (terms : List Term) (answers : List Answer) (a : Accepted h bytes terms answers) →
+pub is_true : (h : Held) → IsLoaded h.schema → TypingExists → Soundness → (bytes : List ℕ) (terms : List Term) (answers : List Answer) (a : Accepted h bytes terms answers) →
     IsTrueOf h terms a.found.nodes a.found.proof
-is_true h loaded simple exists sound bytes terms answers a = record {
-  exists = λ U. has_typing h.schema simple loaded exists terms h.graph U;
+is_true h loaded exists sound bytes terms answers a = record {
+  exists = λ U. (
+      let (T, complete) = exists h.schema terms h.graph a.strata U loaded (stratum_stratified h.schema a.strata a.are_strata) in
+      (a.strata, T, record { strata = a.are_strata; complete = complete })
+      );
   true_of = λ f U T ends holds typing.
       sound a.strata h.schema terms h.graph a.found.proof loaded accepts U holds T
       (subst (λ k. IsTheTyping h.schema terms h.graph k U T) (strata_one h.schema f a.strata typing.strata a.are_strata) typing.complete);

@@ -1,5 +1,5 @@
 -- How a call ends, from what it found.
-use Rattle.std.proofs.Common.{◌≡◌, ap, subst, sym, refl, List, ℕ, ◌⊎◌, inl, inr}
+use Rattle.std.proofs.Common.{◌≡◌, ap, subst, sym, refl, List, ℕ, inl, inr}
 use Rattle.std.specs.Prelude.{IfOk, Option, Result}
 use Rattle.clap.specs.Words.{Text}
 use Rattle.command_words.specs.Asked.{Command, IsAsked, IsFirstFault}
@@ -14,10 +14,10 @@ use Rattle.shex_run.specs.declared.stop.Refusal.TheVariants as Refusals
 use Rattle.shex_run.specs.declared.stop.Stop.{Stop}
 use Rattle.shex_run.specs.declared.stop.Stop.TheVariants as Stops
 use Rattle.shex_run.specs.Checking.{IsRejected}
-use Rattle.shex_run.specs.Endings.{AreLeft, Ends, FilesSeen, IsPartlyStored, IsQuiet, IsResponse, PrintsTo, SinkSeen, answered, failed, faulty, refused, rejected, wanting}
+use Rattle.shex_run.specs.Endings.{AreLeft, Ends, FilesSeen, IsPartlyStored, IsQuiet, IsResponse, PrintsBoth, PrintsTo, SinkSeen, answered, failed, faulty, refused, rejected, wanting}
 use Rattle.shex_run.specs.Printing.{Prints, RefusesWords}
 use Rattle.shex_run.specs.Proofs.{MayStore}
-use Rattle.shex_run.specs.Statuses.{refusal_status}
+use Rattle.shex_run.specs.Statuses.{IsAnswering, refusal_status}
 use Rattle.shex_run.specs.Stopping.{Explains, FaultsAs, LeavesStored}
 use Rattle.shex_run.specs.Tasks.{name_of}
 use Rattle.shex_run.specs.Texts.{failed_line, refusal_line, words_line}
@@ -28,8 +28,8 @@ module _ (words : List Text) (c : Command) (is_asked : IsAsked words c) (files :
   partly (inl still) = inl still
   partly (inr cut) = inr (c, is_asked, cut)
 
-  pub with_response : (text : List ℕ) (wanted : ℕ) → (wanted ≡ 0) ⊎ (wanted ≡ 1) → IsResponse files.told files.told_after c wanted text → files.faults_after ≡ files.faults → IsQuiet err → PrintsTo out text wanted status → Ends words files out err status
-  with_response text wanted low response still quiet prints = answered text wanted low (record { command = c; is_asked = is_asked; response = response }) still prints quiet
+  pub with_response : (text notes : List ℕ) (wanted : ℕ) → IsAnswering wanted → IsResponse files.told files.told_after c wanted text notes → files.faults_after ≡ files.faults → PrintsBoth out err text notes wanted status → Ends words files out err status
+  with_response text notes wanted low response still prints = answered text notes wanted low (record { command = c; is_asked = is_asked; response = response }) still prints
 
   -- what is printed where a call stops
   abbrev pub StopPrints : Stop → Type 0

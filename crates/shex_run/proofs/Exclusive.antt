@@ -80,13 +80,13 @@ module _ (told : Told) (contents : List ℕ → Option (List ℕ)) (e : told ≡
   asked_not_refused q asked refusal (of, refused) = (one.asked q asked).0 refusal refused
 
   -- and no file is absent
-  pub asked_not_absent : (map : Text) (proof : Option Text) → IsToValidate c map proof → (q : Question) → IsAskedOf told (inputs_of c) q → (file : File) → IsAbsent told c file → ⊥
-  asked_not_absent map proof is q asked (Files.Input source) (fetched, ((of, reached), lacks)) = (one.asked q asked).1 source (reached, lacks)
-  asked_not_absent map proof is q asked Files.Proof (fetched, (reached, lacks)) = subst (λ t. IsFetched t Files.Proof) is.task fetched
+  pub asked_not_absent : (map : Text) (proof : Option Text) (budget : ℕ) → IsToValidate c map proof budget → (q : Question) → IsAskedOf told (inputs_of c) q → (file : File) → IsAbsent told c file → ⊥
+  asked_not_absent map proof budget is q asked (Files.Input source) (fetched, ((of, reached), lacks)) = (one.asked q asked).1 source (reached, lacks)
+  asked_not_absent map proof budget is q asked Files.Proof (fetched, (reached, lacks)) = subst (λ t. IsFetched t Files.Proof) is fetched
 
   -- a proof is full only for a check
-  pub full_not_wish : (map : Text) (proof : Option Text) → IsToValidate c map proof → IsFull told c → ⊥
-  full_not_wish map proof is (h, bytes, given, full) = no_both map proof is.budget given.name (sym is.task ∙ given.task)
+  pub full_not_wish : (map : Text) (proof : Option Text) (budget : ℕ) → IsToValidate c map proof budget → IsFull told c → ⊥
+  full_not_wish map proof budget is (h, bytes, given, full) = no_both map proof budget given.name (sym is ∙ given.task)
 
   -- where the proof is given, none is absent
   pub given_not_absent : (h : Held) (bytes : List ℕ) (file : File) → IsGiven told c h bytes → IsAbsent told c file → ⊥

@@ -1,11 +1,13 @@
+pub mod Alone
 pub mod Answering
 pub mod Asked
 pub mod Closing
 pub mod Confirmed
+pub mod Decisions
 pub mod Ended
 pub mod Exclusive
+pub mod Fitting
 pub mod Replies
 pub mod Risen
 pub mod Selected
 pub mod Settled
-pub mod Simplicity

@@ -1,13 +1,23 @@
 -- The answers to what a map asks, as they are decided over what the code holds.
-use Rattle.std.proofs.Common.{◌≡◌, ◌≤◌, ap, sym, subst, List, length, ◌∙◌}
+use Rattle.std.proofs.Common.{◌≡◌, ◌≤◌, ap, sym, subst, ℕ, List, length, map, ◌∙◌}
 use Rattle.std.specs.Prelude.{All, Bool, IfSome, Option, Some, None}
 use Rattle.std.specs.Str.{IsUtf8}
 use Rattle.shex_io.specs.Files.{Told}
 use Rattle.rdf_terms.specs.Tables.{max_terms}
+use Rattle.rdf_terms.specs.declared.terms.Term.{Term}
+use Rattle.rdf_terms.specs.declared.terms.Triple.{Triple}
 use Rattle.graph_index.specs.Contents.{IsSealedWith}
 use Rattle.graph_index.specs.Laws.{IsOfTable}
+use Rattle.schema_tree.specs.declared.schema.Pair.{Pair}
+use Rattle.schema_tree.specs.declared.schema.Schema.{Schema}
+use Rattle.schema_tree.specs.Edges.{IsStratum}
+use Rattle.schema_tree.specs.Laws.{DecidedByFormIsDecided}
 use Rattle.schema_tree.specs.Loaded.{IsLoaded}
+use Rattle.schema_tree.specs.Needs.{HoldNeeds}
+use Rattle.schema_tree.specs.Removal.{IsRefined}
 use Rattle.proof_file.specs.declared.Proof.{Proof}
+use Rattle.demand.specs.Demand.{AreAsked}
+use Rattle.demand.specs.Orders.{max_pairs}
 use Rattle.shape_map.specs.declared.resolve.Association.{Association}
 use Rattle.shape_map.specs.Results.{result_text}
 use Rattle.shape_map.specs.Selection.{max_associations}
@@ -16,69 +26,110 @@ use Rattle.shape_map.specs.Maps.{MapHasLines}
 use Rattle.command_words.specs.Laws.{BasesAreLines}
 use Rattle.command_words.specs.Asked.{Command}
 use Rattle.shex_inputs.specs.declared.holding.Holding.{Holding}
-use Rattle.shex_inputs.specs.Asked.{IsAskedOf, Question}
-use Rattle.shape_map.specs.Answers.{AreAnswersTo, IsAsked}
-use Rattle.simple_typing.specs.Answers.{HasLines, IsFlatProofOf as Proves}
-use Rattle.simple_typing.specs.Simple.{IsSimpleSchema}
+use Rattle.shex_inputs.specs.Asked.{IsAskedOf, Question, root_of}
+use Rattle.shape_map.specs.Answers.{IsAsked}
+use Rattle.typing_answers.specs.Proofs.{HasLines, IsProofOf as Proves}
+use Rattle.typing_answers.specs.Replies.{AreReplies}
 use Rattle.shex_run.specs.declared.deciding.Decided.{Decided}
-use Rattle.shex_run.specs.Ready.{IsDecided, IsReady, IsReply, IsReplyProof}
+use Rattle.shex_run.specs.Ready.{AreOnLines, IsDecided, IsReady, IsReply, IsReplyProof}
 use Rattle.shex_run.specs.Statuses.{status_of}
-use Rattle.shex_run.specs.Stopping.{HasBases}
-use Rattle.shex_run.specs.Tasks.{inputs_of}
-use Rattle.shex_run.proofs.Asked.{asked, few, lines, proved}
-use Rattle.shex_run.proofs.Simplicity.{simple_schema}
+use Rattle.shex_run.specs.Stopping.{IsFit}
+use Rattle.shex_run.specs.Tasks.{IsToValidate, inputs_of}
+use Rattle.shex_run.specs.Texts.{notes_by}
+use Rattle.shex_run.specs.Wide.{AreWide}
+use Rattle.shex_run.proofs.Asked.{asked, ends, few, lines, proved}
 
 -- what follows of what is there
 some_weaker : {X : Type 0} (P Q : X → Type 0) → ((x : X) → P x → Q x) → (o : Option X) → IfSome o P → IfSome o Q
 some_weaker P Q f (Some x) h = f x h
 some_weaker P Q f None h = h
 
-module _ (told : Told) (c : Command) (q : Question) (is : IsAskedOf told (inputs_of c) q) (b : Holding) (schema : b.schema ≡ q.held.schema) (terms : b.terms ≡ q.terms) (graph : b.graph.triples ≡ q.held.graph)
-    (xs : List Association) (same : xs ≡ q.associations) where
-  -- what is so of the question is so of what the code holds
-  ready_by : All (IsOfTable b.terms) b.graph.triples → All (IsOfTable q.terms) q.held.graph
-  ready_by all = subst (λ g. All (IsOfTable q.terms) g) graph (subst (λ ts. All (IsOfTable ts) b.graph.triples) terms all)
+-- what a question holds, as the code holds it
+pub record IsHeld (b : Holding) (xs : List Association) (ps : List Pair) (q : Question) : Type 0 where
+  pub schema : b.schema ≡ q.held.schema
+  pub strata : b.strata ≡ q.held.strata
+  pub terms : b.terms ≡ q.terms
+  pub graph : b.graph.triples ≡ q.held.graph
+  pub associations : xs ≡ q.associations
+  pub pairs : ps ≡ q.pairs
 
-  pub ready : IsSealedWith b.terms b.graph → All (IsOfTable b.terms) b.graph.triples → HasBases c → IsUtf8 c.schema_base → IsUtf8 c.data_base → DataHaveLines → MapHasLines → BasesAreLines → IsReady b xs
-  ready sealed all bases one other data_law map_law base_law = record {
-    loaded = subst (λ s. IsLoaded s) (sym schema) is.taken.holding.stands.loaded;
-    simple = subst (λ s. IsSimpleSchema s) (sym schema) (simple_schema q.held.terms is.taken.doc q.held.schema is.taken.holding.stands is.taken.holding.built);
+-- what is so of the question is so of what the code holds, and the other way round
+module _ (b : Holding) (xs : List Association) (pairs : List Pair) (q : Question) (is : IsHeld b xs pairs q) (P : Schema → List ℕ → List Term → List Triple → List Association → List Pair → Type 0) where
+  pub to_code : P q.held.schema q.held.strata q.terms q.held.graph q.associations q.pairs → P b.schema b.strata b.terms b.graph.triples xs pairs
+  to_code h =
+      subst (λ s. P s b.strata b.terms b.graph.triples xs pairs) (sym is.schema)
+      (subst (λ f. P q.held.schema f b.terms b.graph.triples xs pairs) (sym is.strata)
+      (subst (λ ts. P q.held.schema q.held.strata ts b.graph.triples xs pairs) (sym is.terms)
+      (subst (λ g. P q.held.schema q.held.strata q.terms g xs pairs) (sym is.graph)
+      (subst (λ ys. P q.held.schema q.held.strata q.terms q.held.graph ys pairs) (sym is.associations)
+      (subst (λ ps. P q.held.schema q.held.strata q.terms q.held.graph q.associations ps) (sym is.pairs) h)))))
+
+  pub to_question : P b.schema b.strata b.terms b.graph.triples xs pairs → P q.held.schema q.held.strata q.terms q.held.graph q.associations q.pairs
+  to_question h =
+      subst (λ ps. P q.held.schema q.held.strata q.terms q.held.graph q.associations ps) is.pairs
+      (subst (λ ys. P q.held.schema q.held.strata q.terms q.held.graph ys pairs) is.associations
+      (subst (λ g. P q.held.schema q.held.strata q.terms g xs pairs) is.graph
+      (subst (λ ts. P q.held.schema q.held.strata ts b.graph.triples xs pairs) is.terms
+      (subst (λ f. P q.held.schema f b.terms b.graph.triples xs pairs) is.strata
+      (subst (λ s. P s b.strata b.terms b.graph.triples xs pairs) is.schema h)))))
+
+module _ (told : Told) (c : Command) (q : Question) (of : IsAskedOf told (inputs_of c) q) (b : Holding) (xs : List Association) (pairs : List Pair) (is : IsHeld b xs pairs q) (fit : IsFit c) where
+  code : (P : Schema → List ℕ → List Term → List Triple → List Association → List Pair → Type 0) → P q.held.schema q.held.strata q.terms q.held.graph q.associations q.pairs → P b.schema b.strata b.terms b.graph.triples xs pairs
+  code P h = to_code b xs pairs q is P h
+
+  of_question : All (IsOfTable b.terms) b.graph.triples → All (IsOfTable q.terms) q.held.graph
+  of_question all = to_question b xs pairs q is (λ s f ts g ys ps. All (IsOfTable ts) g) all
+
+  -- the question can be answered over what the code holds
+  pub ready : (map_name : List ℕ) (proof_name : Option (List ℕ)) (budget : ℕ) → IsToValidate c map_name proof_name budget → IsLoaded b.schema → IsSealedWith b.terms b.graph → All (IsOfTable b.terms) b.graph.triples → HoldNeeds b.schema b.graph.triples pairs →
+      IsUtf8 c.schema_base → IsUtf8 c.data_base → DataHaveLines → MapHasLines → BasesAreLines → IsReady b xs pairs budget
+  ready map_name proof_name budget task loaded sealed all needs one other data_law map_law base_law = record {
+    within = (fit.budget map_name proof_name budget task).1;
+    loaded = loaded;
+    strata = code (λ s f ts g ys ps. IsStratum s f) of.taken.holding.is_schema.strata;
     sealed = sealed;
     of_table = all;
-    asked = subst (λ s. All (IsAsked s b.terms) xs) (sym schema) (subst (λ ts. All (IsAsked q.held.schema ts) xs) (sym terms) (subst (λ ys. All (IsAsked q.held.schema q.terms) ys) (sym same) (asked told c q is (ready_by all))));
-    few = subst (λ ys. length ys ≤ max_associations) (sym same) (few told c q is);
-    lines = subst (λ ts. All (HasLines ts) xs) (sym terms) (subst (λ ys. All (HasLines q.terms) ys) (sym same) (lines told c q is bases one other data_law map_law base_law));
+    asked = code (λ s f ts g ys ps. All (IsAsked s ts) ys) (asked told c q of (of_question all));
+    few = code (λ s f ts g ys ps. length ys ≤ max_associations) (few told c q of);
+    reached = code (λ s f ts g ys ps. AreAsked s ts g (map root_of ys) ps) of.asked;
+    needs = needs;
+    few_pairs = code (λ s f ts g ys ps. length ps ≤ max_pairs) of.few;
+    lines = code (λ s f ts g ys ps. All (HasLines ts) ys) (lines told c q of fit one other data_law map_law base_law);
+    ends = code (λ s f ts g ys ps. AreOnLines ts g) (ends told c q of fit one other data_law map_law base_law);
   }
 
-  module _ (with_proof : Bool) (d : Decided) (decided : IsDecided b xs with_proof d) where
-    truth : AreAnswersTo q.held.schema q.terms q.held.graph q.associations decided.answers
-    truth =
-        subst (λ ys. AreAnswersTo q.held.schema q.terms q.held.graph ys decided.answers) same
-        (subst (λ g. AreAnswersTo q.held.schema q.terms g xs decided.answers) graph
-        (subst (λ ts. AreAnswersTo q.held.schema ts b.graph.triples xs decided.answers) terms
-        (subst (λ s. AreAnswersTo s b.terms b.graph.triples xs decided.answers) schema decided.truth)))
+  module _ (map_name : List ℕ) (proof_name : Option (List ℕ)) (budget : ℕ) (task : IsToValidate c map_name proof_name budget) (with_proof : Bool) (d : Decided) (decided : IsDecided b xs pairs budget with_proof d) where
+    question : (P : Schema → List ℕ → List Term → List Triple → List Association → List Pair → Type 0) → P b.schema b.strata b.terms b.graph.triples xs pairs → P q.held.schema q.held.strata q.terms q.held.graph q.associations q.pairs
+    question P h = to_question b xs pairs q is P h
 
-    proof : (p : Proof) → Proves b.schema b.terms b.graph.triples decided.answers p → Proves q.held.schema q.terms q.held.graph decided.answers p
-    proof p proves =
-        subst (λ g. Proves q.held.schema q.terms g decided.answers p) graph
-        (subst (λ ts. Proves q.held.schema ts b.graph.triples decided.answers p) terms
-        (subst (λ s. Proves s b.terms b.graph.triples decided.answers p) schema proves))
+    replies : AreReplies q.held.schema q.terms decided.verdicts q.held.graph budget q.associations decided.answers
+    replies = question (λ s f ts g ys ps. AreReplies s ts decided.verdicts g budget ys decided.answers) decided.replies
 
-    reply_proof : length b.terms ≤ max_terms → (p : Proof) → Proves b.schema b.terms b.graph.triples decided.answers p → IsReplyProof q decided.answers p
-    reply_proof within p proves = record {
+    reply_proof : length b.terms ≤ max_terms → All (IsOfTable q.held.terms) q.held.graph → DecidedByFormIsDecided → (p : Proof) → Proves b.strata b.schema b.terms b.graph.triples pairs budget decided.answers p → IsReplyProof q budget decided.answers p
+    reply_proof within of_held law p proves = record {
       keeps = proves.keeps;
       no_feeds = proves.no_feeds;
-      proves = λ bytes text. proved told c q is decided.answers truth p (proof p proves) bytes text (subst (λ ts. length ts ≤ max_terms) terms within);
+      proves = λ bytes text.
+          proved told c q of of_held budget (fit.budget map_name proof_name budget task).0 law decided.verdicts decided.answers replies p
+          (question (λ s f ts g ys ps. Proves f s ts g ps budget decided.answers p) proves) bytes text (subst (λ ts. length ts ≤ max_terms) is.terms within);
     }
 
-    pub reply : length b.terms ≤ max_terms → IsReply told c with_proof d
-    reply within = record {
+    pub reply : length b.terms ≤ max_terms → All (IsOfTable q.held.terms) q.held.graph → DecidedByFormIsDecided → IsReply told c budget with_proof d
+    reply within of_held law = record {
       question = q;
       answers = decided.answers;
-      are_answers = record { asked = is; truth = truth };
+      are_answers = record {
+        asked = of;
+        verdicts = decided.verdicts;
+        refined = question (λ s f ts g ys ps. IsRefined s ts g f ps budget decided.verdicts) decided.refined;
+        replies = replies;
+      };
       low = decided.low;
-      status_is = decided.status_is ∙ ap (λ ys. status_of ys decided.answers) same;
-      text_is = decided.text_is ∙ ap (λ ts. result_text ts decided.answers) terms;
-      proof = some_weaker (Proves b.schema b.terms b.graph.triples decided.answers) (IsReplyProof q decided.answers) (reply_proof within) d.proof decided.proof;
+      status_is = decided.status_is ∙ ap (λ ys. status_of ys decided.answers) is.associations;
+      text_is = decided.text_is ∙ ap (λ ts. result_text ts decided.answers) is.terms;
+      wide = decided.wide;
+      are_wide = question (λ s f ts g ys ps. AreWide s ts g budget ps decided.wide) decided.are_wide;
+      notes_are = decided.notes_are ∙ ap (λ ts. notes_by ts (length xs) budget decided.answers decided.wide) is.terms ∙ ap (λ ys. notes_by q.terms (length ys) budget decided.answers decided.wide) is.associations;
+      proof = some_weaker (Proves b.strata b.schema b.terms b.graph.triples pairs budget decided.answers) (IsReplyProof q budget decided.answers) (reply_proof within of_held law) d.proof decided.proof;
       wanted = decided.wanted;
     }

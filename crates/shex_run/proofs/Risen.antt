@@ -1,4 +1,4 @@
--- A table takes up two rising lists alike where the second has all of the first and nothing new beside it.
+-- A table takes up two rising lists alike where the second has all of the first that the table has not, and nothing new beside it.
 use Rattle.std.proofs.Common.{◌≡◌, ◌∙◌, sym, subst, refl, List, [], ◌∷◌, inl, inr, ◌⊎◌}
 use Rattle.std.specs.Prelude.{Contains}
 use Rattle.std.specs.Cmp.{tied_itself}
@@ -7,7 +7,7 @@ use Rattle.std.specs.List.Sorted.{IsStrictlySortedBy}
 use Rattle.std.specs.Ordering.{nat_cmp}
 use Rattle.std.specs.declared.cmp.Ordering.{Ordering}
 use Rattle.std.specs.declared.cmp.Ordering.TheVariants.{Less, Equal}
-use Rattle.std.proofs.lemmas.List.Elements.{Contains-push_cases}
+use Rattle.std.proofs.lemmas.List.Elements.{Contains-append_left, Contains-push_cases}
 use Rattle.lists.specs.Additions.{Adds, AddsAll, none, more}
 use Rattle.rdf_terms.specs.Written.{term_text}
 use Rattle.rdf_terms.specs.declared.terms.Term.{Term}
@@ -63,21 +63,35 @@ all_from old (x ∷ xs) new (more {mid = mid} adds later) t h = elim (all_from m
   | inr after ↦ inr (is_later x xs t after)
 ]
 
-pub taken_up : (old xs new ys : List Term) → AddsAll old xs new → IsStrictlySortedBy order xs → Rises IsTermBefore ys → ((t : Term) → Contains xs t → Contains ys t) → ((t : Term) → Contains ys t → Contains new t) → TakesUp old ys new
+pub taken_up : (old xs new ys : List Term) → AddsAll old xs new → IsStrictlySortedBy order xs → Rises IsTermBefore ys → ((t : Term) → Contains xs t → Contains ys t ⊎ Contains old t) → ((t : Term) → Contains ys t → Contains new t) → TakesUp old ys new
 taken_up old [] new [] none sorted rises among there = refl
-taken_up old (x ∷ xs) new [] adds sorted rises among there = absurd (not_in_none x (among x (is_first x xs)))
 taken_up old [] new (y ∷ ys) none sorted rises among there =
     (old, inl (there y (is_first y ys), refl), taken_up old [] new ys none sorted (rest_rises y ys rises) (λ t h. absurd (not_in_none t h)) (λ t h. there t (is_later y ys t h)))
-taken_up old (x ∷ xs) new (y ∷ ys) (more {mid = mid} adds later) sorted rises among there = elim (in_rest y ys x (among x (is_first x xs))) [
-  | inl e ↦ (mid, subst (λ z. Adds old z mid) (sym e) adds, taken_up mid xs new ys later (sorted_rest x xs sorted) (rest_rises y ys rises) (others e) (λ t h. there t (is_later y ys t h)))
-  | inr below ↦ (old, inl (held below, refl), taken_up old (x ∷ xs) new ys (more adds later) sorted (rest_rises y ys rises) (behind below) (λ t h. there t (is_later y ys t h)))
+taken_up old (x ∷ xs) new ys (more {mid = mid} (inl (held, same)) later) sorted rises among there =
+    taken_up old xs new ys (subst (λ z. AddsAll z xs new) same later) (sorted_rest x xs sorted) rises (λ t h. among t (is_later x xs t h)) there
+taken_up old (x ∷ xs) new [] (more {mid = mid} (inr (fresh, added)) later) sorted rises among there = elim (among x (is_first x xs)) [
+  | inl listed ↦ absurd (not_in_none x listed)
+  | inr before ↦ absurd (fresh before)
+]
+taken_up old (x ∷ xs) new (y ∷ ys) (more {mid = mid} (inr (fresh, added)) later) sorted rises among there = elim (in_rest y ys x listed) [
+  | inl e ↦ (mid, subst (λ z. Adds old z mid) (sym e) (inr (fresh, added)), taken_up mid xs new ys later (sorted_rest x xs sorted) (rest_rises y ys rises) (others e) (λ t h. there t (is_later y ys t h)))
+  | inr below ↦ (old, inl (held below, refl), taken_up old (x ∷ xs) new ys (more (inr (fresh, added)) later) sorted (rest_rises y ys rises) (behind below) (λ t h. there t (is_later y ys t h)))
 ]
   where
+    listed : Contains (y ∷ ys) x
+    listed = elim (among x (is_first x xs)) [
+      | inl h ↦ h
+      | inr before ↦ absurd (fresh before)
+    ]
+
     -- where the first items are one, the others are among the others
-    others : y ≡ x → (t : Term) → Contains xs t → Contains ys t
-    others e t h = elim (in_rest y ys t (among t (is_later x xs t h))) [
-      | inl same ↦ absurd (not_below_itself x (subst (λ z. order x z ≡ Less) (sym same ∙ e) (sorted_above x xs sorted t h)))
-      | inr after ↦ after
+    others : y ≡ x → (t : Term) → Contains xs t → Contains ys t ⊎ Contains mid t
+    others e t h = elim (among t (is_later x xs t h)) [
+      | inl there_too ↦ elim (in_rest y ys t there_too) [
+        | inl same ↦ absurd (not_below_itself x (subst (λ z. order x z ≡ Less) (sym same ∙ e) (sorted_above x xs sorted t h)))
+        | inr after ↦ inl after
+      ]
+      | inr before ↦ inr (subst (λ z. Contains z t) (sym added) (Contains-append_left old (x ∷ []) t before))
     ]
 
     -- where the first of the one is behind the first of the other, that one is not among the first list
@@ -88,13 +102,16 @@ taken_up old (x ∷ xs) new (y ∷ ys) (more {mid = mid} adds later) sorted rise
     ]
 
     held : Contains ys x → Contains old y
-    held below = elim (all_from old (x ∷ xs) new (more adds later) y (there y (is_first y ys))) [
+    held below = elim (all_from old (x ∷ xs) new (more (inr (fresh, added)) later) y (there y (is_first y ys))) [
       | inl before ↦ before
-      | inr listed ↦ absurd (not_listed below listed)
+      | inr after ↦ absurd (not_listed below after)
     ]
 
-    behind : Contains ys x → (t : Term) → Contains (x ∷ xs) t → Contains ys t
-    behind below t h = elim (in_rest y ys t (among t h)) [
-      | inl e ↦ absurd (not_listed below (subst (λ z. Contains (x ∷ xs) z) (sym e) h))
-      | inr after ↦ after
+    behind : Contains ys x → (t : Term) → Contains (x ∷ xs) t → Contains ys t ⊎ Contains old t
+    behind below t h = elim (among t h) [
+      | inl there_too ↦ elim (in_rest y ys t there_too) [
+        | inl e ↦ absurd (not_listed below (subst (λ z. Contains (x ∷ xs) z) (sym e) h))
+        | inr later_one ↦ inl later_one
+      ]
+      | inr before ↦ inr before
     ]

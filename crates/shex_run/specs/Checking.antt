@@ -5,8 +5,6 @@ use Rattle.shex_io.specs.Files.{Told, Holds}
 use Rattle.rdf_terms.specs.Tables.{max_terms}
 use Rattle.rdf_terms.specs.declared.terms.Term.{Term}
 use Rattle.rdf_terms.specs.declared.terms.TermId.{TermId}
-use Rattle.graph_index.specs.declared.loading.TermTriple.{TermTriple}
-use Rattle.schema_documents.specs.Tree.{Document}
 use Rattle.schema_tree.specs.declared.schema.Answer.{Answer}
 use Rattle.schema_tree.specs.declared.schema.Pair.{Pair}
 use Rattle.schema_tree.specs.Edges.{IsStratum}
@@ -21,7 +19,7 @@ use Rattle.proof_checker.specs.Checks.{IsFullFor, IsRejectedAs}
 use Rattle.shape_map.specs.Results.{result_text}
 use Rattle.schema_tree.specs.Truths.{IsTypingOf}
 use Rattle.command_words.specs.Asked.{Command}
-use Rattle.shex_inputs.specs.Held.{Held, IsHolding, IsTaken}
+use Rattle.shex_inputs.specs.Held.{Held, IsTaken}
 use Rattle.shex_run.specs.declared.stop.Refusal.TheVariants as Refusals
 use Rattle.shex_run.specs.declared.stop.Stop.{Stop}
 use Rattle.shex_run.specs.declared.stop.Stop.TheVariants as Stops
@@ -78,10 +76,6 @@ IsRejected told c error = (h : Held) × (bytes : List ℕ) × IsGiven told c h b
 -- the table cannot take up the node lines of the proof that the proof's file holds
 abbrev pub IsFull : Told → Command → Type 0
 IsFull told c = (h : Held) × (bytes : List ℕ) × IsGiven told c h bytes × IsFullFor h.terms bytes
-
--- the schema and the graph are those of some documents
-abbrev pub IsSomeHolding : Held → Type 0
-IsSomeHolding h = (doc : Document) × (triples : List TermTriple) × IsHolding doc triples h
 
 -- the bytes are refused for this cause: they are rejected, or the table cannot take up the node lines
 abbrev pub Refuses : Held → List ℕ → CheckError → Type 0

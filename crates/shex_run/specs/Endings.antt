@@ -1,9 +1,9 @@
 -- How a call ends, and what it has printed and stored then.
-use Rattle.std.specs.Prelude.{ℕ, List, ◌≡◌, ◌≤◌, ◌⊎◌, Option, Some}
+use Rattle.std.specs.Prelude.{ℕ, List, [], ◌≡◌, ◌≤◌, ◌⊎◌, Option, Some}
 use Rattle.clap.specs.Words.{Text}
 use Rattle.shex_io.specs.Faults.{Rose}
 use Rattle.shex_io.specs.Files.{Told, KeepsOthers}
-use Rattle.shex_io.specs.Sinks.{GainsPrefix}
+use Rattle.shex_io.specs.Sinks.{Gains, GainsPrefix}
 use Rattle.shex_io.specs.declared.files.Act.{Act}
 use Rattle.schema_tree.specs.declared.schema.Answer.{Answer}
 use Rattle.shape_map.specs.Results.{result_text}
@@ -17,41 +17,48 @@ use Rattle.shex_run.specs.declared.stop.File.{File}
 use Rattle.shex_run.specs.declared.stop.Refusal.TheVariants as Refusals
 use Rattle.shex_run.specs.Checking.{IsCheckedAs, IsFull, IsRejected}
 use Rattle.shex_run.specs.Outcomes.{IsRefused, Reaches}
-use Rattle.shex_run.specs.Printing.{Prints}
+use Rattle.shex_run.specs.Printing.{IsCut, Prints}
 use Rattle.shex_run.specs.Proofs.{AreAnswers, IsCutStore, IsDueProof, IsStoredProofOf, Stores}
-use Rattle.shex_run.specs.Statuses.{status_of}
+use Rattle.shex_run.specs.Statuses.{IsAnswering, status_of}
 use Rattle.shex_run.specs.Tasks.{IsToValidate, act_of, name_of}
-use Rattle.shex_run.specs.Texts.{failed_line, refusal_line, words_line}
+use Rattle.shex_run.specs.Texts.{failed_line, refusal_line, notes_of, words_line}
+use Rattle.shex_run.specs.Wide.{AreWide}
+use Rattle.typing_refiner.specs.declared.building.WidePair.{WidePair}
 
--- the text is the result map of the true answers to what the map asks of the files, one for each association, in their order, and
--- the status is 0 where each is as its association wants, and else 1; where a name is given, it holds a proof of the answers that
--- has no more than they ask for, and no other name changed
-pub record IsAnswered (told after : Told) (c : Command) (status : ℕ) (text : List ℕ) : Type 0 where
+-- the text is the result map of the true answers to what the map asks of the files, and the notes are those that are due; the status
+-- is 4 where some association has no answer, 0 where each is answered as it wants, and else 1; where a name is given, it holds a
+-- proof of the answers, and no other name changed
+pub record IsAnswered (told after : Told) (c : Command) (status : ℕ) (text notes : List ℕ) : Type 0 where
   pub map_name : Text
   pub proof_name : Option Text
-  pub task : IsToValidate c map_name proof_name
+  pub budget : ℕ
+  pub task : IsToValidate c map_name proof_name budget
   pub question : Question
   pub answers : List Answer
-  pub are_answers : AreAnswers told c question answers
-  pub stored : Stores told after proof_name (IsStoredProofOf question answers)
+  pub are_answers : AreAnswers told c question budget answers
+  pub stored : Stores told after proof_name (IsStoredProofOf question budget answers)
   pub status_is : status ≡ status_of question.associations answers
   pub text_is : text ≡ result_text question.terms answers
+  pub wide : List WidePair
+  pub are_wide : AreWide question.held.schema question.terms question.held.graph budget question.pairs wide
+  pub notes_are : notes ≡ notes_of question budget answers wide
 
--- the text is the result map of the claims of an accepted proof, and nothing is stored
-pub record IsConfirmed (told after : Told) (c : Command) (status : ℕ) (text : List ℕ) : Type 0 where
+-- the text is the result map of the claims of an accepted proof, nothing more is due, and nothing is stored
+pub record IsConfirmed (told after : Told) (c : Command) (status : ℕ) (text notes : List ℕ) : Type 0 where
   pub checked : IsCheckedAs told c text
   pub unstored : after ≡ told
   pub status_is : status ≡ 0
+  pub notes_are : notes ≡ []
 
--- the text answers the command
-abbrev pub IsResponse : Told → Told → Command → ℕ → List ℕ → Type 0
-IsResponse told after c status text = IsAnswered told after c status text ⊎ IsConfirmed told after c status text
+-- the text answers the command, and the notes say what is left out
+abbrev pub IsResponse : Told → Told → Command → ℕ → List ℕ → List ℕ → Type 0
+IsResponse told after c status text notes = IsAnswered told after c status text notes ⊎ IsConfirmed told after c status text notes
 
--- the text answers what the words ask
-pub record IsRespondedTo (told after : Told) (words : List Text) (status : ℕ) (text : List ℕ) : Type 0 where
+-- the text answers what the words ask, and the notes say what is left out
+pub record IsRespondedTo (told after : Told) (words : List Text) (status : ℕ) (text notes : List ℕ) : Type 0 where
   pub command : Command
   pub is_asked : IsAsked words command
-  pub response : IsResponse told after command status text
+  pub response : IsResponse told after command status text notes
 
 -- the line is that of the first fault of the words
 abbrev pub IsWordsLine : List Text → List ℕ → Type 0
@@ -112,7 +119,7 @@ IsPartlyStored told after words = (after ≡ told) ⊎ ((c : Command) × IsAsked
 -- each name holds what it held, but for the one under which the words ask for a proof to be stored
 abbrev pub KeepsTold : Told → Told → List Text → Type 0
 KeepsTold told after words =
-    (after ≡ told) ⊎ ((c : Command) × IsAsked words c × ((map_name name : Text) × IsToValidate c map_name (Some name) × KeepsOthers told after name))
+    (after ≡ told) ⊎ ((c : Command) × IsAsked words c × ((map_name name : Text) × (budget : ℕ) × IsToValidate c map_name (Some name) budget × KeepsOthers told after name))
 
 -- nothing was printed, and no fault came
 pub record IsQuiet (sink : SinkSeen) : Type 0 where
@@ -122,6 +129,12 @@ pub record IsQuiet (sink : SinkSeen) : Type 0 where
 -- the text was printed, or a prefix of it where printing stopped
 abbrev pub PrintsTo : SinkSeen → List ℕ → ℕ → ℕ → Type 0
 PrintsTo sink text wanted status = Prints sink.got sink.got_after sink.faults sink.faults_after text wanted status
+
+-- the text was printed to the output, and then the notes to the error stream, or a prefix where printing stopped
+abbrev pub PrintsBoth : SinkSeen → SinkSeen → List ℕ → List ℕ → ℕ → ℕ → Type 0
+PrintsBoth out err text notes wanted status =
+    (Gains out.got out.got_after text × (out.faults_after ≡ out.faults) × PrintsTo err notes wanted status)
+    ⊎ (IsCut out.got out.got_after out.faults out.faults_after text status × IsQuiet err)
 
 -- nothing is stored, and no fault of the files came
 pub record AreLeft (files : FilesSeen) : Type 0 where
@@ -137,7 +150,7 @@ pub record HaveFailed (files : FilesSeen) (words : List Text) : Type 0 where
 -- call on a file failed; or memory ran out before anything was printed
 pub data Ends (words : List Text) (files : FilesSeen) (out err : SinkSeen) (status : ℕ) : Type 0 where
   faulty : (line : List ℕ) → IsWordsLine words line → AreLeft files → IsQuiet out → PrintsTo err line 2 status → Ends words files out err status
-  answered : (text : List ℕ) (wanted : ℕ) → (wanted ≡ 0) ⊎ (wanted ≡ 1) → IsRespondedTo files.told files.told_after words wanted text → files.faults_after ≡ files.faults → PrintsTo out text wanted status → IsQuiet err → Ends words files out err status
+  answered : (text notes : List ℕ) (wanted : ℕ) → IsAnswering wanted → IsRespondedTo files.told files.told_after words wanted text notes → files.faults_after ≡ files.faults → PrintsBoth out err text notes wanted status → Ends words files out err status
   refused : (line : List ℕ) → IsRefusedBy files.told words line → AreLeft files → IsQuiet out → PrintsTo err line 3 status → Ends words files out err status
   rejected : (line : List ℕ) → IsRejectedBy files.told words line → AreLeft files → IsQuiet out → PrintsTo err line 6 status → Ends words files out err status
   failed : (line : List ℕ) → IsFailedBy files words line → HaveFailed files words → IsQuiet out → PrintsTo err line 5 status → Ends words files out err status
@@ -150,10 +163,12 @@ IsDue files words line =
     ((IsWordsLine words line ⊎ (IsRefusedBy files.told words line ⊎ IsRejectedBy files.told words line)) × AreLeft files)
     ⊎ (IsFailedBy files words line × HaveFailed files words)
 
--- printing stopped: the output got a prefix of the text that answers, whose proof is stored whole if one is asked for; or the error
--- stream got a prefix of the line that is due to it. The other sink got nothing
+-- printing stopped: the output got a prefix of the text that answers, whose proof is stored whole if one is asked for; or it got that
+-- text, and the error stream a prefix of the notes; or the error stream got a prefix of the line that is due to it. The other sink got
+-- nothing
 pub data IsPrintedInPart (words : List Text) (files : FilesSeen) (out err : SinkSeen) : Type 0 where
-  answer_in_part : (text : List ℕ) (status : ℕ) → IsRespondedTo files.told files.told_after words status text → files.faults_after ≡ files.faults → GainsPrefix out.got out.got_after text → IsQuiet err → IsPrintedInPart words files out err
+  answer_in_part : (text notes : List ℕ) (status : ℕ) → IsRespondedTo files.told files.told_after words status text notes → files.faults_after ≡ files.faults → GainsPrefix out.got out.got_after text → IsQuiet err → IsPrintedInPart words files out err
+  notes_in_part : (text notes : List ℕ) (status : ℕ) → IsRespondedTo files.told files.told_after words status text notes → files.faults_after ≡ files.faults → Gains out.got out.got_after text → GainsPrefix err.got err.got_after notes → IsPrintedInPart words files out err
   line_in_part : (line : List ℕ) → IsDue files words line → IsQuiet out → GainsPrefix err.got err.got_after line → IsPrintedInPart words files out err
 
 -- nothing was printed, and the proof is stored in part at most; no fault came

@@ -8,3 +8,4 @@ pub mod Ready
 pub mod Texts
 pub mod Printing
 pub mod Endings
+pub mod Wide

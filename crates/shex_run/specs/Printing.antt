@@ -7,13 +7,16 @@ use Rattle.command_words.specs.declared.error.WordsError.{WordsError}
 use Rattle.command_words.specs.declared.error.WordsError.TheVariants as Errors
 use Rattle.shex_run.specs.Texts.{words_line}
 
--- the text is printed whole and the status is the one that is wanted; or a prefix of it is printed, and the status is 7,
--- where the sink failed, or 8, where memory ran out
+-- a prefix of the text is printed, and the status is 7, where the sink failed, or 8, where memory ran out
+abbrev pub IsCut : Option (List ℕ) → Option (List ℕ) → ℕ → ℕ → List ℕ → ℕ → Type 0
+IsCut before after faults faults_after text status =
+    ((status ≡ 7) × GainsPrefix before after text × Rose faults faults_after × (faults ≤ faults_after))
+    ⊎ ((status ≡ 8) × GainsPrefix before after text × (faults_after ≡ faults))
+
+-- the text is printed whole and the status is the one that is wanted; or printing stopped
 abbrev pub Prints : Option (List ℕ) → Option (List ℕ) → ℕ → ℕ → List ℕ → ℕ → ℕ → Type 0
 Prints before after faults faults_after text wanted status =
-    ((status ≡ wanted) × Gains before after text × (faults_after ≡ faults))
-    ⊎ (((status ≡ 7) × GainsPrefix before after text × Rose faults faults_after × (faults ≤ faults_after))
-    ⊎ ((status ≡ 8) × GainsPrefix before after text × (faults_after ≡ faults)))
+    ((status ≡ wanted) × Gains before after text × (faults_after ≡ faults)) ⊎ IsCut before after faults faults_after text status
 
 -- the line of the words' fault is printed; or memory ran out before, and nothing is
 abbrev pub RefusesWords : WordsError → Option (List ℕ) → Option (List ℕ) → ℕ → ℕ → ℕ → Type 0

@@ -10,8 +10,10 @@ use Rattle.proof_checker.specs.Checks.{IsAcceptedAs}
 use Rattle.command_words.specs.Asked.{Command}
 use Rattle.shex_inputs.specs.Asked.{IsAskedOf, Question}
 use Rattle.shex_inputs.specs.Held.{Held}
-use Rattle.shape_map.specs.Answers.{AreAnswersTo}
-use Rattle.proof_file.specs.Answers.{AsksNoMore}
+use Rattle.schema_tree.specs.Removal.{IsRefined}
+use Rattle.schema_tree.specs.Sure.{Known}
+use Rattle.typing_answers.specs.Proofs.{AreRecordsOf, HasNoMoreNodes}
+use Rattle.typing_answers.specs.Replies.{AreReplies}
 use Rattle.shex_run.specs.Tasks.{IsToValidate, inputs_of}
 
 -- the bytes are the text of a proof that is accepted for the schema, with each Shape on its stratum, and the graph, the table,
@@ -22,17 +24,22 @@ pub record Accepted (h : Held) (bytes : List ℕ) (terms : List Term) (answers :
   pub found : IsAcceptedAs strata h.schema h.terms terms h.graph bytes answers
   pub few : length terms ≤ max_terms
 
--- the files hold this question for the command, and these are its true answers: of each association its
--- node, its target, and whether the complete typing satisfies its expression there (ShEx 2.1, section 5.2)
-pub record AreAnswers (told : Told) (c : Command) (q : Question) (answers : List Answer) : Type 0 where
+-- the files hold this question for the command, and these are its true answers: the associations' nodes and targets in their
+-- order, each with whether the complete typing satisfies its expression there (ShEx 2.1, section 5.2). Those are left out on which the
+-- verdicts of refinement over the pairs that are asked for, under the budget, are Unknown
+pub record AreAnswers (told : Told) (c : Command) (q : Question) (budget : ℕ) (answers : List Answer) : Type 0 where
   pub asked : IsAskedOf told (inputs_of c) q
-  pub truth : AreAnswersTo q.held.schema q.terms q.held.graph q.associations answers
+  pub verdicts : Known
+  pub refined : IsRefined q.held.schema q.terms q.held.graph q.held.strata q.pairs budget verdicts
+  pub replies : AreReplies q.held.schema q.terms verdicts q.held.graph budget q.associations answers
 
--- the bytes are a proof whose claims are the answers, so that a check of them with the same schema and data accepts them, and
--- which has no more than the answers ask for
-pub record IsStoredProofOf (q : Question) (answers : List Answer) (bytes : List ℕ) : Type 0 where
+-- the bytes are a proof whose claims are the answers, so that a check of them with the same schema and data accepts them, whose
+-- records are those of refinement over the pairs that are asked for, and which has no other node lines than those of its records and
+-- claims
+pub record IsStoredProofOf (q : Question) (budget : ℕ) (answers : List Answer) (bytes : List ℕ) : Type 0 where
   pub accepted : Accepted q.held bytes q.terms answers
-  pub lean : AsksNoMore q.held.schema accepted.found.nodes answers accepted.found.proof
+  pub recorded : AreRecordsOf q.held.schema q.terms q.held.graph q.held.strata q.pairs budget accepted.found.nodes accepted.found.proof.sections
+  pub lean : HasNoMoreNodes accepted.found.nodes answers accepted.found.proof
 
 -- where a name is given, it holds some bytes of which P is true, as far as is told, and each other name what it held; where
 -- none is given, each name holds what it held
@@ -43,11 +50,12 @@ Stores told after (Some name) P = (bytes : List ℕ) × P bytes × Holds after n
 -- the command is to store a proof under this name, and the bytes are a proof of the true answers
 pub record IsDueProof (told : Told) (c : Command) (name : Text) (bytes : List ℕ) : Type 0 where
   pub map_name : Text
-  pub task : IsToValidate c map_name (Some name)
+  pub budget : ℕ
+  pub task : IsToValidate c map_name (Some name) budget
   pub question : Question
   pub answers : List Answer
-  pub are_answers : AreAnswers told c question answers
-  pub proof : IsStoredProofOf question answers bytes
+  pub are_answers : AreAnswers told c question budget answers
+  pub proof : IsStoredProofOf question budget answers bytes
 
 -- the name of the proof holds what it held or a prefix of the proof, as far as is told, and each other name what it held
 pub record IsCutStore (told after : Told) (c : Command) : Type 0 where

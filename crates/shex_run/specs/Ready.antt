@@ -1,5 +1,9 @@
 -- What the functions that answer promise one another.
-use Rattle.std.specs.Prelude.{ℕ, Bool, List, All, ◌≡◌, ◌≤◌, ◌⊎◌, IfSome, is_some, length}
+use Rattle.std.specs.Prelude.{ℕ, Bool, List, All, Contains, Some, ◌≡◌, ◌≤◌, IfSome, is_some, length, map, slice_get}
+use Rattle.rdf_terms.specs.OneLine.{HasOneLine}
+use Rattle.rdf_terms.specs.declared.terms.Term.{Term}
+use Rattle.rdf_terms.specs.declared.terms.TermId.{TermId}
+use Rattle.rdf_terms.specs.declared.terms.Triple.{Triple}
 use Rattle.shex_io.specs.Files.{Told}
 use Rattle.graph_index.specs.Contents.{IsSealedWith}
 use Rattle.graph_index.specs.Laws.{IsOfTable}
@@ -12,48 +16,81 @@ use Rattle.shape_map.specs.Results.{result_text}
 use Rattle.shape_map.specs.Selection.{max_associations}
 use Rattle.command_words.specs.Asked.{Command}
 use Rattle.shex_inputs.specs.declared.holding.Holding.{Holding}
-use Rattle.shex_inputs.specs.Asked.{Question}
-use Rattle.shape_map.specs.Answers.{AreAnswersTo, IsAsked}
-use Rattle.simple_typing.specs.Answers.{HasLines, IsFlatProofOf as Proves}
-use Rattle.simple_typing.specs.Simple.{IsSimpleSchema}
+use Rattle.shex_inputs.specs.Asked.{Question, root_of}
+use Rattle.shape_map.specs.Answers.{IsAsked}
+use Rattle.typing_answers.specs.Proofs.{HasLines, IsProofOf as Proves}
+use Rattle.typing_answers.specs.Replies.{AreReplies}
+use Rattle.typing_refiner.specs.declared.building.WidePair.{WidePair}
+use Rattle.demand.specs.Demand.{AreAsked}
+use Rattle.demand.specs.Orders.{max_pairs}
+use Rattle.command_words.specs.Requests.{max_budget}
+use Rattle.schema_tree.specs.declared.schema.Pair.{Pair}
+use Rattle.schema_tree.specs.Edges.{IsStratum}
+use Rattle.schema_tree.specs.Needs.{HoldNeeds}
+use Rattle.schema_tree.specs.Removal.{IsRefined}
+use Rattle.schema_tree.specs.Sure.{Known}
 use Rattle.shex_run.specs.declared.deciding.Decided.{Decided}
 use Rattle.shex_run.specs.Proofs.{AreAnswers, IsStoredProofOf}
-use Rattle.shex_run.specs.Statuses.{status_of}
+use Rattle.shex_run.specs.Statuses.{IsAnswering, status_of}
+use Rattle.shex_run.specs.Texts.{notes_by, notes_of}
+use Rattle.shex_run.specs.Wide.{AreWide}
 
--- the associations can be answered over the schema, the table and the graph
-pub record IsReady (b : Holding) (associations : List Association) : Type 0 where
-  pub loaded : IsLoaded b.schema
-  pub simple : IsSimpleSchema b.schema
-  pub sealed : IsSealedWith b.terms b.graph
-  pub of_table : All (IsOfTable b.terms) b.graph.triples
-  pub asked : All (IsAsked b.schema b.terms) associations
+-- the term of the node can stand on one line
+abbrev pub IsOnLine : List Term → TermId → Type 0
+IsOnLine terms n = (t : Term) → slice_get terms n.0 ≡ Some t → HasOneLine t
+
+-- so can the terms of the ends of each triple
+abbrev pub AreOnLines : List Term → List Triple → Type 0
+AreOnLines terms graph = (t : Triple) → Contains graph t → IsOnLine terms t.s × IsOnLine terms t.o
+
+-- the associations can be answered over the schema, the table and the graph, by the pairs that they reach
+pub record IsReady (h : Holding) (associations : List Association) (pairs : List Pair) (budget : ℕ) : Type 0 where
+  pub within : budget ≤ max_budget
+  pub loaded : IsLoaded h.schema
+  pub strata : IsStratum h.schema h.strata
+  pub sealed : IsSealedWith h.terms h.graph
+  pub of_table : All (IsOfTable h.terms) h.graph.triples
+  pub asked : All (IsAsked h.schema h.terms) associations
   pub few : length associations ≤ max_associations
-  pub lines : All (HasLines b.terms) associations
+  pub reached : AreAsked h.schema h.terms h.graph.triples (map root_of associations) pairs
+  pub needs : HoldNeeds h.schema h.graph.triples pairs
+  pub few_pairs : length pairs ≤ max_pairs
+  pub lines : All (HasLines h.terms) associations
+  pub ends : AreOnLines h.terms h.graph.triples
 
--- the answers are true, their status and text are these, and so is their proof, which is there exactly where it is wanted
-pub record IsDecided (b : Holding) (associations : List Association) (with_proof : Bool) (d : Decided) : Type 0 where
+-- the answers are those by the verdicts of refinement, their status, text and notes are these, and so is their proof, which is
+-- there exactly where it is wanted
+pub record IsDecided (h : Holding) (associations : List Association) (pairs : List Pair) (budget : ℕ) (with_proof : Bool) (d : Decided) : Type 0 where
+  pub verdicts : Known
+  pub refined : IsRefined h.schema h.terms h.graph.triples h.strata pairs budget verdicts
   pub answers : List Answer
-  pub truth : AreAnswersTo b.schema b.terms b.graph.triples associations answers
-  pub proof : IfSome d.proof (Proves b.schema b.terms b.graph.triples answers)
+  pub replies : AreReplies h.schema h.terms verdicts h.graph.triples budget associations answers
+  pub proof : IfSome d.proof (Proves h.strata h.schema h.terms h.graph.triples pairs budget answers)
   pub wanted : is_some d.proof ≡ with_proof
-  pub low : (d.status ≡ 0) ⊎ (d.status ≡ 1)
+  pub low : IsAnswering d.status
   pub status_is : d.status ≡ status_of associations answers
-  pub text_is : d.text.items ≡ result_text b.terms answers
+  pub text_is : d.text.items ≡ result_text h.terms answers
+  pub wide : List WidePair
+  pub are_wide : AreWide h.schema h.terms h.graph.triples budget pairs wide
+  pub notes_are : d.notes.items ≡ notes_by h.terms (length associations) budget answers wide
 
--- what is known of a proof of answers: each of its texts is a proof of them that has no more than they ask for
-pub record IsReplyProof (q : Question) (answers : List Answer) (p : Proof) : Type 0 where
+-- what is known of a proof of answers: each of its texts is a proof of them
+pub record IsReplyProof (q : Question) (budget : ℕ) (answers : List Answer) (p : Proof) : Type 0 where
   pub keeps : Keeps p
   pub no_feeds : HasNoFeeds p
-  pub proves : (bytes : List ℕ) → ProofText p bytes → IsStoredProofOf q answers bytes
+  pub proves : (bytes : List ℕ) → ProofText p bytes → IsStoredProofOf q budget answers bytes
 
--- they are the true answers to what the files hold for the command; their status and text are these, and
+-- they are the true answers to what the files hold for the command; their status, text and notes are these, and
 -- there is a proof of them exactly where one is wanted
-pub record IsReply (told : Told) (c : Command) (with_proof : Bool) (d : Decided) : Type 0 where
+pub record IsReply (told : Told) (c : Command) (budget : ℕ) (with_proof : Bool) (d : Decided) : Type 0 where
   pub question : Question
   pub answers : List Answer
-  pub are_answers : AreAnswers told c question answers
-  pub low : (d.status ≡ 0) ⊎ (d.status ≡ 1)
+  pub are_answers : AreAnswers told c question budget answers
+  pub low : IsAnswering d.status
   pub status_is : d.status ≡ status_of question.associations answers
   pub text_is : d.text.items ≡ result_text question.terms answers
-  pub proof : IfSome d.proof (IsReplyProof question answers)
+  pub wide : List WidePair
+  pub are_wide : AreWide question.held.schema question.terms question.held.graph budget question.pairs wide
+  pub notes_are : d.notes.items ≡ notes_of question budget answers wide
+  pub proof : IfSome d.proof (IsReplyProof question budget answers)
   pub wanted : is_some d.proof ≡ with_proof

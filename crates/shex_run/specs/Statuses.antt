@@ -1,5 +1,5 @@
 -- The statuses with which a call ends.
-use Rattle.std.specs.Prelude.{ℕ, Bool, List, ◌≡◌, ◌⊎◌, if◌then◌else◌, map}
+use Rattle.std.specs.Prelude.{ℕ, Bool, List, ◌≡◌, ◌⊎◌, if◌then◌else◌, length, map, nat_lt}
 use Rattle.std.specs.Bool.{beq}
 use Rattle.std.specs.List.{list_all, zip}
 use Rattle.schema_tree.specs.declared.schema.Answer.{Answer}
@@ -14,18 +14,22 @@ use Rattle.shex_run.specs.declared.stop.Refusal.TheVariants as Refusals
 unfoldable pub are_wanted : List Bool → List Answer → Bool
 are_wanted wants answers = list_all (λ (p : Bool × Answer). beq p.0 p.1.holds) (zip wants answers)
 
--- the status of answers by what is wanted of each: 0 where each is as it is wanted, and else 1
+-- the status of answers by what is wanted: 4 where there are fewer, 0 where each is as it is wanted, and else 1
 unfoldable pub status_by : List Bool → List Answer → ℕ
-status_by wants answers = if are_wanted wants answers then 0 else 1
+status_by wants answers = if nat_lt (length answers) (length wants) then 4 else if are_wanted wants answers then 0 else 1
 
--- the status of answers: 0 where each is as its association wants, and else 1
+-- the status of answers: 4 where an association has none, 0 where each is as its association wants, and else 1
 abbrev pub status_of : List Association → List Answer → ℕ
 status_of associations answers = status_by (map (λ a. a.want) associations) answers
 
--- the statuses: 0 and 1 for answers, 2 for the words, 3 for the inputs, 5 for a file, 6 for a proof, 7 for a sink, 8 for
+-- the status of a call that answers
+abbrev pub IsAnswering : ℕ → Type 0
+IsAnswering status = (status ≡ 0) ⊎ ((status ≡ 1) ⊎ (status ≡ 4))
+
+-- the statuses: 0, 1 and 4 for answers, 2 for the words, 3 for the inputs, 5 for a file, 6 for a proof, 7 for a sink, 8 for
 -- memory
 abbrev pub IsStatus : ℕ → Type 0
-IsStatus status = (status ≡ 0) ⊎ ((status ≡ 1) ⊎ ((status ≡ 2) ⊎ ((status ≡ 3) ⊎ ((status ≡ 5) ⊎ ((status ≡ 6) ⊎ ((status ≡ 7) ⊎ (status ≡ 8)))))))
+IsStatus status = IsAnswering status ⊎ ((status ≡ 2) ⊎ ((status ≡ 3) ⊎ ((status ≡ 5) ⊎ ((status ≡ 6) ⊎ ((status ≡ 7) ⊎ (status ≡ 8))))))
 
 -- the status of a proof that is not accepted: 6 where it is rejected, and 3 where the table cannot take up its node lines
 abbrev pub check_status : CheckError → ℕ
@@ -43,7 +47,7 @@ refusal_status (Refusals.Proof error) = check_status error
 abbrev pub IsInterrupted : ℕ → Type 0
 IsInterrupted status = (status ≡ 5) ⊎ ((status ≡ 7) ⊎ (status ≡ 8))
 
--- the statuses of a task whose inputs are taken: 0 or 1; or, for a check, 0, 6, or 3 where the table is full
+-- the statuses of a task whose inputs are taken: 0, 1 or 4; or, for a check, 0, 6, or 3 where the table is full
 abbrev pub Concludes : Task → ℕ → Type 0
-Concludes (validation map_name proof_name budget) status = (status ≡ 0) ⊎ (status ≡ 1)
+Concludes (validation map_name proof_name budget) status = IsAnswering status
 Concludes (checking name) status = (status ≡ 0) ⊎ ((status ≡ 3) ⊎ (status ≡ 6))

@@ -1,5 +1,7 @@
 -- How the functions of a call stop.
-use Rattle.std.specs.Prelude.{ℕ, List, ◌≡◌, ◌≤◌, true, ⊤}
+use Rattle.std.specs.Prelude.{ℕ, List, Option, ◌≡◌, ◌≤◌, true, ⊤}
+use Rattle.clap.specs.Words.{Text}
+use Rattle.command_words.specs.Requests.{max_budget}
 use Rattle.shex_io.specs.Faults.{Rose}
 use Rattle.shex_io.specs.Files.{Told}
 use Rattle.shex_io.specs.declared.files.Act.{Act}
@@ -16,12 +18,13 @@ use Rattle.shex_run.specs.declared.stop.Stop.TheVariants as Stops
 use Rattle.shex_run.specs.Checking.{IsFull, IsRejected}
 use Rattle.shex_run.specs.Outcomes.{IsRefused, Reaches}
 use Rattle.shex_run.specs.Proofs.{MayStore}
-use Rattle.shex_run.specs.Tasks.{act_of, name_of}
+use Rattle.shex_run.specs.Tasks.{IsToValidate, act_of, name_of}
 
--- both bases of the command are ones
-pub record HasBases (c : Command) : Type 0 where
+-- both bases of the command are ones, and its budget is from 1 to the greatest one
+pub record IsFit (c : Command) : Type 0 where
   pub schema : is_base c.schema_base ≡ true
   pub data_file : is_base c.data_base ≡ true
+  pub budget : (map_name : Text) (proof_name : Option Text) (budget : ℕ) → IsToValidate c map_name proof_name budget → (1 ≤ budget) × (budget ≤ max_budget)
 
 -- the stop that an error of the inputs is
 abbrev pub stop_of : InputError → Stop

@@ -26,11 +26,10 @@ inputs_of c = record {
   data_base = c.data_base;
 }
 
--- the command is to validate the associations of the map of this name, and to store their proof under the other name, if there is
--- one
-pub record IsToValidate (c : Command) (map_name : Text) (proof_name : Option Text) : Type 0 where
-  pub budget : ℕ
-  pub task : c.task ≡ validation map_name proof_name budget
+-- the command is to validate the associations of the map of this name, looking into pairs up to the budget, and to store their
+-- proof under the other name, if there is one
+abbrev pub IsToValidate : Command → Text → Option Text → ℕ → Type 0
+IsToValidate c map_name proof_name budget = c.task ≡ validation map_name proof_name budget
 
 -- the command is to check the proof of this name
 abbrev pub IsToCheck : Command → Text → Type 0

@@ -1,6 +1,6 @@
 //! What answers a command: the text that is due, and what is stored before it is printed.
 
-ghost use Rattle.std.specs.Prelude.{◌≡◌, ◌⊎◌, All, Some, IsSome, IfErr, IfOk, OnErr, OnOk, is_some};
+ghost use Rattle.std.specs.Prelude.{◌≡◌, All, Some, IsSome, IfErr, IfOk, OnErr, OnOk, is_some};
 ghost use Rattle.graph_index.specs.Laws.{IsOfTable};
 ghost use Rattle.std.specs.Str.{IsUtf8};
 ghost use Rattle.shex_io.specs.Files.{Holds, HoldsPart, KeepsOthers};
@@ -9,10 +9,12 @@ ghost use Rattle.iri_resolve.specs.Reference.{scheme_of};
 ghost use Rattle.rdf_lex.specs.Prefixes.{base_of};
 ghost use Rattle.command_words.specs.Lent.{command_of};
 ghost use Rattle.command_words.specs.declared.command.Command.TheVariants as Lent;
-ghost use Rattle.shex_inputs.specs.Held.{HasRoom, IsTaken, held_by};
+ghost use Rattle.schema_tree.specs.Loaded.{IsLoaded};
+ghost use Rattle.shex_inputs.specs.Held.{IsTaken, held_by};
 ghost use Rattle.shex_run.specs.Endings.{IsResponse};
 ghost use Rattle.shex_run.specs.Ready.{IsReply};
-ghost use Rattle.shex_run.specs.Stopping.{Explains, FaultsAs, HasBases, LeavesStored, ProofStops};
+ghost use Rattle.shex_run.specs.Statuses.{IsAnswering};
+ghost use Rattle.shex_run.specs.Stopping.{Explains, FaultsAs, IsFit, LeavesStored, ProofStops};
 ghost use Rattle.shex_run.specs.Tasks.{inputs_of};
 
 use crate::checking::confirm;
@@ -21,18 +23,21 @@ use crate::stop::{File, Stop, stop_of};
 use command_words::{Checking, Command, Validation, bases_are_lines};
 use data_reader::data_have_lines;
 use proof_file::write::write;
+use schema_tree::laws::width_is_one;
 use shape_map::laws::map_has_lines;
 use shex_inputs::{Holding, read_holding, read_map};
 use shex_io::{FetchError, Files, StoreError};
 use std::alloc::Global;
 
-/// A text that is due to the output, and the status that it has where it is printed.
+/// A text that is due to the output, the notes that are due to the error stream behind it, and the status where both are printed.
 #[derive(Drop)]
 pub struct Response {
     /// The status.
     pub status: u8,
     /// The text.
     pub text: Vec<u8>,
+    /// The notes: a line for each wide pair, where an association has no answer.
+    pub notes: Vec<u8>,
 }
 
 /// The bytes of the proof's file.
@@ -79,29 +84,37 @@ fn decide_map<F: Files>(
     validation: &Validation<'_>,
 ) -> Result<Decided, Stop>
     requires taken { IsTaken (F.told files.old) (inputs_of (command_of (Lent.Validate validation.now))) (held_by holding.old) }
-    requires bases { HasBases (command_of (Lent.Validate validation.now)) }
+    requires fit { IsFit (command_of (Lent.Validate validation.now)) }
     requires scheme { IsSome (scheme_of (base_of holding.old.names)) }
-    requires room { HasRoom (held_by holding.old) }
+    requires loaded { IsLoaded holding.old.schema }
     requires of_table { All (IsOfTable holding.old.terms) holding.old.graph.triples }
-    ensures decided { IfOk result (IsReply (F.told files.old) (command_of (Lent.Validate validation.now)) (is_some validation.now.proof)) }
+    ensures decided { IfOk result (IsReply (F.told files.old) (command_of (Lent.Validate validation.now)) validation.now.budget (is_some validation.now.proof)) }
     ensures cause { IfErr result (Explains (F.told files.old) (command_of (Lent.Validate validation.now))) }
     ensures faults { IfErr result (FaultsAs (command_of (Lent.Validate validation.now)) (F.faults files.old) (F.faults files.new) (F.blame files.new) (F.act files.new)) }
     ensures stored { IfErr result (LeavesStored (F.told files.old) (F.told files.new) (command_of (Lent.Validate validation.now))) }
     ensures faults_stay { OnOk result (F.faults files.new ≡ F.faults files.old) }
     ensures told_stays { F.told files.new ≡ F.told files.old }
 {
-    // The laws by which the nodes and the targets of a map can stand in the lines of a proof.
+    // The laws by which the nodes and the targets of a map can stand in the lines of a proof, and a node without triples has an
+    // answer.
     data_have_lines();
     map_has_lines();
     bases_are_lines();
+    width_is_one();
     are_texts(validation.inputs.schema_base, validation.inputs.data_base);
-    let associations = match read_map(alloc, files, &validation.inputs, validation.map, holding) {
-        Ok(associations) => associations,
+    let asked = match read_map(alloc, files, &validation.inputs, validation.map, holding) {
+        Ok(asked) => asked,
         Err(error) => return Err(stop_of(error)),
     };
     // The length of a table tells contracts that it is within the limit.
     let _count = holding.terms.len();
-    match decide(alloc, holding, associations, validation.proof.is_some()) {
+    match decide(
+        alloc,
+        holding,
+        asked,
+        validation.budget,
+        validation.proof.is_some(),
+    ) {
         Ok(decided) => Ok(decided),
         Err(_) => Err(Stop::Memory),
     }
@@ -114,9 +127,9 @@ fn keep<F: Files>(
     validation: &Validation<'_>,
     decided: Decided,
 ) -> Result<Response, Stop>
-    requires { IsReply (F.told files.old) (command_of (Lent.Validate validation.now)) (is_some validation.now.proof) decided }
-    ensures response { IfOk result (λ r. IsResponse (F.told files.old) (F.told files.new) (command_of (Lent.Validate validation.now)) r.status r.text.items) }
-    ensures low { IfOk result (λ r. (r.status ≡ 0) ⊎ (r.status ≡ 1)) }
+    requires { IsReply (F.told files.old) (command_of (Lent.Validate validation.now)) validation.now.budget (is_some validation.now.proof) decided }
+    ensures response { IfOk result (λ r. IsResponse (F.told files.old) (F.told files.new) (command_of (Lent.Validate validation.now)) r.status r.text.items r.notes.items) }
+    ensures low { IfOk result (λ r. IsAnswering r.status) }
     ensures cause { IfErr result (Explains (F.told files.old) (command_of (Lent.Validate validation.now))) }
     ensures faults { IfErr result (FaultsAs (command_of (Lent.Validate validation.now)) (F.faults files.old) (F.faults files.new) (F.blame files.new) (F.act files.new)) }
     ensures stored { IfErr result (LeavesStored (F.told files.old) (F.told files.new) (command_of (Lent.Validate validation.now))) }
@@ -125,9 +138,14 @@ fn keep<F: Files>(
     let Decided {
         status,
         text,
+        notes,
         proof,
     } = decided;
-    let response = Response { status, text };
+    let response = Response {
+        status,
+        text,
+        notes,
+    };
     let Some(name) = validation.proof else {
         return Ok(response);
     };
@@ -149,12 +167,12 @@ fn validate<F: Files>(
     validation: &Validation<'_>,
 ) -> Result<Response, Stop>
     requires taken { IsTaken (F.told files.old) (inputs_of (command_of (Lent.Validate validation.now))) (held_by holding) }
-    requires bases { HasBases (command_of (Lent.Validate validation.now)) }
+    requires fit { IsFit (command_of (Lent.Validate validation.now)) }
     requires scheme { IsSome (scheme_of (base_of holding.names)) }
-    requires room { HasRoom (held_by holding) }
+    requires loaded { IsLoaded holding.schema }
     requires of_table { All (IsOfTable holding.terms) holding.graph.triples }
-    ensures response { IfOk result (λ r. IsResponse (F.told files.old) (F.told files.new) (command_of (Lent.Validate validation.now)) r.status r.text.items) }
-    ensures low { IfOk result (λ r. (r.status ≡ 0) ⊎ (r.status ≡ 1)) }
+    ensures response { IfOk result (λ r. IsResponse (F.told files.old) (F.told files.new) (command_of (Lent.Validate validation.now)) r.status r.text.items r.notes.items) }
+    ensures low { IfOk result (λ r. IsAnswering r.status) }
     ensures cause { IfErr result (Explains (F.told files.old) (command_of (Lent.Validate validation.now))) }
     ensures faults { IfErr result (FaultsAs (command_of (Lent.Validate validation.now)) (F.faults files.old) (F.faults files.new) (F.blame files.new) (F.act files.new)) }
     ensures stored { IfErr result (LeavesStored (F.told files.old) (F.told files.new) (command_of (Lent.Validate validation.now))) }
@@ -173,10 +191,10 @@ fn check<F: Files>(
     checking: &Checking<'_>,
 ) -> Result<Response, Stop>
     requires taken { IsTaken (F.told files.old) (inputs_of (command_of (Lent.Check checking.now))) (held_by holding) }
-    requires room { HasRoom (held_by holding) }
+    requires loaded { IsLoaded holding.schema }
     requires of_table { All (IsOfTable holding.terms) holding.graph.triples }
-    ensures response { IfOk result (λ r. IsResponse (F.told files.old) (F.told files.new) (command_of (Lent.Check checking.now)) r.status r.text.items) }
-    ensures low { IfOk result (λ r. (r.status ≡ 0) ⊎ (r.status ≡ 1)) }
+    ensures response { IfOk result (λ r. IsResponse (F.told files.old) (F.told files.new) (command_of (Lent.Check checking.now)) r.status r.text.items r.notes.items) }
+    ensures low { IfOk result (λ r. IsAnswering r.status) }
     ensures cause { IfErr result (Explains (F.told files.old) (command_of (Lent.Check checking.now))) }
     ensures faults { IfErr result (FaultsAs (command_of (Lent.Check checking.now)) (F.faults files.old) (F.faults files.new) (F.blame files.new) (F.act files.new)) }
     ensures stored { IfErr result (LeavesStored (F.told files.old) (F.told files.new) (command_of (Lent.Check checking.now))) }
@@ -184,14 +202,18 @@ fn check<F: Files>(
 {
     let bytes = fetch_proof(alloc, files, checking.proof)?;
     let text = confirm(alloc, holding, bytes.as_slice())?;
-    Ok(Response { status: 0, text })
+    Ok(Response {
+        status: 0,
+        text,
+        notes: Vec::new(alloc),
+    })
 }
 
 /// What the schema file and the data file of a command hold.
 fn hold<F: Files>(alloc: Global, files: &mut F, command: &Command<'_>) -> Result<Holding, Stop>
-    requires { HasBases (command_of command.now) }
+    requires { IsFit (command_of command.now) }
     ensures taken { IfOk result (λ b. IsTaken (F.told files.old) (inputs_of (command_of command.now)) (held_by b)) }
-    ensures room { IfOk result (λ b. HasRoom (held_by b)) }
+    ensures loaded { IfOk result (λ b. IsLoaded b.schema) }
     ensures scheme { IfOk result (λ b. IsSome (scheme_of (base_of b.names))) }
     ensures of_table { IfOk result (λ b. All (IsOfTable b.terms) b.graph.triples) }
     ensures cause { IfErr result (Explains (F.told files.old) (command_of command.now)) }
@@ -212,9 +234,9 @@ pub fn respond<F: Files>(
     files: &mut F,
     command: &Command<'_>,
 ) -> Result<Response, Stop>
-    requires { HasBases (command_of command.now) }
-    ensures response { IfOk result (λ r. IsResponse (F.told files.old) (F.told files.new) (command_of command.now) r.status r.text.items) }
-    ensures low { IfOk result (λ r. (r.status ≡ 0) ⊎ (r.status ≡ 1)) }
+    requires { IsFit (command_of command.now) }
+    ensures response { IfOk result (λ r. IsResponse (F.told files.old) (F.told files.new) (command_of command.now) r.status r.text.items r.notes.items) }
+    ensures low { IfOk result (λ r. IsAnswering r.status) }
     ensures cause { IfErr result (Explains (F.told files.old) (command_of command.now)) }
     ensures faults { IfErr result (FaultsAs (command_of command.now) (F.faults files.old) (F.faults files.new) (F.blame files.new) (F.act files.new)) }
     ensures stored { IfErr result (LeavesStored (F.told files.old) (F.told files.new) (command_of command.now)) }

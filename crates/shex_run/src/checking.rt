@@ -2,8 +2,11 @@
 
 ghost use Rattle.std.specs.Prelude.{All, IfErr, IfOk};
 ghost use Rattle.graph_index.specs.Laws.{IsOfTable};
-ghost use Rattle.shex_inputs.specs.Held.{HasRoom, held_by};
-ghost use Rattle.shex_run.specs.Checking.{ConfirmStops, Confirms, IsSomeHolding};
+ghost use Rattle.lists.specs.Distinct.{AreDistinct};
+ghost use Rattle.schema_tree.specs.Edges.{IsStratum};
+ghost use Rattle.schema_tree.specs.Loaded.{IsLoaded};
+ghost use Rattle.shex_inputs.specs.Held.{held_by};
+ghost use Rattle.shex_run.specs.Checking.{ConfirmStops, Confirms};
 
 use crate::stop::{Stop, check_stop};
 use proof_checker::check;
@@ -15,8 +18,9 @@ use std::alloc::Global;
 
 /// The result map of the claims of a proof that is accepted, or why it is not.
 pub fn confirm(alloc: Global, holding: Holding, proof: &[u8]) -> Result<Vec<u8>, Stop>
-    requires holding { IsSomeHolding (held_by holding) }
-    requires room { HasRoom (held_by holding) }
+    requires loaded { IsLoaded holding.schema }
+    requires strata { IsStratum holding.schema holding.strata }
+    requires distinct { AreDistinct holding.terms }
     requires of_table { All (IsOfTable holding.terms) holding.graph.triples }
     ensures confirmed { IfOk result (λ text. Confirms (held_by holding) proof.now text.items) }
     ensures stops { IfErr result (ConfirmStops (held_by holding) proof.now) }
@@ -24,6 +28,7 @@ pub fn confirm(alloc: Global, holding: Holding, proof: &[u8]) -> Result<Vec<u8>,
     let Holding {
         mut terms,
         schema,
+        strata: _,
         mut graph,
         names: _,
     } = holding;

@@ -1,26 +1,44 @@
-//! The answers to `validate`, their text, and their proof.
+//! The answers to `validate`, their text, what is noted beside them, and their proof.
 
-ghost use Rattle.std.specs.Prelude.{◌≡◌, ◌⊎◌, IfOk, IfSome, is_some, map};
+ghost use Rattle.std.specs.Prelude.{◌≡◌, ◌++◌, ◌<◌, ℕ, Contains, IfOk, IfSome, List, OnOk, is_some, length, map, true};
 ghost use Rattle.std.specs.Bool.{beq};
-ghost use Rattle.simple_typing.specs.Answers.{IsFlatProofOf as Proves};
-ghost use Rattle.shape_map.specs.Answers.{AreAnswersTo};
+ghost use Rattle.std.specs.List.{flat_map};
+ghost use Rattle.rdf_terms.specs.Order.{text_at};
+ghost use Rattle.rdf_terms.specs.declared.terms.Triple.{Triple};
+ghost use Rattle.schema_tree.specs.declared.schema.Answer.{Answer as Given};
+ghost use Rattle.schema_tree.specs.declared.schema.Pair.{Pair};
+ghost use Rattle.schema_tree.specs.declared.schema.Schema.{Schema as Tree};
+ghost use Rattle.schema_tree.specs.Sure.{Known};
+ghost use Rattle.shape_map.specs.Results.{result_text};
+ghost use Rattle.typing_answers.specs.Proofs.{AreInRange, AreShownFor, IsProofOf};
+ghost use Rattle.typing_refiner.specs.declared.wanted.Wanted.TheVariants as Wanteds;
 ghost use Rattle.shex_run.specs.Ready.{IsDecided, IsReady};
-ghost use Rattle.shex_run.specs.Statuses.{are_wanted, status_by};
+ghost use Rattle.shex_run.specs.Statuses.{IsAnswering, are_wanted, status_by};
+ghost use Rattle.shex_run.specs.Texts.{notes_by, wide_line, wide_lines};
 
 use proof_file::Proof;
+use rdf_terms::table::TermTable;
+use rdf_terms::terms::TermId;
+use rdf_terms::written::write_term;
 use schema_tree::schema::Answer;
 use shape_map::{Association, write_result};
-use shex_inputs::Holding;
-use simple_typing::{answer, answer_with_proof};
+use shex_inputs::{Asked, Holding};
 use std::alloc::{AllocError, Global};
+use typing_answers::laws::sure_answers_are_true;
+use typing_answers::{answers, proof_of};
+use typing_refiner::building::WidePair;
+use typing_refiner::{Refined, Wanted, refine};
 
-/// The answers to the associations of a map: their status, their text and, if it was wanted, their proof.
+/// The answers to the associations of a map: their status, their text, what is noted beside them and, if it was wanted, their
+/// proof.
 #[derive(Drop)]
 pub struct Decided {
-    /// 0 where each association is answered as it wants, and else 1.
+    /// 4 where an association has no answer, 0 where each is answered as it wants, and else 1.
     pub status: u8,
     /// The result map of the answers.
     pub text: Vec<u8>,
+    /// A line for each wide pair, where an association has no answer.
+    pub notes: Vec<u8>,
     /// The proof, whose claims are the answers, if one was wanted.
     pub proof: Option<Proof>,
 }
@@ -54,61 +72,172 @@ fn are_wanted(wants: &[bool], answers: &[Answer]) -> bool
 #[tactic(auto, unfolding(crate::specs::Statuses::status_by))]
 fn status(wants: &[bool], answers: &[Answer]) -> u8
     ensures status { result ≡ status_by wants.now answers.now }
-    ensures low { (result ≡ 0) ⊎ (result ≡ 1) }
+    ensures low { IsAnswering result }
 {
-    if are_wanted(wants, answers) { 0 } else { 1 }
+    if answers.len() < wants.len() {
+        4
+    } else if are_wanted(wants, answers) {
+        0
+    } else {
+        1
+    }
 }
 
-/// The answers to associations over a schema and a graph, with their proof if it is wanted.
-fn typing(
+/// Appends the text of the term of a number, if it is of the table.
+fn push_term(
     alloc: Global,
-    holding: &Holding,
-    associations: Vec<Association>,
-    with_proof: bool,
-) -> Result<(Vec<Answer>, Option<Proof>), AllocError>
-    requires { IsReady holding.now associations.items }
-    ensures answers { IfOk result (λ r. AreAnswersTo holding.now.schema holding.now.terms holding.now.graph.triples associations.items r.0.items) }
-    ensures proof { IfOk result (λ r. IfSome r.1 (Proves holding.now.schema holding.now.terms holding.now.graph.triples r.0.items)) }
-    ensures wanted { IfOk result (λ r. is_some r.1 ≡ with_proof) }
+    terms: &TermTable,
+    node: TermId,
+    out: &mut Vec<u8>,
+) -> Result<(), AllocError>
+    ensures { OnOk result (out.new.items ≡ out.old.items ++ text_at terms.now node) }
+{
+    if (node.0 as usize) < terms.len() {
+        write_term(alloc, terms.get(node), out)?;
+    }
+    Ok(())
+}
+
+/// Appends the line for a wide pair.
+fn push_wide(
+    alloc: Global,
+    terms: &TermTable,
+    budget: u64,
+    wide: WidePair,
+    out: &mut Vec<u8>,
+) -> Result<(), AllocError>
+    ensures { OnOk result (out.new.items ≡ out.old.items ++ wide_line terms.now budget wide) }
+{
+    out.extend_from_slice(b"wide ")?;
+    push_term(alloc, terms, wide.pair.node, out)?;
+    let rest = format!(in alloc;
+        " #{} width {} budget {}\n",
+        wide.pair.shape.0, wide.width, budget
+    )?;
+    out.extend_from_slice(rest.as_bytes())
+}
+
+/// Appends the lines for wide pairs.
+fn push_all(
+    alloc: Global,
+    terms: &TermTable,
+    budget: u64,
+    wide: &[WidePair],
+    out: &mut Vec<u8>,
+) -> Result<(), AllocError>
+    ensures { OnOk result (out.new.items ≡ out.old.items ++ wide_lines terms.now budget wide.now) }
+{
+    for pair in wide {
+        push_wide(alloc, terms, budget, *pair, out)?;
+    }
+    Ok(())
+}
+
+/// What is noted beside answers to so many associations.
+#[tactic(auto, unfolding(crate::specs::Texts::notes_by))]
+fn notes(
+    alloc: Global,
+    terms: &TermTable,
+    asked: usize,
+    budget: u64,
+    answers: &[Answer],
+    wide: &[WidePair],
+) -> Result<Vec<u8>, AllocError>
+    ensures { IfOk result (λ v. v.items ≡ notes_by terms.now asked budget answers.now wide.now) }
+{
+    let mut notes = Vec::new(alloc);
+    if answers.len() < asked {
+        push_all(alloc, terms, budget, wide, &mut notes)?;
+    }
+    Ok(notes)
+}
+
+/// The result map of answers.
+fn text_of(alloc: Global, terms: &TermTable, answers: &[Answer]) -> Result<Vec<u8>, AllocError>
+    requires { (x : Given) → Contains answers.now x → x.node.0 < length terms.now }
+    ensures { IfOk result (λ v. v.items ≡ result_text terms.now answers.now) }
+{
+    let mut text = Vec::new(alloc);
+    write_result(alloc, terms, answers, &mut text)?;
+    Ok(text)
+}
+
+/// What a refinement is to give.
+fn wanted(with_proof: bool) -> Wanted
+    ensures { with_proof ≡ true → result ≡ Wanteds.Records }
 {
     if with_proof {
-        let typing = answer_with_proof(
-            alloc,
-            &holding.schema,
-            &holding.terms,
-            &holding.graph,
-            associations,
-        )?;
-        return Ok((typing.answers, Some(typing.proof)));
+        Wanted::Records
+    } else {
+        Wanted::Verdicts
     }
-    let answers = answer(
-        alloc,
-        &holding.schema,
-        &holding.terms,
-        &holding.graph,
-        associations,
-    )?;
-    Ok((answers, None))
 }
 
-/// The answers to associations over a schema and a graph, with their proof if it is wanted.
+/// The proof of answers that are sure by the verdicts of a refinement, if it is wanted.
+fn proof_if(
+    alloc: Global,
+    with_proof: bool,
+    terms: &TermTable,
+    refined: Refined,
+    answers: &[Answer],
+) -> Result<Option<Proof>, AllocError>
+    requires { with_proof ≡ true → AreInRange terms.now refined.nodes refined.sections answers.now }
+    ensures wanted { IfOk result (λ p. is_some p ≡ with_proof) }
+    ensures proof { IfOk result (λ p. (s : Tree) (g : List Triple) (f : List ℕ) (pairs : List Pair) (budget : ℕ) (verdicts : Known) →
+        (with_proof ≡ true → AreShownFor s terms.now g f pairs budget verdicts refined.nodes refined.sections answers.now) →
+        IfSome p (IsProofOf f s terms.now g pairs budget answers.now)) }
+{
+    if !with_proof {
+        return Ok(None);
+    }
+    let records = refined.into_records();
+    Ok(Some(proof_of(alloc, terms, records, answers)?))
+}
+
+/// The answers to what a map asks of a schema and a graph, with their proof if it is wanted. Pairs whose Width is above the
+/// budget are not looked into.
 pub fn decide(
     alloc: Global,
     holding: &Holding,
-    associations: Vec<Association>,
+    asked: Asked,
+    budget: u64,
     with_proof: bool,
 ) -> Result<Decided, AllocError>
-    requires { IsReady holding.now associations.items }
-    ensures { IfOk result (IsDecided holding.now associations.items with_proof) }
+    requires { IsReady holding.now asked.associations.items asked.pairs budget }
+    ensures { IfOk result (IsDecided holding.now asked.associations.items asked.pairs budget with_proof) }
 {
+    // The law by which what is sure is true.
+    sure_answers_are_true();
+    let Asked {
+        associations,
+        pairs,
+    } = asked;
+    let schema = &holding.schema;
+    let terms = &holding.terms;
+    let strata = &holding.strata;
+    let wanted = wanted(with_proof);
     let wants = wants(alloc, associations.as_slice())?;
-    let (answers, proof) = typing(alloc, holding, associations, with_proof)?;
-    let mut text = Vec::new(alloc);
-    write_result(alloc, &holding.terms, answers.as_slice(), &mut text)?;
-    let status = status(wants.as_slice(), answers.as_slice());
+    let refined = refine(
+        alloc,
+        schema,
+        &holding.graph,
+        terms,
+        strata,
+        &pairs,
+        budget,
+        wanted,
+    )?;
+    let given = answers(alloc, schema, terms, &refined, associations)?;
+    let answers = given.as_slice();
+    let text = text_of(alloc, terms, answers)?;
+    let wide = refined.wide();
+    let notes = notes(alloc, terms, wants.len(), budget, answers, wide)?;
+    let status = status(wants.as_slice(), answers);
+    let proof = proof_if(alloc, with_proof, terms, refined, answers)?;
     Ok(Decided {
         status,
         text,
+        notes,
         proof,
     })
 }

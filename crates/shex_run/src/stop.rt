@@ -18,7 +18,7 @@ pub enum File {
 }
 
 /// Why a file is refused. Want of memory is never the cause.
-#[derive(Debug, Drop, PartialEq, Eq)]
+#[derive(Debug, Drop)]
 pub enum Refusal {
     /// A file of the inputs is not taken.
     Input(InputRefusal),
@@ -41,7 +41,7 @@ impl Refusal {
 }
 
 /// Why there is no answer.
-#[derive(Debug, Drop, PartialEq, Eq)]
+#[derive(Debug, Drop)]
 pub enum Stop {
     /// A file is refused.
     Refused(Refusal),

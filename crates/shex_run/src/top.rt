@@ -10,20 +10,20 @@ ghost use Rattle.command_words.specs.Asked.{Command as Asking, IsAsked, IsFirstF
 ghost use Rattle.command_words.specs.Checks.{Fault};
 ghost use Rattle.shex_inputs.specs.Held.{Held};
 ghost use Rattle.shex_run.specs.Checking.{IsFull, IsGiven, IsRejected};
-ghost use Rattle.shex_run.specs.Endings.{Ends, IsFailedBy, IsPartlyStored, IsPrintedInPart, IsRefusedBy, IsRejectedBy, IsRespondedTo, IsWhollyStored, IsWordsLine, KeepsTold, MayPrintInPart};
+ghost use Rattle.shex_run.specs.Endings.{Ends, IsFailedBy, IsPartlyStored, IsPrintedInPart, IsRefusedBy, IsRejectedBy, IsRespondedTo, IsWhollyStored, IsWordsLine, KeepsTold, MayPrintInPart, PrintsBoth};
 ghost use Rattle.shex_run.specs.Outcomes.{AreTaken, IsAbsent, IsRefused};
 ghost use Rattle.shex_run.specs.Printing.{Prints, RefusesWords};
 ghost use Rattle.shex_run.specs.Proofs.{Accepted};
-ghost use Rattle.shex_run.specs.Statuses.{Concludes, IsInterrupted, IsStatus};
+ghost use Rattle.shex_run.specs.Statuses.{Concludes, IsAnswering, IsInterrupted, IsStatus};
 ghost use Rattle.shex_run.specs.Tasks.{IsToValidate};
 
-use crate::answers::respond;
+use crate::answers::{Response, respond};
 use crate::report;
 use crate::stop::{File, Stop};
 use command_words::{WordsError, answers_are_one, read};
 use proof_checker::CheckError;
 use shex_inputs::{Refusal, inputs_are_one};
-use shex_io::{Files, Sink};
+use shex_io::{Files, Sink, SinkError, put_all};
 use std::alloc::{AllocError, Global};
 
 /// Prints a text that was made, and gives the status, or 7 or 8 where it is not printed whole.
@@ -34,6 +34,21 @@ fn say<S: Sink>(text: Result<String, AllocError>, status: u8, sink: &mut S) -> u
     match text {
         Ok(text) => report::print(sink, text.as_str().as_bytes(), status),
         Err(_) => 8,
+    }
+}
+
+/// Prints the text of a response and then its notes, and gives the status.
+fn print_both<O: Sink, E: Sink>(response: &Response, out: &mut O, err: &mut E) -> u8
+    requires { IsAnswering response.now.status }
+    ensures { PrintsBoth
+        (record { got = O.got out.old; got_after = O.got out.new; faults = O.faults out.old; faults_after = O.faults out.new })
+        (record { got = E.got err.old; got_after = E.got err.new; faults = E.faults err.old; faults_after = E.faults err.new })
+        response.now.text.items response.now.notes.items response.now.status result }
+{
+    match put_all(out, response.text.as_slice()) {
+        Ok(()) => report::print(err, response.notes.as_slice(), response.status),
+        Err(SinkError::Failed) => 7,
+        Err(SinkError::Memory) => 8,
     }
 }
 
@@ -67,7 +82,7 @@ fn end<F: Files, O: Sink, E: Sink>(
         Err(error) => return refuse(alloc, error, err),
     };
     match respond(alloc, files, &command) {
-        Ok(response) => report::print(out, response.text.as_slice(), response.status),
+        Ok(response) => print_both(&response, out, err),
         Err(Stop::Refused(refusal)) => {
             say(
                 report::refusal(alloc, &command, &refusal),
@@ -86,11 +101,12 @@ fn end<F: Files, O: Sink, E: Sink>(
 /// each association of the shape map over the schema and the data, and prints a result shape map to `out`. With `--proof` it
 /// first stores a proof of the answers under that name. `check --schema F --data F --proof F [--schema-base I]
 /// [--data-base I] [IRI=FILE ..]` asks whether the proof in the file of that name is accepted, and prints its claims as a
-/// result shape map. Where there is no answer, one line on `err` says why.
+/// result shape map. Where there is no answer, one line on `err` says why, unless memory ran out.
 ///
 /// The status is 0 where each association is answered as it wants or the proof is accepted, 1 where some association is
-/// not, 2 where the words are refused, 3 where the inputs are refused, 5 where a file was not fetched or stored, 6 where the
-/// proof is rejected, 7 where a sink failed, 8 where memory ran out.
+/// not, 4 where some association has no answer, since it depends on a pair that is wider than the budget, 2 where the words
+/// are refused, 3 where the inputs are refused, 5 where a file was not fetched or stored, 6 where the proof is rejected, 7
+/// where a sink failed, 8 where memory ran out.
 pub fn run<F: Files, O: Sink, E: Sink>(
     alloc: Global,
     words: &[String],
@@ -101,15 +117,18 @@ pub fn run<F: Files, O: Sink, E: Sink>(
     ensures statuses { IsStatus result }
 
     // An answer is the truth of what the files hold, by the complete typing over the graph, and the answers alone are
-    // printed. The proof that is stored is accepted, its claims are the answers, and it has no more than they ask for. The
-    // claims of a proof that is accepted are true.
-    ensures answered { (result ≡ 0) ⊎ (result ≡ 1) →
-        (text : List ℕ)
-        × IsRespondedTo (F.told files.old) (F.told files.new) (map string_bytes words.now) result text
-        × Gains (O.got out.old) (O.got out.new) text }
+    // printed. Those associations alone are left out, with status 4, on which the verdicts of refinement are Unknown, so that
+    // they depend on a pair whose Width is above the budget, and then each such pair that the associations reach is noted.
+    // The proof that is stored is accepted, its claims are the answers, and its records those of refinement. The claims of a
+    // proof that is accepted are true.
+    ensures answered { IsAnswering result →
+        (text notes : List ℕ)
+        × IsRespondedTo (F.told files.old) (F.told files.new) (map string_bytes words.now) result text notes
+        × Gains (O.got out.old) (O.got out.new) text
+        × Gains (E.got err.old) (E.got err.new) notes }
     ensures answered_quietly { (result ≡ 0) ⊎ (result ≡ 1) → E.got err.new ≡ E.got err.old }
 
-    // Each other status has its cause, and its line is all that is printed.
+    // Each other status has its cause. With 2, 3, 5 and 6 its line is all that is printed, with 7 and 8 a part of what is due.
     ensures arguments { result ≡ 2 →
         (line : List ℕ)
         × IsWordsLine (map string_bytes words.now) line
@@ -149,9 +168,9 @@ pub fn run<F: Files, O: Sink, E: Sink>(
     ensures unstored { (result ≡ 2) ⊎ ((result ≡ 3) ⊎ (result ≡ 6)) → F.told files.new ≡ F.told files.old }
     ensures stored_in_part { IsInterrupted result →
         IsPartlyStored (F.told files.old) (F.told files.new) (map string_bytes words.now) }
-    ensures stored_whole { (contents : List ℕ → Option (List ℕ)) (c : Asking) (map_name name : Text) →
+    ensures stored_whole { (contents : List ℕ → Option (List ℕ)) (c : Asking) (map_name name : Text) (budget : ℕ) →
         F.told files.old ≡ Some contents → IsAsked (map string_bytes words.now) c →
-        IsToValidate c map_name (Some name) → AreTaken (F.told files.old) c →
+        IsToValidate c map_name (Some name) budget → AreTaken (F.told files.old) c →
         result ≡ 7 → ¬ Rose (F.faults files.old) (F.faults files.new) →
         IsWhollyStored (F.told files.old) (F.told files.new) c name }
     ensures told { KeepsTold (F.told files.old) (F.told files.new) (map string_bytes words.now) }

@@ -2,11 +2,10 @@
 use Rattle.std.proofs.Common.{◌≡◌, ℕ, suc, ◌+◌, ◌<◌, ◌≤◌, inl, inr, List, [], ◌∷◌, ◌++◌, refl, arith, sym, subst, ap, length, Bool, true, false, ◌∙◌, get_or, take}
 use Rattle.std.proofs.lemmas.Bool.{cases_lt}
 use Rattle.std.proofs.lemmas.Option.{slice_get_within}
-use Rattle.std.proofs.lemmas.List.{take_all}
 use Rattle.std.proofs.lemmas.List.Elements.{Contains-append_cases}
 use Rattle.std.proofs.Math.Seq.{take-suc}
 use Rattle.std.specs.Prelude.{◌||◌, ◌↔◌, Some, Contains, IsTrue}
-use Rattle.lists.proofs.Members.{in_one, not_in_none}
+use Rattle.lists.proofs.Members.{in_one}
 use Rattle.node_constraint.specs.Constraint.{Constraint}
 use Rattle.rdf_terms.specs.declared.terms.TermId.{TermId}
 use Rattle.schema_tree.specs.declared.schema.Schema.{Schema}
@@ -26,32 +25,32 @@ use Rattle.strata.proofs.Grown.{or_false, or_true, stands_and, stands_node, stan
 module _ (s : Schema) (f : List ℕ) (from : ShapeId) (negative : Bool) where
   pub fits_and : (e : ExprId) (es : List ExprId) → entry s e ≡ Some (Exprs.And es) → ((d : ExprId) → Contains es d → EntryFits s f from negative d) ↔ EntryFits s f from negative e
   fits_and e es is = (
-    λ all t sign stands. (let (d, c, st) = stands_and s from negative t e sign es is stands in all d c t sign st),
+    λ all t sign stands. (let (d, c, st) = stands_and s t e sign es is stands in all d c t sign st),
     λ one d c t sign st. one t sign (in_and es d is c st),
   )
 
   pub fits_or : (e : ExprId) (es : List ExprId) → entry s e ≡ Some (Exprs.Or es) → ((d : ExprId) → Contains es d → EntryFits s f from negative d) ↔ EntryFits s f from negative e
   fits_or e es is = (
-    λ all t sign stands. (let (d, c, st) = stands_or s from negative t e sign es is stands in all d c t sign st),
+    λ all t sign stands. (let (d, c, st) = stands_or s t e sign es is stands in all d c t sign st),
     λ one d c t sign st. one t sign (in_or es d is c st),
   )
 
   pub fits_not : (e d : ExprId) → entry s e ≡ Some (Exprs.Not d) → EntryFits s f from true d ↔ EntryFits s f from negative e
   fits_not e d is = (
-    λ all t sign stands. (let h = stands_not s from negative t e sign d is stands in let behind = h.0 in let b = h.1.0 in let st = h.1.1 in
-        subst (λ z. level f t + cost_of z ≤ level f from) (sym (or_true s from negative negative) ∙ ap (λ z. negative || z) (sym behind)) (all t b st)),
-    λ one t sign st. subst (λ z. level f t + cost_of z ≤ level f from) (or_true s from negative negative) (one t true (in_not d is st)),
+    λ all t sign stands. (let h = stands_not s t e sign d is stands in let behind = h.0 in let b = h.1.0 in let st = h.1.1 in
+        subst (λ z. level f t + cost_of z ≤ level f from) (sym (or_true negative) ∙ ap (λ z. negative || z) (sym behind)) (all t b st)),
+    λ one t sign st. subst (λ z. level f t + cost_of z ≤ level f from) (or_true negative) (one t true (in_not d is st)),
   )
 
   pub fits_node : (e : ExprId) (k : Constraint) → entry s e ≡ Some (Exprs.Node k) → EntryFits s f from negative e
-  fits_node e k is t sign stands = absurd (stands_node s from negative t e sign k is stands)
+  fits_node e k is t sign stands = absurd (stands_node s t e sign k is stands)
 
   pub fits_shape : (e : ExprId) (u : ShapeId) → entry s e ≡ Some (Exprs.Shape u) → FallsTo f from negative u ↔ EntryFits s f from negative e
   fits_shape e u is = (
-    λ h t sign stands. (let (none, same) = stands_shape s from negative t e sign u is stands in
+    λ h t sign stands. (let (none, same) = stands_shape s t e sign u is stands in
         subst (λ z. level f z + cost_of (negative || sign) ≤ level f from) same
-        (subst (λ z. level f u + cost_of z ≤ level f from) (sym (or_false s from negative negative) ∙ ap (λ z. negative || z) (sym none)) h)),
-    λ one. subst (λ z. level f u + cost_of z ≤ level f from) (or_false s from negative negative) (one u false (itself is)),
+        (subst (λ z. level f u + cost_of z ≤ level f from) (sym (or_false negative) ∙ ap (λ z. negative || z) (sym none)) h)),
+    λ one. subst (λ z. level f u + cost_of z ≤ level f from) (or_false negative) (one u false (itself is)),
   )
 
 -- the value of an occurrence, where there is one
@@ -97,9 +96,6 @@ module _ (s : Schema) (f : List ℕ) where
       go true e = let h = strat.falls i t edge (negative_of (is_extra sh.extra o) refl e) in omega arith
       go false e = let h = strat.never_rises i t edge in omega arith
 
-  pub fit_none : AllFit 0
-  fit_none i sh lt is = absurd (omega arith)
-
   pub fit_more : (k : ℕ) (i : ShapeId) (x : Shape) → i.0 ≡ k → shape_at s i ≡ Some x → AllFit k → OccurrencesFit s f i x.extra x.occs → AllFit (k + 1)
   fit_more k i x at here before fits j sh lt is = elim (cases_lt j.0 k) [
     | inl less ↦ before j sh less is
@@ -120,9 +116,6 @@ module _ {X : Type 0} (P : X → Type 0) (xs : List X) where
   abbrev pub AllOf : List X → Type 0
   AllOf ys = (x : X) → Contains ys x → P x
 
-  pub all_none : AllOf (take 0 xs)
-  all_none x c = absurd (not_in_none x c)
-
   pub all_more : (k : ℕ) (d : X) → k < length xs → AllOf (take k xs) → P (get_or xs k d) → AllOf (take (k + 1) xs)
   all_more k d lt old new x c = elim (Contains-append_cases (take k xs) (get_or xs k d ∷ []) x (subst (λ us. Contains us x) is c)) [
     | inl before ↦ old x before
@@ -131,9 +124,6 @@ module _ {X : Type 0} (P : X → Type 0) (xs : List X) where
     where
       is : take (k + 1) xs ≡ take k xs ++ get_or xs k d ∷ []
       is = ap (λ n. take n xs) (let e : k + 1 ≡ suc k = omega arith in e) ∙ take-suc xs k d lt
-
-  pub all_read : (k : ℕ) → length xs ≤ k → AllOf (take k xs) → AllOf xs
-  all_read k le all = subst AllOf (take_all k xs le) all
 
 -- an answer for the one is one for the other
 pub answers : {A B : Type 0} (b : Bool) → IsTrue b ↔ A → A ↔ B → IsTrue b ↔ B

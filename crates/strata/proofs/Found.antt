@@ -18,7 +18,7 @@ use Rattle.rdf_terms.proofs.SameTerms.{same_is}
 use Rattle.strata.specs.declared.edges.Arc.{Arc}
 use Rattle.strata.specs.Arcs.{IsArc, AreArcs}
 use Rattle.strata.specs.Gathers.{Grows, FromShape, FromFirst, is_extra}
-use Rattle.strata.proofs.Grown.{grow_join, grow_same, grow_none}
+use Rattle.strata.proofs.Grown.{grow_join, grow_same}
 
 both_of : (a b : Bool) → a && b ≡ true → (a ≡ true) × (b ≡ true)
 both_of true b e = (refl, e)
@@ -51,9 +51,6 @@ or_second true b e = refl
 or_second false b e = e
 
 module _ (s : Schema) where
-  pub none_first : Grows (FromFirst s 0) [] []
-  none_first = grow_none (FromFirst s 0) [] (λ a h. (let lt = h.1 in absurd (omega arith)))
-
   -- one more Shape
   pub grow_shape : (k : ℕ) (i : ShapeId) (sh : Shape) → i.0 ≡ k → shape_at s i ≡ Some sh → (xs ys : List Arc) → Grows (FromFirst s k) [] xs → Grows (FromShape s i sh.extra sh.occs) xs ys → Grows (FromFirst s (k + 1)) [] ys
   grow_shape k i sh at is xs ys g h = grow_same _ _ to back [] ys (grow_join (FromFirst s k) (FromShape s i sh.extra sh.occs) [] xs ys g h)

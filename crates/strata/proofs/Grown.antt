@@ -1,6 +1,6 @@
 -- How lists of arcs grow.
 use Rattle.std.proofs.Common.{◌≡◌, ℕ, suc, ◌<◌, ◌⊎◌, inl, inr, List, [], ◌∷◌, ◌++◌, refl, arith, sym, subst, ap, length, take, get_or, ◌+◌, Bool, true, false, ◌∙◌}
-use Rattle.std.specs.Prelude.{Contains, ◌||◌, Option, Some, None, IfOk, Result, Ok, Err}
+use Rattle.std.specs.Prelude.{Contains, ◌||◌, Some, None, IfOk, Result, Ok, Err}
 use Rattle.std.proofs.lemmas.List.Elements.{Contains-append_cases, Contains-append_left, Contains-append_right}
 use Rattle.std.proofs.Math.Seq.{take-suc}
 use Rattle.std.proofs.lemmas.Option.{slice_get-get_or}
@@ -16,7 +16,7 @@ use Rattle.lists.proofs.Members.{in_one, is_first}
 use Rattle.strata.specs.declared.edges.Arc.{Arc}
 use Rattle.rdf_terms.specs.declared.terms.TermId.{TermId}
 use Rattle.schema_tree.specs.declared.schema.Occurrence.{Occurrence}
-use Rattle.strata.specs.Gathers.{Grows, FromEntry, FromEntries, FromOcc, FromShape, is_extra}
+use Rattle.strata.specs.Gathers.{Grows, FromEntry, FromOcc, FromShape, is_extra}
 
 pub grow_none : (P : Arc → Type 0) (xs : List Arc) → ((a : Arc) → ¬ P a) → Grows P xs xs
 grow_none P xs none = record { kept = λ a c. c; added = λ a h. absurd (none a h); only = λ a c. inl c }
@@ -48,26 +48,15 @@ grow_one P xs x h once = record {
   ];
 }
 
-module _ (s : Schema) (from : ShapeId) (negative : Bool) where
-  -- one more entry of a list
-  pub grow_entry : (es : List ExprId) (k : ℕ) (d : ExprId) → k < length es → (xs ys zs : List Arc) → Grows (FromEntries s from negative (take k es)) xs ys →
-      Grows (FromEntry s from negative (get_or es k d)) ys zs → Grows (FromEntries s from negative (take (suc k) es)) xs zs
-  grow_entry es k d lt xs ys zs g h =
-      grow_same _ _ to back xs zs (grow_join (FromEntries s from negative (take k es)) (FromEntry s from negative (get_or es k d)) xs ys zs g h)
-    where
-      is : take (suc k) es ≡ take k es ++ get_or es k d ∷ []
-      is = take-suc es k d lt
+pub or_true : (b : Bool) → b || true ≡ true
+or_true true = refl
+or_true false = refl
 
-      to : (a : Arc) → FromEntries s from negative (take k es) a ⊎ FromEntry s from negative (get_or es k d) a → FromEntries s from negative (take (suc k) es) a
-      to a (inl (e, c, p)) = (e, subst (λ us. Contains us e) (sym is) (Contains-append_left (take k es) (get_or es k d ∷ []) e c), p)
-      to a (inr p) = (get_or es k d, subst (λ us. Contains us (get_or es k d)) (sym is) (Contains-append_right (take k es) (get_or es k d ∷ []) (get_or es k d) (is_first (get_or es k d) [])), p)
+pub or_false : (b : Bool) → b || false ≡ b
+or_false true = refl
+or_false false = refl
 
-      back : (a : Arc) → FromEntries s from negative (take (suc k) es) a → FromEntries s from negative (take k es) a ⊎ FromEntry s from negative (get_or es k d) a
-      back a (e, c, p) = elim (Contains-append_cases (take k es) (get_or es k d ∷ []) e (subst (λ us. Contains us e) is c)) [
-        | inl old ↦ inl (e, old, p)
-        | inr new ↦ inr (subst (λ u. FromEntry s from negative u a) (sym (in_one (get_or es k d) e new)) p)
-      ]
-
+module _ (s : Schema) where
   -- what an entry holds, by its kind
   pub stands_and : (t : ShapeId) (e : ExprId) (sign : Bool) (es : List ExprId) → entry s e ≡ Some (Exprs.And es) → StandsIn s t e sign → (d : ExprId) × Contains es d × StandsIn s t d sign
   stands_and t e sign es is (itself i) = absurd (let bad : ⊥ = cc in bad)
@@ -99,41 +88,11 @@ module _ (s : Schema) (from : ShapeId) (negative : Bool) where
   stands_node t e sign k is (in_or fs d i c st) = let bad : ⊥ = cc in bad
   stands_node t e _ k is (in_not d i st) = let bad : ⊥ = cc in bad
 
-  pub from_and : (e : ExprId) (es : List ExprId) → entry s e ≡ Some (Exprs.And es) → (xs ys : List Arc) → Grows (FromEntries s from negative es) xs ys → Grows (FromEntry s from negative e) xs ys
-  from_and e es is xs ys g = grow_same (FromEntries s from negative es) (FromEntry s from negative e)
-      (λ a (d, c, p). (p.0, (p.1.0, in_and es d is c p.1.1, p.1.2)))
-      (λ a h. let (d, c, st) = stands_and a.to e h.1.0 es is h.1.1 in (d, c, (h.0, (h.1.0, st, h.1.2)))) xs ys g
-
-  pub from_or : (e : ExprId) (es : List ExprId) → entry s e ≡ Some (Exprs.Or es) → (xs ys : List Arc) → Grows (FromEntries s from negative es) xs ys → Grows (FromEntry s from negative e) xs ys
-  from_or e es is xs ys g = grow_same (FromEntries s from negative es) (FromEntry s from negative e)
-      (λ a (d, c, p). (p.0, (p.1.0, in_or es d is c p.1.1, p.1.2)))
-      (λ a h. let (d, c, st) = stands_or a.to e h.1.0 es is h.1.1 in (d, c, (h.0, (h.1.0, st, h.1.2)))) xs ys g
-
-  pub or_true : (b : Bool) → b || true ≡ true
-  or_true true = refl
-  or_true false = refl
-
-  pub or_false : (b : Bool) → b || false ≡ b
-  or_false true = refl
-  or_false false = refl
-
-  pub from_not : (e d : ExprId) → entry s e ≡ Some (Exprs.Not d) → (xs ys : List Arc) → Grows (FromEntry s from true d) xs ys → Grows (FromEntry s from negative e) xs ys
-  from_not e d is xs ys g = grow_same (FromEntry s from true d) (FromEntry s from negative e)
-      (λ a p. (p.0, (true, in_not d is p.1.1, p.1.2 ∙ sym (or_true negative))))
-      (λ a h. let t = stands_not a.to e h.1.0 d is h.1.1 in (h.0, (t.1.0, t.1.1, subst (λ b. a.negative ≡ negative || b) t.0 h.1.2 ∙ or_true negative))) xs ys g
-
-  pub from_node : (e : ExprId) (k : Constraint) → entry s e ≡ Some (Exprs.Node k) → (xs : List Arc) → Grows (FromEntry s from negative e) xs xs
-  from_node e k is xs = grow_none (FromEntry s from negative e) xs (λ a h. stands_node a.to e h.1.0 k is h.1.1)
-
-  pub from_shape : (e : ExprId) (u : ShapeId) → entry s e ≡ Some (Exprs.Shape u) → (xs : List Arc) → Grows (FromEntry s from negative e) xs (xs ++ record { from = from; to = u; negative = negative } ∷ [])
-  from_shape e u is xs = grow_one (FromEntry s from negative e) xs (record { from = from; to = u; negative = negative })
-      (refl, (false, itself is, sym (or_false negative))) once
-    where
-      same : (a : Arc) → a.from ≡ from → u ≡ a.to → a.negative ≡ negative → record { from = from; to = u; negative = negative } ≡ a
-      same a p q r = grind (arith, p, q, r)
-
-      once : (a : Arc) → FromEntry s from negative e a → record { from = from; to = u; negative = negative } ≡ a
-      once a h = let t = stands_shape a.to e h.1.0 u is h.1.1 in same a h.0 t.1 (subst (λ b. a.negative ≡ negative || b) t.0 h.1.2 ∙ or_false negative)
+  pub stands_none : (t : ShapeId) (e : ExprId) (sign : Bool) → entry s e ≡ None → ¬ StandsIn s t e sign
+  stands_none t e sign is (itself i) = let bad : ⊥ = cc in bad
+  stands_none t e sign is (in_and fs d i c st) = let bad : ⊥ = cc in bad
+  stands_none t e sign is (in_or fs d i c st) = let bad : ⊥ = cc in bad
+  stands_none t e _ is (in_not d i st) = let bad : ⊥ = cc in bad
 
 -- an entry that is read by its place
 pub entry_in : (s : Schema) (e : ExprId) (es : List Expr) (x y : Expr) → es ≡ s.exprs → x ≡ get_or es e.0 x → x ≡ y → e.0 < length s.exprs → entry s e ≡ Some y
@@ -171,8 +130,3 @@ module _ (s : Schema) (from : ShapeId) (extra : List TermId) where
         | inl old ↦ inl (o, old, p, q)
         | inr new ↦ inr (subst (λ u. FromOcc s from extra u a) (sym (in_one (get_or os k d) o new)) (p, q))
       ]
-
--- what is no Some is None
-pub not_some : {X : Type 0} (v : Option X) → ((x : X) → ¬ (v ≡ Some x)) → v ≡ None
-not_some None h = refl
-not_some (Some x) h = absurd (h x refl)

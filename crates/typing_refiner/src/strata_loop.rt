@@ -58,7 +58,7 @@ pub struct Confirmed {
     pub places: Items<Place>,
 }
 
-/// The verdicts on pairs, and what shows those that are Yes.
+/// The verdicts on pairs, and what shows them.
 #[derive(Drop)]
 pub struct Verdicts {
     /// The verdicts.

@@ -1,7 +1,6 @@
 use Rattle.std.proofs.Common.{ap, subst}
 use Rattle.std.proofs.lemmas.Result.{err_from_is_err_and}
 use Rattle.graph_index.specs.Loading.{Loads}
-use Rattle.shex_inputs.proofs.Counted.{few}
 use Rattle.shex_inputs.proofs.Reading.{reading_stops}
 use Rattle.shex_inputs.proofs.data.read_data.Goals as goal
 
@@ -9,12 +8,6 @@ pub returns-clause-read : goal.returns-clause-read
 returns-clause-read c =
     let found = c.in_ok-names.ensures.found in
     (found.triples, found.spelled, subst (λ g. Loads c.args.terms.now g found.triples c.read-read.new.terms c.read-read.new.graph.triples) (ap (λ g. g.triples) c.new-graph.ensures) found.loaded)
-
-pub returns-clause-few : goal.returns-clause-few
-returns-clause-few c =
-    let found = c.in_ok-names.ensures.found in
-    few c.args.terms.now c.read-read.new.terms c.read-read.new.graph.triples found.triples
-    (subst (λ g. Loads c.args.terms.now g found.triples c.read-read.new.terms c.read-read.new.graph.triples) (ap (λ g. g.triples) c.new-graph.ensures) found.loaded)
 
 pub returns-in_err-names-clause-unread : goal.returns-in_err-names-clause-unread
 returns-in_err-names-clause-unread c =

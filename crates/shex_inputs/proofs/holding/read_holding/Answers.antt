@@ -1,6 +1,5 @@
 use Rattle.std.proofs.Common.{◌∙◌, codes, subst}
 use Rattle.std.proofs.lemmas.Result.{err_from_is_err_and}
-use Rattle.schema_documents.specs.Tree.{document_of}
 use Rattle.graph_index.specs.declared.read_error.ReadError.TheVariants as ReadErrors
 use Rattle.shex_inputs.specs.declared.error.Refusal.TheVariants as Refusals
 use Rattle.shex_inputs.specs.declared.error.Source.TheVariants.{Data}
@@ -10,21 +9,18 @@ use Rattle.shex_inputs.specs.Stops.{FetchStops}
 use Rattle.shex_inputs.proofs.Reading.{are_taken, base_scheme, data_explains, fetch_before_map, fetch_explains, refused_before_map, refused_faults}
 use Rattle.shex_inputs.proofs.holding.read_holding.Goals as goal
 
-pub load-requires-clause-scheme : goal.load-requires-clause-scheme
-load-requires-clause-scheme g c = base_scheme c.args.inputs.now.data_base.now c.requires.data_base
+pub hold-requires : goal.hold-requires
+hold-requires g c = record { scheme = base_scheme c.args.inputs.now.data_base.now c.requires.data_base }
 
-pub load-requires-clause-loadable : goal.load-requires-clause-loadable
-load-requires-clause-loadable g c = (c.in_ok-doc.ensures.taken (codes "")).loadable
-
-pub returns-in_err-doc-clause-cause : goal.returns-in_err-doc-clause-cause
-returns-in_err-doc-clause-cause g c = λ map_name.
+pub returns-in_err-loaded-clause-cause : goal.returns-in_err-loaded-clause-cause
+returns-in_err-loaded-clause-cause g c = λ map_name.
     let p = err_from_is_err_and c.from_residual.result c.from_residual.ensures.1 in
-    rw (p.1, p.2) (c.in_err-doc.ensures.cause map_name)
+    rw (p.1, p.2) (c.in_err-loaded.ensures.cause map_name)
 
-pub returns-in_err-doc-clause-faults : goal.returns-in_err-doc-clause-faults
-returns-in_err-doc-clause-faults g c = λ map_name.
+pub returns-in_err-loaded-clause-faults : goal.returns-in_err-loaded-clause-faults
+returns-in_err-loaded-clause-faults g c = λ map_name.
     let p = err_from_is_err_and c.from_residual.result c.from_residual.ensures.1 in
-    rw (p.1, p.2) (c.in_err-doc.ensures.faults map_name)
+    rw (p.1, p.2) (c.in_err-loaded.ensures.faults map_name)
 
 pub returns-in_err-bytes-clause-cause : goal.returns-in_err-bytes-clause-cause
 returns-in_err-bytes-clause-cause g c = λ map_name.
@@ -33,15 +29,29 @@ returns-in_err-bytes-clause-cause g c = λ map_name.
     let after = g.F.Files.faults c.fetch.new.files in
     let blame = g.F.Files.blame c.fetch.new.files in
     let act = g.F.Files.act c.fetch.new.files in
+    let l = c.in_ok-loaded.loaded in
     rw (p.1, p.2)
-    (fetch_explains (g.F.Files.told c.args.files.now) (inputs_with c.args.inputs.now map_name) Data before after blame act c.in_err-bytes.field-0.0 (document_of c.in_ok-doc.doc, c.in_ok-doc.ensures.taken map_name)
-    (subst (λ t. FetchStops t c.args.inputs.now.data.now Data before after blame act c.in_err-bytes.field-0.0) c.in_ok-doc.ensures.told_stays c.in_err-bytes.ensures.stops))
+    (fetch_explains (g.F.Files.told c.args.files.now) (inputs_with c.args.inputs.now map_name) Data before after blame act c.in_err-bytes.field-0.0 (l.terms, l.schema, l.strata, c.in_ok-loaded.ensures.taken map_name)
+    (subst (λ t. FetchStops t c.args.inputs.now.data.now Data before after blame act c.in_err-bytes.field-0.0) c.in_ok-loaded.ensures.told_stays c.in_err-bytes.ensures.stops))
 
 pub returns-in-Ok-clause-taken : goal.returns-in-Ok-clause-taken
 returns-in-Ok-clause-taken g c = λ map_name.
-    let (triples, spelled, holding) = c.in-Ok.ensures.read in
-    are_taken (g.F.Files.told c.args.files.now) (inputs_with c.args.inputs.now map_name) (held_by c.in-Ok.holding) c.of_name-format.result (document_of c.in_ok-doc.doc) c.in_ok-bytes.bytes.items c.as_slice.result.now triples (c.in_ok-doc.ensures.taken map_name)
-    (subst (λ t. IsFile t c.args.inputs.now.data.now c.in_ok-bytes.bytes.items) c.in_ok-doc.ensures.told_stays c.in_ok-bytes.ensures.bytes) c.of_name-format.ensures c.as_slice.ensures.value spelled holding
+    let taken = c.in_ok-loaded.ensures.taken map_name in
+    let (triples, spelled, holding) = c.in-Ok.ensures.read taken.doc taken.is_schema in
+    are_taken (g.F.Files.told c.args.files.now) (inputs_with c.args.inputs.now map_name) (held_by c.in-Ok.holding) c.of_name-format.result taken.doc c.in_ok-bytes.bytes.items c.as_slice.result.now triples taken.holds_schema
+    (subst (λ t. IsFile t c.args.inputs.now.data.now c.in_ok-bytes.bytes.items) c.in_ok-loaded.ensures.told_stays c.in_ok-bytes.ensures.bytes) c.of_name-format.ensures c.as_slice.ensures.value spelled holding
+
+pub returns-in-Ok-clause-strata : goal.returns-in-Ok-clause-strata
+returns-in-Ok-clause-strata g c =
+    let taken = c.in_ok-loaded.ensures.taken (codes "") in
+    let (triples, spelled, holding) = c.in-Ok.ensures.read taken.doc taken.is_schema in
+    holding.is_schema.strata
+
+pub returns-in-Ok-clause-distinct : goal.returns-in-Ok-clause-distinct
+returns-in-Ok-clause-distinct g c =
+    let taken = c.in_ok-loaded.ensures.taken (codes "") in
+    let (triples, spelled, holding) = c.in-Ok.ensures.read taken.doc taken.is_schema in
+    holding.distinct
 
 pub returns-in_err-bytes-clause-before_map : goal.returns-in_err-bytes-clause-before_map
 returns-in_err-bytes-clause-before_map g c =
@@ -53,9 +63,10 @@ returns-clause-before_map g c = refused_before_map ReadErrors.Memory (λ e. Refu
 
 pub returns-clause-cause : goal.returns-clause-cause
 returns-clause-cause g c = λ map_name.
-    data_explains (g.F.Files.told c.args.files.now) (inputs_with c.args.inputs.now map_name) c.of_name-format.result (document_of c.in_ok-doc.doc) c.in_ok-bytes.bytes.items c.as_slice.result.now c.in-Err.error c.data_error.result (c.in_ok-doc.ensures.taken map_name)
-    (subst (λ t. IsFile t c.args.inputs.now.data.now c.in_ok-bytes.bytes.items) c.in_ok-doc.ensures.told_stays c.in_ok-bytes.ensures.bytes) c.of_name-format.ensures c.as_slice.ensures.value c.in-Err.ensures.unread c.data_error.ensures
+    let l = c.in_ok-loaded.loaded in
+    data_explains (g.F.Files.told c.args.files.now) (inputs_with c.args.inputs.now map_name) c.of_name-format.result l.terms l.schema l.strata c.in_ok-bytes.bytes.items c.as_slice.result.now c.in-Err.error c.data_error.result (c.in_ok-loaded.ensures.taken map_name)
+    (subst (λ t. IsFile t c.args.inputs.now.data.now c.in_ok-bytes.bytes.items) c.in_ok-loaded.ensures.told_stays c.in_ok-bytes.ensures.bytes) c.of_name-format.ensures c.as_slice.ensures.value c.in-Err.ensures.unread c.data_error.ensures
 
 pub returns-clause-faults : goal.returns-clause-faults
 returns-clause-faults g c = λ map_name.
-    refused_faults ReadErrors.Memory (λ e. Refusals.Data e) c.in-Err.error c.data_error.result (inputs_with c.args.inputs.now map_name) _ _ _ _ c.data_error.ensures (c.in_ok-bytes.ensures.faults_stay ∙ c.in_ok-doc.ensures.faults_stay)
+    refused_faults ReadErrors.Memory (λ e. Refusals.Data e) c.in-Err.error c.data_error.result (inputs_with c.args.inputs.now map_name) _ _ _ _ c.data_error.ensures (c.in_ok-bytes.ensures.faults_stay ∙ c.in_ok-loaded.ensures.faults_stay)

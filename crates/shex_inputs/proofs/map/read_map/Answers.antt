@@ -1,35 +1,13 @@
-use Rattle.std.proofs.Common.{subst}
-use Rattle.shape_map.specs.Maps.{IsMap}
-use Rattle.term_tokens.specs.Scopes.{scope_of}
-use Rattle.shex_inputs.specs.Asked.{label_names}
 use Rattle.shex_inputs.specs.Held.{held_by}
 use Rattle.shex_inputs.specs.Named.{inputs_with}
-use Rattle.shape_map.specs.declared.error.MapError.TheVariants as MapErrors
-use Rattle.shex_inputs.specs.declared.error.Refusal.TheVariants as Refusals
-use Rattle.shex_inputs.proofs.Reading.{asking_explains, base_scheme, map_explains, refused_faults}
+use Rattle.shex_inputs.proofs.Reading.{demand_explains, demand_faults, too_many}
 use Rattle.shex_inputs.proofs.map.read_map.Goals as goal
-
-pub map_of-requires-clause-labels : goal.map_of-requires-clause-labels
-map_of-requires-clause-labels g c = base_scheme c.args.inputs.now.schema_base.now c.requires.schema_base
 
 pub returns-in-Err-clause-cause : goal.returns-in-Err-clause-cause
 returns-in-Err-clause-cause g c =
-    map_explains (g.F.Files.told c.args.files.now) (inputs_with c.args.inputs.now c.args.name.now) (held_by c.args.holding.now) c.in_ok-bytes.bytes.items c.as_slice.result.now c.in-Err.error c.map_error.result c.requires.taken c.in_ok-bytes.ensures.bytes c.as_slice.ensures.value c.in-Err.ensures.stops c.map_error.ensures
+    let (items, holds, ends) = c.in_ok-associations.ensures.asked in
+    demand_explains (g.F.Files.told c.args.files.now) (inputs_with c.args.inputs.now c.args.name.now) (held_by c.args.holding.now) items c.in_ok-associations.associations.items c.read_associations.new.holding.terms c.in-Err.error c.demand_error.result c.requires.taken holds ends
+    (λ apart. too_many c.read_associations.new.holding.schema c.args.holding.now.schema c.read_associations.new.holding.graph.triples c.args.holding.now.graph.triples c.as_slice.result.now c.in_ok-associations.associations.items c.in_ok-associations.ensures.schema c.in_ok-associations.ensures.graph c.as_slice.ensures.value (c.in-Err.ensures.many apart)) c.demand_error.ensures
 
 pub returns-in-Err-clause-faults : goal.returns-in-Err-clause-faults
-returns-in-Err-clause-faults g c =
-    refused_faults MapErrors.Memory (λ e. Refusals.Map e) c.in-Err.error c.map_error.result (inputs_with c.args.inputs.now c.args.name.now) _ _ _ _ c.map_error.ensures c.in_ok-bytes.ensures.faults_stay
-
-pub returns-clause-cause : goal.returns-clause-cause
-returns-clause-cause g c =
-    asking_explains (g.F.Files.told c.args.files.now) (inputs_with c.args.inputs.now c.args.name.now) (held_by c.args.holding.now) c.in-Ok.map c.in-Err-associations_of.error c.map_error-in-Err-associations_of.result c.requires.taken
-    (record {
-      bytes = c.in_ok-bytes.bytes.items;
-      file = c.in_ok-bytes.ensures.bytes;
-      spelled = subst (λ bs. IsMap (scope_of c.args.holding.now.names) (label_names (inputs_with c.args.inputs.now c.args.name.now)) bs c.in-Ok.map) c.as_slice.ensures.value c.in-Ok.ensures.found;
-    })
-    c.in-Err-associations_of.ensures.stops c.map_error-in-Err-associations_of.ensures
-
-pub returns-clause-faults : goal.returns-clause-faults
-returns-clause-faults g c =
-    refused_faults MapErrors.Memory (λ e. Refusals.Map e) c.in-Err-associations_of.error c.map_error-in-Err-associations_of.result (inputs_with c.args.inputs.now c.args.name.now) _ _ _ _ c.map_error-in-Err-associations_of.ensures c.in_ok-bytes.ensures.faults_stay
+returns-in-Err-clause-faults g c = demand_faults (inputs_with c.args.inputs.now c.args.name.now) _ _ _ _ c.in-Err.error c.demand_error.result c.demand_error.ensures c.in_ok-associations.ensures.faults_stay

@@ -3,24 +3,36 @@ use Rattle.std.specs.Prelude.{is_some, option_map}
 use Rattle.rdf_terms.specs.Tables.{max_terms}
 use Rattle.command_words.specs.Lent.{command_of}
 use Rattle.command_words.specs.declared.command.Command.TheVariants as Lent
+use Rattle.schema_tree.specs.Loaded.{IsLoaded}
+use Rattle.shex_inputs.specs.Asked.{Question}
 use Rattle.shex_inputs.specs.Held.{held_by}
+use Rattle.shex_inputs.specs.declared.holding.Holding.{Holding}
+use Rattle.shex_inputs.specs.declared.map.Asked.{Asked}
 use Rattle.shex_run.specs.Ready.{IsDecided}
 use Rattle.shex_run.specs.Stopping.{Explains}
 use Rattle.shex_run.proofs.Answering.{input_stopped, wish_of_task}
 use Rattle.shex_run.proofs.Replies.{ready, reply}
 use Rattle.shex_run.proofs.answers.decide_map.Goals as goal
 
+abbrev question : Holding → Holding → Asked → Question
+question old new asked = record { held = held_by old; terms = new.terms; associations = asked.associations.items; pairs = asked.pairs }
+
 pub decide-requires : goal.decide-requires
 decide-requires g c =
     ready (g.F.Files.told c.args.files.now) (command_of (Lent.Validate c.args.validation.now))
-    (record { held = held_by c.args.holding.now; terms = c.read_map.new.holding.terms; associations = c.in-Ok.associations.items }) c.in-Ok.ensures.asked c.read_map.new.holding c.in-Ok.ensures.schema refl c.in-Ok.ensures.graph c.in-Ok.associations.items refl
-    c.in-Ok.ensures.sealed c.in-Ok.ensures.of_new_table c.requires.bases c.are_texts.ensures.schema c.are_texts.ensures.data_file c.data_have_lines.ensures c.map_has_lines.ensures c.bases_are_lines.ensures
+    (question c.args.holding.now c.read_map.new.holding c.in-Ok.asked) c.in-Ok.ensures.asked c.read_map.new.holding c.in-Ok.asked.associations.items c.in-Ok.asked.pairs
+    (record { schema = c.read_map.ensures.schema; strata = c.read_map.ensures.strata; terms = refl; graph = c.read_map.ensures.graph; associations = refl; pairs = refl }) c.requires.fit
+    c.args.validation.now.map.now (option_map (λ s. s.now) c.args.validation.now.proof) c.args.validation.now.budget refl (subst IsLoaded (sym c.read_map.ensures.schema) c.requires.loaded)
+    c.in-Ok.ensures.sealed c.read_map.ensures.of_new_table c.in-Ok.ensures.closed c.are_texts.ensures.schema c.are_texts.ensures.data_file c.data_have_lines.ensures c.map_has_lines.ensures c.bases_are_lines.ensures
 
 pub returns-in-Ok-decide-clause-decided : goal.returns-in-Ok-decide-clause-decided
 returns-in-Ok-decide-clause-decided g c =
     reply (g.F.Files.told c.args.files.now) (command_of (Lent.Validate c.args.validation.now))
-    (record { held = held_by c.args.holding.now; terms = c.read_map.new.holding.terms; associations = c.in-Ok.associations.items }) c.in-Ok.ensures.asked c.read_map.new.holding c.in-Ok.ensures.schema refl c.in-Ok.ensures.graph c.in-Ok.associations.items refl
-    (is_some c.args.validation.now.proof) c.in-Ok-decide.decided (subst (λ b. IsDecided c.read_map.new.holding c.in-Ok.associations.items b c.in-Ok-decide.decided) c.is_some.ensures c.in-Ok-decide.ensures) (subst (λ k. k ≤ max_terms) c.len-count.ensures.count c.len-count.ensures.few)
+    (question c.args.holding.now c.read_map.new.holding c.in-Ok.asked) c.in-Ok.ensures.asked c.read_map.new.holding c.in-Ok.asked.associations.items c.in-Ok.asked.pairs
+    (record { schema = c.read_map.ensures.schema; strata = c.read_map.ensures.strata; terms = refl; graph = c.read_map.ensures.graph; associations = refl; pairs = refl }) c.requires.fit
+    c.args.validation.now.map.now (option_map (λ s. s.now) c.args.validation.now.proof) c.args.validation.now.budget refl
+    (is_some c.args.validation.now.proof) c.in-Ok-decide.decided (subst (λ b. IsDecided c.read_map.new.holding c.in-Ok.asked.associations.items c.in-Ok.asked.pairs c.args.validation.now.budget b c.in-Ok-decide.decided) c.is_some.ensures c.in-Ok-decide.ensures)
+    (subst (λ k. k ≤ max_terms) c.len-count.ensures.count c.len-count.ensures.few) c.requires.of_table c.width_is_one.ensures.decided
 
 pub returns-in-Err-clause-cause : goal.returns-in-Err-clause-cause
 returns-in-Err-clause-cause g c =

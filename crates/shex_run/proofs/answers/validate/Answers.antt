@@ -8,7 +8,7 @@ use Rattle.shex_run.proofs.answers.validate.Goals as goal
 
 pub returns-clause-response : goal.returns-clause-response
 returns-clause-response g c =
-    subst (λ t. IfOk c.keep.result (λ r. IsResponse t (g.F.Files.told c.keep.new.files) (command_of (Lent.Validate c.args.validation.now)) r.status r.text.items)) c.decide_map.ensures.told_stays c.keep.ensures.response
+    subst (λ t. IfOk c.keep.result (λ r. IsResponse t (g.F.Files.told c.keep.new.files) (command_of (Lent.Validate c.args.validation.now)) r.status r.text.items r.notes.items)) c.decide_map.ensures.told_stays c.keep.ensures.response
 
 pub returns-clause-cause : goal.returns-clause-cause
 returns-clause-cause g c =

@@ -5,20 +5,16 @@ use Rattle.rdf_terms.specs.Tables.{max_terms}
 use Rattle.proof_checker.specs.Checks.{FailsAs, IsAcceptedAs}
 use Rattle.shape_map.specs.Results.{result_text}
 use Rattle.shex_inputs.specs.Held.{Held, held_by}
-use Rattle.simple_typing.specs.Simple.{IsSimpleSchema}
 use Rattle.shex_run.specs.Checking.{ConfirmStops}
 use Rattle.shex_run.specs.Proofs.{Accepted}
 use Rattle.shex_run.proofs.Confirmed.{is_true, stops}
-use Rattle.shex_run.proofs.Simplicity.{simple_schema}
 use Rattle.shex_run.proofs.Settled.{answers_there}
-use Rattle.simple_typing.proofs.Flat.{no_cycle}
+use Rattle.schema_tree.proofs.Strata.{stratified_no_cycle, stratum_stratified}
 use Rattle.shex_run.proofs.checking.confirm.Goals as goal
 
 pub check-checked-requires-clause-stratified : goal.check-checked-requires-clause-stratified
 check-checked-requires-clause-stratified c =
-    let (doc, triples, is) = c.requires.holding in
-    let held : Held = held_by c.args.holding in
-    no_cycle held.schema (simple_schema held.terms doc held.schema is.stands is.built)
+    stratified_no_cycle c.args.holding.schema c.args.holding.strata (stratum_stratified c.args.holding.schema c.args.holding.strata c.requires.strata)
 
 pub check-checked-requires-clause-numbers : goal.check-checked-requires-clause-numbers
 check-checked-requires-clause-numbers c = subst (All (IsOfTable c.args.holding.terms)) (sym c.seal.ensures.same) c.requires.of_table
@@ -31,10 +27,8 @@ write_result-requires c = λ a h.
 
 pub returns-in-Ok-write_result-clause-confirmed : goal.returns-in-Ok-write_result-clause-confirmed
 returns-in-Ok-write_result-clause-confirmed c =
-    let (doc, triples, is) = c.requires.holding in
     let terms = c.check-checked.new.terms in
     let held : Held = held_by c.args.holding in
-    let simple : IsSimpleSchema held.schema = simple_schema held.terms doc held.schema is.stands is.built in
     let (f, least, found) = c.in-Ok.ensures.accepted in
     let accepted : Accepted held c.args.proof.now terms c.in-Ok.claims = record {
       strata = f;
@@ -46,7 +40,7 @@ returns-in-Ok-write_result-clause-confirmed c =
       terms = terms;
       answers = c.in-Ok.claims;
       accepted = accepted;
-      truth = is_true held is.stands.loaded simple c.typing_is_one.ensures.exists c.accepted_is_true.ensures c.args.proof.now terms c.in-Ok.claims accepted;
+      truth = is_true held c.requires.loaded c.typing_is_one.ensures.exists c.accepted_is_true.ensures c.args.proof.now terms c.in-Ok.claims accepted;
       text_is = c.in-Ok-write_result.ensures.written ∙ ap (λ zs. zs ++ result_text terms c.list.result.now) c.new-text.ensures.items ∙ ap (λ xs. result_text terms xs) c.list.ensures;
     }
 

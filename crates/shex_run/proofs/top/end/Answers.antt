@@ -1,21 +1,22 @@
-use Rattle.std.proofs.Common.{subst, sym, refl, List, ℕ}
+use Rattle.std.proofs.Common.{subst, refl}
 use Rattle.command_words.specs.Lent.{command_of}
-use Rattle.shex_run.specs.Endings.{IsResponse}
 use Rattle.shex_run.specs.Stopping.{Explains, FaultsAs, LeavesStored}
 use Rattle.shex_run.specs.declared.stop.Stop.{Stop}
 use Rattle.shex_run.specs.declared.stop.Stop.TheVariants as Stops
+use Rattle.shex_run.proofs.Fitting.{fit}
 use Rattle.shex_run.proofs.Ended.{with_refusal, with_response, with_stop, with_words}
 use Rattle.shex_run.proofs.top.end.Goals as goal
 
 pub returns-in-Err : goal.returns-in-Err
 returns-in-Err g c = with_words _ _ _ _ _ (record { told_same = refl; faults_same = refl }) (record { got_same = refl; faults_same = refl }) c.in-Err.error c.in-Err.ensures.refused c.refuse.ensures
 
+pub respond-requires : goal.respond-requires
+respond-requires g c = fit _ _ c.in-Ok.ensures.asked
+
 pub returns-in-Ok-respond : goal.returns-in-Ok-respond
 returns-in-Ok-respond g c =
-    let k = command_of c.in-Ok.command in
-    let R : List ℕ → Type 0 = λ t. IsResponse (g.F.Files.told c.args.files.now) (g.F.Files.told c.respond.new.files) k c.in-Ok-respond.response.status t in
-    with_response _ k c.in-Ok.ensures.asked _ _ _ _ c.as_slice.result.now c.in-Ok-respond.response.status c.in-Ok-respond.ensures.low (subst R (sym c.as_slice.ensures.value) c.in-Ok-respond.ensures.response)
-    c.in-Ok-respond.ensures.faults_stay (record { got_same = refl; faults_same = refl }) c.print.ensures
+    with_response _ (command_of c.in-Ok.command) c.in-Ok.ensures.asked _ _ _ _ c.in-Ok-respond.response.text.items c.in-Ok-respond.response.notes.items c.in-Ok-respond.response.status c.in-Ok-respond.ensures.low c.in-Ok-respond.ensures.response
+    c.in-Ok-respond.ensures.faults_stay c.print_both.ensures
 
 pub returns-in-Err-Refused : goal.returns-in-Err-Refused
 returns-in-Err-Refused g c =

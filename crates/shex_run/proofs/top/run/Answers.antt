@@ -1,4 +1,4 @@
-use Rattle.shex_run.proofs.Closing.{absent_ends, accepted_ends, ends_kept, ends_partly, faulty_ends, filled_ends, five_rose, in_part, refused_ends, rejected_ends, seven_rose, taken_ends, unfaulted, unprinted, whole_ends}
+use Rattle.shex_run.proofs.Closing.{absent_ends, accepted_ends, ends_kept, ends_partly, ends_quietly, faulty_ends, filled_ends, five_rose, in_part, refused_ends, rejected_ends, seven_rose, taken_ends, unfaulted, unprinted, whole_ends}
 use Rattle.shex_run.proofs.Exclusive.{are_one}
 use Rattle.shex_run.proofs.top.run.Goals as goal
 
@@ -9,8 +9,8 @@ pub returns-clause-unprinted : goal.returns-clause-unprinted
 returns-clause-unprinted g c = unprinted _ _ _ _ _ c.end.ensures
 
 pub returns-clause-stored_whole : goal.returns-clause-stored_whole
-returns-clause-stored_whole g c = λ contents k map_name name told is_asked to taken.
-    whole_ends _ k is_asked c.answers_are_one.ensures _ _ _ _ contents told (are_one c.inputs_are_one.ensures contents _ told k) map_name name to taken c.end.ensures
+returns-clause-stored_whole g c = λ contents k map_name name budget told is_asked to taken.
+    whole_ends _ k is_asked c.answers_are_one.ensures _ _ _ _ contents told (are_one c.inputs_are_one.ensures contents _ told k) map_name name budget to taken c.end.ensures
 
 pub returns-clause-stored_in_part : goal.returns-clause-stored_in_part
 returns-clause-stored_in_part g c = λ interrupted. ends_partly _ _ _ _ _ c.end.ensures
@@ -44,3 +44,6 @@ pub returns-clause-ends : goal.returns-clause-ends
 returns-clause-ends g c = λ contents k told is_asked taken files out err.
     unfaulted _ _ _ _ _ (five_rose _ _ _ _ _ c.end.ensures) (seven_rose _ _ _ _ _ c.end.ensures) files out err
     (taken_ends _ k is_asked c.answers_are_one.ensures _ _ _ _ contents told (are_one c.inputs_are_one.ensures contents _ told k) taken c.end.ensures)
+
+pub returns-clause-answered_quietly : goal.returns-clause-answered_quietly
+returns-clause-answered_quietly g c = λ low. ends_quietly _ _ _ _ _ c.end.ensures low

@@ -1,0 +1,7 @@
+use Rattle.std.proofs.Common.{◌≡◌, ◌++◌, take}
+use Rattle.shex_run.specs.Texts.{wide_lines}
+use Rattle.shex_run.proofs.deciding.push_all.Given as goal
+
+-- the lines of the pairs so far
+abbrev pub invariant-loop-pair : goal.invariant-loop-pair
+invariant-loop-pair l = l.out.items ≡ l.fn.out.items ++ wide_lines l.terms l.budget (take l.pair-index l.fn.wide)

@@ -1,5 +1,0 @@
-pub mod Simple
-pub mod Answers
-pub mod Evidence
-pub mod Records
-pub mod Laws

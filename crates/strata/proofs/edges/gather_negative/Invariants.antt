@@ -1,0 +1,14 @@
+use Rattle.std.proofs.Common.{◌≤◌, true, length}
+use Rattle.strata.specs.Gathers.{AreBelow, FromSome}
+use Rattle.strata.proofs.Opened.{Owes}
+use Rattle.strata.proofs.edges.gather_negative.Given as goal
+
+abbrev pub invariant-loop-next : goal.invariant-loop-next
+invariant-loop-next l = record {
+  owes : Owes (FromSome l.s l.from true l.initial.agenda) (FromSome l.s l.from true l.agenda) l.fn.arcs.items l.arcs.items;
+  below : AreBelow l.bound l.agenda;
+  inside : l.bound ≤ length l.s.exprs;
+}
+
+abbrev pub decreases-loop-next : goal.decreases-loop-next
+decreases-loop-next l = l.bound
