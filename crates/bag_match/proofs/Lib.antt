@@ -29,7 +29,6 @@ pub mod Came
 pub mod Keyed
 pub mod Divided
 pub mod Counted
-pub mod WidthRows
 pub mod Skipping
 pub mod Counting
 pub mod Filled

@@ -34,11 +34,17 @@ pub enum Task<'a> {
 /// The values of the options, and the import words.
 #[derive(Drop)]
 pub struct Request<'a> {
+    /// The name of the schema's file.
     pub schema: &'a str,
+    /// The name of the data's file.
     pub data: &'a str,
+    /// The base of the schema.
     pub schema_base: &'a str,
+    /// The base of the data.
     pub data_base: &'a str,
+    /// Words `IRI=FILE`, as they were given.
     pub import_words: Vec<&'a str>,
+    /// What is to be done.
     pub task: Task<'a>,
 }
 

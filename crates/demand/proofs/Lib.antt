@@ -2,7 +2,6 @@ pub mod Following
 pub mod Growing
 pub mod Listed
 pub mod Needing
-pub mod Numbers
 pub mod Opened
 pub mod PairOrder
 pub mod Reached

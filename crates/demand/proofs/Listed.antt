@@ -4,6 +4,7 @@ use Rattle.std.proofs.Common.{◌≡◌, ◌∙◌, ℕ, zero, suc, ◌<◌, ◌
 use Rattle.std.proofs.lemmas.List.Elements.{Contains-append_cases, Contains-append_left, Contains-append_right}
 use Rattle.std.specs.Prelude.{◌↔◌, Contains, Some, slice_get}
 use Rattle.std.specs.List.{AllZip}
+use Rattle.agenda.proofs.Growing.{Has}
 use Rattle.lists.proofs.Beside.{zip_push}
 use Rattle.lists.proofs.Members.{in_one, is_first, not_in_none}
 
@@ -31,25 +32,6 @@ zip_back R (z ∷ xs) (w ∷ ys) h zero y a = (z, refl)
 zip_back R (z ∷ xs) (w ∷ ys) h (suc i) y a = zip_back R xs ys h.1 i y a
 
 -- ---- members
-
--- what is in the list now is what was, and what is in the others
-abbrev pub Has : {X : Type 0} → List X → List X → List X → Type 0
-Has before ys now = (q : _) → Contains now q ↔ (Contains before q ⊎ Contains ys q)
-
-pub has_one : {X : Type 0} (before ys now next : List X) (x : X) → Has before ys now → ((q : X) → Contains next q ↔ (Contains now q ⊎ (q ≡ x))) → Has before (ys ++ x ∷ []) next
-has_one before ys now next x h put q = (
-  (λ c. elim ((put q).0 c) [
-    | inl l ↦ elim ((h q).0 l) [ inl b ↦ inl b | inr y ↦ inr (Contains-append_left ys (x ∷ []) q y) ]
-    | inr e ↦ inr (Contains-append_right ys (x ∷ []) q (subst (λ z. Contains (x ∷ []) z) (sym e) (is_first x [])))
-  ]),
-  (λ c. elim c [
-    | inl b ↦ (put q).1 (inl ((h q).1 (inl b)))
-    | inr y ↦ elim (Contains-append_cases ys (x ∷ []) q y) [
-      | inl l ↦ (put q).1 (inl ((h q).1 (inr l)))
-      | inr r ↦ (put q).1 (inr (sym (in_one x q r)))
-    ]
-  ]),
-)
 
 pub map_more : {X Y : Type 0} (f : X → Y) (xs : List X) (i : ℕ) (x : X) → i < length xs → x ≡ get_or xs i x → map f (take (i + 1) xs) ≡ map f (take i xs) ++ f x ∷ []
 map_more f xs i x inside read =

@@ -20,6 +20,7 @@ use Rattle.lists.specs.Equality.{decided_equiv}
 use Rattle.rdf_terms.specs.declared.terms.Term.{Term}
 use Rattle.rdf_terms.proofs.Orders.{id_total, ids_tie}
 use Rattle.demand.specs.Orders.{compare_pairs}
+use Rattle.schema_tree.proofs.Pairs.{pair_is}
 use Rattle.schema_tree.specs.declared.schema.Pair.{Pair}
 
 pub pairs_total : (terms : List Term) → IsTotalOrder (compare_pairs terms)
@@ -34,17 +35,10 @@ module _ (terms : List Term) where
   pairs_tie : (a b : Pair) → (nat_eq a.node.0 b.node.0 && nat_eq a.shape.0 b.shape.0) ≡ eq_by_cmp (compare_pairs terms) a b
   pairs_tie a b = (λ i. ids_tie terms a.node b.node i && unsigned_ties a.shape.0 b.shape.0 i) ∙ both_tie (compare_at terms a.node b.node) (nat_cmp a.shape.0 b.shape.0)
 
-  same_pair : (a b : Pair) → (nat_eq a.node.0 b.node.0 && nat_eq a.shape.0 b.shape.0) ≡ true → a ≡ b
-  same_pair a b h =
-      let p = and_parts (nat_eq a.node.0 b.node.0) (nat_eq a.shape.0 b.shape.0) h in
-      let node : a.node.0 ≡ b.node.0 = eqb-true a.node.0 b.node.0 p.0 in
-      let shape : a.shape.0 ≡ b.shape.0 = eqb-true a.shape.0 b.shape.0 p.1 in
-      λ i. record { node = record { 0 = node i }; shape = record { 0 = shape i } }
-
   module _ (E : Pair → Pair → Bool) (is : (a b : Pair) → E a b ≡ (nat_eq a.node.0 b.node.0 && nat_eq a.shape.0 b.shape.0)) where
     decides : (a b : Pair) → (E a b ≡ true → a ≡ b) × (a ≡ b → E a b ≡ true)
     decides a b = (
-      λ h. same_pair a b (sym (is a b) ∙ h),
+      λ h. pair_is a b (sym (is a b) ∙ h),
       λ e. is a b ∙ (λ i. eq-eqb a.node.0 b.node.0 (ap (λ (q : Pair). q.node.0) e) i && eq-eqb a.shape.0 b.shape.0 (ap (λ (q : Pair). q.shape.0) e) i),
     )
 

@@ -1,7 +1,6 @@
 //! The pairs of a node and a Shape that answers depend on.
 #![tactic(auto)]
 
-pub mod agenda;
 pub mod error;
 pub mod links;
 pub mod needs;

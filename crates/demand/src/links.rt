@@ -7,7 +7,7 @@ ghost use Rattle.schema_tree.specs.Entries.{entry};
 ghost use Rattle.schema_tree.specs.Loaded.{IsLoaded};
 ghost use Rattle.demand.specs.Links.{AreLinks, AreLinksOf, AreShapesIn, AreShapesOf, IsLink, members_of, own_of};
 
-use crate::agenda::Agenda;
+use agenda::Agenda;
 use indexmap::IndexSet;
 use rdf_terms::items::Items;
 use schema_tree::schema::{Expr, ExprId, Occurrence, Schema, Shape, ShapeId};

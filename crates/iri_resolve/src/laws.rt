@@ -1,4 +1,4 @@
-// Laws about the definitions that the contracts cite.
+//! Laws about the definitions that the contracts cite.
 
 ghost use Rattle.iri_resolve.specs.Removal.{RemovalIsByTheRules};
 

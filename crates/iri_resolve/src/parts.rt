@@ -1,4 +1,4 @@
-// The components of a reference.
+//! The components of a reference.
 
 ghost use Rattle.std.specs.Prelude.{◌≡◌, ◌<◌};
 ghost use Rattle.std.specs.List.{list_all};
@@ -45,7 +45,7 @@ pub fn split(text: &str) -> Parts<'_>
     }
 }
 
-// What stands before the first `mark`, and behind it if there is one.
+/// What stands before the first `mark`, and behind it if there is one.
 fn cut(text: &str, mark: char) -> (&str, Option<&str>)
     requires { mark < 128 }
     ensures before { result.0.now ≡ before mark text.now }
@@ -57,7 +57,7 @@ fn cut(text: &str, mark: char) -> (&str, Option<&str>)
     }
 }
 
-// The scheme, and what follows it.
+/// The scheme, and what follows it.
 fn cut_scheme(front: &str) -> (Option<&str>, &str)
     ensures scheme { option_copied result.0 ≡ front_scheme front.now }
     ensures rest { result.1.now ≡ after_scheme front.now }
@@ -68,7 +68,7 @@ fn cut_scheme(front: &str) -> (Option<&str>, &str)
     }
 }
 
-// Whether a text may be a scheme.
+/// Whether a text may be a scheme.
 fn is_scheme(name: &str) -> bool
     ensures { result ≡ is_scheme name.now }
 {
@@ -78,21 +78,21 @@ fn is_scheme(name: &str) -> bool
     }
 }
 
-// Whether bytes may follow the first one of a scheme.
+/// Whether bytes may follow the first one of a scheme.
 fn may_follow_in_scheme(bytes: &[u8]) -> bool
     ensures { result ≡ list_all is_scheme_byte bytes.now }
 {
     bytes.iter().all(|byte| is_scheme_byte(*byte))
 }
 
-// Whether a byte may follow the first one of a scheme.
+/// Whether a byte may follow the first one of a scheme.
 fn is_scheme_byte(byte: u8) -> bool
     ensures { result ≡ is_scheme_byte byte }
 {
     byte.is_ascii_alphanumeric() || byte == b'+' || byte == b'-' || byte == b'.'
 }
 
-// The authority, and the path that follows it.
+/// The authority, and the path that follows it.
 fn cut_authority(hierarchy: &str) -> (Option<&str>, &str)
     ensures authority { option_copied result.0 ≡ authority_of hierarchy.now }
     ensures path { result.1.now ≡ path_of hierarchy.now }
@@ -106,7 +106,7 @@ fn cut_authority(hierarchy: &str) -> (Option<&str>, &str)
     }
 }
 
-// What stands before the first `mark`, and the text from it on.
+/// What stands before the first `mark`, and the text from it on.
 fn cut_before(text: &str, mark: char) -> (&str, &str)
     requires { mark < 128 }
     ensures front { result.0.now ≡ before mark text.now }

@@ -1,4 +1,4 @@
-// Resolution of a reference against a base.
+//! Resolution of a reference against a base.
 
 ghost use Rattle.std.specs.Prelude.{◌≡◌, ◌↔◌, ◌++◌, IfOk, OnOk, IsSome, IsNone, IsErrOf, IsOkUnless, string_bytes};
 ghost use Rattle.std.specs.Option.{option_copied, option_or};
@@ -59,7 +59,7 @@ pub fn resolve(alloc: Global, base: &str, reference: &str) -> Result<String, Iri
     Ok(target.recompose(alloc)?)
 }
 
-// The path of the target of a reference without a scheme (RFC 3986 section 5.2.2).
+/// The path of the target of a reference without a scheme (RFC 3986 section 5.2.2).
 fn target_path(alloc: Global, base: &Parts, reference: &Parts) -> Result<String, AllocError>
     requires { IsNone reference.now.scheme }
     ensures { IfOk result (λ t. string_bytes t
@@ -75,8 +75,8 @@ fn target_path(alloc: Global, base: &Parts, reference: &Parts) -> Result<String,
     remove_dot_segments(alloc, path.as_str())
 }
 
-// The components of a target (RFC 3986 section 5.2.2). Its path may stand in neither text, so it is
-// owned.
+/// The components of a target (RFC 3986 section 5.2.2). Its path may stand in neither text, so it is
+/// owned.
 #[derive(Drop)]
 struct Target<'a> {
     scheme: Option<&'a str>,
@@ -126,7 +126,7 @@ impl<'a> Target<'a> {
     }
 }
 
-// Appends a component with its delimiter in front of it, if it is there.
+/// Appends a component with its delimiter in front of it, if it is there.
 fn push_with_mark(text: &mut String, mark: &str, component: Option<&str>) -> Result<(), AllocError>
     ensures { OnOk result (string_bytes text.new
         ≡ string_bytes text.old ++ with_mark_before mark.now (option_copied component.entry)) }

@@ -13,3 +13,4 @@ pub mod Ordered
 pub mod Quantifiers
 pub mod Sorting
 pub mod Tests
+pub mod Fronts

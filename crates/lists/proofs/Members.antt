@@ -1,10 +1,16 @@
 -- Membership: in short lists, images and joined lists, and of what is read at a place.
 use Rattle.std.proofs.Common.{append_assoc, add-one, ◌≡◌, zero, suc, ◌⊎◌, inl, inr, List, [], ◌∷◌, refl, arith, sym, subst, ap, ◌∙◌, map, Bool, true, false, ℕ, ◌<◌, ◌++◌, length, ◌+◌, take, get_or, ◌-◌, drop}
+use Rattle.std.proofs.lemmas.Bool.{eqb-true}
+use Rattle.std.proofs.lemmas.List.{nil_from_length}
 use Rattle.std.proofs.Math.Seq.{drop-cons, take-length}
-use Rattle.std.specs.Prelude.{Contains, Some, slice_get, ◌||◌}
+use Rattle.std.specs.Prelude.{Contains, Some, slice_get, ◌||◌, ◌==◌}
 use Rattle.std.proofs.lemmas.Option.{slice_get_within, slice_get-get_or, get_or_from_slice_get}
 use Rattle.std.specs.List.{flat_map, list_any}
 use Rattle.std.proofs.lemmas.List.Elements.{Contains-append_left, Contains-append_right, Contains-append_cases}
+
+-- a list that is as long as none has no item
+pub no_items : {X : Type 0} (xs ys : List X) → xs ≡ ys → true ≡ (length xs == 0) → ys ≡ []
+no_items xs ys same e = sym same ∙ nil_from_length xs (eqb-true (length xs) 0 (sym e))
 
 -- the empty list has no item
 pub not_in_none : {X : Type 0} (x : X) → ¬ Contains [] x

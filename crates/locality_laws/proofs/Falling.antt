@@ -25,7 +25,8 @@ use Rattle.schema_tree.specs.Satisfies.{Sat}
 use Rattle.schema_tree.specs.Sure.{Known, PairIs}
 use Rattle.schema_tree.proofs.Leans.{places_weaker}
 use Rattle.schema_tree.proofs.ToPlaces.{forward_parts}
-use Rattle.removal_laws.proofs.Carried.{in_graph, sure_carries}
+use Rattle.removal_laws.proofs.Carried.{sure_carries}
+use Rattle.schema_tree.proofs.Needed.{in_graph, need_of, under_extra}
 use Rattle.locality_laws.specs.Local.{IsNegativeNeed}
 
 module _ (s : Schema) (terms : List Term) (g : List Triple) (a b : Known) (p : Pair)
@@ -35,18 +36,7 @@ module _ (s : Schema) (terms : List Term) (g : List Triple) (a b : Known) (p : P
     abbrev need_at :
         (t : Triple) (o : Occurrence) → Contains g t → Contains sh.occs o → fits o p.node t ≡ true → (e : ExprId) → o.value ≡ Some e →
         (i : ShapeId) (sign : Bool) → StandsIn s i e sign → Needs s g p (pair_of (other_end o.inverse t) i)
-    need_at t o held of fit e value i sign st = record {
-      shape = sh;
-      is = is;
-      occ = o;
-      of = of;
-      triple = t;
-      held = held;
-      fit = fit;
-      end = refl;
-      sign = sign;
-      stands = subst (λ v. StandsInValue s i v sign) (sym value) st;
-    }
+    need_at t o held of fit e value i sign st = need_of s g p sh is t held o of fit e value i sign st
 
     -- the same where the occurrence is not inverse, so that the end is the object
     abbrev need_out :
@@ -81,20 +71,14 @@ module _ (s : Schema) (terms : List Term) (g : List Triple) (a b : Known) (p : P
         MayFail s terms b Possible t.o o.value → MayFail s terms a Possible t.o o.value
     fail_less t o held extra of forward = go o.value refl
       where
-        parts : (o.inverse ≡ false) × (fits o p.node t ≡ true)
-        parts = forward_parts (Sat s terms []) g sh p.node t o forward
-
-        same : o.predicate ≡ t.p
-        same = same_is o.predicate t.p (and_parts (same_id o.predicate t.p) (same_id (near_end o.inverse t) p.node) parts.1).0
-
-        is_extra : IsExtra sh.extra o
-        is_extra = (parts.0, subst (λ u. Contains sh.extra u) (sym same) extra)
+        here : IsExtra sh.extra o × (fits o p.node t ≡ true)
+        here = under_extra sh p.node t o forward extra
 
         go : (x : Option ExprId) → o.value ≡ x → MayFail s terms b Possible t.o x → MayFail s terms a Possible t.o x
         go None e h = h
         go (Some d) e h = λ v. h
             ((sure_carries s terms a b t.o (suc d.0) d).0
-            ((λ i sign st. up _ (need_out t o held of parts.0 parts.1 d e i sign st) (inr is_extra)), (λ i st. down _ (need_out t o held of parts.0 parts.1 d e i true st))) v)
+            ((λ i sign st. up _ (need_out t o held of here.0.0 here.1 d e i sign st) (inr here.0)), (λ i st. down _ (need_out t o held of here.0.0 here.1 d e i true st))) v)
 
   pub match_falls : PairCanMatch s terms g b Possible p → PairCanMatch s terms g a Possible p
   match_falls = go (shape_at s p.shape) refl
@@ -102,4 +86,4 @@ module _ (s : Schema) (terms : List Term) (g : List Triple) (a b : Known) (p : P
       go : (x : Option Shape) → shape_at s p.shape ≡ x → CanMatch s terms g b Possible p.node x → CanMatch s terms g a Possible p.node x
       go None is h = h
       go (Some sh) is h =
-          places_weaker _ _ _ _ sh p.node (λ t. Contains g t) (hold_less sh is) (fail_less sh is) g _ (in_graph s terms g sh p.node) h
+          places_weaker _ _ _ _ sh p.node (λ t. Contains g t) (hold_less sh is) (fail_less sh is) g _ (in_graph terms g sh p.node) h

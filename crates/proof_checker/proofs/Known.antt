@@ -15,8 +15,9 @@ use Rattle.proof_file.specs.Views.{Refuted, pairs_of}
 use Rattle.proof_checker.specs.declared.standings.Standing.{Standing}
 use Rattle.proof_checker.specs.declared.standings.Reader.{Reader}
 use Rattle.proof_checker.specs.declared.standings.Reader.TheVariants.{Confirms, Refutes, Claims}
-use Rattle.proof_checker.specs.Standings.{AreStandings, IsAtMost, is_minus, is_plus, known_from, same_pair, sees_minus, sees_plus, sees_rank, standing_in, unsaid, view_of}
-use Rattle.proof_checker.proofs.Noted.{pair_is}
+use Rattle.proof_checker.specs.Standings.{AreStandings, IsAtMost, is_minus, is_plus, known_from, sees_minus, sees_plus, sees_rank, standing_in, unsaid, view_of}
+use Rattle.schema_tree.specs.Entries.{same_pair}
+use Rattle.schema_tree.proofs.Pairs.{pair_is}
 
 -- a pair of which something is said is among the keys
 key_there : (q : Pair) (es : List (Pair × Standing)) → (¬ (standing_in es q ≡ unsaid)) → Contains (map (λ e. e.0) es) q

@@ -11,30 +11,12 @@ use Rattle.schema_tree.specs.declared.schema.Shape.{Shape}
 use Rattle.schema_tree.specs.declared.verdicts.State.{State}
 use Rattle.schema_tree.specs.Rising.{Rises, RisesFrom}
 use Rattle.schema_tree.specs.States.{IsStateBefore}
+use Rattle.lists.proofs.Fronts.{behind_front, front_or_behind, in_front}
+use Rattle.schema_tree.proofs.Rising.{behind_rise, later_rise}
 use Rattle.lists.proofs.Members.{in_rest, is_first, is_later, not_in_none}
 use Rattle.proof_checker.specs.Stated.{AreShaped, DecideSettled, IsSettled, IsShapedAt}
 
--- ---- the front of a list, and what is behind it
-
-in_front : {X : Type 0} (xs : List X) (k : ℕ) (x : X) → Contains (take k xs) x → Contains xs x
-in_front xs k x h = subst (λ zs. Contains zs x) (take-append-drop k xs) (Contains-append_left (take k xs) (drop k xs) x h)
-
-behind_front : {X : Type 0} (xs : List X) (k : ℕ) (x : X) → Contains (drop k xs) x → Contains xs x
-behind_front xs k x h = subst (λ zs. Contains zs x) (take-append-drop k xs) (Contains-append_right (take k xs) (drop k xs) x h)
-
-front_or_behind : {X : Type 0} (xs : List X) (k : ℕ) (x : X) → Contains xs x → Contains (take k xs) x ⊎ Contains (drop k xs) x
-front_or_behind xs k x h = Contains-append_cases (take k xs) (drop k xs) x (subst (λ zs. Contains zs x) (sym (take-append-drop k xs)) h)
-
 -- ---- states that rise
-
-later_rise : (x : State) (xs : List State) → RisesFrom IsStateBefore x xs → Rises IsStateBefore xs
-later_rise x [] h = tt
-later_rise x (y ∷ ys) (before, rest) = rest
-
-behind_rise : (xs : List State) (k : ℕ) → Rises IsStateBefore xs → Rises IsStateBefore (drop k xs)
-behind_rise xs zero h = h
-behind_rise [] (suc k) h = tt
-behind_rise (x ∷ xs) (suc k) h = behind_rise xs k (later_rise x xs h)
 
 before_done : (a b : State) → IsStateBefore a b → a.done ≤ b.done
 before_done a b (inl lt) = omega (arith, lt)
@@ -65,7 +47,7 @@ past_layer (y ∷ ys) zero done r rises from within is stops x c =
       | inr later ↦ let more = first_done y ys rises x later in omega (arith, lt, more)
     ]
 past_layer (y ∷ ys) (suc k) done r rises from within is stops x c =
-    past_layer ys k done r (later_rise y ys rises) (λ z h. from z (is_later y ys z h)) (omega (arith, within)) is stops x c
+    past_layer ys k done r (later_rise IsStateBefore y ys rises) (λ z h. from z (is_later y ys z h)) (omega (arith, within)) is stops x c
 
 -- ---- the states that are settled so far
 
@@ -89,7 +71,7 @@ module _ (hold fail : TermId → Option ExprId → Type 0) (sh : Shape) (n : Ter
     pub layer_settled : (layer later : List State) (k : ℕ) (b : Bool) → layer ≡ take k rest → later ≡ drop k rest →
         ((x : State) → Contains (drop k rest) x → done < x.done) → DecideSettled hold fail sh n ts states layer b → b ≡ true → AreSettledBefore (done + 1) later
     layer_settled layer later k b is behind more decided so = subst (λ xs. AreSettledBefore (done + 1) xs) (sym behind) (record {
-      rising = behind_rise rest k before.rising;
+      rising = behind_rise IsStateBefore rest k before.rising;
       from = λ x h. let lt = more x h in omega (arith, lt);
       held = λ x h. before.held x (behind_front rest k x h);
       settled = λ x h. each x (before.settled x h);

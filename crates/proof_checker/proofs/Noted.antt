@@ -9,6 +9,7 @@ use Rattle.std.proofs.lemmas.List.{append-nil, append_assoc, take_all, take_more
 use Rattle.std.specs.Map.{lookup}
 use Rattle.std.specs.Prelude.{unwrap_or, Contains, Option, Some, None, min, nat_eq, slice_get, option_map}
 use Rattle.rdf_terms.specs.declared.terms.TermId.{TermId}
+use Rattle.schema_tree.proofs.Pairs.{pair_is, pair_same}
 use Rattle.schema_tree.specs.declared.schema.Pair.{Pair}
 use Rattle.lists.proofs.Members.{in_one, is_first, not_in_none}
 use Rattle.proof_file.specs.declared.RecordKind.{RecordKind}
@@ -17,17 +18,8 @@ use Rattle.proof_file.specs.declared.Record.{Record}
 use Rattle.proof_file.specs.declared.Section.{Section}
 use Rattle.proof_file.specs.Views.{Refuted, minus_of, no_pairs, pair_at, pair_with, plus_of, yes_pairs}
 use Rattle.proof_checker.specs.declared.standings.Standing.{Standing}
-use Rattle.proof_checker.specs.Standings.{AreStandings, IsAtMost, IsStanding, least_rank, records_in, said_by, same_pair, standing_in, unsaid}
-
-pub pair_is : (a b : Pair) → same_pair a b ≡ true → a ≡ b
-pair_is a b h =
-    let (m, n) = and_parts (nat_eq a.node.0 b.node.0) (nat_eq a.shape.0 b.shape.0) h in
-    let node : a.node.0 ≡ b.node.0 = grind (arith, nat_tests, m) in
-    let shape : a.shape.0 ≡ b.shape.0 = grind (arith, nat_tests, n) in
-    ap (λ x. record { node = record { 0 = x }; shape = a.shape }) node ∙ ap (λ x. record { node = b.node; shape = record { 0 = x } }) shape
-
-pub pair_same : (a : Pair) → same_pair a a ≡ true
-pair_same a = grind (arith, nat_tests)
+use Rattle.proof_checker.specs.Standings.{AreStandings, IsAtMost, IsStanding, least_rank, records_in, said_by, standing_in, unsaid}
+use Rattle.schema_tree.specs.Entries.{same_pair}
 
 -- the rank of a pair is that of a list of refuted pairs
 rank_is : (a b : Refuted) → a ≡ b → a.rank ≡ b.rank

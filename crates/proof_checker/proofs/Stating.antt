@@ -17,6 +17,7 @@ use Rattle.bag_match.specs.Counts.{AreLeft, raised, state_of}
 use Rattle.bag_match.specs.Least.{ArePlacesFor}
 use Rattle.proof_checker.specs.Stated.{AllLeadOn, AreShaped, DecideSettled, IsSettled, IsShapedAt}
 use Rattle.bag_match.proofs.Stepping.{after_is as after_place, drop_few, left_few, places_now}
+use Rattle.lists.proofs.Fronts.{all_taken, take_cases}
 use Rattle.lists.proofs.Members.{in_one, item_there, not_in_none}
 
 suc-add_one : (k : ℕ) → suc k ≡ k + 1
@@ -47,16 +48,6 @@ module _ (hold fail : TermId → Option ExprId → Type 0) (sh : Shape) (n : Ter
   states_settled h x c not_so =
       let alive : ¬ IsDead sh n ts x = λ dead. not_so (inl dead) in
       not_so (inr (h.closed.unfinished x c alive, λ t at p. h.closed.steps x c alive t at p))
-
--- an item of the first i, and of the next
-pub take_cases : {X : Type 0} (xs : List X) (i : ℕ) (d x : X) → i < length xs → Contains (take (i + 1) xs) x → Contains (take i xs) x ⊎ (get_or xs i d ≡ x)
-take_cases xs i d x within h = elim (Contains-append_cases (take i xs) (get_or xs i d ∷ []) x (subst (λ zs. Contains zs x) (take_more xs i d within) h)) [
-  | inl before ↦ inl before
-  | inr last ↦ inr (in_one (get_or xs i d) x last)
-]
-
-pub all_taken : {X : Type 0} (xs : List X) (i : ℕ) (x : X) → length xs ≤ i → Contains xs x → Contains (take i xs) x
-all_taken xs i x past h = subst (λ zs. Contains zs x) (sym (take_all i xs past)) h
 
 -- of two ways the first fails
 pub second_way : {A B : Type 0} (b : Bool) → (¬ A) → (IsTrue b ↔ B) → IsTrue b ↔ (A ⊎ B)

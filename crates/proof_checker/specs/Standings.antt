@@ -3,6 +3,7 @@ use Rattle.std.specs.Prelude.{ℕ, suc, Bool, true, false, List, ◌&&◌, ◌�
 use Rattle.std.specs.List.{flat_map}
 use Rattle.std.specs.Map.{lookup}
 use Rattle.schema_tree.specs.declared.schema.Pair.{Pair}
+use Rattle.schema_tree.specs.Entries.{same_pair}
 use Rattle.schema_tree.specs.Edges.{level}
 use Rattle.schema_tree.specs.Sure.{Known}
 use Rattle.proof_file.specs.declared.RecordKind.{RecordKind}
@@ -27,9 +28,6 @@ least_rank r (Some least) = min least r
 abbrev pub said_by : RecordKind → Standing → Standing
 said_by (Plus places) s = record { confirmed = true; rank = s.rank }
 said_by (Minus r states) s = record { confirmed = s.confirmed; rank = Some (least_rank r s.rank) }
-
-abbrev pub same_pair : Pair → Pair → Bool
-same_pair a b = nat_eq a.node.0 b.node.0 && nat_eq a.shape.0 b.shape.0
 
 -- what is said of the pair
 abbrev pub standing_in : List (Pair × Standing) → Pair → Standing

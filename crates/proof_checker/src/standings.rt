@@ -4,7 +4,8 @@ ghost use Rattle.std.specs.Prelude.{[], ◌∷◌, ◌≡◌, ◌++◌, List, If
 ghost use Rattle.schema_tree.specs.declared.schema.Pair.{Pair};
 ghost use Rattle.schema_tree.specs.Edges.{level};
 ghost use Rattle.proof_file.specs.Views.{Refuted, no_pairs, yes_pairs};
-ghost use Rattle.proof_checker.specs.Standings.{AreStandings, least_rank, records_in, said_by, same_pair, sees_minus, sees_plus, sees_rank, standing_in};
+ghost use Rattle.proof_checker.specs.Standings.{AreStandings, least_rank, records_in, said_by, sees_minus, sees_plus, sees_rank, standing_in};
+ghost use Rattle.schema_tree.specs.Entries.{same_pair};
 
 use proof_file::{Record, RecordKind, Section};
 use rdf_terms::terms::TermId;

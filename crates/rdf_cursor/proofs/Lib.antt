@@ -11,3 +11,4 @@ pub mod Numbers
 pub mod Streams
 pub mod Places
 pub mod Moves
+pub mod Tells

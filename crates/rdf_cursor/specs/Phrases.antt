@@ -9,10 +9,6 @@ Phrase T = Ahead T → Ahead T → Type 0
 abbrev pub Is : {T F A : Type 0} → (T → Result A F) → A → Phrase T
 Is {T = T} class x ts rest = (t : T) × (ts ≡ token t rest) × (class t ≡ Ok x)
 
--- one token with a property
-abbrev pub Such : {T : Type 0} → (T → Type 0) → Phrase T
-Such {T = T} Has ts rest = (t : T) × (ts ≡ token t rest) × Has t
-
 -- no token
 abbrev pub Nothing : {T : Type 0} → Phrase T
 Nothing ts rest = ts ≡ rest

@@ -1,4 +1,4 @@
-// The part of a token's text that stands for something.
+//! The part of a token's text that stands for something.
 
 ghost use Rattle.std.specs.Prelude.{◌≡◌, ℕ, List};
 ghost use Rattle.std.specs.Str.{chars};
@@ -31,7 +31,7 @@ pub fn body_of<'a>(token: Token<'a>) -> &'a str
     }
 }
 
-// A text without the marks on both sides, which take so many bytes each.
+/// A text without the marks on both sides, which take so many bytes each.
 fn enclosed(text: &str, marks: usize) -> &str
     requires { (body : List ℕ) × IsEnclosed text.now marks body }
     ensures { (body : List ℕ) → IsEnclosed text.now marks body → chars result.now ≡ body }
@@ -39,7 +39,7 @@ fn enclosed(text: &str, marks: usize) -> &str
     &text[marks..text.len() - marks]
 }
 
-// Whether a text in quotation marks has three on each side.
+/// Whether a text in quotation marks has three on each side.
 fn is_long(text: &str) -> bool
     ensures { result ≡ has_long_marks text.now }
 {
@@ -47,7 +47,7 @@ fn is_long(text: &str) -> bool
     bytes.len() > 2 && bytes[0] == bytes[1]
 }
 
-// A text without its quotation marks.
+/// A text without its quotation marks.
 fn quoted(text: &str) -> &str
     requires { (body : List ℕ) × Body Str (chars text.now) body }
     ensures { (body : List ℕ) → Body Str (chars text.now) body → chars result.now ≡ body }
@@ -59,14 +59,14 @@ fn quoted(text: &str) -> &str
     }
 }
 
-// What stands behind the first colon.
+/// What stands behind the first colon.
 fn behind_colon(text: &str) -> &str
     ensures { (body : List ℕ) → IsBehindColon (chars text.now) body → chars result.now ≡ body }
 {
     after_colon(text)
 }
 
-// What stands behind the first colon, or nothing where there is none.
+/// What stands behind the first colon, or nothing where there is none.
 fn after_colon(text: &str) -> &str
     ensures { result.now ≡ after_first is_colon text.now }
 {

@@ -1,4 +1,4 @@
-// Sets of characters (RDF 1.1 Turtle, section 6.5).
+//! Sets of characters (RDF 1.1 Turtle, section 6.5).
 
 ghost use Rattle.std.specs.Prelude.{◌≡◌};
 ghost use Rattle.rdf_lex.specs.Characters.{Only, has, digit, letter, letter_or_digit, hexadecimal, name_base, name_char, local_start, local_char, label_start, local_escaped, text_escaped, iri_char, short_char, long_char, line_end, turtle_mark, brace, schema_mark, pattern_start, pattern_char, flag, any_char};
@@ -6,7 +6,7 @@ ghost use Rattle.rdf_lex.specs.Machine.{mark_of};
 
 use crate::machine::Quote;
 
-// 0 to 9.
+/// 0 to 9.
 #[tactic(auto, unfolding(crate::specs::Characters::digit))]
 pub fn is_digit(ch: char) -> bool
     ensures { result ≡ has digit ch }
@@ -14,7 +14,7 @@ pub fn is_digit(ch: char) -> bool
     matches!(ch, '0'..='9')
 }
 
-// A to Z and a to z.
+/// A to Z and a to z.
 #[tactic(auto, unfolding(crate::specs::Characters::letter))]
 pub fn is_letter(ch: char) -> bool
     ensures { result ≡ has letter ch }
@@ -29,7 +29,7 @@ pub fn is_letter_or_digit(ch: char) -> bool
     matches!(ch, '0'..='9' | 'A'..='Z' | 'a'..='z')
 }
 
-// HEX ([171s]).
+/// HEX ([171s]).
 #[tactic(auto, unfolding(crate::specs::Characters::hexadecimal))]
 pub fn is_hexadecimal(ch: char) -> bool
     ensures { result ≡ has hexadecimal ch }
@@ -37,7 +37,7 @@ pub fn is_hexadecimal(ch: char) -> bool
     matches!(ch, '0'..='9' | 'A'..='F' | 'a'..='f')
 }
 
-// PN_CHARS_BASE ([163s]).
+/// PN_CHARS_BASE ([163s]).
 #[tactic(auto, unfolding(crate::specs::Characters::name_base))]
 pub fn is_name_base(ch: char) -> bool
     ensures { result ≡ has name_base ch }
@@ -48,7 +48,7 @@ pub fn is_name_base(ch: char) -> bool
         | '\u{10000}'..='\u{EFFFF}')
 }
 
-// What a label of a blank node may begin with.
+/// What a label of a blank node may begin with.
 #[tactic(auto, unfolding(crate::specs::Characters::label_start, crate::specs::Characters::name_base))]
 pub fn is_label_start(ch: char) -> bool
     ensures { result ≡ has label_start ch }
@@ -56,7 +56,7 @@ pub fn is_label_start(ch: char) -> bool
     is_name_base(ch) || matches!(ch, '_' | '0'..='9')
 }
 
-// PN_CHARS ([166s]).
+/// PN_CHARS ([166s]).
 #[tactic(auto, unfolding(crate::specs::Characters::name_char, crate::specs::Characters::name_base))]
 pub fn is_name_char(ch: char) -> bool
     ensures { result ≡ has name_char ch }
@@ -65,7 +65,7 @@ pub fn is_name_char(ch: char) -> bool
         || matches!(ch, '_' | '-' | '0'..='9' | '\u{B7}' | '\u{300}'..='\u{36F}' | '\u{203F}'..='\u{2040}')
 }
 
-// What a local name may begin with as it is.
+/// What a local name may begin with as it is.
 #[tactic(auto, unfolding(crate::specs::Characters::local_start, crate::specs::Characters::name_base))]
 pub fn is_local_start(ch: char) -> bool
     ensures { result ≡ has local_start ch }
@@ -73,7 +73,7 @@ pub fn is_local_start(ch: char) -> bool
     is_name_base(ch) || matches!(ch, '_' | ':' | '0'..='9')
 }
 
-// What may stand in a local name as it is, a dot left out.
+/// What may stand in a local name as it is, a dot left out.
 #[tactic(auto, unfolding(crate::specs::Characters::local_char, crate::specs::Characters::name_char))]
 pub fn is_local_char(ch: char) -> bool
     ensures { result ≡ has local_char ch }
@@ -81,7 +81,7 @@ pub fn is_local_char(ch: char) -> bool
     ch == ':' || is_name_char(ch)
 }
 
-// PN_LOCAL_ESC, behind its backslash ([172s]).
+/// PN_LOCAL_ESC, behind its backslash ([172s]).
 #[tactic(auto, unfolding(crate::specs::Characters::local_escaped))]
 pub fn is_local_escaped(ch: char) -> bool
     ensures { result ≡ has local_escaped ch }
@@ -89,7 +89,7 @@ pub fn is_local_escaped(ch: char) -> bool
     matches!(ch, '_' | '~' | '-'..='/' | '!' | '#'..=',' | ';' | '=' | '?'..='@')
 }
 
-// ECHAR, behind its backslash ([159s]).
+/// ECHAR, behind its backslash ([159s]).
 #[tactic(auto, unfolding(crate::specs::Characters::text_escaped))]
 pub fn is_text_escaped(ch: char) -> bool
     ensures { result ≡ has text_escaped ch }
@@ -105,7 +105,7 @@ pub fn is_iri_char(ch: char) -> bool
     !matches!(ch, '\0'..=' ' | '<' | '>' | '"' | '{'..='}' | '^' | '`' | '\\')
 }
 
-// The character of a quotation mark.
+/// The character of a quotation mark.
 fn mark_char(quote: Quote) -> char
     ensures { result ≡ mark_of quote }
 {
@@ -115,7 +115,7 @@ fn mark_char(quote: Quote) -> char
     }
 }
 
-// What stands in a text on one line as it is ([22], [23]).
+/// What stands in a text on one line as it is ([22], [23]).
 #[tactic(auto, unfolding(crate::specs::Characters::short_char))]
 pub fn is_short_char(quote: Quote, ch: char) -> bool
     ensures { result ≡ has (short_char (mark_of quote)) ch }
@@ -123,7 +123,7 @@ pub fn is_short_char(quote: Quote, ch: char) -> bool
     !(ch == mark_char(quote) || matches!(ch, '\\' | '\n' | '\r'))
 }
 
-// What stands in a text on many lines as it is ([24], [25]).
+/// What stands in a text on many lines as it is ([24], [25]).
 #[tactic(auto, unfolding(crate::specs::Characters::long_char))]
 pub fn is_long_char(quote: Quote, ch: char) -> bool
     ensures { result ≡ has (long_char (mark_of quote)) ch }
@@ -131,14 +131,14 @@ pub fn is_long_char(quote: Quote, ch: char) -> bool
     !(ch == mark_char(quote) || ch == '\\')
 }
 
-// The quotation mark itself.
+/// The quotation mark itself.
 pub fn is_mark(quote: Quote, ch: char) -> bool
     ensures { result ≡ has (Only (mark_of quote)) ch }
 {
     ch == mark_char(quote)
 }
 
-// CR or LF.
+/// CR or LF.
 #[tactic(auto, unfolding(crate::specs::Characters::line_end))]
 pub fn is_line_end(ch: char) -> bool
     ensures { result ≡ has line_end ch }
@@ -146,7 +146,7 @@ pub fn is_line_end(ch: char) -> bool
     matches!(ch, '\r' | '\n')
 }
 
-// A mark that Turtle and ShExC have.
+/// A mark that Turtle and ShExC have.
 #[tactic(auto, unfolding(crate::specs::Characters::turtle_mark))]
 pub fn is_turtle_mark(ch: char) -> bool
     ensures { result ≡ has turtle_mark ch }
@@ -154,7 +154,7 @@ pub fn is_turtle_mark(ch: char) -> bool
     matches!(ch, '('..=')' | ';' | '[' | ']')
 }
 
-// A brace.
+/// A brace.
 #[tactic(auto, unfolding(crate::specs::Characters::brace))]
 pub fn is_brace(ch: char) -> bool
     ensures { result ≡ has brace ch }
@@ -162,7 +162,7 @@ pub fn is_brace(ch: char) -> bool
     matches!(ch, '{' | '}')
 }
 
-// A mark that only ShExC has.
+/// A mark that only ShExC has.
 #[tactic(auto, unfolding(crate::specs::Characters::schema_mark))]
 pub fn is_schema_mark(ch: char) -> bool
     ensures { result ≡ has schema_mark ch }
@@ -170,7 +170,7 @@ pub fn is_schema_mark(ch: char) -> bool
     matches!(ch, '$'..='&' | '*' | '=' | '?' | '|' | '~')
 }
 
-// What a pattern may begin with as it is.
+/// What a pattern may begin with as it is.
 #[tactic(auto, unfolding(crate::specs::Characters::pattern_start))]
 pub fn is_pattern_start(ch: char) -> bool
     ensures { result ≡ has pattern_start ch }
@@ -178,7 +178,7 @@ pub fn is_pattern_start(ch: char) -> bool
     !matches!(ch, '*' | '/' | '\\' | '\n' | '\r')
 }
 
-// What stands in a pattern as it is.
+/// What stands in a pattern as it is.
 #[tactic(auto, unfolding(crate::specs::Characters::pattern_char))]
 pub fn is_pattern_char(ch: char) -> bool
     ensures { result ≡ has pattern_char ch }
@@ -186,7 +186,7 @@ pub fn is_pattern_char(ch: char) -> bool
     !matches!(ch, '/' | '\\' | '\n' | '\r')
 }
 
-// A flag of a pattern.
+/// A flag of a pattern.
 #[tactic(auto, unfolding(crate::specs::Characters::flag))]
 pub fn is_flag(ch: char) -> bool
     ensures { result ≡ has flag ch }

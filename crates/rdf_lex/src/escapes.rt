@@ -1,4 +1,4 @@
-// What a token's text stands for.
+//! What a token's text stands for.
 
 ghost use Rattle.std.specs.Prelude.{◌≡◌, ℕ, ◌+◌, ◌*◌, ◌^◌, ◌<◌, List, true, false, MatchResult, IfOk, string_bytes};
 ghost use Rattle.std.specs.Str.{chars};
@@ -57,7 +57,7 @@ pub enum Step {
     Gives(u32),
 }
 
-// The value of a hexadecimal digit.
+/// The value of a hexadecimal digit.
 fn digit(ch: char) -> u32
     ensures value { result ≡ digit_of ch }
     ensures small { result < 16 }
@@ -70,7 +70,7 @@ fn digit(ch: char) -> u32
     }
 }
 
-// What an escaped character stands for.
+/// What an escaped character stands for.
 fn named(inside: Inside, ch: char) -> u32
     ensures { result ≡ escaped inside ch }
 {
@@ -84,7 +84,7 @@ fn named(inside: Inside, ch: char) -> u32
     }
 }
 
-// Whether numeric escapes stand there.
+/// Whether numeric escapes stand there.
 fn has_numbers(inside: Inside) -> bool
     ensures { result ≡ numbers inside }
 {
@@ -121,7 +121,7 @@ fn step_on(inside: Inside, reading: Reading, ch: char) -> Step
     }
 }
 
-// A number with one more hexadecimal digit.
+/// A number with one more hexadecimal digit.
 fn number_on(left: Left, number: u32, ch: char) -> u32
     requires { number < bound_of left }
     ensures value { result ≡ goes_on number ch }
@@ -130,7 +130,7 @@ fn number_on(left: Left, number: u32, ch: char) -> u32
     number * 16 + digit(ch)
 }
 
-// The character of a number, if it may stand there.
+/// The character of a number, if it may stand there.
 fn character(inside: Inside, number: u32) -> Result<char, LexError>
     ensures { MatchResult result
         (λ c. (c ≡ number) × (fits inside number ≡ true))
@@ -143,7 +143,7 @@ fn character(inside: Inside, number: u32) -> Result<char, LexError>
     }
 }
 
-// Reads one character, and appends what an escape or the character itself names.
+/// Reads one character, and appends what an escape or the character itself names.
 fn read_char(
     inside: Inside,
     reading: Reading,
@@ -164,7 +164,7 @@ fn read_char(
     }
 }
 
-// What characters stand for.
+/// What characters stand for.
 fn read_body(alloc: Global, inside: Inside, body: &str) -> Result<String, LexError>
     ensures { (out : List ℕ) → StandsFor inside (chars body.now) out → ReadsAs inside out result }
 {
@@ -176,7 +176,7 @@ fn read_body(alloc: Global, inside: Inside, body: &str) -> Result<String, LexErr
     Ok(text)
 }
 
-// How a kind's text is escaped.
+/// How a kind's text is escaped.
 fn inside_kind(kind: Kind) -> Inside
     ensures { result ≡ inside_of kind }
 {

@@ -1,4 +1,4 @@
-// The kinds of tokens, and the languages that have them.
+//! The kinds of tokens, and the languages that have them.
 
 /// The language that a text is read in. Turtle's tokens are in all four.
 #[derive(Clone, Copy, Debug, PartialEq, Eq)]

@@ -1,4 +1,4 @@
-// Laws of tokens, for those that read them.
+//! Laws of tokens, for those that read them.
 
 ghost use Rattle.rdf_lex.specs.Laws.{IriTextsAreTokens, KindsAreApart, LiteralTextsAreTokens, NextIsOne, TokensAreOne, TokensGoOn};
 

@@ -1,4 +1,4 @@
-// The next token of a text.
+//! The next token of a text.
 
 ghost use Rattle.std.specs.Prelude.{◌≡◌, ◌+◌, ◌≤◌, length};
 ghost use Rattle.std.specs.Str.{chars, IsCharBoundary};
@@ -12,8 +12,11 @@ use crate::scan::{add_len, longest};
 /// A token: its kind, its text as it stands in the source, and the place of its first byte there.
 #[derive(Clone, Copy, Debug, PartialEq, Eq)]
 pub struct Token<'a> {
+    /// What kind of token it is.
     pub kind: Kind,
+    /// Its characters, as they stand in the source.
     pub text: &'a str,
+    /// Its place: how many bytes stand before it.
     pub at: u64,
 }
 
@@ -47,14 +50,19 @@ fn ends_comment(ch: char) -> bool
 /// from `/*` to `*/`, there also behind a star. The numbers are of the bytes before the slash.
 #[derive(Clone, Copy)]
 pub enum Blank {
+    /// Between comments.
     Between,
+    /// In a comment that goes to the end of its line.
     Line,
+    /// Behind a slash.
     Slash(usize),
+    /// In a comment that goes to `*/`.
     Block(usize),
+    /// In such a comment, behind a star.
     Star(usize),
 }
 
-// Whether the language has comments from `/*` to `*/`.
+/// Whether the language has comments from `/*` to `*/`.
 fn knows_blocks(mode: Mode) -> bool
     ensures { result ≡ has_blocks mode }
 {
@@ -64,7 +72,7 @@ fn knows_blocks(mode: Mode) -> bool
     }
 }
 
-// Behind so many bytes and outside comments, what one more character makes, or None where a token begins.
+/// Behind so many bytes and outside comments, what one more character makes, or None where a token begins.
 fn outside(mode: Mode, len: usize, ch: char) -> Option<Blank>
     ensures { result ≡ between_step mode len ch }
 {
@@ -79,7 +87,7 @@ fn outside(mode: Mode, len: usize, ch: char) -> Option<Blank>
     }
 }
 
-// Behind so many bytes, what one more character makes, or None where a token begins.
+/// Behind so many bytes, what one more character makes, or None where a token begins.
 fn next_blank(mode: Mode, before: Blank, len: usize, ch: char) -> Option<Blank>
     ensures { result ≡ blank_step mode before len ch }
 {
@@ -97,7 +105,7 @@ fn next_blank(mode: Mode, before: Blank, len: usize, ch: char) -> Option<Blank>
     }
 }
 
-// Where white space and comments end, if nothing more of them follows.
+/// Where white space and comments end, if nothing more of them follows.
 fn end_of_blanks(before: Blank, len: usize) -> usize
     ensures { result ≡ held before len }
 {
@@ -107,7 +115,7 @@ fn end_of_blanks(before: Blank, len: usize) -> usize
     }
 }
 
-// The bytes of white space and comments in front.
+/// The bytes of white space and comments in front.
 fn blanks(mode: Mode, source: &str) -> usize
     ensures count { result ≡ blank_from mode (chars source.now) Between 0 }
     ensures boundary { IsCharBoundary source.now result }
@@ -157,7 +165,7 @@ fn scanned<'a>(source: &'a str, at: u64, mode: Mode) -> Lexed<'a>
     }
 }
 
-// A place behind `at`, which the length of the source bounds.
+/// A place behind `at`, which the length of the source bounds.
 fn sum_to(at: usize, more: usize, source: &str) -> usize
     requires { at + more ≤ length source.now }
     ensures { result ≡ at + more }

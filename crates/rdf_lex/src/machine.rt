@@ -1,4 +1,4 @@
-// The machine that reads tokens: a state for each thing that a token may have come to.
+//! The machine that reads tokens: a state for each thing that a token may have come to.
 
 ghost use Rattle.std.specs.Prelude.{◌≡◌};
 ghost use Rattle.rdf_lex.specs.Machine.{fewer_of, iri_behind, short_behind, long_behind, following, iri_rows, short_rows, long_rows, escape_rows, text_rows, number_rows, name_rows, prefix_rows, local_rows, tag_rows, label_rows, pattern_rows, start_rows, step_of, text_label, number_label, name_label, in_maps, in_schemas, behind_at, at_name_label, tag_label, label_label, mark_label, pattern_label, label_of};
@@ -211,7 +211,7 @@ fn iri_step(part: IriPart, ch: char) -> Option<State>
     }
 }
 
-// In a text on one line; its mark leads to `closed`.
+/// In a text on one line; its mark leads to `closed`.
 fn short_step(quote: Quote, closed: State, ch: char) -> Option<State>
     ensures { result ≡ following (short_rows quote closed) ch }
 {
@@ -223,7 +223,7 @@ fn short_step(quote: Quote, closed: State, ch: char) -> Option<State>
     }
 }
 
-// In a text on many lines; its mark leads to `closed`.
+/// In a text on many lines; its mark leads to `closed`.
 fn long_step(quote: Quote, closed: State, ch: char) -> Option<State>
     ensures { result ≡ following (long_rows quote closed) ch }
 {
@@ -235,7 +235,7 @@ fn long_step(quote: Quote, closed: State, ch: char) -> Option<State>
     }
 }
 
-// Behind the backslash of a text, in which `body` goes on and `digits` begins.
+/// Behind the backslash of a text, in which `body` goes on and `digits` begins.
 fn escape_step(body: State, four: State, eight: State, ch: char) -> Option<State>
     ensures { result ≡ following (escape_rows body four eight) ch }
 {
@@ -339,7 +339,7 @@ fn name_step(lead: Lead, part: NamePart, ch: char) -> Option<State>
     }
 }
 
-// In a prefix that does not end with a dot.
+/// In a prefix that does not end with a dot.
 fn prefix_step(lead: Lead, ch: char) -> Option<State>
     ensures { result ≡ following (prefix_rows lead) ch }
 {
@@ -351,7 +351,7 @@ fn prefix_step(lead: Lead, ch: char) -> Option<State>
     }
 }
 
-// In a local name.
+/// In a local name.
 fn local_step(lead: Lead, ch: char) -> Option<State>
     ensures { result ≡ following (local_rows lead) ch }
 {
@@ -525,7 +525,7 @@ fn name_kind(part: NamePart) -> Option<Kind>
     }
 }
 
-// A kind that only shape maps have.
+/// A kind that only shape maps have.
 fn only_in_maps(mode: Mode, kind: Kind) -> Option<Kind>
     ensures { result ≡ in_maps mode kind }
 {
@@ -535,7 +535,7 @@ fn only_in_maps(mode: Mode, kind: Kind) -> Option<Kind>
     }
 }
 
-// A kind that only ShExC has.
+/// A kind that only ShExC has.
 fn only_in_schemas(mode: Mode, kind: Kind) -> Option<Kind>
     ensures { result ≡ in_schemas mode kind }
 {
@@ -545,7 +545,7 @@ fn only_in_schemas(mode: Mode, kind: Kind) -> Option<Kind>
     }
 }
 
-// A kind that shape maps and ShExC have.
+/// A kind that shape maps and ShExC have.
 fn in_maps_and_schemas(mode: Mode, kind: Kind) -> Option<Kind>
     ensures { result ≡ behind_at mode kind }
 {

@@ -1,4 +1,4 @@
-// The base and the prefixes of a document.
+//! The base and the prefixes of a document.
 
 ghost use Rattle.std.specs.Prelude.{ℕ, List, Some, None, ◌≡◌, ◌≢◌, option_map, IfOk, IfSome, OnOk, OnErr};
 ghost use Rattle.std.specs.Str.{IsUtf8};

@@ -1,4 +1,4 @@
-// A scan for the longest token.
+//! A scan for the longest token.
 
 ghost use Rattle.std.specs.Prelude.{◌≡◌, ◌+◌, ◌≤◌, length, None, IfSome};
 ghost use Rattle.std.specs.Char.{len_utf8};

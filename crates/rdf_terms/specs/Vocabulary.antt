@@ -21,10 +21,6 @@ rdf_rest = codes "http://www.w3.org/1999/02/22-rdf-syntax-ns#rest"
 abbrev pub rdf_nil : List ℕ
 rdf_nil = codes "http://www.w3.org/1999/02/22-rdf-syntax-ns#nil"
 
--- what the IRI of each built-in datatype begins with (XML Schema Part 2, version 1.1, section 3)
-abbrev pub xsd_namespace : List ℕ
-xsd_namespace = codes "http://www.w3.org/2001/XMLSchema#"
-
 -- the datatype of plain strings (RDF 1.1 Concepts, section 3.3)
 abbrev pub xsd_string : List ℕ
 xsd_string = codes "http://www.w3.org/2001/XMLSchema#string"

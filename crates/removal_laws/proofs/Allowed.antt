@@ -33,7 +33,8 @@ use Rattle.std.proofs.lemmas.Bool.{and_parts}
 use Rattle.rdf_terms.proofs.SameTerms.{same_is}
 use Rattle.schema_tree.proofs.Leans.{all_weaker_allowed}
 use Rattle.schema_tree.proofs.ToPlaces.{forward_parts}
-use Rattle.removal_laws.proofs.Carried.{AreAlike, fail_alike, hold_alike, in_graph, sure_carries}
+use Rattle.removal_laws.proofs.Carried.{AreAlike, fail_alike, hold_alike, sure_carries}
+use Rattle.schema_tree.proofs.Needed.{in_graph, under_extra}
 
 -- what stands in a value is of no higher stratum, and of a lower one behind a ShapeNot or under EXTRA
 module _ (s : Schema) (terms : List Term) (g : List Triple) (f : List ℕ) (strat : IsStratified s f) (p : Pair) (sh : Shape) (is : shape_at s p.shape ≡ Some sh) where
@@ -49,16 +50,7 @@ module _ (s : Schema) (terms : List Term) (g : List Triple) (f : List ℕ) (stra
 
   lower_extra : (t : Triple) (o : Occurrence) → Contains sh.extra t.p → Contains sh.occs o → is_forward p.node t o ≡ true →
       (e : ExprId) → o.value ≡ Some e → (i : ShapeId) (sign : Bool) → StandsIn s i e sign → level f i < level f p.shape
-  lower_extra t o extra of forward e value i sign st = strat.falls p.shape i (edge o of e value i sign st) (inr (parts.0, in_extra))
-    where
-      parts : (o.inverse ≡ false) × (fits o p.node t ≡ true)
-      parts = forward_parts (Sat s terms []) g sh p.node t o forward
-
-      same : o.predicate ≡ t.p
-      same = same_is o.predicate t.p (and_parts (same_id o.predicate t.p) (same_id (near_end o.inverse t) p.node) parts.1).0
-
-      in_extra : Contains sh.extra o.predicate
-      in_extra = subst (λ u. Contains sh.extra u) (sym same) extra
+  lower_extra t o extra of forward e value i sign st = strat.falls p.shape i (edge o of e value i sign st) (inr (under_extra sh p.node t o forward extra).0)
 
   -- places that are sure under a view are so under another that has its Yes up to the stratum and its No below it
   module _ (a b : Known) (up : (q : Pair) → level f q.shape ≤ level f p.shape → PairIs a q Yes → PairIs b q Yes)

@@ -27,6 +27,7 @@ use Rattle.schema_tree.specs.Relevant.{is_forward, is_relevant, relevant_in_orde
 use Rattle.schema_tree.specs.Satisfies.{Sat}
 use Rattle.schema_tree.specs.Sure.{IsSure, Known, PairIs, SureEntry, SureWithin}
 use Rattle.schema_tree.proofs.Leans.{places_weaker}
+use Rattle.schema_tree.proofs.Needed.{in_graph, need_of}
 use Rattle.lists.proofs.Quantifiers.{all_weaker, some_weaker}
 use Rattle.lists.proofs.Filters.{in_filter}
 use Rattle.schema_tree.proofs.Ordered.{ordered_same}
@@ -104,32 +105,6 @@ module _ (s : Schema) (terms : List Term) (a b : Known) (n : TermId) where
   fail_alike Impossible (Some e) h m =
       (sure_carries s terms a b n (suc e.0) e).1 ((λ i sign st. (h e refl i sign st No).0), (λ i st. (h e refl i true st Yes).0)) m
 
--- a triple among the relevant ones is of the graph
-pub in_graph :
-    (s : Schema) (terms : List Term) (g : List Triple) (sh : Shape) (n : TermId) (t : Triple) → Contains (relevant_in_order terms g sh n) t →
-    Contains g t
-in_graph s terms g sh n t c =
-    let near = (in_filter (is_relevant sh.occs n) (neighbourhood terms g n) t c).0 in
-    (in_filter _ g t (Contains-permutation _ _ t (IsPermutation-sym _ _ (ordered_same terms g n)) near)).0
-
--- what stands in the value of an occurrence that fits a triple is needed
-pub need_of :
-    (s : Schema) (g : List Triple) (p : Pair) (sh : Shape) → shape_at s p.shape ≡ Some sh → (t : Triple) → Contains g t → (o : Occurrence) →
-    Contains sh.occs o → fits o p.node t ≡ true → (e : ExprId) → o.value ≡ Some e → (i : ShapeId) (sign : Bool) → StandsIn s i e sign →
-    Needs s g p (pair_of (other_end o.inverse t) i)
-need_of s g p sh is t held o of fit e value i sign st = record {
-  shape = sh;
-  is = is;
-  occ = o;
-  of = of;
-  triple = t;
-  held = held;
-  fit = fit;
-  end = refl;
-  sign = sign;
-  stands = subst (λ v. StandsInValue s i v sign) (sym value) st;
-}
-
 -- views that answer alike for each pair that p needs let it match alike
 module _ (s : Schema) (terms : List Term) (g : List Triple) (a b : Known) (lean : Lean) (p : Pair)
     (same : (q : Pair) → Needs s g p q → (v : Verdict) → PairIs a q v ↔ PairIs b q v) where
@@ -158,7 +133,7 @@ module _ (s : Schema) (terms : List Term) (g : List Triple) (a b : Known) (lean 
       go : (x : Option Shape) → shape_at s p.shape ≡ x → CanMatch s terms g a lean p.node x → CanMatch s terms g b lean p.node x
       go None is h = h
       go (Some sh) is h =
-          places_weaker _ _ _ _ sh p.node (λ t. Contains g t) (hold_at sh is) (fail_at sh is) g _ (in_graph s terms g sh p.node) h
+          places_weaker _ _ _ _ sh p.node (λ t. Contains g t) (hold_at sh is) (fail_at sh is) g _ (in_graph terms g sh p.node) h
 
 -- where a view knows more than another of the pairs that p needs, and Unknown is impossible, p still matches
 module _ (s : Schema) (terms : List Term) (g : List Triple) (a b : Known) (p : Pair)
@@ -198,45 +173,4 @@ module _ (s : Schema) (terms : List Term) (g : List Triple) (a b : Known) (p : P
       go : (x : Option Shape) → shape_at s p.shape ≡ x → CanMatch s terms g a Impossible p.node x → CanMatch s terms g b Impossible p.node x
       go None is h = h
       go (Some sh) is h =
-          places_weaker _ _ _ _ sh p.node (λ t. Contains g t) (hold_up sh is) (fail_up sh is) g _ (in_graph s terms g sh p.node) h
-
--- where a view knows more than another, and Unknown is possible, a match under the first is one under the other: so what
--- cannot match still cannot once more is known
-module _ (s : Schema) (terms : List Term) (g : List Triple) (a b : Known) (p : Pair)
-    (up : (q : Pair) → Needs s g p q → PairIs a q Yes → PairIs b q Yes) (down : (q : Pair) → Needs s g p q → PairIs a q No → PairIs b q No) where
-  module _ (sh : Shape) (is : shape_at s p.shape ≡ Some sh) where
-    hold_less :
-        (t : Triple) (o : Occurrence) → Contains g t → Contains sh.occs o → fits o p.node t ≡ true →
-        MayHold s terms b Possible (other_end o.inverse t) o.value → MayHold s terms a Possible (other_end o.inverse t) o.value
-    hold_less t o held of fit = go o.value refl
-      where
-        go : (x : Option ExprId) → o.value ≡ x → MayHold s terms b Possible (other_end o.inverse t) x → MayHold s terms a Possible (other_end o.inverse t) x
-        go None e h = h
-        go (Some d) e h = λ v. h
-            ((sure_carries s terms a b (other_end o.inverse t) (suc d.0) d).1
-            ((λ i sign st. down _ (need_of s g p sh is t held o of fit d e i sign st)), (λ i st. up _ (need_of s g p sh is t held o of fit d e i true st))) v)
-
-    fail_less :
-        (t : Triple) (o : Occurrence) → Contains g t → Contains sh.extra t.p → Contains sh.occs o → is_forward p.node t o ≡ true →
-        MayFail s terms b Possible t.o o.value → MayFail s terms a Possible t.o o.value
-    fail_less t o held extra of forward = go o.value refl
-      where
-        parts : (o.inverse ≡ false) × (fits o p.node t ≡ true)
-        parts = forward_parts (Sat s terms []) g sh p.node t o forward
-
-        need : (d : ExprId) → o.value ≡ Some d → (i : ShapeId) (sign : Bool) → StandsIn s i d sign → Needs s g p (pair_of t.o i)
-        need d e i sign st = subst (λ c. Needs s g p (pair_of (other_end c t) i)) parts.0 (need_of s g p sh is t held o of parts.1 d e i sign st)
-
-        go : (x : Option ExprId) → o.value ≡ x → MayFail s terms b Possible t.o x → MayFail s terms a Possible t.o x
-        go None e h = h
-        go (Some d) e h = λ v. h
-            ((sure_carries s terms a b t.o (suc d.0) d).0
-            ((λ i sign st. up _ (need d e i sign st)), (λ i st. down _ (need d e i true st))) v)
-
-  pub match_less : PairCanMatch s terms g b Possible p → PairCanMatch s terms g a Possible p
-  match_less = go (shape_at s p.shape) refl
-    where
-      go : (x : Option Shape) → shape_at s p.shape ≡ x → CanMatch s terms g b Possible p.node x → CanMatch s terms g a Possible p.node x
-      go None is h = h
-      go (Some sh) is h =
-          places_weaker _ _ _ _ sh p.node (λ t. Contains g t) (hold_less sh is) (fail_less sh is) g _ (in_graph s terms g sh p.node) h
+          places_weaker _ _ _ _ sh p.node (λ t. Contains g t) (hold_up sh is) (fail_up sh is) g _ (in_graph terms g sh p.node) h

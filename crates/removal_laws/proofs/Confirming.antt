@@ -19,10 +19,13 @@ use Rattle.schema_tree.specs.Sure.{Known, PairIs}
 use Rattle.schema_tree.specs.Typings.{HaveSame, IsPartOf}
 use Rattle.lists.proofs.Members.{got_in, in_one, is_first, not_in_none}
 use Rattle.lists.proofs.Filters.{in_filter, filter_has}
-use Rattle.removal_laws.specs.Marks.{KnowSame, known_by, marked, outside, same_pair}
+use Rattle.removal_laws.specs.Marks.{KnowSame, known_by, marked, outside}
+use Rattle.schema_tree.specs.Entries.{same_pair}
 use Rattle.removal_laws.specs.Stages.{IsBefore, IsConfirming, IsOpen, IsRaised, IsRemoving, IsYesAt, both, without}
 use Rattle.removal_laws.proofs.Carried.{match_alike, match_up}
-use Rattle.removal_laws.proofs.Known.{held_at, is_no, is_yes, know_turned, match_known, no_at, pair_is, pair_same, same_alike, set_here, set_other, to_outside, yes_at}
+use Rattle.removal_laws.proofs.Known.{held_at, is_no, is_yes, know_turned, match_known, no_at, same_alike, set_here, set_other, to_outside, yes_at}
+use Rattle.schema_tree.proofs.Pairs.{pair_same}
+use Rattle.schema_tree.proofs.Pairs.{pair_is}
 use Rattle.removal_laws.proofs.Marking.{from_mark, to_mark}
 
 module _ (s : Schema) (terms : List Term) (g : List Triple) (f : List ℕ) (pairs : List Pair) (budget : ℕ) (base : Known) (distinct : AreDistinct pairs)

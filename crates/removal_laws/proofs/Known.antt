@@ -8,6 +8,7 @@ use Rattle.std.specs.Prelude.{◌↔◌, ◌||◌, Contains, Option, Some, None,
 use Rattle.lists.specs.Distinct.{AreDistinct}
 use Rattle.rdf_terms.specs.declared.terms.Term.{Term}
 use Rattle.rdf_terms.specs.declared.terms.Triple.{Triple}
+use Rattle.schema_tree.proofs.Pairs.{pair_is, pair_same}
 use Rattle.schema_tree.specs.declared.schema.Pair.{Pair}
 use Rattle.schema_tree.specs.declared.schema.Schema.{Schema}
 use Rattle.schema_tree.specs.declared.verdicts.Lean.{Lean}
@@ -18,21 +19,12 @@ use Rattle.schema_tree.specs.Places.{PairCanMatch}
 use Rattle.schema_tree.specs.Sure.{Known, PairIs}
 use Rattle.lists.proofs.Members.{got_in, in_one, in_rest, is_first, is_later, not_in_none}
 use Rattle.lists.proofs.Filters.{in_filter, filter_has}
-use Rattle.removal_laws.specs.Marks.{KnowSame, known_by, marked, outside, same_pair}
+use Rattle.removal_laws.specs.Marks.{KnowSame, known_by, marked, outside}
+use Rattle.schema_tree.specs.Entries.{same_pair}
 use Rattle.removal_laws.proofs.Carried.{match_alike}
 use Rattle.removal_laws.proofs.Marking.{HasMark, from_mark, to_mark}
 
 -- ---- pairs and places
-
-pub pair_is : (a b : Pair) → same_pair a b ≡ true → a ≡ b
-pair_is a b h =
-    let (m, n) = and_parts (nat_eq a.node.0 b.node.0) (nat_eq a.shape.0 b.shape.0) h in
-    let node : a.node.0 ≡ b.node.0 = grind (arith, nat_tests, m) in
-    let shape : a.shape.0 ≡ b.shape.0 = grind (arith, nat_tests, n) in
-    ap (λ x. record { node = record { 0 = x }; shape = a.shape }) node ∙ ap (λ x. record { node = b.node; shape = record { 0 = x } }) shape
-
-pub pair_same : (a : Pair) → same_pair a a ≡ true
-pair_same a = grind (arith, nat_tests)
 
 pub held_at : {X : Type 0} (xs : List X) (x : X) → Contains xs x → (i : ℕ) × (slice_get xs i ≡ Some x)
 held_at [] x c = absurd (not_in_none x c)

@@ -12,7 +12,8 @@ use Rattle.schema_tree.specs.Sure.{Known, PairIs}
 use Rattle.schema_tree.proofs.Decide.{same_pairs}
 use Rattle.lists.proofs.Members.{got_in, in_rest, is_first, is_later, not_in_none}
 use Rattle.lists.proofs.Filters.{in_filter, filter_has}
-use Rattle.removal_laws.specs.Marks.{known_by, marked, outside, same_pair, same_verdict}
+use Rattle.removal_laws.specs.Marks.{known_by, marked, outside, same_verdict}
+use Rattle.schema_tree.specs.Entries.{same_pair}
 
 -- the pair stands at a place where the mark is v
 abbrev pub HasMark : List Pair → List Verdict → Verdict → Pair → Type 0

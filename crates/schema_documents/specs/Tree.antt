@@ -114,9 +114,6 @@ triple_of = fold-DocTriple TripleBody ShapeExpr TripleBody ShapeExpr TripleExpr 
 abbrev pub body_of : DocBody → TripleBody
 body_of = fold-DocBody TripleBody ShapeExpr TripleBody ShapeExpr TripleExpr body_step expr_step arc_step shape_step triple_step
 
-abbrev pub arc_of : DocArc → TripleBody
-arc_of = fold-DocArc TripleBody ShapeExpr TripleBody ShapeExpr TripleExpr body_step expr_step arc_step shape_step triple_step
-
 abbrev pub decl_of : Decl → Declaration
 decl_of d = record { label = d.label; expr = expr_of d.expr }
 

@@ -12,7 +12,6 @@ pub mod Stuck
 pub mod Depths
 pub mod Holders
 pub mod Counted
-pub mod Samples
 pub mod Leads
 pub mod Sorts
 pub mod Walks

@@ -11,20 +11,11 @@ ghost use Rattle.schema_load.specs.Stands.{IsEntryAt, IsEntryOf, shape_number};
 ghost use Rattle.schema_load.specs.Steps.{one_if};
 
 use crate::part::Part;
+use crate::sizes::shapes_in;
 use rdf_terms::items::Items;
 use schema_tree::schema::{Expr, ExprId, ShapeId};
 use std::alloc::{AllocError, Global};
 use std::mem;
-
-/// 1 for a Shape, and 0 for another part.
-fn shapes_in(part: &Part) -> u32
-    ensures { result ≡ one_if (is_shape part.now) }
-{
-    match part {
-        Part::Shape(_) => 1,
-        _ => 0,
-    }
-}
 
 /// How many Shapes stand before each place.
 fn shape_numbers(alloc: Global, parts: &[Part]) -> Result<Vec<u32>, AllocError>

@@ -1,8 +1,8 @@
 -- A schema of Shapes without occurrences is loaded where each entry was seen to refer to smaller ones.
 use Rattle.std.proofs.Common.{◌≡◌, ℕ, ◌+◌, ◌<◌, ◌≤◌, inl, inr, List, [], ◌∷◌, length, take, get_or, refl, sym, ◌∙◌, ap, subst, arith}
-use Rattle.std.proofs.lemmas.List.{take_more, take_all, nil_from_length}
+use Rattle.std.proofs.lemmas.List.{take_more, take_all}
 use Rattle.std.proofs.lemmas.List.Elements.{Contains-append_cases}
-use Rattle.std.proofs.lemmas.Bool.{cases_eq, eqb-true, false≢true}
+use Rattle.std.proofs.lemmas.Bool.{cases_eq, false≢true}
 use Rattle.std.proofs.lemmas.Option.{get_or_from_slice_get, slice_get_within}
 use Rattle.std.specs.Prelude.{true, false, ◌==◌, is_some, Contains, slice_get, Option, Some, None}
 use Rattle.schema_tree.specs.declared.schema.Schema.{Schema}
@@ -79,10 +79,6 @@ seen_loaded s unlabelled startless few bare refers = record {
   shapes = λ i sh at. bare_loaded s sh (bare sh (got_in s.shapes i.0 sh at)).0 (bare sh (got_in s.shapes i.0 sh at)).1;
   few = few;
 }
-
--- a list that is as long as none has no item
-pub no_items : {X : Type 0} (xs ys : List X) → xs ≡ ys → true ≡ (length xs == 0) → ys ≡ []
-no_items xs ys same e = sym same ∙ nil_from_length xs (eqb-true (length xs) 0 (sym e))
 
 pub none_there : {X : Type 0} (o : Option X) → false ≡ is_some o → o ≡ None
 none_there None e = refl

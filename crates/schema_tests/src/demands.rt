@@ -5,7 +5,7 @@ ghost use Rattle.graph_index.specs.Contents.{IsSealedWith};
 ghost use Rattle.schema_tree.specs.Loaded.{IsLoaded};
 
 use crate::levels::{chain, excused_self, mutual};
-use demand::agenda::Agenda;
+use agenda::Agenda;
 use demand::links::{links, shapes_in};
 use demand::needs::needs;
 use demand::table::PairTable;

@@ -28,6 +28,7 @@ use Rattle.schema_tree.specs.Matches.{fits, near_end, other_end}
 use Rattle.schema_tree.specs.Needs.{HoldNeeds, HoldRoots, IsDecided, LeadsToNarrow, Needs, here, step}
 use Rattle.rdf_terms.specs.Order.{neighbourhood}
 use Rattle.schema_tree.specs.Places.{CanMatch, MayFail, MayHold, PairCanMatch}
+use Rattle.schema_tree.proofs.Needed.{in_graph, under_extra}
 use Rattle.schema_tree.specs.Relevant.{is_forward, is_relevant, relevant_in_order}
 use Rattle.schema_tree.specs.Removal.{AreRefinedBelow, IsConfirmed, IsRefined, IsRefinedAt}
 use Rattle.schema_tree.specs.Satisfies.{Sat}
@@ -186,21 +187,7 @@ module _ (s : Schema) (terms : List Term) (nodes : NodesAreDecided) (g : List Tr
           fail_on t o held extra of forward =
               fail_back s terms after before t.o no_more o.value
               (λ e value i sign st. yes_below (pair_of t.o i)
-              (let lt : level f i < level f p.shape = strat.falls p.shape i (edge o of e value i sign st) (inr (parts.0, in_extra)) in omega arith))
-            where
-              parts : (o.inverse ≡ false) × (fits o p.node t ≡ true)
-              parts = forward_parts (Sat s terms []) g sh p.node t o forward
-
-              same : o.predicate ≡ t.p
-              same = same_is o.predicate t.p (and_parts (same_id o.predicate t.p) (same_id (near_end o.inverse t) p.node) parts.1).0
-
-              in_extra : Contains sh.extra o.predicate
-              in_extra = subst (λ u. Contains sh.extra u) (sym same) extra
-
-          in_graph : (t : Triple) → Contains (relevant_in_order terms g sh p.node) t → Contains g t
-          in_graph t c =
-              let near = (in_filter (is_relevant sh.occs p.node) (neighbourhood terms g p.node) t c).0 in
-              (in_filter _ g t (Contains-permutation _ _ t (IsPermutation-sym _ _ (ordered_same terms g p.node)) near)).0
+              (let lt : level f i < level f p.shape = strat.falls p.shape i (edge o of e value i sign st) (inr (under_extra sh p.node t o forward extra).0) in omega arith))
 
         match_on : PairCanMatch s terms g before Possible p → PairCanMatch s terms g after Possible p
         match_on = go (shape_at s p.shape) refl
@@ -210,7 +197,7 @@ module _ (s : Schema) (terms : List Term) (nodes : NodesAreDecided) (g : List Tr
                 CanMatch s terms g after Possible p.node x
             go None is h = h
             go (Some sh) is h =
-                places_weaker _ _ _ _ sh p.node (λ t. Contains g t) (hold_on sh is) (fail_on sh is) g _ (in_graph sh is) h
+                places_weaker _ _ _ _ sh p.node (λ t. Contains g t) (hold_on sh is) (fail_on sh is) g _ (in_graph terms g sh p.node) h
 
         -- since all that it needs is known, it matches where Unknown is impossible
         matches : ¬ Contains gone p → PairCanMatch s terms g after Impossible p

@@ -27,6 +27,7 @@ use Rattle.schema_tree.specs.Matches.{SatValue, fits, other_end}
 use Rattle.schema_tree.specs.Needs.{Needs}
 use Rattle.rdf_terms.specs.Order.{neighbourhood}
 use Rattle.schema_tree.specs.Places.{CanMatch, HasPlaces, MayFail, MayHold, PairCanMatch}
+use Rattle.schema_tree.proofs.Needed.{in_graph, need_of}
 use Rattle.schema_tree.specs.Relevant.{is_forward, is_relevant, relevant_in_order}
 use Rattle.schema_tree.specs.Satisfies.{Sat, SatEntry, SatWithin}
 use Rattle.lists.specs.Quantifiers.{SomeByRecursion}
@@ -151,28 +152,12 @@ module _ (s : Schema) (terms : List Term) (nodes : NodesAreDecided) (g : List Tr
         (t : Triple) → Contains g t → (o : Occurrence) → Contains sh.occs o → fits o p.node t ≡ true → Exact (other_end o.inverse t) o.value
     exact_at t held o of fit =
         value_exact s terms nodes view T (other_end o.inverse t) lean o.value
-        (λ e value i sign st. needed (pair_of (other_end o.inverse t) i) (record {
-          shape = sh;
-          is = is;
-          occ = o;
-          of = of;
-          triple = t;
-          held = held;
-          fit = fit;
-          end = refl;
-          sign = sign;
-          stands = subst (λ v. StandsInValue s i v sign) (sym value) st;
-        }))
+        (λ e value i sign st. needed (pair_of (other_end o.inverse t) i) (need_of s g p sh is t held o of fit e value i sign st))
 
     exact_out : (t : Triple) → Contains g t → (o : Occurrence) → Contains sh.occs o → is_forward p.node t o ≡ true → Exact t.o o.value
     exact_out t held o of forward =
         let parts = forward_parts (Sat s terms T) g sh p.node t o forward in
         subst (λ b. Exact (other_end b t) o.value) parts.0 (exact_at t held o of parts.1)
-
-    in_graph : (t : Triple) → Contains (relevant_in_order terms g sh p.node) t → Contains g t
-    in_graph t c =
-        let near = (in_filter (is_relevant sh.occs p.node) (neighbourhood terms g p.node) t c).0 in
-        (in_filter _ g t (Contains-permutation _ _ t (IsPermutation-sym _ _ (ordered_same terms g p.node)) near)).0
 
     matches :
         HasPlaces (MayHold s terms view lean) (MayFail s terms view lean) g sh p.node (relevant_in_order terms g sh p.node) →
@@ -180,14 +165,14 @@ module _ (s : Schema) (terms : List Term) (nodes : NodesAreDecided) (g : List Tr
     matches h =
         from_places (Sat s terms T) g sh p.node (well_made s loaded p.shape sh is) (neighbourhood terms g p.node) (ordered_same terms g p.node)
         (places_weaker _ _ _ _ sh p.node (λ t. Contains g t)
-        (λ t o held of fit. (exact_at t held o of fit).0.1) (λ t o held extra of forward. (exact_out t held o of forward).1.1) g _ in_graph h)
+        (λ t o held of fit. (exact_at t held o of fit).0.1) (λ t o held extra of forward. (exact_out t held o of forward).1.1) g _ (in_graph terms g sh p.node) h)
 
     matched :
         ShapeHolds (Sat s terms T) g p.node (Some sh) →
         HasPlaces (MayHold s terms view lean) (MayFail s terms view lean) g sh p.node (relevant_in_order terms g sh p.node)
     matched h =
         places_weaker _ _ _ _ sh p.node (λ t. Contains g t)
-        (λ t o held of fit. (exact_at t held o of fit).0.0) (λ t o held extra of forward. (exact_out t held o of forward).1.0) g _ in_graph
+        (λ t o held of fit. (exact_at t held o of fit).0.0) (λ t o held extra of forward. (exact_out t held o of forward).1.0) g _ (in_graph terms g sh p.node)
         (to_places (Sat s terms T) g sh p.node (λ c e. (well_made s loaded p.shape sh is c e).0) (neighbourhood terms g p.node) (ordered_same terms g p.node) h)
 
   pub exact_match : PairCanMatch s terms g view lean p ↔ ShapeOk s terms g T p.node p.shape

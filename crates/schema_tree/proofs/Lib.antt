@@ -39,3 +39,5 @@ pub mod RefinementExists
 pub mod CompleteRefinement
 pub mod Truth
 pub mod Sharing
+pub mod Needed
+pub mod Pairs

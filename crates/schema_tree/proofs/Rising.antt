@@ -1,12 +1,12 @@
--- Items that come before all behind them come before the next.
-use Rattle.std.proofs.Common.{List, [], ◌∷◌}
-use Rattle.std.specs.List.{AllByRecursion}
-use Rattle.schema_tree.specs.Rising.{AreRising, Rises, RisesFrom}
+-- Of items that come before all behind them, those that are left when some in front are dropped.
+use Rattle.std.proofs.Common.{List, [], ◌∷◌, ℕ, zero, suc, drop}
+use Rattle.schema_tree.specs.Rising.{Rises, RisesFrom}
 
-rises_from : {X : Type 0} (IsBefore : X → X → Type 0) (x : X) (xs : List X) → AllByRecursion (IsBefore x) xs → AreRising IsBefore xs → RisesFrom IsBefore x xs
-rises_from IsBefore x [] before rising = tt
-rises_from IsBefore x (y ∷ ys) before rising = (before.0, rises_from IsBefore y ys rising.0 rising.1)
+pub later_rise : {X : Type 0} (IsBefore : X → X → Type 0) (x : X) (xs : List X) → RisesFrom IsBefore x xs → Rises IsBefore xs
+later_rise IsBefore x [] h = tt
+later_rise IsBefore x (y ∷ ys) (before, rest) = rest
 
-pub rising_rises : {X : Type 0} (IsBefore : X → X → Type 0) (xs : List X) → AreRising IsBefore xs → Rises IsBefore xs
-rising_rises IsBefore [] rising = tt
-rising_rises IsBefore (x ∷ xs) rising = rises_from IsBefore x xs rising.0 rising.1
+pub behind_rise : {X : Type 0} (IsBefore : X → X → Type 0) (xs : List X) (k : ℕ) → Rises IsBefore xs → Rises IsBefore (drop k xs)
+behind_rise IsBefore xs zero h = h
+behind_rise IsBefore [] (suc k) h = tt
+behind_rise IsBefore (x ∷ xs) (suc k) h = behind_rise IsBefore xs k (later_rise IsBefore x xs h)

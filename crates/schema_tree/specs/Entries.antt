@@ -1,5 +1,5 @@
 -- The entries of a loaded schema.
-use Rattle.std.specs.Prelude.{slice_get, Option, Some, None}
+use Rattle.std.specs.Prelude.{Bool, ◌&&◌, nat_eq, slice_get, Option, Some, None}
 use Rattle.rdf_terms.specs.declared.terms.Term.{Term}
 use Rattle.rdf_terms.specs.declared.terms.TermId.{TermId}
 use Rattle.node_constraint.specs.Constraint.{Constraint}
@@ -27,3 +27,7 @@ SatNodeAt c (Some term) = SatNode c term
 -- the pair of a node and a Shape
 abbrev pub pair_of : TermId → ShapeId → Pair
 pair_of n i = record { node = n; shape = i }
+
+-- two pairs are the same
+abbrev pub same_pair : Pair → Pair → Bool
+same_pair a b = nat_eq a.node.0 b.node.0 && nat_eq a.shape.0 b.shape.0

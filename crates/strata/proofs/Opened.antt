@@ -3,6 +3,7 @@ use Rattle.std.proofs.Common.{◌≡◌, ◌∙◌, ℕ, ◌<◌, ◌⊎◌, ◌
 use Rattle.std.specs.Prelude.{◌↔◌, Contains, Option, Some, None, ◌||◌}
 use Rattle.std.proofs.lemmas.List.{map-append, take_more}
 use Rattle.std.proofs.lemmas.List.Elements.{Contains-append_cases, Contains-append_left, Contains-append_right}
+use Rattle.agenda.proofs.Growing.{has_one}
 use Rattle.schema_tree.specs.declared.schema.Expr.{Expr}
 use Rattle.schema_tree.specs.declared.schema.Expr.TheVariants as Exprs
 use Rattle.schema_tree.specs.declared.schema.ExprId.{ExprId}
@@ -21,22 +22,6 @@ use Rattle.strata.proofs.Grown.{grow_one, grow_same, or_false, or_true, stands_a
 -- nothing more is put
 pub has_none : (xs : List ℕ) → Has xs [] xs
 has_none xs q = (inl, (λ h. elim h [ inl l ↦ l | inr n ↦ absurd (not_in_none q n) ]))
-
--- one more is put
-pub has_one : (before ys now next : List ℕ) (x : ℕ) → Has before ys now → ((q : ℕ) → Contains next q ↔ (Contains now q ⊎ (q ≡ x))) → Has before (ys ++ x ∷ []) next
-has_one before ys now next x h put q = (
-  (λ c. elim ((put q).0 c) [
-    | inl l ↦ elim ((h q).0 l) [ inl b ↦ inl b | inr y ↦ inr (Contains-append_left ys (x ∷ []) q y) ]
-    | inr e ↦ inr (Contains-append_right ys (x ∷ []) q (subst (λ z. Contains (x ∷ []) z) (sym e) (is_first x [])))
-  ]),
-  (λ c. elim c [
-    | inl b ↦ (put q).1 (inl ((h q).1 (inl b)))
-    | inr y ↦ elim (Contains-append_cases ys (x ∷ []) q y) [
-      | inl l ↦ (put q).1 (inl ((h q).1 (inr l)))
-      | inr r ↦ (put q).1 (inr (sym (in_one x q r)))
-    ]
-  ]),
-)
 
 -- the numbers of one more expression
 pub next_number : (es : List ExprId) (i : ℕ) (d : ExprId) → i < length es → map (λ (e : ExprId). e.0) (take (i + 1) es) ≡ map (λ (e : ExprId). e.0) (take i es) ++ (get_or es i d).0 ∷ []

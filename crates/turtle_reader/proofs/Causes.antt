@@ -25,7 +25,7 @@ use Rattle.rdf_cursor.specs.Marks.{mark}
 use Rattle.turtle_reader.specs.States.{names_in, DocumentScope, added, anonymous, counted}
 use Rattle.rdf_cursor.specs.Symbols.{is_symbol, is_among}
 use Rattle.term_tokens.proofs.Nexts.{nexts, no_next, first_of}
-use Rattle.turtle_reader.proofs.Tells.{Tells, tells_give, tells_refuse, tells_one, tells_bind, tells_either, tells_loop}
+use Rattle.rdf_cursor.proofs.Tells.{Tells, tells_give, tells_refuse, tells_one, tells_bind, tells_either, tells_loop}
 
 -- classes
 syntax_only : (v : DocumentScope) (t : Spelled) (rest : Ahead Spelled) (f : Fault) → faults.Syntax ≡ f → Causes v f (token t rest)

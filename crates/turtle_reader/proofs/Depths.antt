@@ -28,7 +28,7 @@ use Rattle.rdf_cursor.specs.Symbols.{is_symbol, is_among, of_symbol}
 use Rattle.term_tokens.specs.Literals.{datatyped_by}
 use Rattle.term_tokens.proofs.Literals.{iris, iri_begins, string_begins, tagged_begins, shorthand_begins, blank_begins}
 use Rattle.term_tokens.proofs.Nexts.{within, outside, Next, nexts, no_next, first as first_of_mark, guarded_one}
-use Rattle.turtle_reader.proofs.Tells.{Tells, tells_give, tells_refuse, tells_one, tells_bind, tells_either, tells_loop}
+use Rattle.rdf_cursor.proofs.Tells.{Tells, tells_give, tells_refuse, tells_one, tells_bind, tells_either, tells_loop}
 
 -- one token more
 counted_more : (p : Spelled → Bool) (front : List Spelled) (t : Spelled) (b : Bool) → p t ≡ b → count_by p (front ++ t ∷ []) ≡ count_by p front + cond b 1 0

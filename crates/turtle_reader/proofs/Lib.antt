@@ -4,7 +4,6 @@ pub mod Complete
 pub mod Limits
 pub mod Turns
 pub mod Endings
-pub mod Tells
 pub mod Causes
 pub mod Depths
 pub mod ScopeLines

@@ -51,9 +51,13 @@ impl Resource {
 /// node, and the triples of the statement that is being read.
 #[derive(Drop)]
 pub struct State {
+    /// Where memory comes from.
     pub alloc: Global,
+    /// The base and the prefixes.
     pub prefixes: Prefixes,
+    /// The number of the next anonymous node, at least 1.
     pub next: u64,
+    /// The triples of the statement that is being read, in their order.
     pub triples: Vec<TermTriple>,
     ghost from_one: { 1 ≤ next },
     ghost absolute: { IsSome (scheme_of (base_of prefixes)) },

@@ -9,6 +9,7 @@ use Rattle.lists.specs.Distinct.{AreDistinct}
 use Rattle.lists.specs.Additions.{Adds}
 use Rattle.rdf_terms.specs.declared.terms.Triple.{Triple}
 use Rattle.lists.proofs.Members.{got_in, in_one, in_rest, is_first, not_in_none}
+use Rattle.demand.proofs.Taken.{in_more}
 use Rattle.schema_tree.specs.declared.schema.Pair.{Pair}
 use Rattle.schema_tree.specs.declared.schema.Schema.{Schema}
 use Rattle.schema_tree.specs.Needs.{Needs}
@@ -46,18 +47,6 @@ added_at f (x ∷ xs) (suc at) number d v lt is (suc i) j =
     )
 
 -- ---- the lists of some pairs get a number more
-
-in_more : (xs : List Pair) (i : ℕ) (d q : Pair) → i < length xs → Contains (take (i + 1) xs) q ↔ (Contains (take i xs) q ⊎ (get_or xs i d ≡ q))
-in_more xs i d q inside = (
-  (λ c. elim (Contains-append_cases (take i xs) (get_or xs i d ∷ []) q (subst (λ ys. Contains ys q) (take_more xs i d inside) c)) [
-    | inl l ↦ inl l
-    | inr r ↦ inr (in_one (get_or xs i d) q r)
-  ]),
-  (λ h. subst (λ ys. Contains ys q) (sym (take_more xs i d inside)) (elim h [
-    | inl l ↦ Contains-append_left (take i xs) (get_or xs i d ∷ []) q l
-    | inr e ↦ Contains-append_right (take i xs) (get_or xs i d ∷ []) q (subst (λ z. Contains (get_or xs i d ∷ []) z) e (is_first (get_or xs i d) []))
-  ])),
-)
 
 pub none_added : (pairs : List Pair) (lists : List (List ℕ)) (number : ℕ) → AreAddedAt pairs lists [] number lists
 none_added pairs lists number i j = same_lists _ _ (λ t. let ((q, at, (k, l, e)), n) = t in omega (arith, l))

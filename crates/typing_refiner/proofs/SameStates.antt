@@ -23,7 +23,8 @@ use Rattle.bag_match.specs.Outcomes.{AreListed}
 use Rattle.bag_match.specs.Reached.{AreReached, IsReachedAt}
 use Rattle.schema_tree.proofs.Leans.{all_weaker_allowed}
 use Rattle.removal_laws.specs.Marks.{KnowSame}
-use Rattle.removal_laws.proofs.Carried.{fail_at, hold_at, in_graph}
+use Rattle.removal_laws.proofs.Carried.{fail_at, hold_at}
+use Rattle.schema_tree.proofs.Needed.{in_graph}
 use Rattle.removal_laws.proofs.Known.{same_alike}
 use Rattle.typing_refiner.specs.Records.{AreLeastFor, AreStatesFor}
 
@@ -100,7 +101,7 @@ states_alike s terms g a b p states same = go (shape_at s p.shape) refl
   where
     go : (x : Option Shape) → shape_at s p.shape ≡ x → AreStatesFor s terms g a p.node x states → AreStatesFor s terms g b p.node x states
     go None is h = h
-    go (Some sh) is h = listed_same s terms g Possible p sh is (relevant_in_order terms g sh p.node) (in_graph s terms g sh p.node) a b same states h
+    go (Some sh) is h = listed_same s terms g Possible p sh is (relevant_in_order terms g sh p.node) (in_graph terms g sh p.node) a b same states h
 
 -- the least places of one that matches
 pub places_alike : (s : Schema) (terms : List Term) (g : List Triple) (a b : Known) (p : Pair) (places : List Place) → AgreeFor s g p a b →
@@ -109,7 +110,7 @@ places_alike s terms g a b p places same = go (shape_at s p.shape) refl
   where
     go : (x : Option Shape) → shape_at s p.shape ≡ x → AreLeastFor s terms g a p.node x places → AreLeastFor s terms g b p.node x places
     go None is h = h
-    go (Some sh) is h = (h.0, least_same s terms g Impossible p sh is (relevant_in_order terms g sh p.node) (in_graph s terms g sh p.node) a b same places h.1)
+    go (Some sh) is h = (h.0, least_same s terms g Impossible p sh is (relevant_in_order terms g sh p.node) (in_graph terms g sh p.node) a b same places h.1)
 
 -- views that know the same agree for every pair
 pub states_same : (s : Schema) (terms : List Term) (g : List Triple) (a b : Known) (p : Pair) (states : List State) → KnowSame a b →

@@ -27,7 +27,3 @@ AreConfirmedOn s terms g pairs view cs =
 
 abbrev pub HavePlaces : Ground → Known → List Confirmed → Type 0
 HavePlaces h view cs = AreConfirmedOn h.schema.now h.terms.now h.graph.now.triples h.table.now view cs
-
--- the numbers are those of the pairs with Yes
-abbrev pub AreYes : List Pair → List Verdict → List Confirmed → Type 0
-AreYes pairs marks cs = (i : ℕ) → Contains (numbers_of cs) i ↔ ((i < length pairs) × (slice_get marks i ≡ Some Yes))

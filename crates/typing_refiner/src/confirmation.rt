@@ -9,8 +9,8 @@ ghost use Rattle.typing_refiner.specs.Ready.{AllWait, IsConfirming, IsLow, IsNea
 
 use crate::ground::{Ground, has_mark};
 use crate::removal::set_mark;
+use agenda::Agenda;
 use bag_match::Outcome;
-use demand::agenda::Agenda;
 use schema_tree::sure::View;
 use schema_tree::verdicts::{Lean, Verdict};
 use std::alloc::{AllocError, Global};

@@ -10,8 +10,8 @@ ghost use Rattle.typing_refiner.specs.Ready.{GoesBack, IsOpen, IsReady, Waits, k
 
 use crate::marks::MarkView;
 use crate::wanted::Wanted;
+use agenda::Agenda;
 use bag_match::{Outcome, match_pair};
-use demand::agenda::Agenda;
 use demand::table::PairTable;
 use graph_index::graph::Graph;
 use rdf_terms::items::Items;

@@ -11,8 +11,8 @@ ghost use Rattle.typing_refiner.specs.Records.{HaveStates, pairs_gone};
 
 use crate::ground::Ground;
 use crate::wanted::Wanted;
+use agenda::Agenda;
 use bag_match::Outcome;
-use demand::agenda::Agenda;
 use rdf_terms::items::Items;
 use schema_tree::schema::Pair;
 use schema_tree::sure::View;

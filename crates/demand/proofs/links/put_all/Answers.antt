@@ -1,6 +1,8 @@
 use Rattle.std.proofs.Common.{map, subst, sym}
 use Rattle.std.proofs.lemmas.List.{take_all}
-use Rattle.demand.proofs.Listed.{Has, has_one, map_next}
+use Rattle.demand.proofs.Listed.{map_next}
+use Rattle.agenda.proofs.Growing.{has_one}
+use Rattle.agenda.proofs.Growing.{Has}
 use Rattle.demand.proofs.links.put_all.Goals as goal
 
 pub loop-member-preserved : goal.loop-member-preserved

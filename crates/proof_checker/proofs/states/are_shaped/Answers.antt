@@ -1,7 +1,7 @@
 use Rattle.std.proofs.Common.{inl, inr, refl, subst, ◌∙◌}
 use Rattle.proof_checker.specs.Stated.{AreShapedBy, IsShapedBy}
 use Rattle.lists.proofs.Tests.{holds_so}
-use Rattle.proof_checker.proofs.Stating.{all_taken, take_cases}
+use Rattle.lists.proofs.Fronts.{all_taken, take_cases}
 use Rattle.proof_checker.proofs.states.are_shaped.Goals as goal
 
 pub loop-state-preserved : goal.loop-state-preserved

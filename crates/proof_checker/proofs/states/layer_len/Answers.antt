@@ -2,7 +2,7 @@ use Rattle.std.proofs.Common.{arith, length, inl, inr, ap, sym, subst, ◌∙◌
 use Rattle.std.proofs.lemmas.List.{take_all}
 use Rattle.std.specs.Prelude.{Contains}
 use Rattle.proof_checker.proofs.Layered.{past_layer}
-use Rattle.proof_checker.proofs.Stating.{all_taken, take_cases}
+use Rattle.lists.proofs.Fronts.{all_taken, take_cases}
 use Rattle.proof_checker.proofs.states.layer_len.Goals as goal
 
 pub returns-then-states-i-clause-later : goal.returns-then-states-i-clause-later

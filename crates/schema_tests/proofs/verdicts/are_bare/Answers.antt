@@ -1,7 +1,8 @@
 use Rattle.std.proofs.Common.{◌≡◌, [], None, subst}
 use Rattle.schema_tree.specs.declared.schema.Shape.{Shape}
 use Rattle.lists.proofs.Members.{not_in_none}
-use Rattle.schema_tests.proofs.CheckedSchemas.{more_hold, all_hold, no_items, none_there}
+use Rattle.schema_tests.proofs.CheckedSchemas.{more_hold, all_hold, none_there}
+use Rattle.lists.proofs.Members.{no_items}
 use Rattle.schema_tests.proofs.verdicts.are_bare.Goals as goal
 
 pub loop-shape-init : goal.loop-shape-init

@@ -1,5 +1,6 @@
 use Rattle.std.proofs.Common.{Contains, ◌≤◌, length, refl, sym, subst}
-use Rattle.schema_tests.proofs.CheckedSchemas.{no_items, none_there, seen_loaded}
+use Rattle.schema_tests.proofs.CheckedSchemas.{none_there, seen_loaded}
+use Rattle.lists.proofs.Members.{no_items}
 use Rattle.schema_tests.proofs.verdicts.is_loaded.Goals as goal
 
 pub returns : goal.returns

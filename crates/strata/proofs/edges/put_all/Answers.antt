@@ -1,7 +1,8 @@
 use Rattle.std.proofs.Common.{map, subst, sym}
 use Rattle.std.proofs.lemmas.List.{take_all}
 use Rattle.strata.specs.Gathers.{Has}
-use Rattle.strata.proofs.Opened.{has_one, next_number}
+use Rattle.strata.proofs.Opened.{next_number}
+use Rattle.agenda.proofs.Growing.{has_one}
 use Rattle.strata.proofs.edges.put_all.Goals as goal
 
 pub loop-member-preserved : goal.loop-member-preserved

@@ -1,7 +1,8 @@
 use Rattle.std.proofs.Common.{[], ap, sym, subst}
 use Rattle.std.specs.Prelude.{Some}
 use Rattle.strata.specs.Gathers.{Has, negated_of}
-use Rattle.strata.proofs.Opened.{has_none, has_one}
+use Rattle.strata.proofs.Opened.{has_none}
+use Rattle.agenda.proofs.Growing.{has_one}
 use Rattle.strata.proofs.edges.put_negated.Goals as goal
 
 pub returns-in_ok-put-in-Not : goal.returns-in_ok-put-in-Not

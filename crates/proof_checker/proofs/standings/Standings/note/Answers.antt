@@ -1,7 +1,8 @@
 use Rattle.std.proofs.Common.{ap, ◌∙◌, ◌≡◌, List, subst, if◌then◌else◌}
 use Rattle.schema_tree.specs.declared.schema.Pair.{Pair}
 use Rattle.proof_checker.specs.declared.standings.Standing.{Standing}
-use Rattle.proof_checker.specs.Standings.{said_by, same_pair, standing_in}
+use Rattle.proof_checker.specs.Standings.{said_by, standing_in}
+use Rattle.schema_tree.specs.Entries.{same_pair}
 use Rattle.proof_checker.proofs.Noted.{standing_after}
 use Rattle.proof_checker.proofs.standings.Standings.note.Goals as goal
 

@@ -3,7 +3,8 @@ use Rattle.lists.proofs.Tests.{holds_so, neither}
 use Rattle.std.proofs.lemmas.List.Elements.{Contains-get_or}
 use Rattle.bag_match.specs.Counts.{state_of}
 use Rattle.proof_checker.specs.Stated.{AllLeadOn}
-use Rattle.proof_checker.proofs.Stating.{all_taken, one_more_leads}
+use Rattle.lists.proofs.Fronts.{all_taken}
+use Rattle.proof_checker.proofs.Stating.{one_more_leads}
 use Rattle.proof_checker.proofs.states.Listing.all_lead_on.Goals as goal
 
 pub leads_on-requires-clause-there : goal.leads_on-requires-clause-there

@@ -1,7 +1,7 @@
 use Rattle.std.proofs.Common.{subst, ◌∷◌, ◌≡◌}
 use Rattle.std.specs.Prelude.{IfSome}
-use Rattle.demand.proofs.Numbers.{taken}
-use Rattle.demand.proofs.agenda.Agenda.take_least.Goals as goal
+use Rattle.agenda.proofs.Numbers.{taken}
+use Rattle.agenda.proofs.Agenda.take_least.Goals as goal
 
 pub returns-clause-taken : goal.returns-clause-taken
 returns-clause-taken c =

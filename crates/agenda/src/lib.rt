@@ -1,4 +1,5 @@
-//! Numbers that are still to be looked at.
+//! Numbers that are still to be looked at, each once, and taken from either end.
+#![tactic(auto)]
 
 ghost use Rattle.std.specs.Prelude.{ℕ, [], ◌≡◌, ◌≤◌, ◌<◌, ◌+◌, ◌⊎◌, ◌↔◌, Contains, IfSome, IsNone, OnOk, length};
 
