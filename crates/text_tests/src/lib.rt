@@ -5,3 +5,5 @@
 mod files;
 #[cfg(test)]
 mod patterns;
+#[cfg(test)]
+mod shexc;

@@ -1,0 +1,12 @@
+pub mod Stops
+pub mod Symbols
+pub mod Meanings
+pub mod Facets
+pub mod Limits
+pub mod Patterns
+pub mod Values
+pub mod Causes
+pub mod Grammar
+pub mod Reading
+pub mod FacetKinds
+pub mod TextKinds

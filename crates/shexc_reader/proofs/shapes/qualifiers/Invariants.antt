@@ -1,0 +1,18 @@
+use Rattle.std.proofs.Common.{◌≡◌}
+use Rattle.rdf_cursor.specs.Ahead.{count}
+use Rattle.rdf_cursor.specs.Readers.{loop}
+use Rattle.rdf_cursor.specs.Cursors.{ahead, source_in}
+use Rattle.term_tokens.specs.Scopes.{scope_in}
+use Rattle.rdf_cursor.specs.Symbols.{is_among}
+use Rattle.shexc_reader.specs.Symbols.{qualifiers}
+use Rattle.shexc_reader.specs.Reading.{qualifier}
+use Rattle.std.proofs.Common.{false}
+use Rattle.shexc_reader.proofs.shapes.qualifiers.Given as goal
+
+abbrev pub invariant-loop-c : goal.invariant-loop-c
+invariant-loop-c l =
+    (loop (is_among qualifiers) (qualifier (scope_in l.names)) (l.closed, l.ps.items) (ahead l.c)
+    ≡ loop (is_among qualifiers) (qualifier (scope_in l.names)) (false, l.fn.ps.items) (ahead l.fn.c)) × (source_in l.c ≡ source_in l.fn.c)
+
+abbrev pub decreases-loop-c : goal.decreases-loop-c
+decreases-loop-c l = count (ahead l.c)
