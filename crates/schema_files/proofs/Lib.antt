@@ -1,0 +1,6 @@
+mod Words
+mod Fetched
+mod Following
+mod Order
+mod Few
+mod Steps
