@@ -2,6 +2,6 @@ pub mod Asking
 pub mod Counted
 pub mod Demanded
 pub mod Exclusive
-pub mod Fetched
 pub mod Holdings
 pub mod Reading
+pub mod Sources

@@ -1,5 +1,5 @@
 -- What is refused is not read, and what is fetched in vain is said so.
-use Rattle.std.proofs.Common.{◌≡◌, ◌≢◌, ◌∙◌, ap, sym, subst, ℕ, List, [], inl, inr, length, map, refl, true, false, ◌≤◌}
+use Rattle.std.proofs.Common.{◌≡◌, ◌≢◌, ◌∙◌, ap, sym, subst, ℕ, List, [], inl, inr, length, map, refl, true, ◌≤◌}
 use Rattle.rdf_terms.specs.declared.terms.Term.{Term}
 use Rattle.rdf_terms.specs.declared.terms.Triple.{Triple}
 use Rattle.graph_index.specs.declared.loading.TermTriple.{TermTriple}
@@ -18,11 +18,14 @@ use Rattle.shex_inputs.specs.declared.error.InputError.TheVariants.{Refused, Fai
 use Rattle.shex_inputs.specs.declared.error.Source.{Source}
 use Rattle.shex_inputs.specs.declared.error.Source.TheVariants as Sources
 use Rattle.data_reader.specs.Formats.{format_of}
-use Rattle.schema_documents.specs.Tree.{Document}
-use Rattle.schema_documents.specs.declared.error.SchemaError.{SchemaError}
-use Rattle.schema_documents.specs.declared.error.SchemaError.TheVariants as SchemaErrors
-use Rattle.shexj_reader.specs.Bytes.{IsCause}
-use Rattle.shexj_reader.specs.Laws.{RefusedAreNone}
+use Rattle.schema_documents.specs.Tree.{Document, document_of}
+use Rattle.schema_files.specs.Files.{IsFile}
+use Rattle.schema_files.specs.Refusals.{Explains as FilesExplain, FaultsAs as FilesFaultAs}
+use Rattle.schema_files.specs.Sources.{AreHeld, AreSources, Source as SchemaSource, documents_of}
+use Rattle.schema_files.specs.declared.error.FilesError.{FilesError}
+use Rattle.schema_files.specs.declared.error.FilesError.TheVariants as FilesErrors
+use Rattle.schema_files.specs.declared.error.FilesRefusal.TheVariants as FilesRefusals
+use Rattle.schema_files.specs.declared.reading.Documents.{Documents}
 use Rattle.shape_map.specs.declared.error.MapError.{MapError}
 use Rattle.shape_map.specs.declared.error.MapError.TheVariants as MapErrors
 use Rattle.shape_map.specs.declared.items.Item.{Item}
@@ -32,26 +35,21 @@ use Rattle.demand.specs.Demand.{AreTooMany}
 use Rattle.demand.specs.declared.error.DemandError.{DemandError}
 use Rattle.demand.specs.declared.error.DemandError.TheVariants as DemandErrors
 use Rattle.schema_tree.specs.declared.schema.Schema.{Schema}
-use Rattle.term_tokens.specs.Scopes.{scope_of}
-use Rattle.std.proofs.lemmas.Bool.{and_parts, eqb-true}
-use Rattle.std.proofs.lemmas.List.{nil_from_length}
-use Rattle.std.specs.Prelude.{◌==◌, IsSome, None}
+use Rattle.term_tokens.specs.Scopes.{Scope, scope_of}
+use Rattle.std.proofs.lemmas.Bool.{and_parts}
+use Rattle.std.specs.Prelude.{IsSome, Some}
 use Rattle.iri_resolve.specs.Reference.{scheme_of}
-use Rattle.rdf_lex.specs.declared.prefixes.Prefixes.{Prefixes}
-use Rattle.rdf_lex.specs.Prefixes.{base_of, iri_under}
 use Rattle.command_words.specs.Checks.{is_base}
-use Rattle.shex_inputs.specs.Asked.{EndsAs, HoldsMap, base_alone, label_names, node_names, root_of}
-use Rattle.shex_inputs.specs.Held.{Held, HoldsSchema, IsHolding, IsSchemaOf, IsTaken, alone, predicates_in}
-use Rattle.shex_inputs.specs.Named.{Inputs, IsFile, is_compact, source_name, source_of}
+use Rattle.shex_inputs.specs.Asked.{EndsAs, HoldsMap, node_names, root_of}
+use Rattle.shex_inputs.specs.Held.{Held, IsHolding, IsSchemaOf, IsTaken, predicates_in}
+use Rattle.shex_inputs.specs.Named.{Inputs, asked_of, source_name, source_of}
 use Rattle.shex_inputs.specs.Outcomes.{Explains, FaultsAs, IsBeforeMap, IsRefusalOf}
 use Rattle.shex_inputs.specs.Refusals.{AreUnread, IsRefused, Reaches, Takes}
-use Rattle.shex_inputs.specs.Stops.{AreUnreadable, FetchStops, LoadStops, MapStops, ReadingStops, SchemaStops, demand_stop, strata_stop}
+use Rattle.shex_inputs.specs.Stops.{AreUnreadable, FetchStops, LoadStops, MapStops, ReadingStops, demand_stop, files_stop, strata_stop}
 use Rattle.shex_inputs.proofs.Holdings.{first_one}
 use Rattle.std.specs.Prelude.{Err, IfErr, IfOk, Ok, Result}
 use Rattle.lists.specs.Additions.{AddsAll}
 use Rattle.rdf_terms.specs.Tables.{max_terms}
-use Rattle.schema_load.specs.Parts.{predicates_of}
-use Rattle.schema_load.specs.Reading.{parts_of}
 use Rattle.schema_load.specs.Refusals.{Explains as ExplainsDocuments, IsRefused as IsRefusedDocuments}
 use Rattle.schema_load.specs.Stands.{Stands}
 use Rattle.schema_load.specs.declared.error.LoadError.{LoadError}
@@ -98,40 +96,56 @@ fetch_before_map told name source before after blame act (Refused refusal) other
 fetch_before_map told name source before after blame act (Failed failed) other (same, faults) = λ is. other (sym same ∙ is)
 fetch_before_map told name source before after blame act Memory other stay = tt
 
--- the refusals of the reader of schemas
-pub schema_stops : RefusedAreNone → (bytes : List ℕ) (e : SchemaError) → IsCause bytes e → SchemaStops bytes e
-schema_stops law bytes e h = λ apart. (h, λ doc. law bytes e doc apart h)
+-- the documents of the schema that are not read
+pub files_explain : (told : Told) (i : Inputs) (e : FilesError) (stop : InputError) → FilesExplain told (asked_of i) e → stop ≡ files_stop e → Explains told i stop
+files_explain told i (FilesErrors.Refused (FilesRefusals.Size file)) stop why made = subst (Explains told i) (sym made) why
+files_explain told i (FilesErrors.Refused (FilesRefusals.Document file e)) stop why made = subst (Explains told i) (sym made) why
+files_explain told i (FilesErrors.Refused (FilesRefusals.Import file iri)) stop why made = subst (Explains told i) (sym made) why
+files_explain told i (FilesErrors.Failed file) stop why made = subst (Explains told i) (sym made) why
+files_explain told i FilesErrors.Memory stop why made = subst (Explains told i) (sym made) tt
 
--- a document that is not loaded
-pub load_explains : (told : Told) (i : Inputs) (doc : Document) (stop : InputError) → HoldsSchema told i doc → LoadStops doc stop → Explains told i stop
-load_explains told i doc (Refused Refusals.NotBuilt) holds stops = inr (record { doc = doc; holds_schema = holds; imported = stops })
-load_explains told i doc (Refused (Refusals.Load e)) holds (own, apart, why) = record { doc = doc; holds_schema = holds; none_imported = own; apart = apart; refused = why }
-load_explains told i doc (Refused (Refusals.NegatedCycle cycle)) holds (own, first, s, predicates, stands, negated) =
-    record { doc = doc; holds_schema = holds; first = first; schema = s; none_imported = own; predicates = predicates; stands = stands; is_cycle = negated }
-load_explains told i doc (Refused (Refusals.Size source)) holds stops = absurd stops
-load_explains told i doc (Refused (Refusals.Schema e)) holds stops = absurd stops
-load_explains told i doc (Refused (Refusals.Data e)) holds stops = absurd stops
-load_explains told i doc (Refused (Refusals.Map e)) holds stops = absurd stops
-load_explains told i doc (Refused Refusals.Pairs) holds stops = absurd stops
-load_explains told i doc (Failed source) holds stops = absurd stops
-load_explains told i doc Memory holds stops = tt
+pub files_faults : (i : Inputs) (before after : ℕ) (blame : List ℕ) (act : Act) (e : FilesError) (stop : InputError) → FilesFaultAs (asked_of i) before after blame act e → stop ≡ files_stop e → FaultsAs i before after blame act stop
+files_faults i before after blame act (FilesErrors.Refused refusal) stop faults made = subst (FaultsAs i before after blame act) (sym made) faults
+files_faults i before after blame act (FilesErrors.Failed file) stop faults made = subst (FaultsAs i before after blame act) (sym made) faults
+files_faults i before after blame act FilesErrors.Memory stop faults made = subst (FaultsAs i before after blame act) (sym made) faults
 
-pub load_faults : (i : Inputs) (doc : Document) (before after : ℕ) (blame : List ℕ) (act : Act) (stop : InputError) → LoadStops doc stop → after ≡ before → FaultsAs i before after blame act stop
-load_faults i doc before after blame act (Refused refusal) stops stay = stay
-load_faults i doc before after blame act (Failed source) stops stay = absurd stops
-load_faults i doc before after blame act Memory stops stay = stay
+pub files_before_map : (e : FilesError) (stop : InputError) → stop ≡ files_stop e → IsBeforeMap stop
+files_before_map (FilesErrors.Refused (FilesRefusals.Size file)) stop made = subst IsBeforeMap (sym made) (λ e. cc)
+files_before_map (FilesErrors.Refused (FilesRefusals.Document file e)) stop made = subst IsBeforeMap (sym made) (λ e. cc)
+files_before_map (FilesErrors.Refused (FilesRefusals.Import file iri)) stop made = subst IsBeforeMap (sym made) (λ e. cc)
+files_before_map (FilesErrors.Failed file) stop made = subst IsBeforeMap (sym made) (λ e. cc)
+files_before_map FilesErrors.Memory stop made = subst IsBeforeMap (sym made) tt
 
-pub load_before_map : (doc : Document) (stop : InputError) → LoadStops doc stop → IsBeforeMap stop
-load_before_map doc (Refused Refusals.NotBuilt) stops = λ e. cc
-load_before_map doc (Refused (Refusals.Load e)) stops = λ h. cc
-load_before_map doc (Refused (Refusals.NegatedCycle cycle)) stops = λ e. cc
-load_before_map doc (Refused (Refusals.Size source)) stops = absurd stops
-load_before_map doc (Refused (Refusals.Schema e)) stops = absurd stops
-load_before_map doc (Refused (Refusals.Data e)) stops = absurd stops
-load_before_map doc (Refused (Refusals.Map e)) stops = absurd stops
-load_before_map doc (Refused Refusals.Pairs) stops = absurd stops
-load_before_map doc (Failed source) stops = absurd stops
-load_before_map doc Memory stops = tt
+-- documents that are not loaded
+load_explains : (told : Told) (i : Inputs) (ss : List SchemaSource) (stop : InputError) → AreSources told (asked_of i) ss → LoadStops (documents_of ss) stop → Explains told i stop
+load_explains told i ss (Refused (Refusals.Load e)) are (apart, why) = record { sources = ss; are_sources = are; apart = apart; refused = why }
+load_explains told i ss (Refused (Refusals.NegatedCycle cycle)) are (first, s, predicates, stands, negated) =
+    record { sources = ss; are_sources = are; first = first; schema = s; predicates = predicates; stands = stands; is_cycle = negated }
+load_explains told i ss (Refused (Refusals.Size source)) are stops = absurd stops
+load_explains told i ss (Refused (Refusals.Schema file e)) are stops = absurd stops
+load_explains told i ss (Refused (Refusals.Import file iri)) are stops = absurd stops
+load_explains told i ss (Refused (Refusals.Data e)) are stops = absurd stops
+load_explains told i ss (Refused (Refusals.Map e)) are stops = absurd stops
+load_explains told i ss (Refused Refusals.Pairs) are stops = absurd stops
+load_explains told i ss (Failed source) are stops = absurd stops
+load_explains told i ss Memory are stops = tt
+
+load_faults : (i : Inputs) (docs : List Document) (before after : ℕ) (blame : List ℕ) (act : Act) (stop : InputError) → LoadStops docs stop → after ≡ before → FaultsAs i before after blame act stop
+load_faults i docs before after blame act (Refused refusal) stops stay = stay
+load_faults i docs before after blame act (Failed source) stops stay = absurd stops
+load_faults i docs before after blame act Memory stops stay = stay
+
+load_before_map : (docs : List Document) (stop : InputError) → LoadStops docs stop → IsBeforeMap stop
+load_before_map docs (Refused (Refusals.Load e)) stops = λ h. cc
+load_before_map docs (Refused (Refusals.NegatedCycle cycle)) stops = λ e. cc
+load_before_map docs (Refused (Refusals.Size source)) stops = absurd stops
+load_before_map docs (Refused (Refusals.Schema file e)) stops = absurd stops
+load_before_map docs (Refused (Refusals.Import file iri)) stops = absurd stops
+load_before_map docs (Refused (Refusals.Data e)) stops = absurd stops
+load_before_map docs (Refused (Refusals.Map e)) stops = absurd stops
+load_before_map docs (Refused Refusals.Pairs) stops = absurd stops
+load_before_map docs (Failed source) stops = absurd stops
+load_before_map docs Memory stops = tt
 
 -- what explains a refusal of documents that is no want of memory refuses them
 refused_documents : (docs : List Document) (terms : List Term) (e : LoadError) → e ≢ LoadErrors.Memory → ExplainsDocuments docs terms e → IsRefusedDocuments docs terms e
@@ -145,57 +159,51 @@ refused_documents docs terms (LoadErrors.Occurrences t) apart h = h
 refused_documents docs terms LoadErrors.Shapes apart h = h
 refused_documents docs terms LoadErrors.Full apart h = h
 
--- a list that is as long as none has no item
-pub no_items : {X : Type 0} (xs ys : List X) → xs ≡ ys → true ≡ (length xs == 0) → ys ≡ []
-no_items xs ys same e = sym same ∙ nil_from_length xs (eqb-true (length xs) 0 (sym e))
-
--- a document that stands for no schema is not loaded
-pub load_stops : (doc : Document) (docs : List Document) (terms : List Term) (e : LoadError) (stop : InputError) → doc.imports ≡ [] → docs ≡ alone doc → terms ≡ [] → ExplainsDocuments docs terms e →
-    IsRefusalOf LoadErrors.Memory (λ x. Refusals.Load x) e stop → LoadStops doc stop
-load_stops doc docs terms e stop own same none explains made =
-    by_refusal LoadErrors.Memory (λ x. Refusals.Load x) e stop (λ z. LoadStops doc z) made tt
-    (λ apart. (own, apart, subst (λ ts. IsRefusedDocuments (alone doc) ts e) none (subst (λ ds. IsRefusedDocuments ds terms e) same (refused_documents docs terms e apart explains))))
+-- documents that stand for no schema are not loaded
+pub load_stops : (docs : List Document) (terms : List Term) (e : LoadError) (stop : InputError) → terms ≡ [] → ExplainsDocuments docs terms e →
+    IsRefusalOf LoadErrors.Memory (λ x. Refusals.Load x) e stop → LoadStops docs stop
+load_stops docs terms e stop none explains made =
+    by_refusal LoadErrors.Memory (λ x. Refusals.Load x) e stop (λ z. LoadStops docs z) made tt
+    (λ apart. (apart, subst (λ ts. IsRefusedDocuments docs ts e) none (refused_documents docs terms e apart explains)))
 
 -- a schema without strata is not loaded
-pub strata_stops : (doc : Document) (docs : List Document) (old first : List Term) (s : Schema) (e : StrataError) (stop : InputError) → doc.imports ≡ [] → docs ≡ alone doc → old ≡ [] → AddsAll old (predicates_of (parts_of docs)) first → Stands docs first s →
-    ExplainsStrata s e → stop ≡ strata_stop e → LoadStops doc stop
-strata_stops doc docs old first s (StrataErrors.NegatedCycle cycle) stop own same none adds stands explains made =
-    subst (λ z. LoadStops doc z) (sym made) (
-      own,
-      first,
-      s,
-      subst (λ ts. AddsAll ts (predicates_in doc) first) none (subst (λ ds. AddsAll old (predicates_of (parts_of ds)) first) same adds),
-      subst (λ ds. Stands ds first s) same stands,
-      explains,
-    )
-strata_stops doc docs old first s StrataErrors.Memory stop own same none adds stands explains made = subst (λ z. LoadStops doc z) (sym made) tt
+pub strata_stops : (docs : List Document) (old first : List Term) (s : Schema) (e : StrataError) (stop : InputError) → old ≡ [] → AddsAll old (predicates_in docs) first → Stands docs first s →
+    ExplainsStrata s e → stop ≡ strata_stop e → LoadStops docs stop
+strata_stops docs old first s (StrataErrors.NegatedCycle cycle) stop none adds stands explains made =
+    subst (λ z. LoadStops docs z) (sym made) (first, s, subst (λ ts. AddsAll ts (predicates_in docs) first) none adds, stands, explains)
+strata_stops docs old first s StrataErrors.Memory stop none adds stands explains made = subst (λ z. LoadStops docs z) (sym made) tt
 
--- what is loaded is the schema of the document
-pub is_schema : (doc : Document) (docs : List Document) (old first : List Term) (s : Schema) (f : List ℕ) → doc.imports ≡ [] → docs ≡ alone doc → old ≡ [] → AddsAll old (predicates_of (parts_of docs)) first → length first ≤ max_terms → Stands docs first s → IsStratum s f → IsSchemaOf doc first s f
-is_schema doc docs old first s f own same none adds few stands strata = record {
-  none_imported = own;
-  predicates = subst (λ ts. AddsAll ts (predicates_in doc) first) none (subst (λ ds. AddsAll old (predicates_of (parts_of ds)) first) same adds);
+-- what is loaded is the schema of the documents
+pub is_schema : (docs : List Document) (old first : List Term) (s : Schema) (f : List ℕ) → old ≡ [] → AddsAll old (predicates_in docs) first → length first ≤ max_terms → Stands docs first s → IsStratum s f → IsSchemaOf docs first s f
+is_schema docs old first s f none adds few stands strata = record {
+  predicates = subst (λ ts. AddsAll ts (predicates_in docs) first) none adds;
   few = few;
-  stands = subst (λ ds. Stands ds first s) same stands;
+  stands = stands;
   strata = strata;
 }
 
--- what is loaded of a document of the schema file is taken, and what is not is explained
-pub loaded_taken : (told : Told) (i : Inputs) (doc : Document) (r : Result Loaded InputError) → HoldsSchema told i doc → IfOk r (λ l. IsSchemaOf doc l.terms l.schema l.strata) → IfOk r (λ l. Takes told i l.terms l.schema l.strata)
-loaded_taken told i doc (Ok l) holds h = record { doc = doc; holds_schema = holds; is_schema = h }
-loaded_taken told i doc (Err e) holds h = h
+-- what is loaded of the documents of the schema's files is taken, and what is not is explained
+pub loaded_taken : (told : Told) (i : Inputs) (d : Documents) (ss : List SchemaSource) (r : Result Loaded InputError) → AreSources told (asked_of i) ss → AreHeld d ss → IfOk r (λ l. IsSchemaOf (map document_of d.docs.items) l.terms l.schema l.strata) → IfOk r (λ l. l.labels ≡ d.names)
+    → IfOk r (λ l. Takes told i l.terms l.schema l.strata (scope_of l.labels))
+loaded_taken told i d ss (Ok l) are held h labels = record {
+  sources = ss;
+  are_sources = are;
+  labels = ap (λ p. Some (scope_of p)) labels ∙ held.names;
+  is_schema = subst (λ docs. IsSchemaOf docs l.terms l.schema l.strata) held.documents h;
+}
+loaded_taken told i d ss (Err e) are held h labels = h
 
-pub unloaded_explains : (told : Told) (i : Inputs) (doc : Document) (r : Result Loaded InputError) → HoldsSchema told i doc → IfErr r (LoadStops doc) → IfErr r (Explains told i)
-unloaded_explains told i doc (Ok l) holds h = h
-unloaded_explains told i doc (Err e) holds h = load_explains told i doc e holds h
+pub unloaded_explains : (told : Told) (i : Inputs) (d : Documents) (ss : List SchemaSource) (r : Result Loaded InputError) → AreSources told (asked_of i) ss → AreHeld d ss → IfErr r (LoadStops (map document_of d.docs.items)) → IfErr r (Explains told i)
+unloaded_explains told i d ss (Ok l) are held h = h
+unloaded_explains told i d ss (Err e) are held h = load_explains told i ss e are (subst (λ docs. LoadStops docs e) held.documents h)
 
-pub unloaded_faults : (i : Inputs) (doc : Document) (before after : ℕ) (blame : List ℕ) (act : Act) (r : Result Loaded InputError) → IfErr r (LoadStops doc) → after ≡ before → IfErr r (FaultsAs i before after blame act)
-unloaded_faults i doc before after blame act (Ok l) h stay = tt
-unloaded_faults i doc before after blame act (Err e) h stay = load_faults i doc before after blame act e h stay
+pub unloaded_faults : (i : Inputs) (docs : List Document) (before after : ℕ) (blame : List ℕ) (act : Act) (r : Result Loaded InputError) → IfErr r (LoadStops docs) → after ≡ before → IfErr r (FaultsAs i before after blame act)
+unloaded_faults i docs before after blame act (Ok l) h stay = tt
+unloaded_faults i docs before after blame act (Err e) h stay = load_faults i docs before after blame act e h stay
 
-pub unloaded_before_map : (doc : Document) (r : Result Loaded InputError) → IfErr r (LoadStops doc) → IfErr r IsBeforeMap
-unloaded_before_map doc (Ok l) h = tt
-unloaded_before_map doc (Err e) h = load_before_map doc e h
+pub unloaded_before_map : (docs : List Document) (r : Result Loaded InputError) → IfErr r (LoadStops docs) → IfErr r IsBeforeMap
+unloaded_before_map docs (Ok l) h = tt
+unloaded_before_map docs (Err e) h = load_before_map docs e h
 
 -- a stop that is no fault of the files
 pub refused_faults : {E : Type 0} (memory : E) (refusal : E → Refusal) (e : E) (stop : InputError) (i : Inputs) (before after : ℕ) (blame : List ℕ) (act : Act) → IsRefusalOf memory refusal e stop → after ≡ before → FaultsAs i before after blame act stop
@@ -204,25 +212,13 @@ refused_faults memory refusal e stop i before after blame act made stay = by_ref
 pub refused_before_map : {E : Type 0} (memory : E) (refusal : E → Refusal) (e : E) (stop : InputError) → IsRefusalOf memory refusal e stop → source_of (refusal e) ≢ Sources.Map → IsBeforeMap stop
 refused_before_map memory refusal e stop made other = by_refusal memory refusal e stop IsBeforeMap made tt (λ apart. other)
 
--- a schema that is not read
-pub schema_explains : (told : Told) (i : Inputs) (bytes text : List ℕ) (e : SchemaError) (stop : InputError) → IsFile told i.schema bytes → is_compact i.schema ≡ false → text ≡ bytes → SchemaStops text e →
-    IsRefusalOf SchemaErrors.Memory (λ x. Refusals.Schema x) e stop → Explains told i stop
-schema_explains told i bytes text e stop file json same stops made =
-    by_refusal SchemaErrors.Memory (λ x. Refusals.Schema x) e stop (λ z. Explains told i z) made tt (λ apart. record {
-      bytes = text;
-      file = subst (IsFile told i.schema) (sym same) file;
-      in_json = json;
-      apart = apart;
-      cause = (stops apart).0;
-      none = (stops apart).1;
-    })
-
 -- data that are not read into the table of the predicates are not read
-explained : (told : Told) (i : Inputs) (first : List Term) (s : Schema) (f : List ℕ) (bytes text : List ℕ) (e : ReadError) → Takes told i first s f → IsFile told i.data_file bytes → text ≡ bytes → ReadingStops (format_of i.data_file) i.data_base first text e → e ≢ Errors.Memory → AreUnread told i e
-explained told i first s f bytes text e taken file same stops apart = record {
+explained : (told : Told) (i : Inputs) (first : List Term) (s : Schema) (f : List ℕ) (v : Scope) (bytes text : List ℕ) (e : ReadError) → Takes told i first s f v → IsFile told i.data_file bytes → text ≡ bytes → ReadingStops (format_of i.data_file) i.data_base first text e → e ≢ Errors.Memory → AreUnread told i e
+explained told i first s f v bytes text e taken file same stops apart = record {
   first = first;
   schema = s;
   strata = f;
+  labels = v;
   taken = taken;
   bytes = text;
   file = subst (IsFile told i.data_file) (sym same) file;
@@ -230,17 +226,17 @@ explained told i first s f bytes text e taken file same stops apart = record {
   cause = (stops apart).0;
   none = λ last triples spelled h is.
       (stops apart).1 last triples spelled h.terms h.graph
-      (subst (λ ts. Loads ts [] triples h.terms h.graph) (first_one taken.doc is.first first is.is_schema.predicates taken.is_schema.predicates) is.graph) is.within;
+      (subst (λ ts. Loads ts [] triples h.terms h.graph) (first_one (documents_of taken.sources) is.first first is.is_schema.predicates taken.is_schema.predicates) is.graph) is.within;
 }
 
-pub data_explains : (told : Told) (i : Inputs) (format : Format) (first : List Term) (s : Schema) (f : List ℕ) (bytes text : List ℕ) (e : ReadError) (stop : InputError) → Takes told i first s f → IsFile told i.data_file bytes → format ≡ format_of i.data_file → text ≡ bytes → ReadingStops format i.data_base first text e →
+pub data_explains : (told : Told) (i : Inputs) (format : Format) (first : List Term) (s : Schema) (f : List ℕ) (v : Scope) (bytes text : List ℕ) (e : ReadError) (stop : InputError) → Takes told i first s f v → IsFile told i.data_file bytes → format ≡ format_of i.data_file → text ≡ bytes → ReadingStops format i.data_base first text e →
     IsRefusalOf Errors.Memory (λ x. Refusals.Data x) e stop → Explains told i stop
-data_explains told i format first s f bytes text e stop taken file is same stops made =
+data_explains told i format first s f v bytes text e stop taken file is same stops made =
     by_refusal Errors.Memory (λ x. Refusals.Data x) e stop (λ z. Explains told i z) made tt
-    (explained told i first s f bytes text e taken file same (subst (λ m. ReadingStops m i.data_base first text e) is stops))
+    (explained told i first s f v bytes text e taken file same (subst (λ m. ReadingStops m i.data_base first text e) is stops))
 
 -- a map that is not read
-pub map_explains : (told : Told) (i : Inputs) (h : Held) (bytes text : List ℕ) (e : MapError) (stop : InputError) → IsTaken told i h → IsFile told i.map_file bytes → text ≡ bytes → MapStops (node_names h.names) (label_names i) text e →
+pub map_explains : (told : Told) (i : Inputs) (h : Held) (bytes text : List ℕ) (e : MapError) (stop : InputError) → IsTaken told i h → IsFile told i.map_file bytes → text ≡ bytes → MapStops (node_names h.names) h.labels text e →
     IsRefusalOf MapErrors.Memory (λ x. Refusals.Map x) e stop → Explains told i stop
 map_explains told i h bytes text e stop taken file same stops made =
     by_refusal MapErrors.Memory (λ x. Refusals.Map x) e stop (λ z. Explains told i z) made tt (λ apart. inl (record {
@@ -254,14 +250,14 @@ map_explains told i h bytes text e stop taken file same stops made =
     }))
 
 -- a map whose associations are refused
-pub asking_explains : (told : Told) (i : Inputs) (h : Held) (items : List Item) (e : MapError) (stop : InputError) → IsTaken told i h → HoldsMap told i h.names items → UnlessMemory e (EndsAs h items (refused e)) →
+pub asking_explains : (told : Told) (i : Inputs) (h : Held) (items : List Item) (e : MapError) (stop : InputError) → IsTaken told i h → HoldsMap told i h items → UnlessMemory e (EndsAs h items (refused e)) →
     IsRefusalOf MapErrors.Memory (λ x. Refusals.Map x) e stop → Explains told i stop
 asking_explains told i h items e stop taken holds ends made =
     by_refusal MapErrors.Memory (λ x. Refusals.Map x) e stop (λ z. Explains told i z) made tt
     (λ apart. inr (record { held = h; taken = taken; items = items; holds_map = holds; ends = unless_memory e (EndsAs h items (refused e)) apart ends }))
 
 -- a map that asks for too much
-pub demand_explains : (told : Told) (i : Inputs) (h : Held) (items : List Item) (associations : List Association) (terms : List Term) (e : DemandError) (stop : InputError) → IsTaken told i h → HoldsMap told i h.names items → EndsAs h items (selected associations terms) →
+pub demand_explains : (told : Told) (i : Inputs) (h : Held) (items : List Item) (associations : List Association) (terms : List Term) (e : DemandError) (stop : InputError) → IsTaken told i h → HoldsMap told i h items → EndsAs h items (selected associations terms) →
     (e ≢ DemandErrors.Memory → AreTooMany h.schema h.graph (map root_of associations)) → stop ≡ demand_stop e → Explains told i stop
 demand_explains told i h items associations terms DemandErrors.Pairs stop taken holds ends many made =
     subst (λ z. Explains told i z) (sym made) (record { held = h; taken = taken; items = items; holds_map = holds; associations = associations; terms = terms; ends = ends; many = many (λ e. cc) })
@@ -282,16 +278,13 @@ unfolding is_base
 base_scheme text h = (and_parts _ _ h).0
 
 -- what is read is taken
-pub are_taken : (told : Told) (i : Inputs) (h : Held) (format : Format) (doc : Document) (bytes text : List ℕ) (triples : List TermTriple) → HoldsSchema told i doc → IsFile told i.data_file bytes → format ≡ format_of i.data_file → text ≡ bytes
-    → IsData format i.data_base (h.names, triples) text → IsHolding doc triples h → IsTaken told i h
-are_taken told i h format doc bytes text triples holds file is same spelled holding = record {
-  doc = doc;
-  holds_schema = holds;
+pub are_taken : (told : Told) (i : Inputs) (h : Held) (format : Format) (first : List Term) (s : Schema) (f : List ℕ) (v : Scope) (bytes text : List ℕ) (triples : List TermTriple) (taken : Takes told i first s f v) → h.labels ≡ v → IsFile told i.data_file bytes → format ≡ format_of i.data_file → text ≡ bytes
+    → IsData format i.data_base (h.names, triples) text → IsHolding (documents_of taken.sources) triples h → IsTaken told i h
+are_taken told i h format first s f v bytes text triples taken labels file is same spelled holding = record {
+  sources = taken.sources;
+  are_sources = taken.are_sources;
+  labels = ap (λ z. Some z) labels ∙ taken.labels;
   triples = triples;
-  holds_data = record { bytes = bytes; file = file; spelled = subst (λ bs. IsData (format_of i.data_file) i.data_base (h.names, triples) bs) same (subst (λ f. IsData f i.data_base (h.names, triples) text) is spelled) };
+  holds_data = record { bytes = bytes; file = file; spelled = subst (λ bs. IsData (format_of i.data_file) i.data_base (h.names, triples) bs) same (subst (λ m. IsData m i.data_base (h.names, triples) text) is spelled) };
   holding = holding;
 }
-
--- a base alone
-pub names_are : (p : Prefixes) (base : List ℕ) → base_of p ≡ base → ((prefix : List ℕ) → iri_under p prefix ≡ None) → scope_of p ≡ base_alone base
-names_are p base e none i = record { base = e i; prefixes = λ prefix. none prefix i }

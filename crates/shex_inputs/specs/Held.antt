@@ -1,5 +1,5 @@
--- What the schema file and the data file hold, in the numbers of one table of terms.
-use Rattle.std.specs.Prelude.{ℕ, false, List, [], ◌∷◌, ◌≡◌, ◌≤◌, length}
+-- What the files of the schema and the data file hold, in the numbers of one table of terms.
+use Rattle.std.specs.Prelude.{ℕ, List, [], ◌≡◌, ◌≤◌, Some, length}
 use Rattle.shex_io.specs.Files.{Told}
 use Rattle.lists.specs.Additions.{AddsAll}
 use Rattle.lists.specs.Distinct.{AreDistinct}
@@ -11,34 +11,30 @@ use Rattle.graph_index.specs.Loading.{IsWithin, Loads}
 use Rattle.data_reader.specs.Documents.{Context, IsData, context_of}
 use Rattle.data_reader.specs.Formats.{format_of}
 use Rattle.schema_documents.specs.Tree.{Document}
+use Rattle.schema_files.specs.Files.{IsFile}
+use Rattle.schema_files.specs.Sources.{AreSources, Source, documents_of, root_names}
 use Rattle.schema_load.specs.Parts.{predicates_of}
 use Rattle.schema_load.specs.Reading.{parts_of}
 use Rattle.schema_load.specs.Stands.{Stands}
 use Rattle.schema_tree.specs.declared.schema.Schema.{Schema}
 use Rattle.schema_tree.specs.Edges.{IsStratum}
-use Rattle.shexj_reader.specs.Bytes.{IsDocumentText}
+use Rattle.term_tokens.specs.Scopes.{Scope, scope_of}
 use Rattle.shex_inputs.specs.declared.holding.Holding.{Holding}
-use Rattle.shex_inputs.specs.Named.{Inputs, IsFile, is_compact}
+use Rattle.shex_inputs.specs.Named.{Inputs, asked_of}
 
 -- a schema with the strata of its Shapes and a graph in the numbers of one table of terms, and the base and the prefixes at the
--- end of the data
+-- end of the schema file and of the data file
 pub record Held : Type 0 where
   pub schema : Schema
   pub strata : List ℕ
+  pub labels : Scope
   pub terms : List Term
   pub graph : List Triple
   pub names : Context
 
 -- what the code holds
 abbrev pub held_by : Holding → Held
-held_by h = record { schema = h.schema; strata = h.strata; terms = h.terms; graph = h.graph.triples; names = context_of h.names }
-
--- the schema file, whose name is none of ShExC, holds the text of this document
-pub record HoldsSchema (told : Told) (i : Inputs) (doc : Document) : Type 0 where
-  pub bytes : List ℕ
-  pub file : IsFile told i.schema bytes
-  pub in_json : is_compact i.schema ≡ false
-  pub spelled : IsDocumentText doc bytes
+held_by h = record { schema = h.schema; strata = h.strata; labels = scope_of h.labels; terms = h.terms; graph = h.graph.triples; names = context_of h.names }
 
 -- the data file holds a document of these triples, in the format of the file's name and under the base of the data, with these
 -- base and prefixes at its end
@@ -47,36 +43,33 @@ pub record HoldsData (told : Told) (i : Inputs) (last : Context) (triples : List
   pub file : IsFile told i.data_file bytes
   pub spelled : IsData (format_of i.data_file) i.data_base (last, triples) bytes
 
--- the document alone
-abbrev pub alone : Document → List Document
-alone doc = doc ∷ []
+-- the predicates of the schema of documents, in reading order
+abbrev pub predicates_in : List Document → List Term
+predicates_in docs = predicates_of (parts_of docs)
 
--- the predicates of its schema, in reading order
-abbrev pub predicates_in : Document → List Term
-predicates_in doc = predicates_of (parts_of (alone doc))
-
--- the schema is that for which the document, which imports none, stands, in the numbers of a table of its predicates, and these
--- are the strata of its Shapes: no cycle of references has a negative one (ShEx 2.1, sections 5.1 and 5.7)
-pub record IsSchemaOf (doc : Document) (first : List Term) (s : Schema) (f : List ℕ) : Type 0 where
-  pub none_imported : doc.imports ≡ []
-  pub predicates : AddsAll [] (predicates_in doc) first
+-- the schema is that for which the documents stand, in the numbers of a table of its predicates, and these are the strata of its
+-- Shapes: no cycle of references has a negative one (ShEx 2.1, sections 5.1 and 5.7)
+pub record IsSchemaOf (docs : List Document) (first : List Term) (s : Schema) (f : List ℕ) : Type 0 where
+  pub predicates : AddsAll [] (predicates_in docs) first
   pub few : length first ≤ max_terms
-  pub stands : Stands (alone doc) first s
+  pub stands : Stands docs first s
   pub strata : IsStratum s f
 
--- a schema and a graph in the numbers of one table of terms are those of the document and the triples. The table has each
+-- a schema and a graph in the numbers of one table of terms are those of the documents and the triples. The table has each
 -- term once: first the predicates of the schema, then the terms of the triples in their order
-pub record IsHolding (doc : Document) (triples : List TermTriple) (h : Held) : Type 0 where
+pub record IsHolding (docs : List Document) (triples : List TermTriple) (h : Held) : Type 0 where
   pub first : List Term
-  pub is_schema : IsSchemaOf doc first h.schema h.strata
+  pub is_schema : IsSchemaOf docs first h.schema h.strata
   pub distinct : AreDistinct h.terms
   pub graph : Loads first [] triples h.terms h.graph
   pub within : IsWithin h.terms h.graph
 
--- the schema file and the data file hold these schema and graph
+-- the files of the schema and the data file hold these schema and graph: the documents are that of the schema file and those which
+-- it imports, directly or through others
 pub record IsTaken (told : Told) (i : Inputs) (h : Held) : Type 0 where
-  pub doc : Document
-  pub holds_schema : HoldsSchema told i doc
+  pub sources : List Source
+  pub are_sources : AreSources told (asked_of i) sources
+  pub labels : Some h.labels ≡ root_names sources
   pub triples : List TermTriple
   pub holds_data : HoldsData told i h.names triples
-  pub holding : IsHolding doc triples h
+  pub holding : IsHolding (documents_of sources) triples h

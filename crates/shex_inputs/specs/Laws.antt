@@ -1,5 +1,7 @@
 -- What files that are told hold is one thing. Each law is claimed by a function of `src/laws.rt`.
 use Rattle.std.specs.Prelude.{ℕ, List, ◌≡◌, ◌≢◌, Option, Some}
+use Rattle.rdf_lex.specs.Prefixes.{AreOneLine}
+use Rattle.rdf_terms.specs.OneLine.{IsOneLine}
 use Rattle.shex_io.specs.Files.{Told}
 use Rattle.schema_tree.specs.Loaded.{IsLoaded}
 use Rattle.shex_inputs.specs.declared.error.Refusal.{Refusal}
@@ -41,6 +43,10 @@ module _ (contents : List ℕ → Option (List ℕ)) (i : Inputs) where
 -- the schema that is held is loaded
 abbrev pub TakenIsLoaded : Type 0
 TakenIsLoaded = (told : Told) (i : Inputs) (h : Held) → IsTaken told i h → IsLoaded h.schema
+
+-- where the base of the schema is on one line, so are the base of the labels and the IRI of each of their prefixes
+abbrev pub LabelsHaveLines : Type 0
+LabelsHaveLines = (told : Told) (i : Inputs) (h : Held) → IsOneLine i.schema_base → IsTaken told i h → AreOneLine h.labels.base h.labels.prefixes
 
 -- all of these
 abbrev pub InputsAreOne : Type 0

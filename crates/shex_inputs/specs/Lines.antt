@@ -1,5 +1,5 @@
 -- The lines that programs print to their errors.
-use Rattle.std.specs.Prelude.{ℕ, List, [], ◌∷◌, ◌++◌, codes}
+use Rattle.std.specs.Prelude.{ℕ, List, [], ◌∷◌, ◌++◌, codes, encode_utf8_all}
 use Rattle.std.specs.Fmt.{decimal}
 use Rattle.std.specs.List.{flat_map}
 use Rattle.graph_index.specs.Messages.{data_text}
@@ -19,11 +19,11 @@ abbrev pub cycle_text : List ShapeId → List ℕ
 cycle_text [] = []
 cycle_text (i ∷ more) = codes "#" ++ (decimal i.0 ++ flat_map (λ j. codes ",#" ++ decimal j.0) more)
 
--- why a file is refused: NotBuilt is a schema in ShExC, by the name of its file, or one with imports
+-- why a file is refused: an import is shown by its IRI in angle brackets
 abbrev pub refusal_text : Refusal → List ℕ
 refusal_text (Refusals.Size source) = codes "Size"
-refusal_text Refusals.NotBuilt = codes "NotBuilt"
-refusal_text (Refusals.Schema error) = schema_text error
+refusal_text (Refusals.Schema file error) = schema_text error
+refusal_text (Refusals.Import file iri) = codes "Import(<" ++ (encode_utf8_all iri ++ codes ">)")
 refusal_text (Refusals.Load error) = load_text error
 refusal_text (Refusals.NegatedCycle cycle) = codes "NegatedCycle(" ++ (cycle_text cycle ++ codes ")")
 refusal_text (Refusals.Data error) = data_text error

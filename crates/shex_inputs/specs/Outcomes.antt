@@ -1,9 +1,8 @@
 -- How the reading of the inputs can stop.
-use Rattle.std.specs.Prelude.{ℕ, List, ◌≡◌, ◌≢◌, ◌≤◌, ◌⊎◌, ⊤}
-use Rattle.shex_io.specs.Faults.{Rose}
+use Rattle.std.specs.Prelude.{ℕ, List, ◌≡◌, ◌≢◌, ◌⊎◌, ⊤}
 use Rattle.shex_io.specs.Files.{Lacks, Told}
 use Rattle.shex_io.specs.declared.files.Act.{Act}
-use Rattle.shex_io.specs.declared.files.Act.TheVariants.{Fetch}
+use Rattle.schema_files.specs.Files.{HasFailed}
 use Rattle.shex_inputs.specs.declared.error.InputError.{InputError}
 use Rattle.shex_inputs.specs.declared.error.InputError.TheVariants.{Refused, Failed, Memory}
 use Rattle.shex_inputs.specs.declared.error.Refusal.{Refusal}
@@ -29,7 +28,7 @@ Explains told i Memory = ⊤
 -- what a call that stops does to the count of faults of the files: it rises where a fetch failed, which is then named, and else
 -- stays
 abbrev pub FaultsAs : Inputs → ℕ → ℕ → List ℕ → Act → InputError → Type 0
-FaultsAs i before after blame act (Failed source) = Rose before after × (before ≤ after) × (blame ≡ source_name i source) × (act ≡ Fetch)
+FaultsAs i before after blame act (Failed source) = HasFailed (source_name i source) before after blame act
 FaultsAs i before after blame act (Refused refusal) = after ≡ before
 FaultsAs i before after blame act Memory = after ≡ before
 

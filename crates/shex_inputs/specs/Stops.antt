@@ -1,15 +1,15 @@
 -- How the functions inside the crate stop. Of want of memory nothing is said.
-use Rattle.std.specs.Prelude.{ℕ, List, [], ◌≡◌, ◌≢◌, ◌≤◌, ⊤}
-use Rattle.shex_io.specs.Faults.{Rose}
+use Rattle.std.specs.Prelude.{ℕ, List, [], ◌≡◌, ◌≢◌, ⊤}
 use Rattle.shex_io.specs.Files.{Told}
 use Rattle.shex_io.specs.declared.files.Act.{Act}
-use Rattle.shex_io.specs.declared.files.Act.TheVariants.{Fetch}
 use Rattle.rdf_terms.specs.declared.terms.Term.{Term}
 use Rattle.rdf_terms.specs.declared.terms.Triple.{Triple}
 use Rattle.schema_documents.specs.Tree.{Document}
-use Rattle.schema_documents.specs.declared.error.SchemaError.{SchemaError}
-use Rattle.schema_documents.specs.declared.error.SchemaError.TheVariants as SchemaErrors
-use Rattle.shexj_reader.specs.Bytes.{IsCause, IsDocumentText}
+use Rattle.schema_files.specs.Files.{HasFailed, IsTooLong}
+use Rattle.schema_files.specs.declared.error.FilesError.{FilesError}
+use Rattle.schema_files.specs.declared.error.FilesError.TheVariants as FilesErrors
+use Rattle.schema_files.specs.declared.error.FilesRefusal.{FilesRefusal}
+use Rattle.schema_files.specs.declared.error.FilesRefusal.TheVariants as FilesRefusals
 use Rattle.graph_index.specs.declared.read_error.ReadError.{ReadError}
 use Rattle.graph_index.specs.declared.read_error.ReadError.TheVariants as ReadErrors
 use Rattle.graph_index.specs.declared.loading.TermTriple.{TermTriple}
@@ -26,6 +26,7 @@ use Rattle.shex_inputs.specs.declared.error.InputError.{InputError}
 use Rattle.shex_inputs.specs.declared.error.InputError.TheVariants.{Refused, Failed, Memory}
 use Rattle.shex_inputs.specs.declared.error.Refusal.TheVariants as Refusals
 use Rattle.shex_inputs.specs.declared.error.Source.{Source}
+use Rattle.shex_inputs.specs.declared.error.Source.TheVariants as Sources
 use Rattle.lists.specs.Additions.{AddsAll}
 use Rattle.demand.specs.declared.error.DemandError.{DemandError}
 use Rattle.demand.specs.declared.error.DemandError.TheVariants as DemandErrors
@@ -37,18 +38,25 @@ use Rattle.schema_load.specs.declared.error.LoadError.TheVariants as LoadErrors
 use Rattle.schema_tree.specs.Cycles.{IsNegatedCycle}
 use Rattle.schema_tree.specs.declared.schema.Schema.{Schema}
 use Rattle.shex_inputs.specs.declared.error.Refusal.{Refusal}
-use Rattle.shex_inputs.specs.Held.{alone, predicates_in}
-use Rattle.shex_inputs.specs.Named.{IsTooLong}
+use Rattle.shex_inputs.specs.Held.{predicates_in}
 
 -- a file is too long, it was not fetched, or memory ran out
 abbrev pub FetchStops : Told → List ℕ → Source → ℕ → ℕ → List ℕ → Act → InputError → Type 0
 FetchStops told name source before after blame act (Refused refusal) = (refusal ≡ Refusals.Size source) × IsTooLong told name × (after ≡ before)
-FetchStops told name source before after blame act (Failed other) = (other ≡ source) × (Rose before after × (before ≤ after) × (blame ≡ name) × (act ≡ Fetch))
+FetchStops told name source before after blame act (Failed other) = (other ≡ source) × HasFailed name before after blame act
 FetchStops told name source before after blame act Memory = after ≡ before
 
--- bytes spell no document that is read
-abbrev pub SchemaStops : List ℕ → SchemaError → Type 0
-SchemaStops bytes e = e ≢ SchemaErrors.Memory → IsCause bytes e × ((doc : Document) → ¬ IsDocumentText doc bytes)
+-- the refusal that one of the files of a schema is
+abbrev pub files_refusal : FilesRefusal → Refusal
+files_refusal (FilesRefusals.Size file) = Refusals.Size (Sources.Schema file)
+files_refusal (FilesRefusals.Document file e) = Refusals.Schema file e
+files_refusal (FilesRefusals.Import file iri) = Refusals.Import file iri
+
+-- the stop that an error of the documents is
+abbrev pub files_stop : FilesError → InputError
+files_stop (FilesErrors.Refused refusal) = Refused (files_refusal refusal)
+files_stop (FilesErrors.Failed file) = Failed (Sources.Schema file)
+files_stop FilesErrors.Memory = Memory
 
 -- no document that the bytes spell goes into the table and a graph within their limits
 abbrev pub AreUnreadable : Format → List ℕ → List Term → List ℕ → Type 0
@@ -59,19 +67,17 @@ AreUnreadable format base first bytes =
 abbrev pub ReadingStops : Format → List ℕ → List Term → List ℕ → ReadError → Type 0
 ReadingStops format base first bytes e = e ≢ ReadErrors.Memory → DataExplains format base e bytes first [] × AreUnreadable format base first bytes
 
--- the document stands for no schema with strata, for this cause
-abbrev pub SchemaIsRefused : Document → Refusal → Type 0
-SchemaIsRefused doc Refusals.NotBuilt = doc.imports ≢ []
-SchemaIsRefused doc (Refusals.Load e) = (doc.imports ≡ []) × (e ≢ LoadErrors.Memory) × IsRefusedDocuments (alone doc) [] e
-SchemaIsRefused doc (Refusals.NegatedCycle cycle) =
-    (doc.imports ≡ []) × (first : List Term) × (s : Schema) × AddsAll [] (predicates_in doc) first × Stands (alone doc) first s × IsNegatedCycle s cycle
-SchemaIsRefused doc refusal = ⊥
+-- the documents stand for no schema with strata, for this cause
+abbrev pub SchemaIsRefused : List Document → Refusal → Type 0
+SchemaIsRefused docs (Refusals.Load e) = (e ≢ LoadErrors.Memory) × IsRefusedDocuments docs [] e
+SchemaIsRefused docs (Refusals.NegatedCycle cycle) = (first : List Term) × (s : Schema) × AddsAll [] (predicates_in docs) first × Stands docs first s × IsNegatedCycle s cycle
+SchemaIsRefused docs refusal = ⊥
 
--- a document is not loaded: it stands for no schema with strata, or memory ran out
-abbrev pub LoadStops : Document → InputError → Type 0
-LoadStops doc (Refused refusal) = SchemaIsRefused doc refusal
-LoadStops doc (Failed source) = ⊥
-LoadStops doc Memory = ⊤
+-- documents are not loaded: they stand for no schema with strata, or memory ran out
+abbrev pub LoadStops : List Document → InputError → Type 0
+LoadStops docs (Refused refusal) = SchemaIsRefused docs refusal
+LoadStops docs (Failed source) = ⊥
+LoadStops docs Memory = ⊤
 
 -- the stop that the error of strata is
 abbrev pub strata_stop : StrataError → InputError

@@ -54,9 +54,10 @@ pub fn hold(
     source: &[u8],
 ) -> Result<Holding, ReadError>
     requires scheme { IsSome (scheme_of base.now) }
-    ensures read { (doc : Document) → IsSchemaOf doc loaded.terms loaded.schema loaded.strata →
-        IfOk result (λ h. (triples : List TermTriple) × IsData format base.now (context_of h.names, triples) source.now × IsHolding doc triples (held_by h)) }
+    ensures read { (docs : List Document) → IsSchemaOf docs loaded.terms loaded.schema loaded.strata →
+        IfOk result (λ h. (triples : List TermTriple) × IsData format base.now (context_of h.names, triples) source.now × IsHolding docs triples (held_by h)) }
     ensures schema { IfOk result (λ h. h.schema ≡ loaded.schema) }
+    ensures labels { IfOk result (λ h. h.labels ≡ loaded.labels) }
     ensures scheme { IfOk result (λ h. IsSome (scheme_of (base_of h.names))) }
     ensures of_table { IfOk result (λ h. All (IsOfTable h.terms) h.graph.triples) }
     ensures unread { IfErr result (ReadingStops format base.now loaded.terms source.now) }
@@ -65,12 +66,14 @@ pub fn hold(
         schema,
         strata,
         mut terms,
+        labels,
     } = loaded;
     let (graph, names) = read_data(alloc, format, base, source, &mut terms)?;
     Ok(Holding {
         terms,
         schema,
         strata,
+        labels,
         graph,
         names,
     })

@@ -2,12 +2,14 @@
 
 ghost use Rattle.std.specs.Prelude.{◌≡◌};
 ghost use Rattle.shex_inputs.specs.Outcomes.{IsRefusalOf};
-ghost use Rattle.shex_inputs.specs.Stops.{demand_stop, strata_stop};
+ghost use Rattle.shex_inputs.specs.Stops.{demand_stop, files_stop, strata_stop};
 
 use demand::DemandError;
 use graph_index::read_error::ReadError;
 use rdf_terms::items::Items;
+use rdf_terms::text::Text;
 use schema_documents::SchemaError;
+use schema_files::{FilesError, FilesRefusal, SchemaFile};
 use schema_load::error::LoadError;
 use schema_tree::schema::ShapeId;
 use shape_map::MapError;
@@ -16,8 +18,8 @@ use strata::list::StrataError;
 /// A file of the inputs.
 #[derive(Clone, Copy, Debug, PartialEq, Eq)]
 pub enum Source {
-    /// The schema.
-    Schema,
+    /// A file of the schema.
+    Schema(SchemaFile),
     /// The data.
     Data,
     /// The shape map.
@@ -29,11 +31,11 @@ pub enum Source {
 pub enum Refusal {
     /// This file has more than 67,108,864 bytes.
     Size(Source),
-    /// The schema is in ShExC, by the name of its file, or imports others, which is not read yet.
-    NotBuilt,
-    /// The bytes of the schema file spell no schema document that is read.
-    Schema(SchemaError),
-    /// The document of the schema file stands for no schema.
+    /// The bytes of this file of the schema spell no schema document that is read.
+    Schema(SchemaFile, SchemaError),
+    /// The document in this file of the schema imports another by this IRI, for which no word names a file.
+    Import(SchemaFile, Text),
+    /// The documents of the schema stand for none.
     Load(LoadError),
     /// These Shapes of the schema are a cycle of references with a negative one.
     NegatedCycle(Items<ShapeId>),
@@ -49,16 +51,16 @@ impl Refusal {
     ghost use Rattle.std.specs.Prelude.{◌≡◌};
     ghost use Rattle.shex_inputs.specs.Named.{source_of};
 
-    /// The file that is refused.
+    /// The file that is refused: the schema file, where its documents stand for no schema.
     pub fn source(&self) -> Source
         ensures { result ≡ source_of self.now }
     {
         match self {
             Refusal::Size(source) => *source,
-            Refusal::NotBuilt => Source::Schema,
-            Refusal::Schema(_) => Source::Schema,
-            Refusal::Load(_) => Source::Schema,
-            Refusal::NegatedCycle(_) => Source::Schema,
+            Refusal::Schema(file, _) => Source::Schema(*file),
+            Refusal::Import(file, _) => Source::Schema(*file),
+            Refusal::Load(_) => Source::Schema(SchemaFile::Root),
+            Refusal::NegatedCycle(_) => Source::Schema(SchemaFile::Root),
             Refusal::Data(_) => Source::Data,
             Refusal::Map(_) => Source::Map,
             Refusal::Pairs => Source::Map,
@@ -77,17 +79,26 @@ pub enum InputError {
     Memory,
 }
 
-/// Why there are no inputs where the schema is not read.
-pub(crate) fn schema_error(error: SchemaError) -> InputError
-    ensures { IsRefusalOf SchemaError.Memory (λ e. Refusal.Schema e) error result }
+/// Why there are no inputs where the documents of the schema are not read.
+pub(crate) fn files_error(error: FilesError) -> InputError
+    ensures { result ≡ files_stop error }
 {
     match error {
-        SchemaError::Memory => InputError::Memory,
-        error => InputError::Refused(Refusal::Schema(error)),
+        FilesError::Refused(FilesRefusal::Size(file)) => {
+            InputError::Refused(Refusal::Size(Source::Schema(file)))
+        }
+        FilesError::Refused(FilesRefusal::Document(file, error)) => {
+            InputError::Refused(Refusal::Schema(file, error))
+        }
+        FilesError::Refused(FilesRefusal::Import(file, iri)) => {
+            InputError::Refused(Refusal::Import(file, iri))
+        }
+        FilesError::Failed(file) => InputError::Failed(Source::Schema(file)),
+        FilesError::Memory => InputError::Memory,
     }
 }
 
-/// Why there are no inputs where the document of the schema stands for none.
+/// Why there are no inputs where the documents of the schema stand for none.
 pub(crate) fn load_error(error: LoadError) -> InputError
     ensures { IsRefusalOf LoadError.Memory (λ e. Refusal.Load e) error result }
 {

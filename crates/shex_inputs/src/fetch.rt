@@ -1,15 +1,12 @@
-//! The bytes of the files.
+//! The bytes of the data file and the map file.
 
 ghost use Rattle.std.specs.Prelude.{◌≡◌, IfErr, IfOk, OnOk};
-ghost use Rattle.shex_inputs.specs.Named.{IsFile};
+ghost use Rattle.schema_files.specs.Files.{IsFile};
 ghost use Rattle.shex_inputs.specs.Stops.{FetchStops};
 
 use crate::error::{InputError, Refusal, Source};
 use shex_io::{FetchError, Files};
 use std::alloc::Global;
-
-/// How many bytes a file of the inputs has at most.
-pub const MAX_FILE: u64 = 67_108_864;
 
 /// The bytes of a file of the inputs, within the limit.
 pub fn fetch<F: Files>(
@@ -23,7 +20,7 @@ pub fn fetch<F: Files>(
     ensures faults_stay { OnOk result (F.faults files.new ≡ F.faults files.old) }
     ensures told_stays { F.told files.new ≡ F.told files.old }
 {
-    match files.fetch(alloc, name, MAX_FILE) {
+    match schema_files::fetch(alloc, files, name) {
         Ok(bytes) => Ok(bytes),
         Err(FetchError::Failed) => Err(InputError::Failed(source)),
         Err(FetchError::Long) => Err(InputError::Refused(Refusal::Size(source))),

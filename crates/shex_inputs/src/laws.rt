@@ -1,15 +1,17 @@
 //! The laws of inputs, for callers' proofs: the contract of each function is the law, and it does nothing when called.
 
-ghost use Rattle.shex_inputs.specs.Laws.{InputsAreOne, TakenIsLoaded};
+ghost use Rattle.shex_inputs.specs.Laws.{InputsAreOne, LabelsHaveLines, TakenIsLoaded};
 
 /// What files that are told hold is one thing: it is taken, or one file is refused or absent.
 pub fn inputs_are_one()
     ensures { InputsAreOne }
 {
     taken_is_loaded();
+    schema_files::sources_are_one();
+    schema_files::read_is_not_left();
+    schema_files::refused_is_one();
     schema_load::laws::documents_stand_for_one();
     schema_tree::laws::strata_are_least();
-    shexj_reader::laws::documents_are_one();
     data_reader::data_are_one();
     shape_map::laws::maps_are_one();
 }
@@ -18,6 +20,13 @@ pub fn inputs_are_one()
 pub fn taken_is_loaded()
     ensures { TakenIsLoaded }
 {
-    shexj_reader::laws::documents_are_ordered();
+    schema_reader::schemas_are_ordered();
     schema_load::laws::standing_is_loaded();
+}
+
+/// The base and the prefixes of the labels are on one line each, where the schema's base is.
+pub fn labels_have_lines()
+    ensures { LabelsHaveLines }
+{
+    schema_reader::names_have_lines();
 }

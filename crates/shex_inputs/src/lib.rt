@@ -1,4 +1,4 @@
-//! The inputs: what the schema file, the data file and the shape map hold, in the numbers of one table of terms.
+//! The inputs: what the files of the schema, the data file and the shape map hold, in the numbers of one table of terms.
 #![tactic(auto)]
 
 mod data;
@@ -11,8 +11,7 @@ mod map;
 mod schema;
 
 pub use error::{InputError, Refusal, Source};
-pub use fetch::MAX_FILE;
 pub use holding::{Holding, read_holding};
-pub use laws::{inputs_are_one, taken_is_loaded};
+pub use laws::{inputs_are_one, labels_have_lines, taken_is_loaded};
 pub use lines::{error_line, refusal_text};
 pub use map::{Asked, read_map};

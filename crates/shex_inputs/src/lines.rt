@@ -60,8 +60,8 @@ pub fn refusal_text(alloc: Global, refusal: &Refusal) -> Result<String, AllocErr
 {
     match refusal {
         Refusal::Size(_) => String::from_str(alloc, "Size"),
-        Refusal::NotBuilt => String::from_str(alloc, "NotBuilt"),
-        Refusal::Schema(error) => format!(in alloc; "{error}"),
+        Refusal::Schema(_, error) => format!(in alloc; "{error}"),
+        Refusal::Import(_, iri) => format!(in alloc; "Import(<{}>)", iri.as_str()),
         Refusal::Load(error) => format!(in alloc; "{error}"),
         Refusal::NegatedCycle(cycle) => {
             let text = cycle_text(alloc, cycle.as_slice())?;

@@ -1,6 +1,6 @@
 //! What the map file asks.
 
-ghost use Rattle.std.specs.Prelude.{◌≡◌, ◌≢◌, ◌≤◌, All, IfErr, IfOk, IsSome, List, OnOk, length, map, true};
+ghost use Rattle.std.specs.Prelude.{◌≡◌, ◌≢◌, ◌≤◌, All, IfErr, IfOk, IsSome, List, OnOk, length, map};
 ghost use Rattle.demand.specs.Orders.{max_pairs};
 ghost use Rattle.iri_resolve.specs.Reference.{scheme_of};
 ghost use Rattle.rdf_lex.specs.Prefixes.{base_of};
@@ -9,14 +9,12 @@ ghost use Rattle.graph_index.specs.Laws.{IsOfTable};
 ghost use Rattle.shape_map.specs.Maps.{IsMap};
 ghost use Rattle.term_tokens.specs.Scopes.{scope_of};
 ghost use Rattle.shape_map.specs.Selection.{UnlessMemory, refused, selected};
-ghost use Rattle.command_words.specs.Checks.{is_base};
-ghost use Rattle.data_reader.specs.Documents.{context_of};
 ghost use Rattle.demand.specs.Demand.{AreAsked, AreTooMany};
 ghost use Rattle.demand.specs.declared.error.DemandError.TheVariants as DemandErrors;
 ghost use Rattle.schema_tree.specs.Loaded.{IsLoaded};
 ghost use Rattle.schema_tree.specs.Needs.{HoldNeeds};
 ghost use Rattle.shape_map.specs.declared.items.Item.{Item};
-ghost use Rattle.shex_inputs.specs.Asked.{EndsAs, HoldsMap, IsAskedOf, base_alone, root_of};
+ghost use Rattle.shex_inputs.specs.Asked.{EndsAs, HoldsMap, IsAskedOf, root_of};
 ghost use Rattle.shex_inputs.specs.Held.{IsTaken, held_by};
 ghost use Rattle.shex_inputs.specs.Named.{inputs_with};
 ghost use Rattle.shex_inputs.specs.Outcomes.{Explains, FaultsAs};
@@ -32,20 +30,19 @@ use shape_map::{Association, MapError, ShapeMap};
 use shex_io::Files;
 use std::alloc::{AllocError, Global};
 
-/// The map of some bytes, whose nodes have these names, and whose targets have this base.
+/// The map of some bytes, whose nodes and whose targets have these names.
 fn map_of(
     alloc: Global,
     source: &[u8],
     nodes: &Prefixes,
-    label_base: &str,
+    labels: &Prefixes,
 ) -> Result<ShapeMap, MapError>
     requires nodes { IsSome (scheme_of (base_of nodes.now)) }
-    requires labels { IsSome (scheme_of label_base.now) }
-    ensures found { IfOk result (λ m. IsMap (scope_of nodes.now) (base_alone label_base.now) source.now m) }
-    ensures stops { IfErr result (MapStops (scope_of nodes.now) (base_alone label_base.now) source.now) }
+    requires labels { IsSome (scheme_of (base_of labels.now)) }
+    ensures found { IfOk result (λ m. IsMap (scope_of nodes.now) (scope_of labels.now) source.now m) }
+    ensures stops { IfErr result (MapStops (scope_of nodes.now) (scope_of labels.now) source.now) }
 {
-    let labels = Prefixes::new(alloc, label_base)?;
-    shape_map::read(alloc, source, nodes, &labels)
+    shape_map::read(alloc, source, nodes, labels)
 }
 
 /// The associations of a map over a holding, whose table takes up the nodes of the map and whose graph is sealed with it.
@@ -83,8 +80,8 @@ fn read_associations<F: Files>(
     requires taken { IsTaken (F.told files.old) (inputs_with inputs.now name.now) (held_by holding.old) }
     requires of_table { All (IsOfTable holding.old.terms) holding.old.graph.triples }
     requires scheme { IsSome (scheme_of (base_of holding.old.names)) }
-    requires schema_base { is_base inputs.now.schema_base.now ≡ true }
-    ensures asked { IfOk result (λ v. (items : List Item) × HoldsMap (F.told files.old) (inputs_with inputs.now name.now) (context_of holding.old.names) items × EndsAs (held_by holding.old) items (selected v.items holding.new.terms)) }
+    requires labels { IsSome (scheme_of (base_of holding.old.labels)) }
+    ensures asked { IfOk result (λ v. (items : List Item) × HoldsMap (F.told files.old) (inputs_with inputs.now name.now) (held_by holding.old) items × EndsAs (held_by holding.old) items (selected v.items holding.new.terms)) }
     ensures schema { holding.new.schema ≡ holding.old.schema }
     ensures strata { holding.new.strata ≡ holding.old.strata }
     ensures graph { holding.new.graph.triples ≡ holding.old.graph.triples }
@@ -96,7 +93,7 @@ fn read_associations<F: Files>(
     ensures told_stays { F.told files.new ≡ F.told files.old }
 {
     let bytes = fetch(alloc, files, name, Source::Map)?;
-    let map = match map_of(alloc, bytes.as_slice(), &holding.names, inputs.schema_base) {
+    let map = match map_of(alloc, bytes.as_slice(), &holding.names, &holding.labels) {
         Ok(map) => map,
         Err(error) => return Err(map_error(error)),
     };
@@ -167,7 +164,7 @@ pub fn read_map<F: Files>(
     requires loaded { IsLoaded holding.old.schema }
     requires of_table { All (IsOfTable holding.old.terms) holding.old.graph.triples }
     requires scheme { IsSome (scheme_of (base_of holding.old.names)) }
-    requires schema_base { is_base inputs.now.schema_base.now ≡ true }
+    requires labels { IsSome (scheme_of (base_of holding.old.labels)) }
     ensures asked { IfOk result (λ v. IsAskedOf (F.told files.old) (inputs_with inputs.now name.now) (record { held = held_by holding.old; terms = holding.new.terms; associations = v.associations.items; pairs = v.pairs })) }
     ensures closed { IfOk result (λ v. HoldNeeds holding.new.schema holding.new.graph.triples v.pairs) }
     ensures schema { holding.new.schema ≡ holding.old.schema }

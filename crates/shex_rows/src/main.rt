@@ -40,6 +40,7 @@
 //!   how many these are, the terms by number, or the last base and the prefix `e`.
 //! - `arcs FILE` gives the arcs in this file's data that a question asks for: `outs NODE`, `ins NODE`, either with a predicate,
 //!   or `neigh NODE`.
+//! - `shexc` reads a schema in ShExC, and gives `read` or why it is refused.
 //! - `items FILE` reads a map over this file's data, and `select FILE` gives what it selects.
 //! - `words` says what words ask for.
 //! - `proof` writes the proof that is read of a text, and `proof-line` that of a line with `¶` for line feeds.
@@ -49,6 +50,7 @@ mod arcs;
 mod asking;
 mod bench;
 mod commands;
+mod compact;
 mod constraints;
 mod differences;
 mod document;

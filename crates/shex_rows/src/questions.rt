@@ -2,8 +2,8 @@
 
 use crate::inputs::NamedFile;
 use crate::{
-    arcs, commands, constraints, graphs, maps, numbers, patterns, proof_texts, references, terms,
-    tokens,
+    arcs, commands, compact, constraints, graphs, maps, numbers, patterns, proof_texts, references,
+    terms, tokens,
 };
 use anyhow::bail;
 use std::alloc::Global;
@@ -55,6 +55,7 @@ fn of_text(
         "compare" => Ok(numbers::compared(alloc, text, with)?),
         "digits" => Ok(numbers::digits(alloc, text)?),
         "words" => Ok(commands::asked(alloc, text)?),
+        "shexc" => Ok(compact::outcome(alloc, text)?),
         "term" => Ok(terms::parts(alloc, text)?),
         "numbers" => terms::numbers(alloc, text),
         "sorted" => terms::sorted(alloc, text),

@@ -56,7 +56,7 @@ wish_of_task m p n Errors.Memory = tt
 
 -- a stop of schema or data is about a file of every task
 no_map_of : (name : Text) (source : Source) → source ≢ Sources.Map → IsInputOf (checking name) source
-no_map_of name Sources.Schema other = tt
+no_map_of name (Sources.Schema file) other = tt
 no_map_of name Sources.Data other = tt
 no_map_of name Sources.Map other = other refl
 

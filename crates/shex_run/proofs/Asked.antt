@@ -37,11 +37,13 @@ use Rattle.rdf_lex.specs.Prefixes.{AreOneLine}
 use Rattle.rdf_terms.specs.Graphs.{same_id}
 use Rattle.rdf_terms.specs.OneLine.{HasOneLine}
 use Rattle.command_words.specs.Asked.{Command}
-use Rattle.shex_inputs.specs.Asked.{IsAskedOf, Question, label_names, node_names}
+use Rattle.schema_files.specs.Sources.{documents_of}
+use Rattle.shex_inputs.specs.Asked.{IsAskedOf, Question, node_names}
 use Rattle.shape_map.specs.Answers.{IsAsked}
 use Rattle.schema_tree.specs.Laws.{DecidedByFormIsDecided}
 use Rattle.schema_tree.specs.Sure.{Known as Verdicts}
 use Rattle.shex_inputs.specs.Held.{predicates_in}
+use Rattle.shex_inputs.specs.Laws.{LabelsHaveLines}
 use Rattle.typing_answers.specs.Proofs.{HasLines, IsProofOf as Proves}
 use Rattle.typing_answers.specs.Replies.{AreGiven, AreReplies, AreSureAnswers, IsLeftOut, IsSureAnswer, IsTrueAnswer, IsUnsure, given, left, none}
 use Rattle.shex_run.specs.Proofs.{IsStoredProofOf}
@@ -133,16 +135,16 @@ module _ (told : Told) (c : Command) (q : Question) (is : IsAskedOf told (inputs
   pub asked : All (IsOfTable q.terms) g → All (IsAsked s q.terms) q.associations
   asked all = all_members (IsAsked s q.terms) q.associations (λ a h. (let f = from a h in record { node = node_within all f.item.selector a.node f.node; is_target = f.declared }))
 
-  module _ (fit : IsFit c) (one : IsUtf8 c.schema_base) (other : IsUtf8 c.data_base) (data_law : DataHaveLines) (map_law : MapHasLines) (base_law : BasesAreLines) where
+  module _ (fit : IsFit c) (one : IsUtf8 c.schema_base) (other : IsUtf8 c.data_base) (data_law : DataHaveLines) (map_law : MapHasLines) (base_law : BasesAreLines) (label_law : LabelsHaveLines) where
     data_lines : AreOneLine q.held.names.base q.held.names.prefixes × ((t : TermTriple) → Contains is.taken.triples t → HaveOneLine t)
     data_lines = data_law (format_of c.data_file) c.data_base is.taken.holds_data.bytes q.held.names is.taken.triples (base_law c.data_base other fit.data_file) is.taken.holds_data.spelled
 
     item_lines : (i : Item) → Contains is.items i → ((t : Term) → Contains (written i.selector) t → HasOneLine t) × (¬ Contains (target_text i.target) 10)
-    item_lines = map_law (node_names q.held.names) (label_names (inputs_of c)) is.holds_map.bytes is.items data_lines.0 (record { base = base_law c.schema_base one fit.schema; prefixes = λ prefix iri h. absurd cc }) is.holds_map.spelled
+    item_lines = map_law (node_names q.held.names) q.held.labels is.holds_map.bytes is.items data_lines.0 (label_law told (inputs_of c) q.held (base_law c.schema_base one fit.schema) is.taken) is.holds_map.spelled
 
     -- the term of an end of a triple of the graph can stand on one line
     first_distinct : AreDistinct is.taken.holding.first
-    first_distinct = all_distinct [] is.taken.holding.first (predicates_in is.taken.doc) empty_distinct is.taken.holding.is_schema.predicates
+    first_distinct = all_distinct [] is.taken.holding.first (predicates_in (documents_of is.taken.sources)) empty_distinct is.taken.holding.is_schema.predicates
 
     record LineNode (n : TermId) : Type 0 where
       term : Term

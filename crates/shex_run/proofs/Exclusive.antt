@@ -41,7 +41,7 @@ held_not_lacking (Some contents) name a h k = cc
 
 -- a check has no map
 no_map : (name : Text) (source : Source) → IsInputOf (checking name) source → source ≢ Sources.Map
-no_map name Sources.Schema h = λ e. cc
+no_map name (Sources.Schema file) h = λ e. cc
 no_map name Sources.Data h = λ e. cc
 no_map name Sources.Map h = absurd h
 

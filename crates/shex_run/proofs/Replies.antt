@@ -27,6 +27,7 @@ use Rattle.command_words.specs.Laws.{BasesAreLines}
 use Rattle.command_words.specs.Asked.{Command}
 use Rattle.shex_inputs.specs.declared.holding.Holding.{Holding}
 use Rattle.shex_inputs.specs.Asked.{IsAskedOf, Question, root_of}
+use Rattle.shex_inputs.specs.Laws.{LabelsHaveLines}
 use Rattle.shape_map.specs.Answers.{IsAsked}
 use Rattle.typing_answers.specs.Proofs.{HasLines, IsProofOf as Proves}
 use Rattle.typing_answers.specs.Replies.{AreReplies}
@@ -82,8 +83,8 @@ module _ (told : Told) (c : Command) (q : Question) (of : IsAskedOf told (inputs
 
   -- the question can be answered over what the code holds
   pub ready : (map_name : List ℕ) (proof_name : Option (List ℕ)) (budget : ℕ) → IsToValidate c map_name proof_name budget → IsLoaded b.schema → IsSealedWith b.terms b.graph → All (IsOfTable b.terms) b.graph.triples → HoldNeeds b.schema b.graph.triples pairs →
-      IsUtf8 c.schema_base → IsUtf8 c.data_base → DataHaveLines → MapHasLines → BasesAreLines → IsReady b xs pairs budget
-  ready map_name proof_name budget task loaded sealed all needs one other data_law map_law base_law = record {
+      IsUtf8 c.schema_base → IsUtf8 c.data_base → DataHaveLines → MapHasLines → BasesAreLines → LabelsHaveLines → IsReady b xs pairs budget
+  ready map_name proof_name budget task loaded sealed all needs one other data_law map_law base_law label_law = record {
     within = (fit.budget map_name proof_name budget task).1;
     loaded = loaded;
     strata = code (λ s f ts g ys ps. IsStratum s f) of.taken.holding.is_schema.strata;
@@ -94,8 +95,8 @@ module _ (told : Told) (c : Command) (q : Question) (of : IsAskedOf told (inputs
     reached = code (λ s f ts g ys ps. AreAsked s ts g (map root_of ys) ps) of.asked;
     needs = needs;
     few_pairs = code (λ s f ts g ys ps. length ps ≤ max_pairs) of.few;
-    lines = code (λ s f ts g ys ps. All (HasLines ts) ys) (lines told c q of fit one other data_law map_law base_law);
-    ends = code (λ s f ts g ys ps. AreOnLines ts g) (ends told c q of fit one other data_law map_law base_law);
+    lines = code (λ s f ts g ys ps. All (HasLines ts) ys) (lines told c q of fit one other data_law map_law base_law label_law);
+    ends = code (λ s f ts g ys ps. AreOnLines ts g) (ends told c q of fit one other data_law map_law base_law label_law);
   }
 
   module _ (map_name : List ℕ) (proof_name : Option (List ℕ)) (budget : ℕ) (task : IsToValidate c map_name proof_name budget) (with_proof : Bool) (d : Decided) (decided : IsDecided b xs pairs budget with_proof d) where

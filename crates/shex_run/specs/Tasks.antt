@@ -24,6 +24,7 @@ inputs_of c = record {
   map_file = map_name c.task;
   schema_base = c.schema_base;
   data_base = c.data_base;
+  imports = c.imports;
 }
 
 -- the command is to validate the associations of the map of this name, looking into pairs up to the budget, and to store their
@@ -38,7 +39,7 @@ IsToCheck c name = c.task ≡ checking name
 -- the file is an input of the task: a check has no map
 abbrev pub IsInputOf : Task → Source → Type 0
 IsInputOf (validation map_name proof_name budget) source = ⊤
-IsInputOf (checking name) Sources.Schema = ⊤
+IsInputOf (checking name) (Sources.Schema file) = ⊤
 IsInputOf (checking name) Sources.Data = ⊤
 IsInputOf (checking name) Sources.Map = ⊥
 

@@ -25,7 +25,7 @@ use data_reader::data_have_lines;
 use proof_file::write::write;
 use schema_tree::laws::width_is_one;
 use shape_map::laws::map_has_lines;
-use shex_inputs::{Holding, read_holding, read_map};
+use shex_inputs::{Holding, labels_have_lines, read_holding, read_map};
 use shex_io::{FetchError, Files, StoreError};
 use std::alloc::Global;
 
@@ -86,6 +86,7 @@ fn decide_map<F: Files>(
     requires taken { IsTaken (F.told files.old) (inputs_of (command_of (Lent.Validate validation.now))) (held_by holding.old) }
     requires fit { IsFit (command_of (Lent.Validate validation.now)) }
     requires scheme { IsSome (scheme_of (base_of holding.old.names)) }
+    requires labels { IsSome (scheme_of (base_of holding.old.labels)) }
     requires loaded { IsLoaded holding.old.schema }
     requires of_table { All (IsOfTable holding.old.terms) holding.old.graph.triples }
     ensures decided { IfOk result (IsReply (F.told files.old) (command_of (Lent.Validate validation.now)) validation.now.budget (is_some validation.now.proof)) }
@@ -100,6 +101,7 @@ fn decide_map<F: Files>(
     data_have_lines();
     map_has_lines();
     bases_are_lines();
+    labels_have_lines();
     width_is_one();
     are_texts(validation.inputs.schema_base, validation.inputs.data_base);
     let asked = match read_map(alloc, files, &validation.inputs, validation.map, holding) {
@@ -169,6 +171,7 @@ fn validate<F: Files>(
     requires taken { IsTaken (F.told files.old) (inputs_of (command_of (Lent.Validate validation.now))) (held_by holding) }
     requires fit { IsFit (command_of (Lent.Validate validation.now)) }
     requires scheme { IsSome (scheme_of (base_of holding.names)) }
+    requires labels { IsSome (scheme_of (base_of holding.labels)) }
     requires loaded { IsLoaded holding.schema }
     requires of_table { All (IsOfTable holding.terms) holding.graph.triples }
     ensures response { IfOk result (λ r. IsResponse (F.told files.old) (F.told files.new) (command_of (Lent.Validate validation.now)) r.status r.text.items r.notes.items) }
@@ -209,12 +212,13 @@ fn check<F: Files>(
     })
 }
 
-/// What the schema file and the data file of a command hold.
+/// What the files of the schema and the data file of a command hold.
 fn hold<F: Files>(alloc: Global, files: &mut F, command: &Command<'_>) -> Result<Holding, Stop>
     requires { IsFit (command_of command.now) }
     ensures taken { IfOk result (λ b. IsTaken (F.told files.old) (inputs_of (command_of command.now)) (held_by b)) }
     ensures loaded { IfOk result (λ b. IsLoaded b.schema) }
     ensures scheme { IfOk result (λ b. IsSome (scheme_of (base_of b.names))) }
+    ensures labels { IfOk result (λ b. IsSome (scheme_of (base_of b.labels))) }
     ensures of_table { IfOk result (λ b. All (IsOfTable b.terms) b.graph.triples) }
     ensures cause { IfErr result (Explains (F.told files.old) (command_of command.now)) }
     ensures faults { IfErr result (FaultsAs (command_of command.now) (F.faults files.old) (F.faults files.new) (F.blame files.new) (F.act files.new)) }

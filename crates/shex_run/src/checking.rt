@@ -29,6 +29,7 @@ pub fn confirm(alloc: Global, holding: Holding, proof: &[u8]) -> Result<Vec<u8>,
         mut terms,
         schema,
         strata: _,
+        labels: _,
         mut graph,
         names: _,
     } = holding;

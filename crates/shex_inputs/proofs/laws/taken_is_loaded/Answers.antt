@@ -1,7 +1,10 @@
+use Rattle.schema_files.specs.Sources.{documents_of}
 use Rattle.schema_load.proofs.OrderedParts.{ordered_parts}
-use Rattle.shex_inputs.specs.Held.{alone}
+use Rattle.shex_inputs.specs.Named.{asked_of}
+use Rattle.shex_inputs.proofs.Sources.{all_ordered}
 use Rattle.shex_inputs.proofs.laws.taken_is_loaded.Goals as goal
 
 pub returns : goal.returns
 returns c = λ told i h x.
-    c.standing_is_loaded.ensures (alone x.doc) x.holding.first h.schema (ordered_parts (alone x.doc) (c.documents_are_ordered.ensures x.holds_schema.bytes x.doc x.holds_schema.spelled, tt)) x.holding.is_schema.stands
+    let docs = documents_of x.sources in
+    c.standing_is_loaded.ensures docs x.holding.first h.schema (ordered_parts docs (all_ordered told (asked_of i) c.schemas_are_ordered.ensures x.sources x.are_sources)) x.holding.is_schema.stands

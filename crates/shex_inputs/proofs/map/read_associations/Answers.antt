@@ -1,16 +1,12 @@
 use Rattle.std.proofs.Common.{subst}
 use Rattle.shape_map.specs.Maps.{IsMap}
 use Rattle.term_tokens.specs.Scopes.{scope_of}
-use Rattle.shex_inputs.specs.Asked.{label_names}
 use Rattle.shex_inputs.specs.Held.{held_by}
 use Rattle.shex_inputs.specs.Named.{inputs_with}
 use Rattle.shape_map.specs.declared.error.MapError.TheVariants as MapErrors
 use Rattle.shex_inputs.specs.declared.error.Refusal.TheVariants as Refusals
-use Rattle.shex_inputs.proofs.Reading.{asking_explains, base_scheme, map_explains, refused_faults}
+use Rattle.shex_inputs.proofs.Reading.{asking_explains, map_explains, refused_faults}
 use Rattle.shex_inputs.proofs.map.read_associations.Goals as goal
-
-pub map_of-requires-clause-labels : goal.map_of-requires-clause-labels
-map_of-requires-clause-labels g c = base_scheme c.args.inputs.now.schema_base.now c.requires.schema_base
 
 pub returns-in-Err-clause-cause : goal.returns-in-Err-clause-cause
 returns-in-Err-clause-cause g c =
@@ -26,7 +22,7 @@ returns-clause-cause g c =
     (record {
       bytes = c.in_ok-bytes.bytes.items;
       file = c.in_ok-bytes.ensures.bytes;
-      spelled = subst (λ bs. IsMap (scope_of c.args.holding.now.names) (label_names (inputs_with c.args.inputs.now c.args.name.now)) bs c.in-Ok.map) c.as_slice.ensures.value c.in-Ok.ensures.found;
+      spelled = subst (λ bs. IsMap (scope_of c.args.holding.now.names) (scope_of c.args.holding.now.labels) bs c.in-Ok.map) c.as_slice.ensures.value c.in-Ok.ensures.found;
     })
     c.in-Err-associations_of.ensures.stops c.map_error-in-Err-associations_of.ensures
 

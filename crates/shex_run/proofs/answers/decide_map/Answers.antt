@@ -23,7 +23,7 @@ decide-requires g c =
     (question c.args.holding.now c.read_map.new.holding c.in-Ok.asked) c.in-Ok.ensures.asked c.read_map.new.holding c.in-Ok.asked.associations.items c.in-Ok.asked.pairs
     (record { schema = c.read_map.ensures.schema; strata = c.read_map.ensures.strata; terms = refl; graph = c.read_map.ensures.graph; associations = refl; pairs = refl }) c.requires.fit
     c.args.validation.now.map.now (option_map (λ s. s.now) c.args.validation.now.proof) c.args.validation.now.budget refl (subst IsLoaded (sym c.read_map.ensures.schema) c.requires.loaded)
-    c.in-Ok.ensures.sealed c.read_map.ensures.of_new_table c.in-Ok.ensures.closed c.are_texts.ensures.schema c.are_texts.ensures.data_file c.data_have_lines.ensures c.map_has_lines.ensures c.bases_are_lines.ensures
+    c.in-Ok.ensures.sealed c.read_map.ensures.of_new_table c.in-Ok.ensures.closed c.are_texts.ensures.schema c.are_texts.ensures.data_file c.data_have_lines.ensures c.map_has_lines.ensures c.bases_are_lines.ensures c.labels_have_lines.ensures
 
 pub returns-in-Ok-decide-clause-decided : goal.returns-in-Ok-decide-clause-decided
 returns-in-Ok-decide-clause-decided g c =

@@ -9,7 +9,7 @@ use Rattle.shex_run.proofs.Answering.{base_of_task, input_stopped}
 use Rattle.shex_run.proofs.answers.hold.Goals as goal
 
 pub read_holding-requires : goal.read_holding-requires
-read_holding-requires g c = let (task, same) = c.inputs.ensures in record { data_base = ap (λ k. is_base k.data_base) (sym same) ∙ c.requires.data_file }
+read_holding-requires g c = let (task, same) = c.inputs.ensures in record { schema_base = ap (λ k. is_base k.schema_base) (sym same) ∙ c.requires.schema; data_base = ap (λ k. is_base k.data_base) (sym same) ∙ c.requires.data_file }
 
 pub returns-in-Ok-clause-taken : goal.returns-in-Ok-clause-taken
 returns-in-Ok-clause-taken g c = let (task, same) = c.inputs.ensures in subst (λ k. IsTaken (g.F.Files.told c.args.files.now) (inputs_of k) (held_by c.in-Ok.holding)) (sym same) (c.in-Ok.ensures.taken (map_name task))
