@@ -1,5 +1,5 @@
 -- Whether a state is dead, by the sums of its counts with the later triples that fit.
-use Rattle.std.proofs.Common.{◌≡◌, ℕ, ◌+◌, ◌<◌, ◌≤◌, inl, inr, length, List, drop, arith, ap, sym, subst, ◌∙◌, slice_index, Bool, replicate}
+use Rattle.std.proofs.Common.{◌≡◌, ℕ, ◌+◌, ◌<◌, ◌≤◌, inl, inr, length, List, drop, arith, ap, sym, subst, ◌∙◌, slice_index, Bool, true, false, true≢false, not, refl, replicate}
 use Rattle.std.proofs.lemmas.List.{get_or_past, get_or-replicate, length-replicate}
 use Rattle.std.proofs.lemmas.Bool.{cases_lt}
 use Rattle.std.proofs.lemmas.Option.{slice_get_past}
@@ -36,9 +36,18 @@ sums_are counts left before sums beside none rest each = λ k i. at i k
           omega (arith, a, b, c)
     ]
 
-pub never_more : (p : Plan) (counts : List ℕ) (high most : ℕ → ℕ) (r : Bool) → high ≡ most →
+never_more : (p : Plan) (counts : List ℕ) (high most : ℕ → ℕ) (r : Bool) → high ≡ most →
     (IsTrue r ↔ (¬ HasSpan (span p (slice_index counts) high) 1)) → IsTrue r ↔ (¬ HasSpan (span p (slice_index counts) most) 1)
 never_more p counts high most r same h = subst (λ z. IsTrue r ↔ (¬ HasSpan (span p (slice_index counts) z) 1)) same h
+
+-- counts spell the expression once in no way where they do not spell it in some
+pub not_once : (p : Plan) (counts : List ℕ) (high most : ℕ → ℕ) (r : Bool) → high ≡ most →
+    (IsTrue r ↔ HasSpan (span p (slice_index counts) high) 1) → IsTrue (not r) ↔ (¬ HasSpan (span p (slice_index counts) most) 1)
+not_once p counts high most r same h = never_more p counts high most (not r) same (go r h)
+  where
+    go : (r : Bool) → (IsTrue r ↔ HasSpan (span p (slice_index counts) high) 1) → IsTrue (not r) ↔ (¬ HasSpan (span p (slice_index counts) high) 1)
+    go true both = ((λ no. absurd (true≢false (sym no))), λ none. absurd (none (both.0 refl)))
+    go false both = ((λ yes k. true≢false (sym (both.1 k))), λ none. refl)
 
 -- the numbers beside the counts as a function
 left_is : (occs : List Occurrence) (n : TermId) (later : List Triple) (counts left : List ℕ) → AreLeft occs n later left →

@@ -1,6 +1,6 @@
 -- Triples that are lent by their places.
-use Rattle.std.proofs.Common.{◌≡◌, ℕ, zero, suc, ◌+◌, ◌<◌, ◌≤◌, inl, inr, length, get_or, drop, List, [], ◌∷◌, ◌++◌, refl, arith, ap, sym, subst, ◌∙◌, Bool, true, false, cond, filter, append_assoc, slice_index}
-use Rattle.std.proofs.lemmas.List.{append-nil, drop_all, drop_more, get_or_append_left, get_or_push, length-append}
+use Rattle.std.proofs.Common.{◌≡◌, ℕ, zero, suc, ◌+◌, ◌<◌, inl, inr, length, get_or, drop, List, [], ◌∷◌, ◌++◌, refl, arith, ap, sym, subst, ◌∙◌, Bool, true, false, cond, filter, append_assoc, slice_index}
+use Rattle.std.proofs.lemmas.List.{drop_more, get_or_append_left, get_or_push, length-append}
 use Rattle.std.proofs.lemmas.Bool.{cases_lt}
 use Rattle.std.proofs.lemmas.Option.{get_or_from_slice_get, slice_get-get_or}
 use Rattle.std.specs.Prelude.{Option, Some, None, slice_get}
@@ -97,6 +97,3 @@ module _ (p : Triple → Bool) (ts : List Triple) (i : ℕ) (t : Triple) (places
 
 pub inside_same : (ts : List Triple) (places new : List ℕ) → new ≡ places → AreInside ts places → AreInside ts new
 inside_same ts places new is h = subst (λ z. AreInside ts z) (sym is) h
-
-pub lent_whole : (p : Triple → Bool) (ts : List Triple) (i : ℕ) (places : List ℕ) → length ts ≤ i → triples_at ts places ++ filter p (drop i ts) ≡ filter p ts → triples_at ts places ≡ filter p ts
-lent_whole p ts i places past fitting = sym (append-nil (triples_at ts places)) ∙ ap (λ z. triples_at ts places ++ filter p z) (sym (drop_all i ts past)) ∙ fitting

@@ -1,5 +1,6 @@
 pub mod Allowed
 pub mod Neighbours
+pub mod Forward
 pub mod Left
 pub mod Lending
 pub mod Deadness

@@ -2,7 +2,7 @@
 
 ghost use Rattle.std.specs.Prelude.{◌≡◌, ◌↔◌, ◌<◌, ◌≤◌, ◌^◌, ◌-◌, ℕ, IfOk, IsTrue, length, slice_index};
 ghost use Rattle.tally.specs.Copies.{Copies};
-ghost use Rattle.tally.specs.Span.{IsSound};
+ghost use Rattle.tally.specs.Span.{HasSpan, IsSound, span};
 ghost use Rattle.tally.specs.Symbols.{Covers, IsDistinct};
 ghost use Rattle.schema_tree.specs.Loaded.{BodyOk};
 ghost use Rattle.schema_tree.specs.Places.{HaveCounts, add_place, times};
@@ -62,14 +62,16 @@ fn are_rest(places: &[Place]) -> bool
     true
 }
 
-/// Whether the counts spell the expression once.
-fn spell_once(body: &Body, counts: &[u32]) -> bool
+/// Whether the counts from low to high spell the expression once in some way.
+pub(crate) fn can_spell_once(body: &Body, low: &[u32], high: &[u32]) -> bool
     requires distinct { IsDistinct body.now }
     requires sound { IsSound body.now }
-    requires covered { Covers (length counts.now) body.now }
-    ensures { IsTrue result ↔ Copies body.now (slice_index counts.now) 1 }
+    requires in_low { Covers (length low.now) body.now }
+    requires in_high { Covers (length high.now) body.now }
+    ensures span { IsTrue result ↔ HasSpan (span body.now (slice_index low.now) (slice_index high.now)) 1 }
+    ensures exact { low.now ≡ high.now → IsTrue result ↔ Copies body.now (slice_index low.now) 1 }
 {
-    match interval(body.count(), counts, counts) {
+    match interval(body.count(), low, high) {
         Some(copies) => copies.contains(1),
         None => false,
     }
@@ -90,7 +92,8 @@ fn match_once(
 {
     own_symbols_decide();
     let counts = counts_of(alloc, occurrences, places)?;
-    Ok(spell_once(body, counts.as_slice()))
+    let counts = counts.as_slice();
+    Ok(can_spell_once(body, counts, counts))
 }
 
 /// Whether the counts of the places match the Shape's expression once; without one, whether each place is the remainder.

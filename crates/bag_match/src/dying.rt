@@ -11,11 +11,11 @@ ghost use Rattle.tally.specs.Symbols.{Covers, IsDistinct};
 ghost use Rattle.bag_match.specs.Counts.{AreLeft, state_of};
 
 use crate::arcs::RelevantTriples;
+use crate::counts::can_spell_once;
 use rdf_terms::terms::{TermId, Triple};
 use schema_tree::body::Body;
 use schema_tree::schema::{Occurrence, Shape};
 use std::alloc::{AllocError, Global};
-use tally::counting::interval;
 
 /// How many of the triples the occurrence fits.
 fn fitting(o: Occurrence, node: TermId, triples: &[Triple]) -> u32
@@ -97,20 +97,6 @@ fn sum_up(sums: &mut [u32], counts: &[u32], left: &[u32])
     }
 }
 
-/// Whether the counts from low to high spell the expression once in no way.
-fn spell_never(body: &Body, low: &[u32], high: &[u32]) -> bool
-    requires distinct { IsDistinct body.now }
-    requires sound { IsSound body.now }
-    requires in_low { Covers (length low.now) body.now }
-    requires in_high { Covers (length high.now) body.now }
-    ensures { IsTrue result ↔ (¬ HasSpan (span body.now (slice_index low.now) (slice_index high.now)) 1) }
-{
-    match interval(body.count(), low, high) {
-        Some(copies) => !copies.contains(1),
-        None => true,
-    }
-}
-
 /// Whether the counts, with any of the numbers beside them added, spell the expression once in no way.
 fn spell_never_more(body: &Body, counts: &[u32], left: &[u32]) -> bool
     requires distinct { IsDistinct body.now }
@@ -123,7 +109,7 @@ fn spell_never_more(body: &Body, counts: &[u32], left: &[u32]) -> bool
 {
     let mut high = [0u32; 256];
     sum_up(high.as_mut_slice(), counts, left);
-    spell_never(body, counts, high.as_slice())
+    !can_spell_once(body, counts, high.as_slice())
 }
 
 /// Whether the state with these counts is dead, where the numbers say how many of the later triples each occurrence fits.

@@ -2,8 +2,8 @@ use Rattle.std.proofs.Common.{◌≤◌, ap, arith, length}
 use Rattle.bag_match.proofs.Neighbours.{order_few}
 use Rattle.bag_match.proofs.arcs.relevant.Goals as goal
 
-pub fitting_places-requires : goal.fitting_places-requires
-fitting_places-requires c =
+pub fitting_places-requires-clause-few : goal.fitting_places-requires-clause-few
+fitting_places-requires-clause-few c =
     let (terms, sealed) = c.requires in
     let same = ap (λ z. length z) (c.neigh-neigh.ensures terms sealed) in
     let few = order_few terms c.args.graph.now.triples c.args.node in
