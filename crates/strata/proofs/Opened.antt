@@ -2,8 +2,6 @@
 use Rattle.std.proofs.Common.{◌≡◌, ◌∙◌, ℕ, ◌<◌, ◌⊎◌, ◌++◌, inl, inr, List, [], ◌∷◌, Bool, true, false, refl, arith, sym, subst, ap, length, map, take, get_or, ◌+◌}
 use Rattle.std.specs.Prelude.{◌↔◌, Contains, Option, Some, None, ◌||◌}
 use Rattle.std.proofs.lemmas.List.{map-append, take_more}
-use Rattle.std.proofs.lemmas.List.Elements.{Contains-append_cases, Contains-append_left, Contains-append_right}
-use Rattle.agenda.proofs.Growing.{has_one}
 use Rattle.schema_tree.specs.declared.schema.Expr.{Expr}
 use Rattle.schema_tree.specs.declared.schema.Expr.TheVariants as Exprs
 use Rattle.schema_tree.specs.declared.schema.ExprId.{ExprId}
