@@ -14,10 +14,13 @@ pub record Asked : Type 0 where
   pub base : List ℕ
   pub words : List Import
 
--- the name of a file
+-- the name of a file, by that of the schema's own file and the import words
+abbrev pub file_named : List ℕ → List Import → SchemaFile → List ℕ
+file_named root words Root = root
+file_named root words (Imported n) = get_or (map (λ w. w.file) words) n []
+
 abbrev pub name_of : Asked → SchemaFile → List ℕ
-name_of a Root = a.root
-name_of a (Imported n) = get_or (map (λ w. w.file) a.words) n []
+name_of a file = file_named a.root a.words file
 
 -- the base of the document in a file: that of the schema, and the IRI of the import word
 abbrev pub base_for : Asked → SchemaFile → List ℕ

@@ -1,8 +1,10 @@
 //! The files of a schema, by their names.
 
-ghost use Rattle.std.specs.Prelude.{◌≡◌};
+ghost use Rattle.std.specs.Prelude.{◌≡◌, map};
 ghost use Rattle.std.specs.List.{position};
 ghost use Rattle.std.specs.Str.{bytes_eq};
+ghost use Rattle.command_words.specs.Lent.{import_of};
+ghost use Rattle.schema_files.specs.Named.{file_named};
 
 use crate::error::SchemaFile;
 use command_words::Import;
@@ -26,6 +28,19 @@ fn number_of(words: &[Import<'_>], iri: &str) -> Option<usize>
     words.iter().position(|word| word.iri == iri)
 }
 
+/// The name of a file of a schema, by that of the schema's own file and the import words; the empty text where no word has its number.
+pub fn file_name<'a>(root: &'a str, words: &[Import<'a>], file: SchemaFile) -> &'a str
+    ensures { result.now ≡ file_named root.now (map import_of words.now) file }
+{
+    match file {
+        SchemaFile::Root => root,
+        SchemaFile::Imported(number) => match words.get(number) {
+            Some(word) => word.file,
+            None => "",
+        },
+    }
+}
+
 impl<'a> Asked<'a> {
     ghost use Rattle.std.specs.Prelude.{◌≡◌, encode_utf8_all};
     ghost use Rattle.schema_files.specs.Held.{asked_of};
@@ -35,13 +50,7 @@ impl<'a> Asked<'a> {
     pub fn name(&self, file: SchemaFile) -> &'a str
         ensures { result.now ≡ name_of (asked_of self.now) file }
     {
-        match file {
-            SchemaFile::Root => self.root,
-            SchemaFile::Imported(number) => match self.words.get(number) {
-                Some(word) => word.file,
-                None => "",
-            },
-        }
+        file_name(self.root, self.words, file)
     }
 
     /// Whether a file has this name.

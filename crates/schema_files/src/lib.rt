@@ -13,6 +13,7 @@ mod imports;
 mod laws;
 mod reading;
 
+pub use asked::file_name;
 pub use error::{FilesError, FilesRefusal, SchemaFile};
 pub use file_bytes::{MAX_FILE, fetch};
 pub use laws::{read_is_not_left, refused_is_one, sources_are_one};

@@ -11,4 +11,3 @@ pub mod Replies
 pub mod Risen
 pub mod Selected
 pub mod Settled
-pub mod WordFiles

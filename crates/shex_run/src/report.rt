@@ -1,7 +1,7 @@
 //! What a call prints.
 
-ghost use Rattle.std.specs.Prelude.{◌≡◌, ◌<◌, [], IfOk, get_or, map, string_bytes};
-ghost use Rattle.command_words.specs.Lent.{Because, command_of, import_of};
+ghost use Rattle.std.specs.Prelude.{◌≡◌, ◌<◌, IfOk, string_bytes};
+ghost use Rattle.command_words.specs.Lent.{Because, command_of};
 ghost use Rattle.schema_files.specs.Named.{name_of as schema_name_of};
 ghost use Rattle.shex_inputs.specs.Named.{asked_of, source_name};
 ghost use Rattle.shex_run.specs.Printing.{Prints};
@@ -10,8 +10,8 @@ ghost use Rattle.shex_run.specs.Texts.{cause_text, failed_line, refusal_line, re
 ghost use Rattle.shex_run.specs.declared.stop.File.TheVariants as Files;
 
 use crate::stop::{File, Refusal};
-use command_words::{Command, Import, WordsError};
-use schema_files::SchemaFile;
+use command_words::{Command, WordsError};
+use schema_files::{SchemaFile, file_name};
 use shex_inputs::{Source, error_line, refusal_text};
 use shex_io::{Sink, SinkError, put_all};
 use std::alloc::{AllocError, Global};
@@ -50,25 +50,12 @@ fn proof_name<'a>(command: &Command<'a>) -> &'a str
     }
 }
 
-/// The file of the import word of this number, counted from 0, and the empty text where there is none.
-fn word_file<'a>(words: &[Import<'a>], number: usize) -> &'a str
-    ensures { result.now ≡ get_or (map (λ w. w.file) (map import_of words.now)) number [] }
-{
-    match words.get(number) {
-        Some(word) => word.file,
-        None => "",
-    }
-}
-
 /// The name of a file of the schema, and the empty text where no word names it.
 fn schema_name<'a>(command: &Command<'a>, file: SchemaFile) -> &'a str
     ensures { result.now ≡ schema_name_of (asked_of (inputs_of (command_of command.now))) file }
 {
     let inputs = command.inputs();
-    match file {
-        SchemaFile::Root => inputs.schema,
-        SchemaFile::Imported(number) => word_file(inputs.imports.as_slice(), number),
-    }
+    file_name(inputs.schema, inputs.imports.as_slice(), file)
 }
 
 /// The name of a file of the inputs.

@@ -1,8 +1,8 @@
 -- What is not next, and what the classes of ShExC begin with.
-use Rattle.std.proofs.Common.{◌≡◌, Bool, true, false, cond, List, [], ◌∷◌, Result, Ok, Err, refl, sym, ◌∙◌, true≢false}
+use Rattle.std.proofs.Common.{◌≡◌, Bool, true, false, cond, ◌||◌, List, [], ◌∷◌, ◌++◌, Result, Ok, Err, refl, sym, ◌∙◌, true≢false}
 use Rattle.rdf_cursor.specs.Ahead.{Ahead, finished, broken, token, next_is}
 use Rattle.rdf_cursor.specs.Phrases.{Is}
-use Rattle.rdf_cursor.specs.Symbols.{symbol_of, has, is_symbol, is_among}
+use Rattle.rdf_cursor.specs.Symbols.{symbol_of, same_symbol, has, is_symbol, is_among}
 use Rattle.rdf_cursor.specs.declared.symbols.Symbol.{Symbol}
 use Rattle.rdf_cursor.proofs.Completeness.{one_read}
 use Rattle.rdf_lex.specs.Tokens.{Spelled}
@@ -55,3 +55,24 @@ guarded_one k class good is x ts r h = first_of k ts (rw h.1 (guard_ok (is_symbo
 -- a token that is one symbol
 pub took : (a : Symbol) (w : Spelled) (ts r : Ahead Spelled) → Is (of_symbol a) w ts r → mark a ts ≡ Ok (w, r)
 took a w ts r h = one_read Syntax (of_symbol a) w ts r h
+
+-- what is next is among the one symbols or the others
+either_by : (b c d e : Bool) → c ≡ (d || e) → (b || c) ≡ ((b || d) || e)
+either_by true c d e h = refl
+either_by false c d e h = h
+
+has_either : (a : Symbol) (ks js : List Symbol) → has a (ks ++ js) ≡ (has a ks || has a js)
+has_either a [] js = refl
+has_either a (k ∷ ks) js = either_by (same_symbol a k) (has a (ks ++ js)) (has a ks) (has a js) (has_either a ks js)
+
+pub either_next : (ks js : List Symbol) (ts : Ahead Spelled) → next_is (is_among (ks ++ js)) ts ≡ (next_is (is_among ks) ts || next_is (is_among js) ts)
+unfolding is_among
+either_next ks js (token t ts) = has_either (symbol_of t.kind t.text) ks js
+either_next ks js finished = refl
+either_next ks js broken = refl
+
+pub first_next : (ks js : List Symbol) (ts : Ahead Spelled) (b : Bool) → b ≡ next_is (is_among ks) ts → b ≡ true → b ≡ next_is (is_among (ks ++ js)) ts
+first_next ks js ts b e is = is ∙ sym (rw (either_next ks js ts, sym e, is) refl)
+
+pub second_next : (ks js : List Symbol) (ts : Ahead Spelled) (b c : Bool) → b ≡ next_is (is_among ks) ts → b ≡ false → c ≡ next_is (is_among js) ts → c ≡ next_is (is_among (ks ++ js)) ts
+second_next ks js ts b c e is f = f ∙ sym (rw (either_next ks js ts, sym e, is) refl)

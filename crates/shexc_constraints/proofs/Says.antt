@@ -1,8 +1,11 @@
--- At a fault stands its cause, and no bracket whose depth is bounded is passed before it: by the form of the reader.
-use Rattle.std.proofs.Common.{◌≡◌, ◌⊎◌, ℕ, Bool, true, false, cond, ◌&&◌, ◌||◌, List, [], ◌∷◌, Option, Some, None, Result, Ok, Err, refl, sym, ap, subst, ◌∙◌, inl, inr}
+-- At a fault stands its cause, and before it no bracket whose depth is bounded is passed and no word that changes the scope: by the form of the reader.
+use Rattle.std.proofs.Common.{◌≡◌, ◌⊎◌, ℕ, Bool, true, false, cond, ◌&&◌, ◌||◌, List, [], ◌∷◌, ◌++◌, Option, Some, None, Result, Ok, Err, refl, sym, ap, subst, ◌∙◌, inl, inr}
 use Rattle.std.specs.Prelude.{not, nat_eq, nat_le}
 use Rattle.std.specs.Str.{chars}
-use Rattle.rdf_cursor.specs.Ahead.{Ahead, token}
+use Rattle.std.proofs.lemmas.List.{append-nil, append_assoc}
+use Rattle.lists.proofs.Quantifiers.{all_append}
+use Rattle.rdf_cursor.specs.Ahead.{Ahead, finished, token, prepend}
+use Rattle.rdf_cursor.proofs.Locality.{prepend-append}
 use Rattle.rdf_cursor.specs.Readers.{Reader, ◌>>=◌, give, refuse, one, either, loop}
 use Rattle.rdf_cursor.specs.Symbols.{symbol_of, same_symbol, is_symbol, is_among}
 use Rattle.rdf_cursor.specs.declared.stops.Fault as any
@@ -27,71 +30,85 @@ use Rattle.term_tokens.specs.Terms as terms
 use Rattle.term_tokens.specs.Terms.{names, prefix_of}
 use Rattle.shexc_constraints.specs.declared.faults.Fault.{Fault}
 use Rattle.shexc_constraints.specs.declared.faults.Fault.TheVariants as fault
-use Rattle.shexc_constraints.specs.Causes.{prefixed, IsFacetAt, IsDatatype, IsCause}
+use Rattle.shexc_constraints.specs.Causes.{prefixed, counted_words, facet_symbols, AreAll, AreNone, EndsWith, IsFacetAt, IsDatatypeOf, IsDatatype, IsCause}
 use Rattle.shexc_constraints.specs.Facets.{is_given, fresh_word, made_by, counted_facet, range_facet, counted_of, ranged_of, refused_pattern, refused_by, alone, judged_by, judged_facet, admitted}
 use Rattle.shexc_constraints.specs.Meanings.{iri_ref_of, iri_of, at_name_of, label_of, string_of, typed_of, tagged_of, shorthand_of, tag_of, whole_number, is_minus, unsigned, count_of, facet_number_of, range_number_of, limit_from, limit_of}
 use Rattle.shexc_constraints.specs.Patterns.{Parts, pattern_of, pattern_by}
 use Rattle.shexc_constraints.specs.Stops.{R, fault_by, raised}
 use Rattle.shexc_constraints.specs.Symbols.{of_symbol, of_word, lengths, digit_counts, ranges, numbers, node_kinds}
-use Rattle.shexc_constraints.proofs.Flat.{nesting, Flat, flat_then, FlatClass, mark_flat, word_flat, fresh_flat, iri_flat, at_name_flat, label_flat, string_flat, tagged_flat, shorthand_flat, typed_flat, tag_flat, counted_flat, ranged_flat, pattern_flat, admitted_flat}
+use Rattle.shexc_constraints.proofs.Flat.{nesting, Flat, flat_then, OfFacets, facets_then, facets_are_flat, FlatClass, FacetClass, mark_flat, word_flat, iri_flat, at_name_flat, label_flat, string_flat, tagged_flat, shorthand_flat, typed_flat, tag_flat, counted_class, ranged_class, pattern_class, admitted_class, fresh_is}
 use Rattle.rdf_cursor.proofs.Tells.{Tells, tells_give, tells_refuse, tells_one, tells_bind, tells_either, tells_loop, tells_so}
-use Rattle.term_tokens.proofs.Nexts.{outside}
+use Rattle.term_tokens.proofs.Nexts.{within, nexts}
 use Rattle.shexc_constraints.specs.Reading.{iri, predicate, label, datatyped, suffix, literal, object, annotation, annotations, notes, reference, a_facet, counted, ranged, text_facet, number_facet, facet, text_facets_behind, number_facets_behind, facets_behind, lexical_form, iri_text, tag, stem_or_exact, exclusion, exclusions, stemmed, excluded, iri_value, literal_value, tag_value, any_tag, wildcard, value, value_behind, value_set, of_kind, of_texts, non_literal, any_literal, of_datatype, of_values, of_numbers, literal_constraint}
 
--- nothing is told of a fault of syntax; of another one, what its token is
-abbrev pub Caused : Scope → Fault → Ahead Spelled → Type 0
-Caused v f rest = (f ≡ fault.Syntax) ⊎ ((t : Spelled) × (more : Ahead Spelled) × (rest ≡ token t more) × IsCause v f t)
+-- nothing is told of a fault of syntax; of another one, what its token is behind those of the statement
+abbrev pub Why : Scope → List Spelled → Spelled → Fault → Type 0
+Why v before t f = (f ≡ fault.Syntax) ⊎ IsCause v f before t
 
--- at a fault stands its cause, and neither before it nor before a value such a bracket is passed
+abbrev pub Caused : Scope → Fault → List Spelled → Ahead Spelled → Type 0
+Caused v f before rest = (f ≡ fault.Syntax) ⊎ ((t : Spelled) × (more : Ahead Spelled) × (rest ≡ token t more) × IsCause v f before t)
+
+-- past tokens that are flat a fault with its cause is reached
+abbrev pub Fails : Scope → List Spelled → Ahead Spelled → Fault → Ahead Spelled → Type 0
+Fails v before ts f r = (front : List Spelled) × (ts ≡ prepend front r) × AreNone nesting front × Caused v f (before ++ front) r
+
+-- at a fault stands its cause, and neither before it nor before a value a token is passed that is not flat
 pub record Says (v : Scope) {A : Type 0} (p : Reader Spelled Fault A) : Type 0 where
-  pub tells : (ts : Ahead Spelled) → Tells p (λ x r. Flat ts r) (λ f r. Caused v f r × Flat ts r) ts
+  pub tells : (before : List Spelled) (ts : Ahead Spelled) → Tells p (λ x r. Flat ts r) (Fails v before ts) ts
 
 -- a class says of a token why it is at fault
 abbrev pub ClassSays : Scope → {A : Type 0} → (Spelled → Result A Fault) → Type 0
-ClassSays v class = (t : Spelled) (f : Fault) → class t ≡ Err f → (f ≡ fault.Syntax) ⊎ IsCause v f t
+ClassSays v class = (before : List Spelled) (t : Spelled) (f : Fault) → class t ≡ Err f → Why v before t f
 
 nothing_passed : (ts : Ahead Spelled) → Flat ts ts
 nothing_passed ts = ([], refl, tt)
 
-of_token : (v : Scope) (f : Fault) (t : Spelled) (ts : Ahead Spelled) → (f ≡ fault.Syntax) ⊎ IsCause v f t → Caused v f (token t ts)
-of_token v f t ts (inl e) = inl e
-of_token v f t ts (inr c) = inr (t, ts, refl, c)
+fails_here : (v : Scope) (before : List Spelled) (ts : Ahead Spelled) (f : Fault) → Caused v f before ts → Fails v before ts f ts
+fails_here v before ts f c = ([], refl, tt, subst (λ (bs : List Spelled). Caused v f bs ts) (sym (append-nil before)) c)
+
+syntax_here : (v : Scope) (before : List Spelled) (ts : Ahead Spelled) → Fails v before ts fault.Syntax ts
+syntax_here v before ts = fails_here v before ts fault.Syntax (inl refl)
+
+fails_at : (v : Scope) (before : List Spelled) (ts rest : Ahead Spelled) (t : Spelled) (f : Fault) → ts ≡ token t rest → Why v before t f → Fails v before ts f (token t rest)
+fails_at v before ts rest t f is why = subst (λ (q : Ahead Spelled). Fails v before q f (token t rest)) (sym is) (fails_here v before (token t rest) f (by why))
+  where
+    by : Why v before t f → Caused v f before (token t rest)
+    by (inl e) = inl e
+    by (inr c) = inr (t, rest, refl, c)
+
+-- past more tokens
+fails_behind : (v : Scope) (before front : List Spelled) (ts r : Ahead Spelled) (f : Fault) (q : Ahead Spelled) → ts ≡ prepend front r → AreNone nesting front → Fails v (before ++ front) r f q → Fails v before ts f q
+fails_behind v before front ts r f q is h (more, e, k, c) =
+    (front ++ more, is ∙ ap (prepend front) e ∙ sym (prepend-append front more q), all_append (λ t. is_among nesting t ≡ false) front more h k, subst (λ (bs : List Spelled). Caused v f bs q) (append_assoc before front more) c)
 
 token_passed : (ts rest : Ahead Spelled) (t : Spelled) → ts ≡ token t rest → is_among nesting t ≡ false → Flat ts rest
 token_passed ts rest t is n = (t ∷ [], is, (n, tt))
 
+tells_class : {A : Type 0} (v : Scope) {class : Spelled → Result A Fault} (before : List Spelled) (ts : Ahead Spelled) → ClassSays v class → {Q : A → Ahead Spelled → Type 0}
+    → ((t : Spelled) (rest : Ahead Spelled) (x : A) → ts ≡ token t rest → class t ≡ Ok x → Q x rest) → Tells (one fault.Syntax class) Q (Fails v before ts) ts
+tells_class v before ts h g = tells_one (syntax_here v before ts) g (λ t rest f is e. fails_at v before ts rest t f is (h before t f e))
+
 pub says_one : {A : Type 0} {v : Scope} {class : Spelled → Result A Fault} → ClassSays v class → FlatClass class → Says v (one fault.Syntax class)
-says_one {v = v} h k = record {
-  tells = λ ts. tells_one (inl refl, nothing_passed ts)
-      (λ t rest x is e. token_passed ts rest t is (k t x e)) (λ t rest f is e. (of_token v f t rest (h t f e), ([], is, tt)));
-}
+says_one {v = v} h k = record { tells = λ before ts. tells_class v before ts h (λ t rest x is e. token_passed ts rest t is (k t x e)) }
 
 pub says_give : {A : Type 0} (v : Scope) (x : A) → Says v (give x)
-says_give v x = record { tells = λ ts. tells_give (nothing_passed ts) }
+says_give v x = record { tells = λ before ts. tells_give (nothing_passed ts) }
 
 pub says_refuse : {A : Type 0} (v : Scope) → Says v {A = A} (refuse fault.Syntax)
-says_refuse v = record { tells = λ ts. tells_refuse (inl refl, nothing_passed ts) }
+says_refuse v = record { tells = λ before ts. tells_refuse (syntax_here v before ts) }
 
 -- behind some tokens
-behind : {A : Type 0} (v : Scope) (p : Reader Spelled Fault A) → Says v p → (ts r : Ahead Spelled) → Flat ts r → Tells p (λ x q. Flat ts q) (λ f q. Caused v f q × Flat ts q) r
-behind v p a ts r k = tells_so (λ x q h. flat_then ts r q k h) (λ f q h. (h.0, flat_then ts r q k h.1)) (a.tells r)
+behind : {A : Type 0} (v : Scope) (p : Reader Spelled Fault A) → Says v p → (before : List Spelled) (ts r : Ahead Spelled) → Flat ts r → Tells p (λ x q. Flat ts q) (Fails v before ts) r
+behind v p a before ts r (b, is, h) = tells_so (λ x q k. flat_then ts r q (b, is, h) k) (λ f q k. fails_behind v before b ts r f q is h k) (a.tells (before ++ b) r)
 
 pub says_bind : {A B : Type 0} {v : Scope} (p : Reader Spelled Fault A) (f : A → Reader Spelled Fault B) → Says v p → ((x : A) → Says v (f x)) → Says v (p >>= f)
-says_bind {v = v} p f a h = record { tells = λ ts. tells_bind (a.tells ts) (λ x r k. behind v (f x) (h x) ts r k) }
-
--- the same where the next reader knows the token
-pub says_bind_token : {A B : Type 0} {v : Scope} {class : Spelled → Result A Fault} {f : A → Reader Spelled Fault B} → ClassSays v class → FlatClass class → ((t : Spelled) (x : A) → class t ≡ Ok x → Says v (f x)) → Says v (one fault.Syntax class >>= f)
-says_bind_token {A = A} {v = v} {class = class} {f = f} a k h = record {
-  tells = λ ts. tells_bind {Q = λ x r. Flat ts r × ((t : Spelled) × (class t ≡ Ok x))}
-      (tells_one (inl refl, nothing_passed ts) (λ t rest x is e. (token_passed ts rest t is (k t x e), (t, e))) (λ t rest g is e. (of_token v g t rest (a t g e), ([], is, tt))))
-      (λ x r q. behind v (f x) (h q.1.0 x q.1.1) ts r q.0);
-}
+says_bind {v = v} p f a h = record { tells = λ before ts. tells_bind (a.tells before ts) (λ x r k. behind v (f x) (h x) before ts r k) }
 
 pub says_either : {A : Type 0} {v : Scope} (class : Spelled → Bool) (p q : Reader Spelled Fault A) → Says v p → Says v q → Says v (either class p q)
-says_either {v = v} class p q a h = record { tells = λ ts. tells_either (λ _. a.tells ts) (λ _. h.tells ts) }
+says_either {v = v} class p q a h = record { tells = λ before ts. tells_either (λ _. a.tells before ts) (λ _. h.tells before ts) }
 
 pub says_loop : {S : Type 0} {v : Scope} (class : Spelled → Bool) (step : S → Reader Spelled Fault S) → ((s : S) → Says v (step s)) → (s : S) → Says v (loop class step s)
-says_loop {v = v} class step h s = record { tells = λ ts. tells_loop class step (λ x r. Flat ts r) (λ f r. Caused v f r × Flat ts r) (λ x r k. behind v (step x) (h x) ts r k) s ts (nothing_passed ts) }
+says_loop {v = v} class step h s = record { tells = λ before ts. tells_loop class step (λ x r. Flat ts r) (Fails v before ts) (λ x r k. behind v (step x) (h x) before ts r k) s ts (nothing_passed ts) }
 
 -- the classes of single tokens
 ok_err : {A : Type 0} (x : A) (f : Fault) → Path (Result A Fault) (Ok x) (Err f) → ⊥
@@ -101,48 +118,55 @@ same_err : {A : Type 0} (f g : Fault) → Path (Result A Fault) (Err f) (Err g) 
 same_err f g e = cc
 
 -- a test, and a fault of syntax where it fails
-tested : {A : Type 0} (v : Scope) (t : Spelled) (b : Bool) (c : Result A Fault) (f : Fault) → (b ≡ true → c ≡ Err f → (f ≡ fault.Syntax) ⊎ IsCause v f t) → cond b c (Err fault.Syntax) ≡ Err f → (f ≡ fault.Syntax) ⊎ IsCause v f t
-tested v t true c f h e = h refl e
-tested v t false c f h e = inl (sym (same_err fault.Syntax f e))
+tested : {A : Type 0} (v : Scope) (before : List Spelled) (t : Spelled) (b : Bool) (c : Result A Fault) (f : Fault) → (b ≡ true → c ≡ Err f → Why v before t f) → cond b c (Err fault.Syntax) ≡ Err f → Why v before t f
+tested v before t true c f h e = h refl e
+tested v before t false c f h e = inl (sym (same_err fault.Syntax f e))
 
-simple : {A : Type 0} (v : Scope) (t : Spelled) (b : Bool) (x : A) (f : Fault) → cond b (Ok x) (Err fault.Syntax) ≡ Err f → (f ≡ fault.Syntax) ⊎ IsCause v f t
-simple v t b x f e = tested v t b (Ok x) f (λ k i. absurd (ok_err x f i)) e
+simple : {A : Type 0} (v : Scope) (before : List Spelled) (t : Spelled) (b : Bool) (x : A) (f : Fault) → cond b (Ok x) (Err fault.Syntax) ≡ Err f → Why v before t f
+simple v before t b x f e = tested v before t b (Ok x) f (λ k i. absurd (ok_err x f i)) e
 
 pub mark_says : (v : Scope) (a : Symbol) → ClassSays v (of_symbol a)
-mark_says v a t f e = simple v t (is_symbol a t) t f e
+mark_says v a before t f e = simple v before t (is_symbol a t) t f e
+
+pub mark_fault : (a : Symbol) (t : Spelled) (f : Fault) → of_symbol a t ≡ Err f → f ≡ fault.Syntax
+mark_fault a t f e = by (is_symbol a t) e
+  where
+    by : (b : Bool) → Path (Result Spelled Fault) (cond b (Ok t) (Err fault.Syntax)) (Err f) → f ≡ fault.Syntax
+    by true i = absurd (ok_err t f i)
+    by false i = sym (same_err fault.Syntax f i)
 
 pub word_says : (v : Scope) (words : List Symbol) → ClassSays v (of_word words)
-word_says v words t f e = simple v t (is_among words t) (symbol_of t.kind t.text) f e
+word_says v words before t f e = simple v before t (is_among words t) (symbol_of t.kind t.text) f e
 
 pub fresh_says : (v : Scope) (words : List Symbol) (fs : List Facet) → ClassSays v (fresh_word words fs)
-fresh_says v words fs t f e = simple v t (is_among words t && not (is_given (symbol_of t.kind t.text) fs)) (symbol_of t.kind t.text) f e
+fresh_says v words fs before t f e = simple v before t (is_among words t && not (is_given (symbol_of t.kind t.text) fs)) (symbol_of t.kind t.text) f e
 
 tag_says : (v : Scope) → ClassSays v tag_of
 unfolding tag_of
-tag_says v t f e = simple v t (is_among terms.tags t) _ f e
+tag_says v before t f e = simple v before t (is_among terms.tags t) _ f e
 
-from_limit : (v : Scope) (t : Spelled) (least : ℕ) (o : Option ℕ) (f : Fault) → limit_from least o ≡ Err f → (f ≡ fault.Syntax) ⊎ IsCause v f t
-from_limit v t least None f e = inl (sym (same_err fault.Syntax f e))
-from_limit v t least (Some n) f e = simple v t (nat_le least n) n f e
+from_limit : (v : Scope) (before : List Spelled) (t : Spelled) (least : ℕ) (o : Option ℕ) (f : Fault) → limit_from least o ≡ Err f → Why v before t f
+from_limit v before t least None f e = inl (sym (same_err fault.Syntax f e))
+from_limit v before t least (Some n) f e = simple v before t (nat_le least n) n f e
 
 pub limit_says : (v : Scope) (least : ℕ) → ClassSays v (limit_of least)
 unfolding limit_of
-limit_says v least t f e = tested v t (is_symbol symbol.Integer t) (limit_from least (count_of t.text)) f (λ b i. from_limit v t least (count_of t.text) f i) e
+limit_says v least before t f e = tested v before t (is_symbol symbol.Integer t) (limit_from least (count_of t.text)) f (λ b i. from_limit v before t least (count_of t.text) f i) e
 
 -- tokens that stand for the same in every language: an undeclared prefix alone is no fault of syntax
 abbrev Plain : Scope → Spelled → {A : Type 0} → Result A any.Fault → Type 0
 Plain v t {A = A} c = (f : any.Fault) → c ≡ Err f → (f ≡ plain.Syntax) ⊎ ((f ≡ plain.Prefix) × ((is_among prefixed t ≡ true) × (v.prefixes (prefix_of t) ≡ None)))
 
-raised_by : {A : Type 0} (v : Scope) (t : Spelled) (c : Result A any.Fault) (f : Fault) → Plain v t c → raised c ≡ Err f → (f ≡ fault.Syntax) ⊎ IsCause v f t
-raised_by v t (Ok x) f h e = absurd (ok_err x f e)
-raised_by v t (Err g) f h e = by (h g refl)
+raised_by : {A : Type 0} (v : Scope) (before : List Spelled) (t : Spelled) (c : Result A any.Fault) (f : Fault) → Plain v t c → raised c ≡ Err f → Why v before t f
+raised_by v before t (Ok x) f h e = absurd (ok_err x f e)
+raised_by v before t (Err g) f h e = by (h g refl)
   where
     is : fault_by g ≡ f
     is = same_err (fault_by g) f e
 
-    by : (g ≡ plain.Syntax) ⊎ ((g ≡ plain.Prefix) × ((is_among prefixed t ≡ true) × (v.prefixes (prefix_of t) ≡ None))) → (f ≡ fault.Syntax) ⊎ IsCause v f t
+    by : (g ≡ plain.Syntax) ⊎ ((g ≡ plain.Prefix) × ((is_among prefixed t ≡ true) × (v.prefixes (prefix_of t) ≡ None))) → Why v before t f
     by (inl s) = inl (sym is ∙ ap fault_by s)
-    by (inr (s, cause)) = inr (subst (λ (q : Fault). IsCause v q t) (sym (ap fault_by s) ∙ is) cause)
+    by (inr (s, cause)) = inr (subst (λ (q : Fault). IsCause v q before t) (sym (ap fault_by s) ∙ is) cause)
 
 plain_err : {A : Type 0} (f g : any.Fault) → Path (Result A any.Fault) (Err f) (Err g) → f ≡ g
 plain_err f g e = cc
@@ -227,37 +251,42 @@ plain_typed : (v : Scope) (lex : List ℕ) (t : Spelled) → Plain v t (terms.ty
 unfolding terms.typed_of
 plain_typed v lex t = types v t lex (terms.iri_of false v t) (plain_iri v t)
 
-pub iri_ref_says : (v : Scope) → ClassSays v (iri_ref_of v)
-unfolding iri_ref_of
-iri_ref_says v t f e = raised_by v t (terms.iri_ref_of false v t) f (plain_ref v t) e
+ref_fault : (v : Scope) (b : Bool) (o : Option (List ℕ)) (f : Fault) → raised (cond b (terms.resolved false v o) (Err plain.Syntax)) ≡ Err f → f ≡ fault.Syntax
+ref_fault v true None f e = sym (same_err fault.Syntax f e)
+ref_fault v true (Some text) f e = absurd (ok_err _ f e)
+ref_fault v false o f e = sym (same_err fault.Syntax f e)
+
+pub iri_ref_fault : (v : Scope) (t : Spelled) (f : Fault) → iri_ref_of v t ≡ Err f → f ≡ fault.Syntax
+unfolding iri_ref_of terms.iri_ref_of
+iri_ref_fault v t f e = ref_fault v (is_symbol symbol.IriRef t) (text_of t) f e
 
 pub iri_says : (v : Scope) → ClassSays v (iri_of v)
 unfolding iri_of
-iri_says v t f e = raised_by v t (terms.iri_of false v t) f (plain_iri v t) e
+iri_says v before t f e = raised_by v before t (terms.iri_of false v t) f (plain_iri v t) e
 
 at_name_says : (v : Scope) → ClassSays v (at_name_of v)
 unfolding at_name_of
-at_name_says v t f e = raised_by v t (terms.at_name_of false v t) f (plain_at v t) e
+at_name_says v before t f e = raised_by v before t (terms.at_name_of false v t) f (plain_at v t) e
 
-label_says : (v : Scope) → ClassSays v label_of
+pub label_says : (v : Scope) → ClassSays v label_of
 unfolding label_of
-label_says v t f e = raised_by v t (terms.label_of false t) f (plain_label v t) e
+label_says v before t f e = raised_by v before t (terms.label_of false t) f (plain_label v t) e
 
 string_says : (v : Scope) → ClassSays v string_of
 unfolding string_of
-string_says v t f e = raised_by v t (terms.string_of false t) f (plain_string v t) e
+string_says v before t f e = raised_by v before t (terms.string_of false t) f (plain_string v t) e
 
 typed_says : (v : Scope) (lex : List ℕ) → ClassSays v (typed_of v lex)
 unfolding typed_of
-typed_says v lex t f e = raised_by v t (terms.typed_of false v lex t) f (plain_typed v lex t) e
+typed_says v lex before t f e = raised_by v before t (terms.typed_of false v lex t) f (plain_typed v lex t) e
 
 tagged_says : (v : Scope) (lex : List ℕ) → ClassSays v (tagged_of lex)
 unfolding tagged_of
-tagged_says v lex t f e = raised_by v t (terms.tagged_of lex t) f (plain_tagged v lex t) e
+tagged_says v lex before t f e = raised_by v before t (terms.tagged_of lex t) f (plain_tagged v lex t) e
 
 shorthand_says : (v : Scope) → ClassSays v shorthand_of
 unfolding shorthand_of
-shorthand_says v t f e = raised_by v t (terms.shorthand_of false t) f (plain_shorthand v t) e
+shorthand_says v before t f e = raised_by v before t (terms.shorthand_of false t) f (plain_shorthand v t) e
 
 -- the numbers of facets
 whole_says : (v : Scope) (t : Spelled) (minus : Bool) (o : Option ℕ) (f : Fault) → whole_number minus o ≡ Err f → f ≡ fault.FacetNumber
@@ -276,62 +305,118 @@ number_by : (v : Scope) (t : Spelled) (f : Fault) → facet_number_of t ≡ Err 
 unfolding facet_number_of
 number_by v t f e = number_test (is_symbol symbol.Integer t) _ f (λ k. whole_says v t (is_minus t.text) (count_of (unsigned t.text)) f k) e
 
-number_says : (v : Scope) → ClassSays v facet_number_of
-number_says v t f e = elim (number_by v t f e) [
-  | inl s ↦ inl s
-  | inr is ↦ inr (subst (λ (q : Fault). IsCause v q t) (sym is) (inl (e ∙ ap (λ (q : Fault). Err q) is)))
-]
+made_err : {A : Type 0} (make : A → Facet) (c : Result A Fault) (f : Fault) → made_by make c ≡ Err f → c ≡ Err f
+made_err make (Ok x) f e = absurd (ok_err (make x) f e)
+made_err make (Err g) f e = ap (λ (q : Fault). Err q) (same_err g f e)
 
-made_says : {A : Type 0} (make : A → Facet) (c : Result A Fault) (f : Fault) → made_by make c ≡ Err f → c ≡ Err f
-made_says make (Ok x) f e = absurd (ok_err (make x) f e)
-made_says make (Err g) f e = ap (λ (q : Fault). Err q) (same_err g f e)
-
-counted_says : (v : Scope) (s : Symbol) → ClassSays v (counted_of s)
-counted_says v s t f e = number_says v t f (made_says (counted_facet s) (facet_number_of t) f e)
+counted_says : (v : Scope) (before : List Spelled) (w : Spelled) → EndsWith counted_words before w → (s : Symbol) (t : Spelled) (f : Fault) → counted_of s t ≡ Err f → Why v before t f
+counted_says v before w ends s t f e =
+    let c = made_err (counted_facet s) (facet_number_of t) f e in
+    elim (number_by v t f c) [
+      | inl is ↦ inl is
+      | inr is ↦ inr (subst (λ (q : Fault). IsCause v q before t) (sym is) (inl (w, ends, c ∙ ap (λ (q : Fault). Err q) is)))
+    ]
 
 ranged_says : (v : Scope) (s : Symbol) → ClassSays v (ranged_of s)
 unfolding range_number_of
-ranged_says v s t f e = simple v t (is_among numbers t) (chars t.text) f (made_says (range_facet s) (range_number_of t) f e)
+ranged_says v s before t f e = simple v before t (is_among numbers t) (chars t.text) f (made_err (range_facet s) (range_number_of t) f e)
 
-by_pattern : (v : Scope) (t : Spelled) (o : Option Parts) (f : Fault) → pattern_by o ≡ Err f → (f ≡ fault.Syntax) ⊎ IsCause v f t
-by_pattern v t None f e = inl (sym (same_err fault.Syntax f e))
-by_pattern v t (Some x) f e = absurd (ok_err _ f e)
+by_pattern : (v : Scope) (before : List Spelled) (t : Spelled) (o : Option Parts) (f : Fault) → pattern_by o ≡ Err f → Why v before t f
+by_pattern v before t None f e = inl (sym (same_err fault.Syntax f e))
+by_pattern v before t (Some x) f e = absurd (ok_err _ f e)
 
 pattern_says : (v : Scope) (fs : List Facet) → ClassSays v (pattern_of fs)
 unfolding pattern_of
-pattern_says v fs t f e = tested v t (is_symbol symbol.Pattern t && not (is_given symbol.Pattern fs)) _ f (λ b i. by_pattern v t _ f i) e
+pattern_says v fs before t f e = tested v before t (is_symbol symbol.Pattern t && not (is_given symbol.Pattern fs)) _ f (λ b i. by_pattern v before t _ f i) e
 
 -- a facet that is judged
-pattern_refused : (v : Scope) (t : Spelled) (bounded : Bool) (datatype : Option (List ℕ)) (g : Facet) (e : PatternError) (f : Fault) → IsFacetAt t g → Causes datatype (g ∷ []) (errors.Pattern e) → refused_pattern bounded g e ≡ Err f → IsCause v f t
-pattern_refused v t true datatype g e f at c is = subst (λ (q : Fault). IsCause v q t) (same_err (fault.Pattern e) f is) (g, at, c.1.1)
-pattern_refused v t false datatype g refusal.Large f at c is = absurd (ok_err g f is)
-pattern_refused v t false datatype g refusal.Flag f at c is = subst (λ (q : Fault). IsCause v q t) (same_err (fault.Pattern refusal.Flag) f is) (g, at, c.1.1)
-pattern_refused v t false datatype g refusal.Syntax f at c is = subst (λ (q : Fault). IsCause v q t) (same_err (fault.Pattern refusal.Syntax) f is) (g, at, c.1.1)
-pattern_refused v t false datatype g refusal.Memory f at c is = subst (λ (q : Fault). IsCause v q t) (same_err (fault.Pattern refusal.Memory) f is) (g, at, c.1.1)
+module _ (v : Scope) (before : List Spelled) (t : Spelled) (datatype : Option (List ℕ)) (d : IsDatatype v before datatype) where
+  pattern_refused : (bounded : Bool) (g : Facet) (e : PatternError) (f : Fault) → IsFacetAt before t g → Causes datatype (g ∷ []) (errors.Pattern e) → refused_pattern bounded g e ≡ Err f → IsCause v f before t
+  pattern_refused true g e f at c is = subst (λ (q : Fault). IsCause v q before t) (same_err (fault.Pattern e) f is) (g, at, c.1.1)
+  pattern_refused false g refusal.Large f at c is = absurd (ok_err g f is)
+  pattern_refused false g refusal.Flag f at c is = subst (λ (q : Fault). IsCause v q before t) (same_err (fault.Pattern refusal.Flag) f is) (g, at, c.1.1)
+  pattern_refused false g refusal.Syntax f at c is = subst (λ (q : Fault). IsCause v q before t) (same_err (fault.Pattern refusal.Syntax) f is) (g, at, c.1.1)
+  pattern_refused false g refusal.Memory f at c is = subst (λ (q : Fault). IsCause v q before t) (same_err (fault.Pattern refusal.Memory) f is) (g, at, c.1.1)
 
-facet_refused : (v : Scope) (t : Spelled) (bounded : Bool) (datatype : Option (List ℕ)) (g : Facet) (e : MakeError) (f : Fault) → IsDatatype v datatype → IsFacetAt t g → Causes datatype (g ∷ []) e → refused_by bounded g e ≡ Err f
-    → (f ≡ fault.Syntax) ⊎ IsCause v f t
-facet_refused v t bounded datatype g errors.FloatFacet f d at c is = inr (subst (λ (q : Fault). IsCause v q t) (same_err fault.FloatFacet f is) (datatype, g, d, at, c))
-facet_refused v t bounded datatype g errors.FacetNumber f d at c is = inr (subst (λ (q : Fault). IsCause v q t) (same_err fault.FacetNumber f is) (inr (g, at, c.1)))
-facet_refused v t bounded datatype g (errors.Pattern e) f d at c is = inr (pattern_refused v t bounded datatype g e f at c is)
-facet_refused v t bounded datatype g errors.Memory f d at c is = inl (sym (same_err fault.Syntax f is))
+  facet_refused : (bounded : Bool) (g : Facet) (e : MakeError) (f : Fault) → IsFacetAt before t g → Causes datatype (g ∷ []) e → refused_by bounded g e ≡ Err f → Why v before t f
+  facet_refused bounded g errors.FloatFacet f at c is = inr (subst (λ (q : Fault). IsCause v q before t) (same_err fault.FloatFacet f is) (datatype, g, d, at, c))
+  facet_refused bounded g errors.FacetNumber f at c is = inr (subst (λ (q : Fault). IsCause v q before t) (same_err fault.FacetNumber f is) (inr (g, at, c.1)))
+  facet_refused bounded g (errors.Pattern e) f at c is = inr (pattern_refused bounded g e f at c is)
+  facet_refused bounded g errors.Memory f at c is = inl (sym (same_err fault.Syntax f is))
 
-judged_says : (v : Scope) (t : Spelled) (bounded : Bool) (datatype : Option (List ℕ)) (g : Facet) (f : Fault) (j : Judged (alone datatype g)) → IsDatatype v datatype → IsFacetAt t g → judged_by bounded datatype g j ≡ Err f
-    → (f ≡ fault.Syntax) ⊎ IsCause v f t
-judged_says v t bounded datatype g f (inl s) d at is = absurd (ok_err g f is)
-judged_says v t bounded datatype g f (inr (e, c, n)) d at is = facet_refused v t bounded datatype g e f d at c is
+  judged_says : (bounded : Bool) (g : Facet) (f : Fault) (j : Judged (alone datatype g)) → IsFacetAt before t g → judged_by bounded datatype g j ≡ Err f → Why v before t f
+  judged_says bounded g f (inl s) at is = absurd (ok_err g f is)
+  judged_says bounded g f (inr (e, c, n)) at is = facet_refused bounded g e f at c is
 
-admitted_says : (v : Scope) (t : Spelled) (bounded : Bool) (datatype : Option (List ℕ)) (c : Result Facet Fault) (f : Fault) → IsDatatype v datatype → ((g : Facet) → c ≡ Ok g → IsFacetAt t g)
-    → (c ≡ Err f → (f ≡ fault.Syntax) ⊎ IsCause v f t) → admitted bounded datatype c ≡ Err f → (f ≡ fault.Syntax) ⊎ IsCause v f t
-unfolding judged_facet
-admitted_says v t bounded datatype (Ok g) f d at h is = judged_says v t bounded datatype g f (judged (alone datatype g)) d (at g refl) is
-admitted_says v t bounded datatype (Err e) f d at h is = h (ap (λ (q : Fault). Err q) (same_err e f is))
+  admitted_says : (bounded : Bool) (c : Result Facet Fault) (f : Fault) → ((g : Facet) → c ≡ Ok g → IsFacetAt before t g) → (c ≡ Err f → Why v before t f) → admitted bounded datatype c ≡ Err f → Why v before t f
+  unfolding judged_facet
+  admitted_says bounded (Ok g) f at h is = judged_says bounded g f (judged (alone datatype g)) (at g refl) is
+  admitted_says bounded (Err e) f at h is = h (ap (λ (q : Fault). Err q) (same_err e f is))
 
-pub says_a_facet : (v : Scope) (bounded : Bool) (datatype : Option (List ℕ)) → IsDatatype v datatype → (class : Spelled → Result Facet Fault) → ((t : Spelled) (g : Facet) → class t ≡ Ok g → IsFacetAt t g) → ClassSays v class → FlatClass class
-    → (fs : List Facet) → Says v (a_facet bounded datatype class fs)
+-- behind facets the datatype is the same
+datatype_behind : (v : Scope) (before facets : List Spelled) (datatype : Option (List ℕ)) → IsDatatype v before datatype → AreAll facet_symbols facets → IsDatatype v (before ++ facets) datatype
+datatype_behind v before facets None d h = tt
+datatype_behind v before facets (Some i) d h = record {
+  front = d.front;
+  t = d.t;
+  facets = d.facets ++ facets;
+  parts = ap (λ (ts : List Spelled). ts ++ facets) d.parts ∙ append_assoc d.front (d.t ∷ d.facets) facets;
+  are_facets = all_append (λ t. is_among facet_symbols t ≡ true) d.facets facets d.are_facets h;
+  iri = d.iri;
+  stands_for = d.stands_for;
+  is = d.is;
+}
+
+-- where the datatype stands before it, a reader passes tokens of facets alone, and at a fault stands its cause
+pub record SaysFacets (v : Scope) (datatype : Option (List ℕ)) {A : Type 0} (p : Reader Spelled Fault A) : Type 0 where
+  pub tells : (before : List Spelled) (ts : Ahead Spelled) → IsDatatype v before datatype → Tells p (λ x r. OfFacets ts r) (Fails v before ts) ts
+
+-- behind some of them
+facets_behind_them : {A : Type 0} (v : Scope) (datatype : Option (List ℕ)) (p : Reader Spelled Fault A) → SaysFacets v datatype p → (before : List Spelled) (ts r : Ahead Spelled) → IsDatatype v before datatype → OfFacets ts r
+    → Tells p (λ x q. OfFacets ts q) (Fails v before ts) r
+facets_behind_them v datatype p a before ts r d (b, is, h) =
+    tells_so (λ x q k. facets_then ts r q (b, is, h) k) (λ f q k. fails_behind v before b ts r f q is (facets_are_flat b h) k) (a.tells (before ++ b) r (datatype_behind v before b datatype d h))
+
+facets_bind : {A B : Type 0} {v : Scope} {datatype : Option (List ℕ)} {p : Reader Spelled Fault A} {f : A → Reader Spelled Fault B} → SaysFacets v datatype p → ((x : A) → SaysFacets v datatype (f x)) → SaysFacets v datatype (p >>= f)
+facets_bind {v = v} {datatype = datatype} {f = f} a h = record { tells = λ before ts d. tells_bind (a.tells before ts d) (λ x r k. facets_behind_them v datatype (f x) (h x) before ts r d k) }
+
+facets_either : {A : Type 0} {v : Scope} {datatype : Option (List ℕ)} {class : Spelled → Bool} {p q : Reader Spelled Fault A} → SaysFacets v datatype p → SaysFacets v datatype q → SaysFacets v datatype (either class p q)
+facets_either a h = record { tells = λ before ts d. tells_either (λ _. a.tells before ts d) (λ _. h.tells before ts d) }
+
+facets_loop : {S : Type 0} {v : Scope} {datatype : Option (List ℕ)} (class : Spelled → Bool) (step : S → Reader Spelled Fault S) → ((s : S) → SaysFacets v datatype (step s)) → (s : S) → SaysFacets v datatype (loop class step s)
+facets_loop {v = v} {datatype = datatype} class step h s = record {
+  tells = λ before ts d. tells_loop class step (λ x r. OfFacets ts r) (Fails v before ts) (λ x r k. facets_behind_them v datatype (step x) (h x) before ts r d k) s ts ([], refl, tt);
+}
+
+-- without a datatype
+no_datatype : {A : Type 0} {v : Scope} {p : Reader Spelled Fault A} → SaysFacets v None p → Says v p
+no_datatype a = record { tells = λ before ts. tells_so (λ x r k. (k.0, k.1, facets_are_flat k.0 k.2)) (λ f r k. k) (a.tells before ts tt) }
+
+-- a token that is a facet
+a_facet_tells : (v : Scope) (bounded : Bool) (datatype : Option (List ℕ)) (before : List Spelled) (ts : Ahead Spelled) → IsDatatype v before datatype → (class : Spelled → Result Facet Fault) → ((t : Spelled) (g : Facet) → class t ≡ Ok g → IsFacetAt before t g)
+    → ((t : Spelled) (f : Fault) → class t ≡ Err f → Why v before t f) → FacetClass class → (fs : List Facet) → Tells (a_facet bounded datatype class fs) (λ x r. OfFacets ts r) (Fails v before ts) ts
 unfolding a_facet
-says_a_facet v bounded datatype d class at h k fs =
-    says_bind _ _ (says_one (λ t f is. admitted_says v t bounded datatype (class t) f d (λ g e. at t g e) (λ e. h t f e) is) (admitted_flat bounded datatype class k)) (λ f. says_give v _)
+a_facet_tells v bounded datatype before ts d class at h k fs =
+    tells_bind {Q = λ g r. OfFacets ts r} (tells_one (syntax_here v before ts) (λ t rest g is e. (t ∷ [], is, (admitted_class bounded datatype class k t g e, tt)))
+    (λ t rest f is e. fails_at v before ts rest t f is (admitted_says v before t datatype d bounded (class t) f (λ g i. at t g i) (λ i. h t f i) e)))
+    (λ g r q. tells_give q)
+
+-- the word of a facet and its number
+word_tells : (v : Scope) (datatype : Option (List ℕ)) (words : List Symbol) → within words facet_symbols ≡ true → (fs : List Facet) (number : Symbol → Reader Spelled Fault (List Facet))
+    → ((before : List Spelled) (w : Spelled) (ts : Ahead Spelled) → IsDatatype v before datatype → EndsWith words before w → Tells (number (symbol_of w.kind w.text)) (λ x r. OfFacets ts r) (Fails v before ts) ts)
+    → SaysFacets v datatype (one fault.Syntax (fresh_word words fs) >>= number)
+word_tells v datatype words among fs number h = record {
+  tells = λ before ts d. tells_bind {Q = λ s r. (w : Spelled) × (ts ≡ token w r) × (is_among words w ≡ true) × (symbol_of w.kind w.text ≡ s)}
+      (tells_class v before ts (fresh_says v words fs) (λ t rest s is e. let f = fresh_is words fs t s e in (t, is, f.0, f.1)))
+      (λ s r (w, is, i, same).
+      let facet : AreAll facet_symbols (w ∷ []) = (nexts words facet_symbols (token w finished) among i, tt) in
+      subst (λ (k : Symbol). Tells (number k) (λ x q. OfFacets ts q) (Fails v before ts) r) same
+      (tells_so (λ x q k. facets_then ts r q (w ∷ [], is, facet) k) (λ f q k. fails_behind v before (w ∷ []) ts r f q is (facets_are_flat (w ∷ []) facet) k)
+      (h (before ++ w ∷ []) w r (datatype_behind v before (w ∷ []) datatype d facet) (before, refl, i))));
+}
+
+ends_among : (words others : List Symbol) (before : List Spelled) (w : Spelled) → within words others ≡ true → EndsWith words before w → EndsWith others before w
+ends_among words others before w h (front, parts, i) = (front, parts, nexts words others (token w finished) h i)
 
 pub says_iri : (v : Scope) → Says v (iri v)
 unfolding iri
@@ -378,37 +463,45 @@ pub says_reference : (v : Scope) → Says v (reference v)
 unfolding reference
 says_reference v = says_either _ _ _ (says_bind _ _ (says_one (at_name_says v) (at_name_flat v)) (λ i. says_give v _)) (says_bind _ _ (says_one (mark_says v _) (mark_flat _ refl)) (λ _. says_bind _ _ (says_label v) (λ l. says_give v _)))
 
-pub says_counted : (v : Scope) (bounded : Bool) (datatype : Option (List ℕ)) (is : IsDatatype v datatype) (w : List Symbol) (o : outside w nesting ≡ true) (fs : List Facet) → Says v (counted bounded datatype w fs)
-unfolding counted
-says_counted v bounded datatype is w o fs = says_bind _ _ (says_one (fresh_says v w fs) (fresh_flat w fs o)) (λ s. says_a_facet v bounded datatype is (counted_of s) (λ t f e. inr (s, inl e)) (λ t f e. counted_says v s t f e) (counted_flat s) fs)
+module _ (v : Scope) (bounded : Bool) (datatype : Option (List ℕ)) where
+  says_counted : (words : List Symbol) → within words facet_symbols ≡ true → within words counted_words ≡ true → (fs : List Facet) → SaysFacets v datatype (counted bounded datatype words fs)
+  unfolding counted
+  says_counted words among are fs = word_tells v datatype words among fs (λ s. a_facet bounded datatype (counted_of s) fs) (λ before w ts d ends.
+      let s = symbol_of w.kind w.text in let counts = ends_among words counted_words before w are ends in
+      a_facet_tells v bounded datatype before ts d (counted_of s) (λ t g e. inr (w, inl (counts, e))) (λ t f e. counted_says v before w counts s t f e) (counted_class s) fs)
 
-pub says_ranged : (v : Scope) (bounded : Bool) (datatype : Option (List ℕ)) (is : IsDatatype v datatype) (fs : List Facet) → Says v (ranged bounded datatype fs)
-unfolding ranged
-says_ranged v bounded datatype is fs = says_bind _ _ (says_one (fresh_says v ranges fs) (fresh_flat ranges fs refl)) (λ s. says_a_facet v bounded datatype is (ranged_of s) (λ t f e. inr (s, inr e)) (λ t f e. ranged_says v s t f e) (ranged_flat s) fs)
+  says_ranged : (fs : List Facet) → SaysFacets v datatype (ranged bounded datatype fs)
+  unfolding ranged
+  says_ranged fs = word_tells v datatype ranges refl fs (λ s. a_facet bounded datatype (ranged_of s) fs) (λ before w ts d ends.
+      let s = symbol_of w.kind w.text in
+      a_facet_tells v bounded datatype before ts d (ranged_of s) (λ t g e. inr (w, inr (ends, e))) (λ t f e. ranged_says v s before t f e) (ranged_class s) fs)
 
-pub says_text_facet : (v : Scope) (bounded : Bool) (datatype : Option (List ℕ)) (is : IsDatatype v datatype) (fs : List Facet) → Says v (text_facet bounded datatype fs)
-unfolding text_facet
-says_text_facet v bounded datatype is fs = says_either _ _ _ (says_a_facet v bounded datatype is (pattern_of fs) (λ t f e. inl (fs, e)) (λ t f e. pattern_says v fs t f e) (pattern_flat fs) fs) (says_counted v bounded datatype is lengths refl fs)
+  says_pattern : (fs : List Facet) → SaysFacets v datatype (a_facet bounded datatype (pattern_of fs) fs)
+  says_pattern fs = record { tells = λ before ts d. a_facet_tells v bounded datatype before ts d (pattern_of fs) (λ t g e. inl (fs, e)) (λ t f e. pattern_says v fs before t f e) (pattern_class fs) fs }
 
-pub says_number_facet : (v : Scope) (bounded : Bool) (datatype : Option (List ℕ)) (is : IsDatatype v datatype) (fs : List Facet) → Says v (number_facet bounded datatype fs)
-unfolding number_facet
-says_number_facet v bounded datatype is fs = says_either _ _ _ (says_counted v bounded datatype is digit_counts refl fs) (says_ranged v bounded datatype is fs)
+  says_text_facet : (fs : List Facet) → SaysFacets v datatype (text_facet bounded datatype fs)
+  unfolding text_facet
+  says_text_facet fs = facets_either (says_pattern fs) (says_counted lengths refl refl fs)
 
-pub says_facet : (v : Scope) (bounded : Bool) (datatype : Option (List ℕ)) (is : IsDatatype v datatype) (fs : List Facet) → Says v (facet bounded datatype fs)
-unfolding facet
-says_facet v bounded datatype is fs = says_either _ _ _ (says_text_facet v bounded datatype is fs) (says_number_facet v bounded datatype is fs)
+  says_number_facet : (fs : List Facet) → SaysFacets v datatype (number_facet bounded datatype fs)
+  unfolding number_facet
+  says_number_facet fs = facets_either (says_counted digit_counts refl refl fs) (says_ranged fs)
 
-pub says_text_facets_behind : (v : Scope) (bounded : Bool) (datatype : Option (List ℕ)) (is : IsDatatype v datatype) (fs : List Facet) → Says v (text_facets_behind bounded datatype fs)
-unfolding text_facets_behind
-says_text_facets_behind v bounded datatype is fs = says_loop _ _ (says_text_facet v bounded datatype is) _
+  says_facet : (fs : List Facet) → SaysFacets v datatype (facet bounded datatype fs)
+  unfolding facet
+  says_facet fs = facets_either (says_text_facet fs) (says_number_facet fs)
 
-pub says_number_facets_behind : (v : Scope) (bounded : Bool) (datatype : Option (List ℕ)) (is : IsDatatype v datatype) (fs : List Facet) → Says v (number_facets_behind bounded datatype fs)
-unfolding number_facets_behind
-says_number_facets_behind v bounded datatype is fs = says_loop _ _ (says_number_facet v bounded datatype is) _
+  says_text_facets_behind : (fs : List Facet) → SaysFacets v datatype (text_facets_behind bounded datatype fs)
+  unfolding text_facets_behind
+  says_text_facets_behind fs = facets_loop _ _ says_text_facet fs
 
-pub says_facets_behind : (v : Scope) (bounded : Bool) (datatype : Option (List ℕ)) (is : IsDatatype v datatype) (fs : List Facet) → Says v (facets_behind bounded datatype fs)
-unfolding facets_behind
-says_facets_behind v bounded datatype is fs = says_loop _ _ (says_facet v bounded datatype is) _
+  says_number_facets_behind : (fs : List Facet) → SaysFacets v datatype (number_facets_behind bounded datatype fs)
+  unfolding number_facets_behind
+  says_number_facets_behind fs = facets_loop _ _ says_number_facet fs
+
+  says_facets_behind : (fs : List Facet) → SaysFacets v datatype (facets_behind bounded datatype fs)
+  unfolding facets_behind
+  says_facets_behind fs = facets_loop _ _ says_facet fs
 
 pub says_lexical_form : (v : Scope) → Says v (lexical_form v)
 unfolding lexical_form
@@ -476,11 +569,11 @@ says_value_set v = says_bind _ _ (says_one (mark_says v _) (mark_flat _ refl)) (
 
 pub says_of_kind : (bounded : Bool) (v : Scope) → Says v (of_kind bounded v)
 unfolding of_kind
-says_of_kind bounded v = says_bind _ _ (says_one (word_says v node_kinds) (word_flat node_kinds refl)) (λ s. says_bind _ _ (says_text_facets_behind v bounded None (inl refl) _) (λ fs. says_give v _))
+says_of_kind bounded v = says_bind _ _ (says_one (word_says v node_kinds) (word_flat node_kinds refl)) (λ s. says_bind _ _ (no_datatype (says_text_facets_behind v bounded None _)) (λ fs. says_give v _))
 
 pub says_of_texts : (bounded : Bool) (v : Scope) → Says v (of_texts bounded v)
 unfolding of_texts
-says_of_texts bounded v = says_bind _ _ (says_text_facet v bounded None (inl refl) _) (λ f. says_bind _ _ (says_text_facets_behind v bounded None (inl refl) _) (λ fs. says_give v _))
+says_of_texts bounded v = says_bind _ _ (no_datatype (says_text_facet v bounded None _)) (λ f. says_bind _ _ (no_datatype (says_text_facets_behind v bounded None _)) (λ fs. says_give v _))
 
 pub says_non_literal : (bounded : Bool) (v : Scope) → Says v (non_literal bounded v)
 unfolding non_literal
@@ -488,19 +581,28 @@ says_non_literal bounded v = says_either _ _ _ (says_of_kind bounded v) (says_of
 
 pub says_any_literal : (bounded : Bool) (v : Scope) → Says v (any_literal bounded v)
 unfolding any_literal
-says_any_literal bounded v = says_bind _ _ (says_one (mark_says v _) (mark_flat _ refl)) (λ _. says_bind _ _ (says_facets_behind v bounded None (inl refl) _) (λ fs. says_give v _))
+says_any_literal bounded v = says_bind _ _ (says_one (mark_says v _) (mark_flat _ refl)) (λ _. says_bind _ _ (no_datatype (says_facets_behind v bounded None _)) (λ fs. says_give v _))
 
 pub says_of_values : (bounded : Bool) (v : Scope) → Says v (of_values bounded v)
 unfolding of_values
-says_of_values bounded v = says_bind _ _ (says_value_set v) (λ i. says_bind _ _ (says_facets_behind v bounded None (inl refl) _) (λ fs. says_give v _))
+says_of_values bounded v = says_bind _ _ (says_value_set v) (λ i. says_bind _ _ (no_datatype (says_facets_behind v bounded None _)) (λ fs. says_give v _))
 
 pub says_of_numbers : (bounded : Bool) (v : Scope) → Says v (of_numbers bounded v)
 unfolding of_numbers
-says_of_numbers bounded v = says_bind _ _ (says_number_facet v bounded None (inl refl) _) (λ f. says_bind _ _ (says_number_facets_behind v bounded None (inl refl) _) (λ fs. says_give v _))
+says_of_numbers bounded v = says_bind _ _ (no_datatype (says_number_facet v bounded None _)) (λ f. says_bind _ _ (no_datatype (says_number_facets_behind v bounded None _)) (λ fs. says_give v _))
 
 pub says_of_datatype : (bounded : Bool) (v : Scope) → Says v (of_datatype bounded v)
 unfolding of_datatype iri
-says_of_datatype bounded v = says_bind_token (iri_says v) (iri_flat v) (λ t i e. says_bind _ _ (says_facets_behind v bounded (Some (chars i)) (inr (t, i, e, refl)) _) (λ fs. says_give v _))
+says_of_datatype bounded v = record {
+  tells = λ before ts. tells_bind {Q = λ i r. (t : Spelled) × (ts ≡ token t r) × (iri_of v t ≡ Ok i)} (tells_class v before ts (iri_says v) (λ t rest i is e. (t, is, e)))
+      (λ i r (t, is, e).
+      let flat : AreNone nesting (t ∷ []) = (iri_flat v t i e, tt) in
+      let datatype : IsDatatypeOf v (before ++ t ∷ []) (chars i) = record { front = before; t = t; facets = []; parts = refl; are_facets = tt; iri = i; stands_for = e; is = refl } in
+      tells_bind {Q = λ fs q. Flat ts q}
+      (tells_so (λ fs q k. flat_then ts r q (t ∷ [], is, flat) (k.0, k.1, facets_are_flat k.0 k.2)) (λ f q k. fails_behind v before (t ∷ []) ts r f q is flat k)
+      ((says_facets_behind v bounded (Some (chars i)) []).tells (before ++ t ∷ []) r datatype))
+      (λ fs q k. tells_give k));
+}
 
 pub says_literal_constraint : (bounded : Bool) (v : Scope) → Says v (literal_constraint bounded v)
 unfolding literal_constraint

@@ -137,13 +137,13 @@ module _ (v : Scope) where
   ValueSet xs = Mark symbol.OpenBracket ⨾ Many (Adds OneValue) [] xs ⨾ Mark symbol.CloseBracket
 
 module _ (bounded : Bool) (v : Scope) where
-  -- nonlit: a kind but LITERAL with facets on texts, or such facets alone
+  -- nonLitNodeConstraint: a kind but LITERAL with facets on texts, or such facets alone
   abbrev pub NonLiteral : ShapeExpr → Phrase Spelled
   NonLiteral e ts r =
       ((s : Symbol) × (fs : List Facet) × (node (constraint (Some (kind_by s)) None fs None) ≡ e) × (Is (of_word node_kinds) s ⨾ Many (TextFacet bounded None) [] fs) ts r)
       ⊎ ((fs : List Facet) × (gs : List Facet) × (node (constraint None None gs None) ≡ e) × (TextFacet bounded None [] fs ⨾ Many (TextFacet bounded None) fs gs) ts r)
 
-  -- lit: LITERAL, a datatype or a value set with facets, or facets on numbers alone
+  -- litNodeConstraint: LITERAL, a datatype or a value set with facets, or facets on numbers alone
   abbrev pub LiteralConstraint : ShapeExpr → Phrase Spelled
   LiteralConstraint e ts r =
       ((fs : List Facet) × (node (constraint (Some kind4.Literal) None fs None) ≡ e) × (Mark symbol.Literal ⨾ Many (AnyFacet bounded None) [] fs) ts r)

@@ -4,6 +4,8 @@ use Rattle.rdf_cursor.specs.Ahead.{Ahead}
 use Rattle.rdf_cursor.specs.Readers.{Answer, Reader}
 use Rattle.rdf_cursor.specs.declared.stops.Fault as any
 use Rattle.rdf_cursor.specs.declared.stops.Fault.TheVariants as plain
+use Rattle.rdf_cursor.specs.declared.stops.Stop as any_stop
+use Rattle.rdf_cursor.specs.declared.stops.Stop.TheVariants as plain_stop
 use Rattle.rdf_lex.specs.Tokens.{Spelled}
 use Rattle.shexc_constraints.specs.declared.faults.Fault.{Fault}
 use Rattle.shexc_constraints.specs.declared.faults.Fault.TheVariants.{Syntax, Prefix, Deep}
@@ -20,6 +22,11 @@ fault_by plain.Prefix = Prefix
 fault_by plain.Deep = Deep
 fault_by plain.Long = Syntax
 fault_by plain.Full = Syntax
+
+-- the stop that a stop in any language is
+abbrev pub stop_by : any_stop.Stop → Stop
+stop_by plain_stop.Memory = stop.Memory
+stop_by (plain_stop.Fault f) = stop.Fault (fault_by f)
 
 abbrev pub raised : {A : Type 0} → Result A any.Fault → Result A Fault
 raised (Ok x) = Ok x

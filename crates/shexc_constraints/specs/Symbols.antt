@@ -63,8 +63,11 @@ node_kinds = symbol.Iri ∷ symbol.Bnode ∷ symbol.NonLiteral ∷ []
 abbrev pub non_literals : List Symbol
 non_literals = node_kinds ++ text_facets
 
+abbrev pub literal_kinds : List Symbol
+literal_kinds = symbol.Literal ∷ symbol.OpenBracket ∷ iris
+
 abbrev pub literal_constraints : List Symbol
-literal_constraints = symbol.Literal ∷ symbol.OpenBracket ∷ iris ++ number_facets
+literal_constraints = literal_kinds ++ number_facets
 
 -- what references begin with
 abbrev pub references : List Symbol

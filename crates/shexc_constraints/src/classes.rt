@@ -4,7 +4,7 @@ ghost use Rattle.std.specs.Prelude.{◌≡◌};
 ghost use Rattle.rdf_cursor.specs.Ahead.{next_is};
 ghost use Rattle.rdf_cursor.specs.Cursors.{ahead};
 ghost use Rattle.rdf_cursor.specs.Symbols.{is_among};
-ghost use Rattle.shexc_constraints.specs.Symbols.{iris, predicates, digit_counts, text_facets, number_facets, all_facets, node_kinds, non_literals, literal_constraints, references};
+ghost use Rattle.shexc_constraints.specs.Symbols.{iris, predicates, digit_counts, text_facets, number_facets, all_facets, node_kinds, non_literals, literal_kinds, literal_constraints, references};
 
 use crate::tokens::is_at_one;
 use rdf_cursor::{Cursor, Symbol};
@@ -69,21 +69,7 @@ pub fn at_number_facet(c: &Cursor<'_>) -> bool
 pub fn at_facet(c: &Cursor<'_>) -> bool
     ensures { result ≡ next_is (is_among all_facets) (ahead c.now) }
 {
-    is_at_one(
-        c,
-        &[
-            Symbol::Pattern,
-            Symbol::Length,
-            Symbol::MinLength,
-            Symbol::MaxLength,
-            Symbol::TotalDigits,
-            Symbol::FractionDigits,
-            Symbol::MinInclusive,
-            Symbol::MinExclusive,
-            Symbol::MaxInclusive,
-            Symbol::MaxExclusive,
-        ],
-    )
+    at_text_facet(c) || at_number_facet(c)
 }
 
 /// Whether a kind of nodes that are no literals is next.
@@ -97,40 +83,21 @@ pub fn at_node_kind(c: &Cursor<'_>) -> bool
 pub fn at_non_literal(c: &Cursor<'_>) -> bool
     ensures { result ≡ next_is (is_among non_literals) (ahead c.now) }
 {
-    is_at_one(
-        c,
-        &[
-            Symbol::Iri,
-            Symbol::Bnode,
-            Symbol::NonLiteral,
-            Symbol::Pattern,
-            Symbol::Length,
-            Symbol::MinLength,
-            Symbol::MaxLength,
-        ],
-    )
+    at_node_kind(c) || at_text_facet(c)
+}
+
+/// Whether LITERAL, a datatype or a value set is next.
+fn at_literal_kind(c: &Cursor<'_>) -> bool
+    ensures { result ≡ next_is (is_among literal_kinds) (ahead c.now) }
+{
+    is_at_one(c, &[Symbol::Literal, Symbol::OpenBracket]) || at_iri(c)
 }
 
 /// Whether another constraint is next.
 pub fn at_literal_constraint(c: &Cursor<'_>) -> bool
     ensures { result ≡ next_is (is_among literal_constraints) (ahead c.now) }
 {
-    is_at_one(
-        c,
-        &[
-            Symbol::Literal,
-            Symbol::OpenBracket,
-            Symbol::IriRef,
-            Symbol::PnameNs,
-            Symbol::PnameLn,
-            Symbol::TotalDigits,
-            Symbol::FractionDigits,
-            Symbol::MinInclusive,
-            Symbol::MinExclusive,
-            Symbol::MaxInclusive,
-            Symbol::MaxExclusive,
-        ],
-    )
+    at_literal_kind(c) || at_number_facet(c)
 }
 
 /// Whether a reference is next.

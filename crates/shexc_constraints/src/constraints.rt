@@ -29,14 +29,11 @@ use value_sets::ValueSet;
 fn kind_of(symbol: Symbol) -> Kind4
     ensures { result ≡ kind_by symbol }
 {
-    if symbol.is(Symbol::Iri) {
-        Kind4::Iri
-    } else if symbol.is(Symbol::Bnode) {
-        Kind4::Bnode
-    } else if symbol.is(Symbol::NonLiteral) {
-        Kind4::NonLiteral
-    } else {
-        Kind4::Literal
+    match symbol {
+        Symbol::Iri => Kind4::Iri,
+        Symbol::Bnode => Kind4::Bnode,
+        Symbol::NonLiteral => Kind4::NonLiteral,
+        _ => Kind4::Literal,
     }
 }
 

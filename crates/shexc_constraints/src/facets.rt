@@ -8,7 +8,6 @@ ghost use Rattle.rdf_cursor.specs.Cursors.{ahead, source_in};
 ghost use Rattle.rdf_cursor.specs.Lent.{spelled};
 ghost use Rattle.rdf_cursor.specs.Readers.{loop, one};
 ghost use Rattle.rdf_cursor.specs.Symbols.{is_among, same_symbol};
-ghost use Rattle.rdf_lex.specs.Escapes.{IsSpelled};
 ghost use Rattle.shexc_constraints.specs.declared.faults.Fault.TheVariants.{Syntax};
 ghost use Rattle.shexc_constraints.specs.declared.faults.Stop.TheVariants.{Memory};
 ghost use Rattle.shexc_constraints.specs.FacetKinds.{facet_of, firsts};
@@ -75,16 +74,12 @@ pub fn is_given(symbol: Symbol, facets: &[Facet]) -> bool
 fn counted_facet(symbol: Symbol, number: u32) -> Facet
     ensures { result ≡ counted_facet symbol number }
 {
-    if symbol.is(Symbol::Length) {
-        Facet::Length(number)
-    } else if symbol.is(Symbol::MinLength) {
-        Facet::MinLength(number)
-    } else if symbol.is(Symbol::MaxLength) {
-        Facet::MaxLength(number)
-    } else if symbol.is(Symbol::TotalDigits) {
-        Facet::TotalDigits(number)
-    } else {
-        Facet::FractionDigits(number)
+    match symbol {
+        Symbol::Length => Facet::Length(number),
+        Symbol::MinLength => Facet::MinLength(number),
+        Symbol::MaxLength => Facet::MaxLength(number),
+        Symbol::TotalDigits => Facet::TotalDigits(number),
+        _ => Facet::FractionDigits(number),
     }
 }
 
@@ -92,14 +87,11 @@ fn counted_facet(symbol: Symbol, number: u32) -> Facet
 fn range_facet(symbol: Symbol, number: Text) -> Facet
     ensures { result ≡ range_facet symbol number }
 {
-    if symbol.is(Symbol::MinInclusive) {
-        Facet::MinInclusive(number)
-    } else if symbol.is(Symbol::MinExclusive) {
-        Facet::MinExclusive(number)
-    } else if symbol.is(Symbol::MaxInclusive) {
-        Facet::MaxInclusive(number)
-    } else {
-        Facet::MaxExclusive(number)
+    match symbol {
+        Symbol::MinInclusive => Facet::MinInclusive(number),
+        Symbol::MinExclusive => Facet::MinExclusive(number),
+        Symbol::MaxInclusive => Facet::MaxInclusive(number),
+        _ => Facet::MaxExclusive(number),
     }
 }
 

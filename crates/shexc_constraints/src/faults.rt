@@ -1,7 +1,7 @@
 //! Why reading stopped.
 
 ghost use Rattle.std.specs.Prelude.{◌≡◌};
-ghost use Rattle.shexc_constraints.specs.Stops.{fault_by};
+ghost use Rattle.shexc_constraints.specs.Stops.{fault_by, stop_by};
 ghost use Rattle.shexc_constraints.specs.declared.faults.Stop.TheVariants.{Memory};
 
 use std::alloc::{AllocError, AllocFailed};
@@ -51,8 +51,19 @@ impl<T: Drop> From<AllocFailed<T>> for Stop {
     }
 }
 
+impl From<rdf_cursor::Stop> for Stop {
+    ghost from_gives = { λ s e. e ≡ stop_by s };
+
+    fn from(stop: rdf_cursor::Stop) -> Stop {
+        match stop {
+            rdf_cursor::Stop::Memory => Stop::Memory,
+            rdf_cursor::Stop::Fault(fault) => Stop::Fault(fault_by(fault)),
+        }
+    }
+}
+
 /// The fault of a token that is at fault in any language.
-pub fn fault_by(fault: rdf_cursor::Fault) -> Fault
+fn fault_by(fault: rdf_cursor::Fault) -> Fault
     ensures { result ≡ fault_by fault }
 {
     match fault {

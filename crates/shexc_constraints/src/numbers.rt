@@ -1,6 +1,6 @@
 //! Whole numbers of facets and cardinalities.
 
-ghost use Rattle.std.specs.Prelude.{◌≡◌, true};
+ghost use Rattle.std.specs.Prelude.{◌≡◌};
 ghost use Rattle.rdf_cursor.specs.Lent.{spelled};
 ghost use Rattle.shexc_constraints.specs.Stops.{Answers};
 ghost use Rattle.shexc_constraints.specs.Meanings.{count_of, is_minus, unsigned, facet_number_of, limit_of};

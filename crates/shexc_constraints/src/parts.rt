@@ -12,8 +12,7 @@ ghost use Rattle.shexc_constraints.specs.Reading.{iri, predicate, label, datatyp
 ghost use Rattle.shexc_constraints.specs.Stops.{Gives};
 
 use crate::classes::at_iri;
-use crate::faults::{Fault, Stop};
-use crate::terms;
+use crate::faults::Stop;
 use crate::tokens::take;
 use rdf_cursor::{Cursor, Symbol};
 use rdf_terms::terms::{Literal, Term};
@@ -21,7 +20,7 @@ use rdf_terms::text::Text;
 use rdf_terms::vocabulary::RDF_TYPE;
 use schema_documents::{DocExpr, Label};
 use term_tokens::Names;
-use term_tokens::reading::at_tag;
+use term_tokens::reading::{self, at_tag};
 
 /// An IRIREF.
 pub fn iri_ref(c: &mut Cursor<'_>, names: &Names<'_>) -> Result<String, Stop>
@@ -29,12 +28,7 @@ pub fn iri_ref(c: &mut Cursor<'_>, names: &Names<'_>) -> Result<String, Stop>
     ensures scheme { IfOk result (λ iri. IsSome (scheme_of (string_bytes iri))) }
     ensures source { source_in c.new ≡ source_in c.old }
 {
-    let Some(token) = c.peek() else {
-        return Err(Stop::Fault(Fault::Syntax));
-    };
-    let value = terms::iri_ref(names, token)?;
-    c.advance();
-    Ok(value)
+    Ok(reading::iri_ref(c, names, false)?)
 }
 
 /// An IRI.
@@ -43,12 +37,7 @@ pub fn iri(c: &mut Cursor<'_>, names: &Names<'_>) -> Result<String, Stop>
     ensures gives { Gives string_bytes result (ahead c.new) (iri (scope_in names.now) (ahead c.old)) }
     ensures source { source_in c.new ≡ source_in c.old }
 {
-    let Some(token) = c.peek() else {
-        return Err(Stop::Fault(Fault::Syntax));
-    };
-    let value = terms::iri(names, token)?;
-    c.advance();
-    Ok(value)
+    Ok(reading::iri(c, names, false)?)
 }
 
 /// A predicate: an IRI or `a`.
@@ -70,12 +59,7 @@ fn blank_label(c: &mut Cursor<'_>, names: &Names<'_>) -> Result<Text, Stop>
     ensures gives { Gives (λ x. x) result (ahead c.new) (one Syntax label_of (ahead c.old)) }
     ensures source { source_in c.new ≡ source_in c.old }
 {
-    let Some(token) = c.peek() else {
-        return Err(Stop::Fault(Fault::Syntax));
-    };
-    let value = terms::label(names.alloc, token)?;
-    c.advance();
-    Ok(value)
+    Ok(reading::label(c, names.alloc, false)?)
 }
 
 /// A label.
@@ -98,12 +82,7 @@ fn string(c: &mut Cursor<'_>, names: &Names<'_>) -> Result<Text, Stop>
     ensures gives { Gives (λ x. x) result (ahead c.new) (one Syntax string_of (ahead c.old)) }
     ensures source { source_in c.new ≡ source_in c.old }
 {
-    let Some(token) = c.peek() else {
-        return Err(Stop::Fault(Fault::Syntax));
-    };
-    let value = terms::string(names.alloc, token)?;
-    c.advance();
-    Ok(value)
+    Ok(reading::string(c, names.alloc, false)?)
 }
 
 /// `^^` and a datatype behind a lexical form.
@@ -112,13 +91,7 @@ fn datatyped(c: &mut Cursor<'_>, names: &Names<'_>, lex: Text) -> Result<Term, S
     ensures gives { Gives (λ x. x) result (ahead c.new) (datatyped (scope_in names.now) lex (ahead c.old)) }
     ensures source { source_in c.new ≡ source_in c.old }
 {
-    take(c, Symbol::Carets)?;
-    let Some(token) = c.peek() else {
-        return Err(Stop::Fault(Fault::Syntax));
-    };
-    let term = terms::typed(names, lex, token)?;
-    c.advance();
-    Ok(term)
+    Ok(reading::datatyped(c, names, lex, false)?)
 }
 
 /// A language tag behind a lexical form.
@@ -126,12 +99,7 @@ fn tagged(c: &mut Cursor<'_>, names: &Names<'_>, lex: Text) -> Result<Term, Stop
     ensures gives { Gives (λ x. x) result (ahead c.new) (one Syntax (tagged_of lex) (ahead c.old)) }
     ensures source { source_in c.new ≡ source_in c.old }
 {
-    let Some(token) = c.peek() else {
-        return Err(Stop::Fault(Fault::Syntax));
-    };
-    let value = terms::tagged(names.alloc, lex, token)?;
-    c.advance();
-    Ok(value)
+    Ok(reading::tagged(c, names.alloc, lex)?)
 }
 
 /// What stands behind a lexical form: a tag, a datatype, or nothing.
@@ -154,12 +122,7 @@ fn shorthand(c: &mut Cursor<'_>, names: &Names<'_>) -> Result<Term, Stop>
     ensures gives { Gives (λ x. x) result (ahead c.new) (one Syntax shorthand_of (ahead c.old)) }
     ensures source { source_in c.new ≡ source_in c.old }
 {
-    let Some(token) = c.peek() else {
-        return Err(Stop::Fault(Fault::Syntax));
-    };
-    let value = terms::shorthand(names.alloc, token)?;
-    c.advance();
-    Ok(value)
+    Ok(reading::shorthand(c, names.alloc, false)?)
 }
 
 /// A literal.
@@ -228,12 +191,7 @@ fn at_name(c: &mut Cursor<'_>, names: &Names<'_>) -> Result<String, Stop>
     ensures gives { Gives string_bytes result (ahead c.new) (one Syntax (at_name_of (scope_in names.now)) (ahead c.old)) }
     ensures source { source_in c.new ≡ source_in c.old }
 {
-    let Some(token) = c.peek() else {
-        return Err(Stop::Fault(Fault::Syntax));
-    };
-    let value = terms::at_name(names, token)?;
-    c.advance();
-    Ok(value)
+    Ok(reading::at_name(c, names, false)?)
 }
 
 /// A reference.

@@ -1,6 +1,6 @@
 //! Patterns between slashes (ShEx 2.1, section 6, REGEXP).
 
-ghost use Rattle.std.specs.Prelude.{◌≡◌, ◌&&◌, ◌++◌, ◌<◌, ◌∷◌, [], IfOk, IfSome, OnOk, drop, encode_utf8_all, option_map, string_bytes, true};
+ghost use Rattle.std.specs.Prelude.{◌≡◌, ◌&&◌, ◌++◌, ◌<◌, ◌∷◌, [], IfOk, IfSome, OnOk, option_map, true};
 ghost use Rattle.std.specs.Str.{all_scalars, chars};
 ghost use Rattle.rdf_cursor.specs.Lent.{spelled};
 ghost use Rattle.rdf_lex.specs.Characters.{has, hexadecimal};

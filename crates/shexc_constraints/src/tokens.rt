@@ -1,7 +1,6 @@
 //! Tokens by their symbols.
 
 ghost use Rattle.std.specs.Prelude.{◌≡◌};
-ghost use Rattle.std.specs.List.{list_any};
 ghost use Rattle.rdf_cursor.specs.Ahead.{next_is};
 ghost use Rattle.rdf_cursor.specs.Cursors.{ahead, source_in};
 ghost use Rattle.rdf_cursor.specs.Lent.{spelled};
@@ -16,19 +15,11 @@ use rdf_cursor::{Cursor, Symbol};
 use rdf_lex::Token;
 
 /// Takes the next token, which is to be this symbol, and lends it.
-#[tactic(auto, unfolding(rdf_cursor::specs::Symbols::is_symbol))]
 pub fn take<'a>(c: &mut Cursor<'a>, sought: Symbol) -> Result<Token<'a>, Stop>
     ensures gives { Gives spelled result (ahead c.new) (one Syntax (of_symbol sought) (ahead c.old)) }
     ensures source { source_in c.new ≡ source_in c.old }
 {
-    let Some(token) = c.peek() else {
-        return Err(Stop::Fault(Fault::Syntax));
-    };
-    if !Symbol::of(token).is(sought) {
-        return Err(Stop::Fault(Fault::Syntax));
-    }
-    c.advance();
-    Ok(token)
+    Ok(c.take(sought)?)
 }
 
 /// Whether both are one symbol.
@@ -38,18 +29,11 @@ fn is_same(other: &Symbol, symbol: Symbol) -> bool
     symbol.is(*other)
 }
 
-/// Whether any of these is the symbol.
-fn any_is(symbols: &[Symbol], symbol: Symbol) -> bool
-    ensures { result ≡ list_any (λ other. same_symbol symbol other) symbols.now }
-{
-    symbols.iter().any(|other| is_same(other, symbol))
-}
-
 /// Whether a symbol is one of these.
 pub fn is_one_of(symbol: Symbol, symbols: &[Symbol]) -> bool
     ensures { result ≡ has symbol symbols.now }
 {
-    any_is(symbols, symbol)
+    symbols.iter().any(|other| is_same(other, symbol))
 }
 
 /// Whether the next token is one of these symbols.

@@ -3,7 +3,7 @@ use Rattle.std.proofs.Common.{◌≡◌, ◌+◌, ◌⊎◌, ℕ, zero, suc, Boo
 use Rattle.std.proofs.lemmas.List.Sums.{sum_by-append}
 use Rattle.rdf_cursor.specs.Ahead.{Ahead, finished, broken, token, prepend, count, next_is}
 use Rattle.rdf_cursor.specs.Phrases.{Many, none, more}
-use Rattle.rdf_cursor.specs.Readers.{Answer, and_then, ◌>>=◌, give, either, loop_within, loop, finish}
+use Rattle.rdf_cursor.specs.Readers.{Answer, and_then, ◌>>=◌, give, one, either, loop_within, loop, finish}
 use Rattle.rdf_cursor.specs.Symbols.{is_symbol, is_among, is_any}
 use Rattle.rdf_cursor.specs.declared.symbols.Symbol.{Symbol}
 use Rattle.rdf_cursor.specs.declared.symbols.Symbol.TheVariants as symbol
@@ -12,6 +12,7 @@ use Rattle.rdf_cursor.proofs.Fronts.{front_ok, both_fronts}
 use Rattle.rdf_cursor.proofs.Locality.{prepend-append}
 use Rattle.rdf_cursor.proofs.Loops.{local_loop}
 use Rattle.rdf_cursor.proofs.Soundness.{meets_loop}
+use Rattle.lists.proofs.Quantifiers.{all_append}
 use Rattle.rdf_lex.specs.Tokens.{Spelled}
 use Rattle.schema_documents.specs.declared.label.Label.{Label}
 use Rattle.schema_documents.specs.Tree.{ShapeExpr, MaybeShapeExpr, TripleExpr, no_expr, one_expr}
@@ -19,16 +20,17 @@ use Rattle.term_tokens.specs.Scopes.{Scope}
 use Rattle.term_tokens.proofs.Nexts.{within, outside, nexts, no_next, no_symbol, single}
 use Rattle.shexc_constraints.specs.declared.faults.Fault.{Fault}
 use Rattle.shexc_constraints.specs.declared.faults.Fault.TheVariants as fault
-use Rattle.shexc_constraints.specs.Causes.{brackets, closing_brackets, IsCause}
+use Rattle.shexc_constraints.specs.Causes.{brackets, closing_brackets, directives, AreNone, IsCause}
+use Rattle.shexc_constraints.specs.Reading.{iri, label}
 use Rattle.shexc_constraints.specs.Stops.{R}
 use Rattle.shexc_constraints.specs.Symbols.{of_symbol, mark}
-use Rattle.shexc_constraints.proofs.Flat.{nesting, AreFlat, Flat, mark_flat, word_flat, iri_ref_flat, limit_flat}
+use Rattle.shexc_constraints.proofs.Flat.{nesting, Flat, FlatClass, mark_flat, word_flat, iri_flat, label_flat, limit_flat}
 use Rattle.shexc_constraints.proofs.Nexts.{fewer, first as first_of_mark}
 use Rattle.shexc_constraints.proofs.Says as low
-use Rattle.shexc_constraints.proofs.Says.{Says, ClassSays, says_one, says_give, says_refuse, says_bind, says_either, says_loop, mark_says, word_says, limit_says, iri_ref_says, says_iri, says_predicate, says_label, says_annotations, says_notes, says_reference, says_non_literal, says_literal_constraint}
+use Rattle.shexc_constraints.proofs.Says.{Says, ClassSays, says_one, says_give, says_refuse, says_bind, says_either, says_loop, mark_says, mark_fault, word_says, limit_says, iri_says, iri_ref_fault, label_says, says_iri, says_predicate, says_label, says_annotations, says_notes, says_reference, says_non_literal, says_literal_constraint}
 use Rattle.rdf_cursor.proofs.Tells.{Tells, tells_give, tells_refuse, tells_one, tells_bind, tells_either, tells_loop, tells_so}
 use Rattle.shexc_reader.specs.Grammar.{Statement}
-use Rattle.shexc_reader.specs.Refusals.{IsReason, IsAtLimit}
+use Rattle.shexc_reader.specs.Refusals.{IsLabelled, HasCauseWithin}
 use Rattle.shexc_reader.specs.States.{State}
 use Rattle.shexc_reader.specs.Symbols.{starts}
 use Rattle.shexc_reader.specs.Trees.{Cardinality, empty_shape}
@@ -36,9 +38,9 @@ use Rattle.shexc_reader.specs.Reading.{Inside, opens, level, whole, base_directi
 use Rattle.shexc_reader.proofs.Places.{local_statement, consumes_statement}
 use Rattle.shexc_reader.proofs.SoundLevels.{statement_meets}
 
--- nothing is told of a fault of syntax; of another one, what its token is
-abbrev pub Caused : Scope → Fault → Ahead Spelled → Type 0
-Caused v f rest = (f ≡ fault.Syntax) ⊎ ((t : Spelled) × (more : Ahead Spelled) × (rest ≡ token t more) × IsReason v f t)
+-- nothing is told of a fault of syntax; of another one, its cause
+abbrev pub Caused : ℕ → Scope → Fault → List Spelled → Ahead Spelled → Type 0
+Caused d v f front rest = (f ≡ fault.Syntax) ⊎ ((t : Spelled) × (more : Ahead Spelled) × (rest ≡ token t more) × HasCauseWithin d v f front t)
 
 -- so many brackets may still open behind the tokens, of so many that may be open
 abbrev pub AreLeft : ℕ → ℕ → List Spelled → Type 0
@@ -55,70 +57,107 @@ closed_one : (d n : ℕ) (front : List Spelled) (t : Spelled) → is_among brack
 closed_one d n front t o c h = let a = counted_more (is_among brackets) front t false o in let b = counted_more (is_among closing_brackets) front t true c in omega (arith, a, b, h)
 
 -- tokens that open and close none
-count_none : (js : List Symbol) → within js nesting ≡ true → (b : List Spelled) → AreFlat b → count_by (is_among js) b ≡ 0
+count_none : (js : List Symbol) → within js nesting ≡ true → (b : List Spelled) → AreNone nesting b → count_by (is_among js) b ≡ 0
 count_none js w [] h = refl
 count_none js w (t ∷ b) (h, hs) = let e : is_among js t ≡ false = fewer js nesting (token t finished) w h in rw e (count_none js w b hs)
 
-kept : (d n : ℕ) (front b : List Spelled) → AreFlat b → AreLeft d n front → AreLeft d n (front ++ b)
+kept : (d n : ℕ) (front b : List Spelled) → AreNone nesting b → AreLeft d n front → AreLeft d n (front ++ b)
 kept d n front b h l =
     let x = sum_by-append (λ t. cond (is_among brackets t) 1 0) front b in let y = sum_by-append (λ t. cond (is_among closing_brackets t) 1 0) front b in
     let p = count_none brackets refl b h in let q = count_none closing_brackets refl b h in omega (arith, x, y, p, q, l)
 
+-- nothing that is flat changes the scope
+unchanged : (b : List Spelled) → AreNone nesting b → AreNone directives b
+unchanged [] h = tt
+unchanged (t ∷ b) (h, hs) = (fewer directives nesting (token t finished) refl h, unchanged b hs)
+
+bracket_more : (front : List Spelled) (t : Spelled) (marks : List Symbol) → outside marks directives ≡ true → is_among marks t ≡ true → AreNone directives front → AreNone directives (front ++ t ∷ [])
+bracket_more front t marks o i h = all_append (λ u. is_among directives u ≡ false) front (t ∷ []) h (no_next marks directives (token t finished) o i, tt)
+
 -- what a constraint says of its fault
-reasoned : (v : Scope) (d : ℕ) (f : Fault) (t : Spelled) (front : List Spelled) → IsCause v f t → IsReason v f t × IsAtLimit d f front
-reasoned v d fault.Syntax t front h = (h, tt)
-reasoned v d fault.External t front h = (h, tt)
-reasoned v d fault.Deep t front h = absurd h
-reasoned v d fault.Prefix t front h = (h, tt)
-reasoned v d fault.FloatFacet t front h = (h, tt)
-reasoned v d fault.FacetNumber t front h = (h, tt)
-reasoned v d (fault.Pattern e) t front h = (h, tt)
+reasoned : (d : ℕ) (v : Scope) (f : Fault) (t : Spelled) (front : List Spelled) → AreNone directives front → IsCause v f front t → (f ≡ fault.Syntax) ⊎ HasCauseWithin d v f front t
+reasoned d v fault.Syntax t front n h = inl refl
+reasoned d v fault.External t front n h = absurd h
+reasoned d v fault.Deep t front n h = absurd h
+reasoned d v fault.Prefix t front n h = inr (h, n)
+reasoned d v fault.FloatFacet t front n h = inr h
+reasoned d v fault.FacetNumber t front n h = inr h
+reasoned d v (fault.Pattern e) t front n h = inr h
+
+-- a reader whose faults are all of syntax
+record OfSyntax {A : Type 0} (p : R A) : Type 0 where
+  pub tells : (ts : Ahead Spelled) → Tells p (λ x r. (front : List Spelled) × (ts ≡ prepend front r)) (λ f r. (f ≡ fault.Syntax) × ((front : List Spelled) × (ts ≡ prepend front r))) ts
+
+syntax_one : {A : Type 0} {class : Spelled → Result A Fault} → ((t : Spelled) (f : Fault) → class t ≡ Err f → f ≡ fault.Syntax) → OfSyntax (one fault.Syntax class)
+syntax_one h = record { tells = λ ts. tells_one (refl, ([], refl)) (λ t rest x is e. (t ∷ [], is)) (λ t rest f is e. (h t f e, ([], is))) }
+
+syntax_give : {A : Type 0} (x : A) → OfSyntax (give x)
+syntax_give x = record { tells = λ ts. tells_give ([], refl) }
+
+syntax_bind : {A B : Type 0} {p : R A} {f : A → R B} → OfSyntax p → ((x : A) → OfSyntax (f x)) → OfSyntax (p >>= f)
+syntax_bind a h = record {
+  tells = λ ts. tells_bind (a.tells ts) (λ x r (b, is).
+      let on : (c : List Spelled) (q : Ahead Spelled) → r ≡ prepend c q → ts ≡ prepend (b ++ c) q = λ c q e. is ∙ ap (prepend b) e ∙ sym (prepend-append b c q) in
+      tells_so (λ y q (c, e). (b ++ c, on c q e)) (λ g q (s, (c, e)). (s, (b ++ c, on c q e))) ((h x).tells r));
+}
 
 -- From the beginning of a statement, in the scope of a state, where so many brackets may be open.
 module _ (a : State) (d : ℕ) (start : Ahead Spelled) where
   abbrev v : Scope
   v = a.scope
 
-  -- what lies ahead is reached where so many brackets may still open
+  -- what lies ahead is reached where so many brackets may still open, in the same scope
   record At (n : ℕ) (ts : Ahead Spelled) : Type 0 where
     pub front : List Spelled
     pub parts : start ≡ prepend front ts
     pub left : AreLeft d n front
+    pub same_scope : AreNone directives front
 
-  -- a fault is reached, with its cause and the limit that it names
+  -- a fault is reached, with its cause
   pub record Fails (f : Fault) (rest : Ahead Spelled) : Type 0 where
     pub front : List Spelled
     pub parts : start ≡ prepend front rest
-    pub cause : Caused v f rest
-    pub limit : IsAtLimit d f front
+    pub cause : Caused d v f front rest
 
   -- from where one thing is so a reader leads to where another is
   abbrev Goes : {A : Type 0} → (Ahead Spelled → Type 0) → (A → Ahead Spelled → Type 0) → R A → Type 0
   Goes before after p = (ts : Ahead Spelled) → before ts → Tells p after Fails ts
 
   syntax_at : (n : ℕ) (ts : Ahead Spelled) → At n ts → Fails fault.Syntax ts
-  syntax_at n ts x = record { front = x.front; parts = x.parts; cause = inl refl; limit = tt }
+  syntax_at n ts x = record { front = x.front; parts = x.parts; cause = inl refl }
 
-  by_cause : (front : List Spelled) (f : Fault) (rest : Ahead Spelled) → start ≡ prepend front rest → low.Caused v f rest → Fails f rest
-  by_cause front f rest e (inl is) = subst (λ (g : Fault). Fails g rest) (sym is) (record { front = front; parts = e; cause = inl refl; limit = tt })
-  by_cause front f rest e (inr (t, next, is, c)) = let r = reasoned v d f t front c in record { front = front; parts = e; cause = inr (t, next, is, r.0); limit = r.1 }
+  by_cause : (front : List Spelled) (f : Fault) (rest : Ahead Spelled) → start ≡ prepend front rest → AreNone directives front → low.Caused v f front rest → Fails f rest
+  by_cause front f rest e n (inl is) = record { front = front; parts = e; cause = inl is }
+  by_cause front f rest e n (inr (t, next, is, c)) = record { front = front; parts = e; cause = by (reasoned d v f t front n c) }
+    where
+      by : (f ≡ fault.Syntax) ⊎ HasCauseWithin d v f front t → Caused d v f front rest
+      by (inl is_syntax) = inl is_syntax
+      by (inr h) = inr (t, next, is, h)
 
-  at_token : (front : List Spelled) (f : Fault) (t : Spelled) (rest : Ahead Spelled) → start ≡ prepend front (token t rest) → (f ≡ fault.Syntax) ⊎ IsCause v f t → Fails f (token t rest)
-  at_token front f t rest e (inl is) = by_cause front f (token t rest) e (inl is)
-  at_token front f t rest e (inr c) = by_cause front f (token t rest) e (inr (t, rest, refl, c))
+  at_token : {n : ℕ} (ts : Ahead Spelled) (x : At n ts) (f : Fault) (t : Spelled) (rest : Ahead Spelled) → ts ≡ token t rest → low.Why v x.front t f → Fails f (token t rest)
+  at_token ts x f t rest is why = by_cause x.front f (token t rest) (x.parts ∙ ap (prepend x.front) is) x.same_scope (by why)
+    where
+      by : low.Why v x.front t f → low.Caused v f x.front (token t rest)
+      by (inl e) = inl e
+      by (inr c) = inr (t, rest, refl, c)
 
   longer : (front b : List Spelled) (ts r : Ahead Spelled) → start ≡ prepend front ts → ts ≡ prepend b r → start ≡ prepend (front ++ b) r
   longer front b ts r e k = e ∙ ap (prepend front) k ∙ sym (prepend-append front b r)
 
   flat_on : (n : ℕ) (ts r : Ahead Spelled) → Flat ts r → At n ts → At n r
-  flat_on n ts r (b, e, h) x = record { front = x.front ++ b; parts = longer x.front b ts r x.parts e; left = kept d n x.front b h x.left }
+  flat_on n ts r (b, e, h) x = record {
+    front = x.front ++ b;
+    parts = longer x.front b ts r x.parts e;
+    left = kept d n x.front b h x.left;
+    same_scope = all_append (λ t. is_among directives t ≡ false) x.front b x.same_scope (unchanged b h);
+  }
 
-  flat_fails : (n : ℕ) (ts : Ahead Spelled) (f : Fault) (r : Ahead Spelled) → low.Caused v f r × Flat ts r → At n ts → Fails f r
-  flat_fails n ts f r (c, (b, e, h)) x = by_cause (x.front ++ b) f r (longer x.front b ts r x.parts e) c
+  flat_fails : (n : ℕ) (ts : Ahead Spelled) (f : Fault) (r : Ahead Spelled) (x : At n ts) → low.Fails v x.front ts f r → Fails f r
+  flat_fails n ts f r x (b, e, h, c) = by_cause (x.front ++ b) f r (longer x.front b ts r x.parts e) (all_append (λ t. is_among directives t ≡ false) x.front b x.same_scope (unchanged b h)) c
 
   -- what passes no bracket
   flat : {A : Type 0} {n : ℕ} {p : R A} → Says v p → Goes (At n) (λ x. At n) p
-  flat {n = n} h ts x = tells_so (λ y r k. flat_on n ts r k x) (λ f r k. flat_fails n ts f r k x) (h.tells ts)
+  flat {n = n} h ts x = tells_so (λ y r k. flat_on n ts r k x) (λ f r k. flat_fails n ts f r x k) (h.tells x.front ts)
 
   -- forms
   gives : {A : Type 0} {before : Ahead Spelled → Type 0} {after : A → Ahead Spelled → Type 0} {x : A} → ((ts : Ahead Spelled) → before ts → after x ts) → Goes before after (give x)
@@ -140,8 +179,7 @@ module _ (a : State) (d : ℕ) (start : Ahead Spelled) where
   too_deep k o (token t ts) i x = let l = x.left in record {
     front = x.front;
     parts = x.parts;
-    cause = inr (t, ts, refl, nexts (k ∷ []) brackets (token t ts) o (sym (single k (token t ts)) ∙ i));
-    limit = omega (arith, l);
+    cause = inr (t, ts, refl, (nexts (k ∷ []) brackets (token t ts) o (sym (single k (token t ts)) ∙ i), omega (arith, l)));
   }
 
   opens_on : (k : Symbol) (n : ℕ) → within (k ∷ []) brackets ≡ true → outside (k ∷ []) closing_brackets ≡ true → Goes (At (suc n)) (λ w. At n) (mark k)
@@ -152,8 +190,9 @@ module _ (a : State) (d : ℕ) (start : Ahead Spelled) where
         front = x.front ++ t ∷ [];
         parts = longer x.front (t ∷ []) ts rest x.parts is;
         left = opened d n x.front t (nexts (k ∷ []) brackets (token t finished) o i) (no_next (k ∷ []) closing_brackets (token t finished) c i) x.left;
+        same_scope = bracket_more x.front t brackets refl (nexts (k ∷ []) brackets (token t finished) o i) x.same_scope;
       })
-      (λ t rest f is e. at_token x.front f t rest (x.parts ∙ ap (prepend x.front) is) (mark_says v k t f e))
+      (λ t rest f is e. at_token ts x f t rest is (mark_says v k x.front t f e))
 
   opens_tells : (k : Symbol) (n : ℕ) → within (k ∷ []) brackets ≡ true → outside (k ∷ []) closing_brackets ≡ true → Goes (At n) (λ w r. (m : ℕ) × (n ≡ suc m) × At m r) (opens k n)
   unfolding opens
@@ -173,8 +212,9 @@ module _ (a : State) (d : ℕ) (start : Ahead Spelled) where
         front = x.front ++ t ∷ [];
         parts = longer x.front (t ∷ []) ts rest x.parts q;
         left = closed_one d m x.front t (no_next (k ∷ []) brackets (token t finished) o i) (nexts (k ∷ []) closing_brackets (token t finished) c i) x.left;
+        same_scope = bracket_more x.front t closing_brackets refl (nexts (k ∷ []) closing_brackets (token t finished) c i) x.same_scope;
       }))
-      (λ t rest f q e. at_token x.front f t rest (x.parts ∙ ap (prepend x.front) q) (mark_says v k t f e))
+      (λ t rest f q e. at_token ts x f t rest q (mark_says v k x.front t f e))
 
   -- behind an expression in an arc with a flag: a brace was taken, and a number is next
   abbrev After : Bool → ℕ → Bool → Ahead Spelled → Type 0
@@ -200,7 +240,7 @@ module _ (a : State) (d : ℕ) (start : Ahead Spelled) where
   goes_after false n false k o c ts x = flat (says_one (mark_says v k) (mark_flat k o)) ts x
   goes_after false n true k o c ts (m, is, x, i) = tells_one (syntax_at m ts x)
       (λ t rest w q e. absurd (no_mark k c ts rest t w q e i))
-      (λ t rest f q e. at_token x.front f t rest (x.parts ∙ ap (prepend x.front) q) (mark_says v k t f e))
+      (λ t rest f q e. at_token ts x f t rest q (mark_says v k x.front t f e))
 
   flat_mark : (k : Symbol) → outside (k ∷ []) nesting ≡ true → Says v (mark k)
   flat_mark k o = says_one (mark_says v k) (mark_flat k o)
@@ -422,25 +462,70 @@ module _ (a : State) (d : ℕ) (start : Ahead Spelled) where
   goes_first no_expr = flat (says_one (word_says v starts) (word_flat starts refl))
   goes_first (one_expr e) = flat (says_refuse v)
 
-  external_at : (ts : Ahead Spelled) → next_is (is_symbol symbol.External) ts ≡ true → At d ts → Fails fault.External ts
-  external_at finished i x = absurd cc
-  external_at broken i x = absurd cc
-  external_at (token t ts) i x = record { front = x.front; parts = x.parts; cause = inr (t, ts, refl, i); limit = tt }
+  -- a declaration: behind its label stands EXTERNAL or an expression
+  record Labelled (ts : Ahead Spelled) : Type 0 where
+    pub t : Spelled
+    pub parts : start ≡ token t ts
+    pub labels : IsLabelled v (t ∷ [])
+    pub flat : is_among nesting t ≡ false
 
-  goes_body : Goes (At d) (λ x. At d) (body true d v)
+  at_start : At d start
+  at_start = record { front = []; parts = refl; left = omega arith; same_scope = tt }
+
+  after_label : (ts : Ahead Spelled) → Labelled ts → At d ts
+  after_label ts l = flat_on d start ts (l.t ∷ [], l.parts, (l.flat, tt)) at_start
+
+  one_label : {A : Type 0} {class : Spelled → Result A Fault} → ClassSays v class → FlatClass class → ((t : Spelled) (x : A) → class t ≡ Ok x → IsLabelled v (t ∷ [])) → Tells (one fault.Syntax class) (λ x ts. Labelled ts) Fails start
+  unfolding at_start
+  one_label h k labels = tells_one (syntax_at d start at_start) (λ t rest x is e. record { t = t; parts = is; labels = labels t x e; flat = k t x e }) (λ t rest f is e. at_token start at_start f t rest is (h [] t f e))
+
+  label_tells : Tells (label v) (λ l ts. Labelled ts) Fails start
+  unfolding label iri
+  label_tells = tells_either (λ _. tells_bind (one_label (label_says v) (label_flat v) (λ t name e. (t, refl, inr (name, e)))) (λ name ts l. tells_give l))
+      (λ _. tells_bind (one_label (iri_says v) (iri_flat v) (λ t i e. (t, refl, inl (i, e)))) (λ i ts l. tells_give l))
+
+  external_at : (ts : Ahead Spelled) → next_is (is_symbol symbol.External) ts ≡ true → Labelled ts → Fails fault.External ts
+  external_at finished i l = absurd cc
+  external_at broken i l = absurd cc
+  external_at (token t ts) i l = record { front = l.t ∷ []; parts = l.parts; cause = inr (t, ts, refl, (i, l.labels)) }
+
+  body_tells : (ts : Ahead Spelled) → Labelled ts → Tells (body true d v) (λ e. At d) Fails ts
   unfolding body
-  goes_body ts x = tells_either (λ i. tells_refuse (external_at ts i x)) (λ _. goes_whole ts x)
+  body_tells ts l = tells_either (λ i. tells_refuse (external_at ts i l)) (λ _. goes_whole ts (after_label ts l))
 
-  goes_statement : Goes (At d) (λ x. At d) (statement true d a)
-  unfolding statement base_directive prefix_directive import_directive start_directive declaration
-  goes_statement = goes_either (flat (says_bind _ _ (flat_mark _ refl) (λ w. says_bind _ _ (says_one (iri_ref_says v) (iri_ref_flat v)) (λ i. says_give v _))))
-      (goes_either (flat (says_bind _ _ (flat_mark _ refl) (λ w. says_bind _ _ (flat_mark _ refl) (λ t. says_bind _ _ (says_one (iri_ref_says v) (iri_ref_flat v)) (λ i. says_give v _)))))
-      (goes_either (flat (says_bind _ _ (flat_mark _ refl) (λ w. says_bind _ _ (says_iri v) (λ i. says_give v _))))
-      (goes_either (goes_bind (goes_first a.start) (λ w. goes_bind (flat (flat_mark _ refl)) (λ t. goes_bind goes_whole (λ e. gives (λ ts x. x)))))
-      (goes_bind (flat (says_label v)) (λ l. goes_bind goes_body (λ e. gives (λ ts x. x)))))))
+  -- a directive: its faults are all of syntax
+  of_syntax : {A : Type 0} {p : R A} → OfSyntax p → Tells p (λ x ts. Unit {0}) Fails start
+  of_syntax h = tells_so (λ x ts k. tt) (λ f ts (is, (front, parts)). record { front = front; parts = parts; cause = inl is }) (h.tells start)
+
+  syntax_directives : OfSyntax (base_directive true d a) × OfSyntax (prefix_directive true d a)
+  unfolding base_directive prefix_directive
+  syntax_directives = (
+    syntax_bind (syntax_one (mark_fault symbol.SparqlBase)) (λ w. syntax_bind (syntax_one (iri_ref_fault v)) (λ i. syntax_give _)),
+    syntax_bind (syntax_one (mark_fault symbol.SparqlPrefix)) (λ w. syntax_bind (syntax_one (mark_fault symbol.PnameNs)) (λ t. syntax_bind (syntax_one (iri_ref_fault v)) (λ i. syntax_give _))),
+  )
+
+  goes_import : Goes (At d) (λ x. At d) (import_directive true d a)
+  unfolding import_directive
+  goes_import = flat (says_bind _ _ (flat_mark _ refl) (λ w. says_bind _ _ (says_iri v) (λ i. says_give v _)))
+
+  goes_start : Goes (At d) (λ x. At d) (start_directive true d a)
+  unfolding start_directive
+  goes_start = goes_bind (goes_first a.start) (λ w. goes_bind (flat (flat_mark _ refl)) (λ t. goes_bind goes_whole (λ e. gives (λ ts x. x))))
+
+  declaration_tells : Tells (declaration true d a) (λ x ts. Unit {0}) Fails start
+  unfolding declaration
+  declaration_tells = tells_bind label_tells (λ l ts x. tells_bind (body_tells ts x) (λ e r k. tells_give tt))
+
+  told : {p : R State} → Goes (At d) (λ x. At d) p → Tells p (λ x ts. Unit {0}) Fails start
+  told h = tells_so (λ x ts k. tt) (λ f ts k. k) (h start at_start)
+
+  statement_tells : Tells (statement true d a) (λ x ts. Unit {0}) Fails start
+  unfolding statement
+  statement_tells = tells_either (λ _. of_syntax syntax_directives.0) (λ _. tells_either (λ _. of_syntax syntax_directives.1) (λ _. tells_either (λ _. told goes_import)
+      (λ _. tells_either (λ _. told goes_start) (λ _. declaration_tells))))
 
 statement_fails : (a : State) (d : ℕ) (ts rest : Ahead Spelled) (f : Fault) → statement true d a ts ≡ Err (f, rest) → Fails a d ts f rest
-statement_fails a d ts rest f e = (goes_statement a d ts ts (record { front = []; parts = refl; left = omega arith })).bad (f, rest) e
+statement_fails a d ts rest f e = (statement_tells a d ts).bad (f, rest) e
 
 module _ (d : ℕ) where
   -- where a document is at fault: statements lead to a state, and from there on the fault has its cause
@@ -452,13 +537,12 @@ module _ (d : ℕ) where
     pub passed : ts ≡ prepend front mid
     pub inside : List Spelled
     pub parts : mid ≡ prepend inside rest
-    pub cause : Caused state.scope f rest
-    pub limit : IsAtLimit d f inside
+    pub cause : Caused d state.scope f inside rest
 
   here_stopped : (a : State) (ts : Ahead Spelled) (e : Fault × Ahead Spelled) → statement true d a ts ≡ Err e → Stopped a ts e.0 e.1
   here_stopped a ts e is =
       let f = statement_fails a d ts e.1 e.0 is in
-      record { state = a; mid = ts; statements = none; front = []; passed = refl; inside = f.front; parts = f.parts; cause = f.cause; limit = f.limit }
+      record { state = a; mid = ts; statements = none; front = []; passed = refl; inside = f.front; parts = f.parts; cause = f.cause }
 
   later_stopped : (a x : State) (ts r : Ahead Spelled) (f : Fault) (rest : Ahead Spelled) → statement true d a ts ≡ Ok (x, r) → Stopped x r f rest → Stopped a ts f rest
   later_stopped a x ts r f rest is h =
@@ -472,7 +556,6 @@ module _ (d : ℕ) where
         inside = h.inside;
         parts = h.parts;
         cause = h.cause;
-        limit = h.limit;
       }
 
   turn_stopped : (go : State → Ahead Spelled → Answer Spelled Fault State) (a : State) (ts : Ahead Spelled) (b : Bool) (e : Fault × Ahead Spelled) (y : Answer Spelled Fault State)
@@ -504,7 +587,6 @@ module _ (d : ℕ) where
         inside = [];
         parts = refl;
         cause = inl refl;
-        limit = tt;
       })
 
   pub stopped : (a : State) (ts : Ahead Spelled) (f : Fault) (rest : Ahead Spelled) → document true d a ts ≡ Err (f, rest) → Stopped a ts f rest

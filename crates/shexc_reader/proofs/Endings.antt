@@ -1,44 +1,98 @@
 -- What the answer of the reader on lists says of the bytes.
-use Rattle.std.proofs.Common.{◌≡◌, inl, inr, ℕ, Bool, true, false, cond, List, ◌++◌, Ok, Err, refl, sym, ap, subst, ◌∙◌}
+use Rattle.std.proofs.Common.{◌≡◌, ◌⊎◌, inl, inr, ℕ, ◌+◌, ◌<◌, Bool, true, false, cond, List, [], ◌∷◌, ◌++◌, length, Ok, Err, refl, sym, ap, subst, ◌∙◌, arith}
 use Rattle.std.specs.Prelude.{codes}
 use Rattle.std.specs.Str.{IsUtf8, chars}
-use Rattle.rdf_cursor.specs.Ahead.{Ahead, finished, broken, token, prepend, next_is}
+use Rattle.rdf_cursor.specs.Ahead.{Ahead, finished, broken, token, prepend, count, next_is, SameNext}
 use Rattle.rdf_cursor.specs.Cursors.{Source}
 use Rattle.rdf_cursor.specs.Lent.{Stands}
+use Rattle.rdf_cursor.specs.Places as place
 use Rattle.rdf_cursor.specs.Places.{IsFaultPlace}
 use Rattle.rdf_cursor.specs.Streams.{stream_from}
-use Rattle.rdf_cursor.specs.Symbols.{is_symbol}
+use Rattle.rdf_cursor.specs.Symbols.{is_symbol, is_among}
 use Rattle.rdf_cursor.specs.declared.symbols.Symbol.{Symbol}
 use Rattle.rdf_cursor.specs.declared.symbols.Symbol.TheVariants as symbol
-use Rattle.rdf_cursor.proofs.Answers.{apart, ok_is}
+use Rattle.rdf_cursor.proofs.Answers.{apart, ok_is, err_is}
 use Rattle.rdf_cursor.proofs.Blocking.{blocked}
 use Rattle.rdf_cursor.proofs.Locality.{prepend-append}
 use Rattle.rdf_cursor.proofs.Fronts.{front_ok}
 use Rattle.rdf_cursor.proofs.Places.{fault_place, first_at}
-use Rattle.rdf_cursor.proofs.Streams.{to_tokens, from_tokens}
+use Rattle.rdf_cursor.proofs.Streams.{first_next, stream_next, stream_between, cut_behind, start, to_tokens, from_tokens}
 use Rattle.rdf_lex.specs.declared.kinds.Mode.TheVariants.{Schema}
-use Rattle.rdf_lex.specs.Tokens.{Spelled}
+use Rattle.rdf_cursor.specs.Properties.{IsLocalAt}
+use Rattle.rdf_cursor.specs.Readers.{Answer}
+use Rattle.rdf_lex.specs.Scan.{at_token}
+use Rattle.rdf_lex.specs.Tokens.{Spelled, Between, IsFirst}
 use Rattle.schema_documents.specs.declared.error.SchemaError.{SchemaError}
+use Rattle.schema_documents.specs.declared.label.Label.{Label}
+use Rattle.schema_documents.specs.declared.label.Label.TheVariants.{Blank}
 use Rattle.schema_documents.specs.declared.error.SchemaError.TheVariants as errors
 use Rattle.xs_pattern.specs.declared.pattern_error.PatternError.TheVariants as refusal
 use Rattle.shexc_constraints.specs.declared.faults.Fault.{Fault}
 use Rattle.shexc_constraints.specs.declared.faults.Fault.TheVariants as fault
 use Rattle.shexc_constraints.specs.declared.faults.Stop.{Stop}
 use Rattle.shexc_constraints.specs.declared.faults.Stop.TheVariants as stop
+use Rattle.shexc_constraints.specs.Grammar.{AnyLabel}
 use Rattle.shexc_constraints.specs.Limits.{is_limit}
+use Rattle.shexc_constraints.specs.Meanings.{iri_label}
 use Rattle.shexc_constraints.specs.Stops.{StopsAs}
 use Rattle.shexc_reader.specs.declared.state.Parsed.{Parsed}
 use Rattle.shexc_reader.specs.Documents.{max_depth, at_first, Spells, SpellsAny, SpellsWithin, IsDocument, IsParsedOf, IsRead, ReadsAs, DocumentsAreOne}
 use Rattle.rdf_cursor.specs.Phrases.{Many}
 use Rattle.shexc_reader.specs.Grammar.{ShExC, Statement}
 use Rattle.shexc_reader.specs.Reading.{document}
-use Rattle.shexc_reader.specs.Refusals.{refusal_at, error_of, IsErrorOf, StandsAt, HasCause, IsSymbol, IsLeftOut, Explains}
+use Rattle.shexc_reader.specs.Refusals.{refusal_at, error_of, IsErrorOf, StandsAt, named, IsLabelled, HasCause, HasNoToken, IsSymbol, IsLeftOut, Explains}
 use Rattle.shexc_reader.specs.States.{State}
-use Rattle.shexc_reader.proofs.CompleteLevels.{document_read}
+use Rattle.shexc_reader.proofs.CompleteLevels.{document_read, external_stops}
 use Rattle.shexc_reader.proofs.Causes.{Stopped, stopped}
 use Rattle.shexc_reader.proofs.Limits.{AnyShExC, blocked_any, blocked_within}
 use Rattle.shexc_reader.proofs.Places.{local_document}
 use Rattle.shexc_reader.proofs.SoundLevels.{document_meets}
+
+-- numbers of tokens
+count_behind : (front : List Spelled) (rest : Ahead Spelled) → count (prepend front rest) ≡ length front + count rest
+count_behind [] rest = omega arith
+count_behind (t ∷ front) rest = let h = count_behind front rest in omega arith
+
+token_parts : (t v : Spelled) (x y : Ahead Spelled) → token t x ≡ token v y → (t ≡ v) × (x ≡ y)
+token_parts t v x y e = (cc, cc)
+
+longer : (f : List Spelled) (t : Spelled) (front : List Spelled) → length front < count (prepend (f ++ t ∷ front) finished)
+longer [] t front = let c = count_behind front finished in omega arith
+longer (v ∷ f) t front = let h = longer f t front in omega arith
+
+-- the tokens before what lies ahead
+same_front : (f g : List Spelled) (x : Ahead Spelled) → prepend f x ≡ prepend g x → f ≡ g
+same_front [] [] x e = refl
+same_front [] (v ∷ g) x e = let c = count_behind (v ∷ g) x in let n : count x ≡ count (prepend (v ∷ g) x) = ap count e in absurd (omega (arith, c, n))
+same_front (t ∷ f) [] x e = let c = count_behind (t ∷ f) x in let n : count (prepend (t ∷ f) x) ≡ count x = ap count e in absurd (omega (arith, c, n))
+same_front (t ∷ f) (v ∷ g) x e = let p = token_parts t v (prepend f x) (prepend g x) e in ap (λ (s : Spelled). s ∷ f) p.0 ∙ ap (λ (us : List Spelled). v ∷ us) (same_front f g x p.1)
+
+abbrev is_syntax : Answer Spelled Fault State → Type 0
+is_syntax (Err (fault.Syntax, x)) = Unit {0}
+is_syntax _ = ⊥
+
+other_fault : (x y : Ahead Spelled) → Path (Answer Spelled Fault State) (Err (fault.Syntax, x)) (Err (fault.External, y)) → ⊥
+other_fault x y e = subst is_syntax e tt
+
+abbrev IsLonger : List Spelled → Unit {0} → Ahead Spelled → Type 0
+IsLonger front x ts = length front < count ts
+
+none_behind : (rest other : Ahead Spelled) → count rest ≡ 0 → SameNext rest other → count other ≡ 0
+none_behind finished finished e h = refl
+none_behind finished broken e h = refl
+none_behind finished (token t ts) e h = absurd h
+none_behind broken finished e h = refl
+none_behind broken broken e h = refl
+none_behind broken (token t ts) e h = absurd h
+none_behind (token t ts) other e h = absurd (omega arith)
+
+-- none of the symbols that have a refusal of their own
+none_named : (rest : Ahead Spelled) → next_is (is_symbol symbol.Percent) rest ≡ false → next_is (is_symbol symbol.Abstract) rest ≡ false → next_is (is_symbol symbol.Extends) rest ≡ false → next_is (is_symbol symbol.Restricts) rest ≡ false
+    → next_is (is_among named) rest ≡ false
+unfolding is_symbol is_among
+none_named finished p q r w = refl
+none_named broken p q r w = refl
+none_named (token t ts) p q r w = rw (p, q, r, w) refl
 
 module _ (base source : List ℕ) (u : IsUtf8 source) where
   abbrev ahead : Ahead Spelled
@@ -98,7 +152,7 @@ module _ (base source : List ℕ) (u : IsUtf8 source) where
       let h = stopped max_depth a ahead f rest e in
       elim h.cause [
         | inl is ↦ absurd (other is)
-        | inr (t, more, is, c) ↦ stands (HasCause f) f rest at h t more is (c, h.limit) s
+        | inr (t, more, is, c) ↦ stands (HasCause f) f rest at h t more is c s
       ]
 
   symbol_stands : (k : Symbol) (Thing : State → List Spelled → Spelled → Type 0) → ((x : State) (us : List Spelled) (t : Spelled) → is_symbol k t ≡ true → Thing x us t) → (rest : Ahead Spelled) (at : ℕ) → next_is (is_symbol k) rest ≡ true
@@ -106,6 +160,61 @@ module _ (base source : List ℕ) (u : IsUtf8 source) where
   symbol_stands k Thing is (token t more) at n e s = let h = stopped max_depth a ahead fault.Syntax (token t more) e in stands Thing fault.Syntax (token t more) at h t more refl (is h.state h.inside t n) s
   symbol_stands k Thing is finished at n e s = absurd cc
   symbol_stands k Thing is broken at n e s = absurd cc
+
+  -- where no token lies ahead none stands at the place
+  ends_there : (rest : Ahead Spelled) (at : ℕ) (front : List Spelled) → ahead ≡ prepend front rest → ((other : Ahead Spelled) → SameNext rest other → count other ≡ 0) → Stands Schema source rest at → HasNoToken source at
+  ends_there rest at front parts none s =
+      by (fault_place Schema source u (IsLonger front) rest at (record { front = front; parts = parts; none = λ x other same more. (let n = none other same in let c = count_behind front other in omega (arith, n, c, more)) }) s)
+    where
+      by : IsFaultPlace (λ (x : Unit {0}) ts. IsLonger front x (prepend ts finished)) Schema source at → HasNoToken source at
+      by (place.at_token f from t passed first never) = absurd (never tt front (longer f t front))
+      by (place.at_characters f from passed skipped inside begins) = inr begins
+      by (place.at_end ts tokens is never) = inl is
+
+  -- a token without a refusal of its own stands there, or none
+  unnamed : (rest : Ahead Spelled) (at : ℕ) → next_is (is_among named) rest ≡ false → document true max_depth a ahead ≡ Err (fault.Syntax, rest) → Stands Schema source rest at → HasNoToken source at ⊎ StandsAt base source (HasCause fault.Syntax) at
+  unnamed rest at n e s = by (stopped max_depth a ahead fault.Syntax rest e) rest refl
+    where
+      front_of : (h : Stopped max_depth a ahead fault.Syntax rest) → ahead ≡ prepend (h.front ++ h.inside) rest
+      front_of h = h.passed ∙ ap (prepend h.front) h.parts ∙ sym (prepend-append h.front h.inside rest)
+
+      by : Stopped max_depth a ahead fault.Syntax rest → (r : Ahead Spelled) → rest ≡ r → HasNoToken source at ⊎ StandsAt base source (HasCause fault.Syntax) at
+      by h (token t more) is = inr (stands (HasCause fault.Syntax) fault.Syntax rest at h t more is (subst (λ (q : Ahead Spelled). next_is (is_among named) q ≡ false) is n) s)
+      by h finished is = inl (ends_there rest at (h.front ++ h.inside) (front_of h) (λ other same. none_behind finished other refl (subst (λ (q : Ahead Spelled). SameNext q other) is same)) s)
+      by h broken is = inl (ends_there rest at (h.front ++ h.inside) (front_of h) (λ other same. none_behind broken other refl (subst (λ (q : Ahead Spelled). SameNext q other) is same)) s)
+
+  -- where the reader finds a fault of syntax, EXTERNAL does not stand in the place of an expression
+  ahead_of_token : (front : List Spelled) (from at : ℕ) (t : Spelled) → Between Schema source 0 front from → IsFirst Schema source from t.kind t.text at → ahead ≡ prepend front (token t (stream_from Schema source (at + length t.text)))
+  ahead_of_token front from at t passed first =
+      let b = start Schema source u in
+      let cut = cut_behind Schema source u 0 from front b passed in
+      stream_between Schema source u 0 from front b passed ∙ ap (prepend front) (stream_next Schema source u from (at_token t.kind t.text at) cut (first_next Schema source from t.kind t.text at u cut first))
+
+  -- the same behind other tokens
+  external_anyhow : (front : List Spelled) (t : Spelled) (behind other : Ahead Spelled) → document true max_depth a (prepend front (token t behind)) ≡ Err (fault.External, token t behind) → document true max_depth a (prepend front (token t other)) ≡ Err (fault.External, token t other)
+  external_anyhow front t behind other e = by (document true max_depth a (prepend front (token t behind))) e (local_document true max_depth a (prepend front (token t behind)))
+    where
+      by : (y : Answer Spelled Fault State) → y ≡ Err (fault.External, token t behind) → IsLocalAt (document true max_depth a) (prepend front (token t behind)) y → document true max_depth a (prepend front (token t other)) ≡ Err (fault.External, token t other)
+      by (Ok x) is l = absurd (apart x (fault.External, token t behind) is)
+      by (Err x) is (f, parts, moved) =
+          let same = err_is x (fault.External, token t behind) is in
+          let fronts = same_front front f (token t behind) (subst (λ (w : Fault × Ahead Spelled). prepend front (token t behind) ≡ prepend f w.1) same parts) in
+          subst (λ (g : List Spelled). document true max_depth a (prepend g (token t other)) ≡ Err (fault.External, token t other)) (sym fronts)
+          (moved (token t other) (subst (λ (w : Fault × Ahead Spelled). SameNext w.1 (token t other)) (sym same) refl) ∙ ap (λ (w : Fault × Ahead Spelled). Err (w.0, token t other)) same)
+
+  no_external : (rest : Ahead Spelled) (at : ℕ) → document true max_depth a ahead ≡ Err (fault.Syntax, rest) → ¬ StandsAt base source (HasCause fault.External) at
+  no_external rest at e x = by x.thing.1
+    where
+      stops : (l : Label) → AnyLabel x.state.scope l (prepend x.inside (token x.t x.behind)) (token x.t x.behind) → ⊥
+      stops l h =
+          let there = external_stops true max_depth a x.state l (prepend x.front (token x.t x.behind)) (prepend x.inside (token x.t x.behind)) (token x.t x.behind) x.statements h x.thing.0 in
+          let behind = stream_from Schema source (at + length x.t.text) in
+          let here = subst (λ (ts : Ahead Spelled). document true max_depth a ts ≡ Err (fault.External, token x.t behind)) (sym (ahead_of_token x.front x.from at x.t x.passed x.first)) (external_anyhow x.front x.t x.behind behind there) in
+          other_fault rest (token x.t behind) (sym e ∙ here)
+
+      by : IsLabelled x.state.scope x.inside → ⊥
+      by (w, is, inl (i, h)) = stops (iri_label i) (inl (i, refl, (w, ap (λ (us : List Spelled). prepend us (token x.t x.behind)) is, h)))
+      by (w, is, inr (name, h)) = stops (Blank name) (inr (name, refl, (w, ap (λ (us : List Spelled). prepend us (token x.t x.behind)) is, h)))
 
   -- what is said of a fault of syntax: an action, a word that is left out, or a place alone
   by_symbols : (b c d f : Bool) (rest : Ahead Spelled) (at : ℕ) → next_is (is_symbol symbol.Percent) rest ≡ b → next_is (is_symbol symbol.Abstract) rest ≡ c → next_is (is_symbol symbol.Extends) rest ≡ d → next_is (is_symbol symbol.Restricts) rest ≡ f
@@ -118,7 +227,7 @@ module _ (base source : List ℕ) (u : IsUtf8 source) where
       (at, (any_place fault.Syntax rest at refl e s, symbol_stands symbol.Extends (IsLeftOut (chars (codes "EXTENDS"))) (λ x us t h. inr (inl (refl, h))) rest at r e s))
   by_symbols false false false true rest at p q r w e s =
       (at, (any_place fault.Syntax rest at refl e s, symbol_stands symbol.Restricts (IsLeftOut (chars (codes "RESTRICTS"))) (λ x us t h. inr (inr (refl, h))) rest at w e s))
-  by_symbols false false false false rest at p q r w e s = any_place fault.Syntax rest at refl e s
+  by_symbols false false false false rest at p q r w e s = (any_place fault.Syntax rest at refl e s, (unnamed rest at (none_named rest p q r w) e s, no_external rest at e))
 
   explains : (f : Fault) (at : ℕ) (rest : Ahead Spelled) → document true max_depth a ahead ≡ Err (f, rest) → Stands Schema source rest at → Explains base (error_of f rest at) source
   unfolding refusal_at

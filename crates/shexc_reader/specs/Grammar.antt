@@ -61,14 +61,14 @@ module _ (bounded : Bool) (v : Scope) (n : ℕ) (inside : Inside) where
   abbrev pub Braces : MaybeTripleExpr → Phrase Spelled
   Braces t = Opens symbol.OpenBrace ⨾ (λ ts r. ((no_triple ≡ t) × Nothing ts r) ⊎ ((u : TripleExpr) × (one_triple u ≡ t) × inside.triple_expr u ts r)) ⨾ Mark symbol.CloseBrace
 
-  -- shape, with its annotations where they may stand
+  -- shapeDefinition, with its annotations where they may stand
   abbrev pub AShape : Bool → ShapeExpr → Phrase Spelled
   AShape whole e ts r = (q : Bool × List (List ℕ)) × (t : MaybeTripleExpr) × (shape q.0 q.1 t ≡ e) × (Many (Qualifier v) (false, []) q ⨾ Braces t ⨾ Notes v whole) ts r
 
   abbrev pub ShapeOrReference : Bool → ShapeExpr → Phrase Spelled
   ShapeOrReference whole e ts r = AShape whole e ts r ⊎ Reference v e ts r
 
-  -- atom: a constraint, a Shape or a reference, both, brackets, or `.`
+  -- shapeAtom: a constraint, a Shape or a reference, both, brackets, or `.`
   abbrev pub Atom : Bool → ShapeExpr → Phrase Spelled
   Atom whole e ts r =
       ((NonLiteral bounded v e ⨾ Notes v whole) ts r
@@ -79,19 +79,19 @@ module _ (bounded : Bool) (v : Scope) (n : ℕ) (inside : Inside) where
       ⊎ ((Opens symbol.OpenParenthesis ⨾ inside.expr e ⨾ Mark symbol.CloseParenthesis) ts r
       ⊎ ((empty_shape ≡ e) × Mark symbol.Dot ts r))))
 
-  -- not
+  -- shapeNot
   abbrev pub Negated : Bool → ShapeExpr → Phrase Spelled
   Negated whole e ts r = Atom whole e ts r ⊎ ((a : ShapeExpr) × (neg a ≡ e) × (Mark symbol.Not ⨾ Atom whole a) ts r)
 
-  -- and
+  -- shapeAnd
   abbrev pub Conjunction : Bool → ShapeExpr → Phrase Spelled
   Conjunction whole e ts r = (es : List ShapeExpr) × (all_of es ≡ e) × Separated symbol.And (Negated whole) es ts r
 
-  -- expr
+  -- shapeOr
   abbrev pub Expression : Bool → ShapeExpr → Phrase Spelled
   Expression whole e ts r = (es : List ShapeExpr) × (any_of es ≡ e) × Separated symbol.Or (Conjunction whole) es ts r
 
-  -- card
+  -- cardinality
   abbrev pub Most : ℕ → Bound → Phrase Spelled
   Most least b ts r =
       ((bound.Upto least ≡ b) × Nothing ts r) ⊎ (((bound.Free ≡ b) × Mark symbol.Comma ts r) ⊎ (((bound.Free ≡ b) × (Mark symbol.Comma ⨾ Mark symbol.Star) ts r)
@@ -113,17 +113,17 @@ module _ (bounded : Bool) (v : Scope) (n : ℕ) (inside : Inside) where
   abbrev pub Direction : Bool → Phrase Spelled
   Direction inverse ts r = ((true ≡ inverse) × Mark symbol.Caret ts r) ⊎ ((false ≡ inverse) × Nothing ts r)
 
-  -- arc
+  -- tripleConstraint
   abbrev pub Arc : Option Label → TripleExpr → Phrase Spelled
   Arc l t ts r = (inverse : Bool) × (p : List ℕ) × (value : MaybeShapeExpr) × (o : Option Cardinality) × (with l (unwrap_or o once) (arc inverse (chars p) value) ≡ t)
       × (Direction inverse ⨾ Predicate v p ⨾ ArcValue value ⨾ MaybeCardinality o ⨾ Each (Annotation v)) ts r
 
-  -- a triple expression in round brackets
+  -- bracketedTripleExpr
   abbrev pub Bracketed : Option Label → TripleExpr → Phrase Spelled
   Bracketed l t ts r = (u : TripleExpr) × (o : Option Cardinality) × (bracketed l o u ≡ t)
       × (Opens symbol.OpenParenthesis ⨾ inside.triple_expr u ⨾ Mark symbol.CloseParenthesis ⨾ MaybeCardinality o ⨾ Each (Annotation v)) ts r
 
-  -- unary
+  -- unaryTripleExpr
   abbrev pub MaybeLabel : Option Label → Phrase Spelled
   MaybeLabel o ts r = ((None ≡ o) × Nothing ts r) ⊎ ((l : Label) × (Some l ≡ o) × (Mark symbol.Dollar ⨾ AnyLabel v l) ts r)
 
@@ -131,11 +131,11 @@ module _ (bounded : Bool) (v : Scope) (n : ℕ) (inside : Inside) where
   Unary t ts r = ((o : Option Label) × (MaybeLabel o ⨾ (λ m q. Arc o t m q ⊎ Bracketed o t m q)) ts r)
       ⊎ ((l : Label) × (with None once (include l) ≡ t) × (Mark symbol.Ampersand ⨾ AnyLabel v l) ts r)
 
-  -- group: `;` between its members and perhaps behind the last
+  -- groupTripleExpr: `;` between its members and perhaps behind the last
   abbrev pub Group : TripleExpr → Phrase Spelled
   Group t ts r = (us : List TripleExpr) × (each_of us ≡ t) × (Separated symbol.Semicolon Unary us ⨾ Maybe (Mark symbol.Semicolon)) ts r
 
-  -- triple
+  -- oneOfTripleExpr
   abbrev pub Alternatives : TripleExpr → Phrase Spelled
   Alternatives t ts r = (us : List TripleExpr) × (one_of us ≡ t) × Separated symbol.Bar Group us ts r
 
@@ -174,6 +174,6 @@ module _ (bounded : Bool) (d : ℕ) where
   abbrev pub Statement : State → State → Phrase Spelled
   Statement a b ts r = BaseDirective a b ts r ⊎ (PrefixDirective a b ts r ⊎ (ImportDirective a b ts r ⊎ (StartDirective a b ts r ⊎ LabelledExpression a b ts r)))
 
-  -- document
+  -- shexDoc
   abbrev pub ShExC : State → State → Ahead Spelled → Type 0
   ShExC a b ts = Many Statement a b ts finished

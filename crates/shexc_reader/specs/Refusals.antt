@@ -1,5 +1,5 @@
 -- Why a text in ShExC is refused, and what has to stand there.
-use Rattle.std.specs.Prelude.{count_by, ◌+◌, ◌≡◌, ◌⊎◌, ℕ, true, List, codes, if◌then◌else◌}
+use Rattle.std.specs.Prelude.{count_by, ◌+◌, ◌≡◌, ◌⊎◌, ℕ, true, false, List, [], ◌∷◌, length, drop, Ok, codes, if◌then◌else◌}
 use Rattle.std.specs.Str.{chars, IsUtf8}
 use Rattle.rdf_cursor.specs.Ahead.{Ahead, token, prepend, next_is}
 use Rattle.rdf_cursor.specs.Phrases.{Many}
@@ -8,7 +8,7 @@ use Rattle.rdf_cursor.specs.Symbols.{is_symbol, is_among}
 use Rattle.rdf_cursor.specs.declared.symbols.Symbol.{Symbol}
 use Rattle.rdf_cursor.specs.declared.symbols.Symbol.TheVariants as symbol
 use Rattle.rdf_lex.specs.declared.kinds.Mode.TheVariants.{Schema}
-use Rattle.rdf_lex.specs.Tokens.{Spelled, Between, IsFirst}
+use Rattle.rdf_lex.specs.Tokens.{Spelled, Between, IsFirst, BeginsNone}
 use Rattle.term_tokens.specs.Scopes.{Scope}
 use Rattle.schema_documents.specs.declared.error.SchemaError.{SchemaError}
 use Rattle.schema_documents.specs.declared.error.SchemaError.TheVariants as errors
@@ -16,7 +16,8 @@ use Rattle.shexc_constraints.specs.declared.faults.Fault.{Fault}
 use Rattle.shexc_constraints.specs.declared.faults.Fault.TheVariants as fault
 use Rattle.shexc_constraints.specs.declared.faults.Stop.{Stop}
 use Rattle.shexc_constraints.specs.declared.faults.Stop.TheVariants as stop
-use Rattle.shexc_constraints.specs.Causes.{brackets, closing_brackets, IsCause}
+use Rattle.shexc_constraints.specs.Causes.{brackets, closing_brackets, directives, AreNone, IsCause}
+use Rattle.shexc_constraints.specs.Meanings.{iri_of, label_of}
 use Rattle.xs_pattern.specs.declared.pattern_error.PatternError.{PatternError}
 use Rattle.xs_pattern.specs.declared.pattern_error.PatternError.TheVariants as refusal
 use Rattle.shexc_reader.specs.Documents.{max_depth, at_first, Spells, SpellsAny, SpellsWithin}
@@ -66,39 +67,45 @@ IsRefusedAt base source Thing at = IsFaultPlace (SpellsAny base) Schema source a
 abbrev pub IsRefused : List ℕ → List ℕ → (State → List Spelled → Spelled → Type 0) → Type 0
 IsRefused base source Thing = (at : ℕ) × IsRefusedAt base source Thing at
 
--- the same of a pattern that is too large: no document within the limits goes on so
+-- the same where no document within the limits goes on so
 abbrev pub IsBeyond : List ℕ → List ℕ → (State → List Spelled → Spelled → Type 0) → Type 0
 IsBeyond base source Thing = (at : ℕ) × IsFaultPlace (Spells base) Schema source at × StandsAt base source Thing at
 
--- what the token has to be for each fault: only a bracket that opens can be too deep
-abbrev pub IsReason : Scope → Fault → Spelled → Type 0
-IsReason v fault.Syntax t = IsCause v fault.Syntax t
-IsReason v fault.External t = IsCause v fault.External t
-IsReason v fault.Deep t = is_among brackets t ≡ true
-IsReason v fault.Prefix t = IsCause v fault.Prefix t
-IsReason v fault.FloatFacet t = IsCause v fault.FloatFacet t
-IsReason v fault.FacetNumber t = IsCause v fault.FacetNumber t
-IsReason v (fault.Pattern e) t = IsCause v (fault.Pattern e) t
+-- the symbols that have a refusal of their own wherever they stand
+abbrev pub named : List Symbol
+named = symbol.Percent ∷ symbol.Abstract ∷ symbol.Extends ∷ symbol.Restricts ∷ []
 
 -- so many brackets are open behind the tokens: those that opened, less those that closed
 abbrev pub AreOpen : ℕ → List Spelled → Type 0
 AreOpen n ts = count_by (is_among brackets) ts ≡ n + count_by (is_among closing_brackets) ts
 
--- behind the tokens of a statement before a bracket that is too deep, as many are open as may be
-abbrev pub IsAtLimit : ℕ → Fault → List Spelled → Type 0
-IsAtLimit d fault.Syntax inside = Unit {0}
-IsAtLimit d fault.External inside = Unit {0}
-IsAtLimit d fault.Deep inside = AreOpen d inside
-IsAtLimit d fault.Prefix inside = Unit {0}
-IsAtLimit d fault.FloatFacet inside = Unit {0}
-IsAtLimit d fault.FacetNumber inside = Unit {0}
-IsAtLimit d (fault.Pattern e) inside = Unit {0}
+-- the tokens are the label of a declaration
+abbrev pub IsLabelled : Scope → List Spelled → Type 0
+IsLabelled v ts = (t : Spelled) × (ts ≡ t ∷ []) × (((i : List ℕ) × (iri_of v t ≡ Ok i)) ⊎ ((name : List ℕ) × (label_of t ≡ Ok name)))
 
--- a fault has its cause in the token, and in those of the statement before it
+-- What each fault has behind these tokens of its statement, where so many brackets may be open: EXTERNAL stands in the place of an expression, as
+-- many brackets are open before one that is too deep as may be, and no token changes the scope before a name whose prefix is not declared.
+abbrev pub HasCauseWithin : ℕ → Scope → Fault → List Spelled → Spelled → Type 0
+HasCauseWithin d v fault.Syntax before t = is_among named t ≡ false
+HasCauseWithin d v fault.External before t = (is_symbol symbol.External t ≡ true) × IsLabelled v before
+HasCauseWithin d v fault.Deep before t = (is_among brackets t ≡ true) × AreOpen d before
+HasCauseWithin d v fault.Prefix before t = IsCause v fault.Prefix before t × AreNone directives before
+HasCauseWithin d v fault.FloatFacet before t = IsCause v fault.FloatFacet before t
+HasCauseWithin d v fault.FacetNumber before t = IsCause v fault.FacetNumber before t
+HasCauseWithin d v (fault.Pattern e) before t = IsCause v (fault.Pattern e) before t
+
 abbrev pub HasCause : Fault → State → List Spelled → Spelled → Type 0
-HasCause f s inside t = IsReason s.scope f t × IsAtLimit max_depth f inside
+HasCause f s before t = HasCauseWithin max_depth s.scope f before t
 
--- the same of a bracket that opens too deep: no document with brackets within their limit goes on so, whatever the size of its patterns
+-- no token stands at the place: the text ends there, or its characters form none
+abbrev pub HasNoToken : List ℕ → ℕ → Type 0
+HasNoToken source at = (at ≡ length source) ⊎ BeginsNone Schema (chars (drop at source))
+
+-- no token stands there, or one without a refusal of its own; and EXTERNAL does not stand there in the place of an expression
+abbrev pub IsUnnamedAt : List ℕ → List ℕ → ℕ → Type 0
+IsUnnamedAt base source at = (HasNoToken source at ⊎ StandsAt base source (HasCause fault.Syntax) at) × (¬ StandsAt base source (HasCause fault.External) at)
+
+-- a bracket opens too deep there: no document with brackets within their limit goes on so, whatever the size of its patterns
 abbrev pub IsTooDeep : List ℕ → List ℕ → Type 0
 IsTooDeep base source = (at : ℕ) × IsFaultPlace (SpellsWithin base) Schema source at × StandsAt base source (HasCause fault.Deep) at
 
@@ -111,7 +118,7 @@ IsLeftOut word s inside t =
     ((word ≡ chars (codes "ABSTRACT")) × (is_symbol symbol.Abstract t ≡ true)) ⊎ (((word ≡ chars (codes "EXTENDS")) × (is_symbol symbol.Extends t ≡ true))
     ⊎ ((word ≡ chars (codes "RESTRICTS")) × (is_symbol symbol.Restricts t ≡ true)))
 
--- the same for a pattern: one that is too large is beyond a limit
+-- a pattern is refused there: one that is too large is beyond a limit
 abbrev pub IsPatternRefused : List ℕ → List ℕ → PatternError → Type 0
 IsPatternRefused base source refusal.Large = IsBeyond base source (HasCause (fault.Pattern refusal.Large))
 IsPatternRefused base source refusal.Flag = IsRefused base source (HasCause (fault.Pattern refusal.Flag))
@@ -121,7 +128,7 @@ IsPatternRefused base source refusal.Memory = IsRefused base source (HasCause (f
 -- what has to be there for each refusal
 abbrev pub Explains : List ℕ → SchemaError → List ℕ → Type 0
 Explains base errors.NotUtf8 source = ¬ IsUtf8 source
-Explains base (errors.Syntax at) source = IsFaultPlace (SpellsAny base) Schema source at
+Explains base (errors.Syntax at) source = IsFaultPlace (SpellsAny base) Schema source at × IsUnnamedAt base source at
 Explains base errors.Action source = IsRefused base source (IsSymbol symbol.Percent)
 Explains base (errors.Form word) source = IsRefused base source (IsLeftOut word)
 Explains base errors.External source = IsRefused base source (HasCause fault.External)

@@ -86,14 +86,15 @@ fn read_text(alloc: Global, text: &str, base: &str) -> Result<Parsed, SchemaErro
 ///
 /// It fails as `Memory`, as `NotUtf8` exactly where the bytes are not UTF-8, and else at the first token that is at fault:
 ///
-/// - `Syntax`: no document goes on as the bytes do from that place on, of any depth and with patterns of any size.
+/// - `Syntax`: no document goes on as the bytes do from that place on, of any depth and with patterns of any size, and nothing that
+///   has a refusal of its own stands there.
 /// - `Action`: the same at a `%`, with which a semantic action begins.
 /// - `Form`: the same at ABSTRACT, EXTENDS or RESTRICTS, and its name is that word in capitals.
-/// - `External`: EXTERNAL stands in place of a shape expression.
+/// - `External`: EXTERNAL stands behind the label of a declaration, in the place of its shape expression.
 /// - `Deep`: a `(` or a `{` opens where 64 of them are open.
 /// - `Prefix`: a name has a prefix that is not declared before it.
 /// - `FloatFacet`: the number of a range has an exponent, or a facet on numbers stands beside xsd:float or xsd:double.
-/// - `FacetNumber`: the number of a facet is not whole, or not from 0 to 4,294,967,295.
+/// - `FacetNumber`: the whole number of a facet is not from 0 to 4,294,967,295, or the value of a range facet is no decimal.
 /// - `Pattern`: a pattern has a flag other than `s`, `i` and `q`, is no regular expression, or is too large.
 pub fn read(alloc: Global, source: &[u8], base: &str) -> Result<Parsed, SchemaError>
     requires { IsSome (scheme_of base.now) }
