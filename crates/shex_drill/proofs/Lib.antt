@@ -1,0 +1,11 @@
+pub mod Digits
+pub mod GraphGrammar
+pub mod GraphTokens
+pub mod Lexing
+pub mod LineTokens
+pub mod Lines
+pub mod MapGrammar
+pub mod Marks
+pub mod Names
+pub mod SchemaGrammar
+pub mod SchemaTokens

@@ -1,0 +1,5 @@
+pub mod Texts
+pub mod Terms
+pub mod Graph
+pub mod Schema
+pub mod Map
