@@ -1,4 +1,4 @@
-//! Schemas, documents, strata, pairs, verdicts, counts and matches, called as the crates above call them. The crates themselves have no tests, since one with tests is proved twice.
+//! Schemas, strata, pairs, verdicts, counts and matches, called as the crates above call them. The crates themselves have no tests, since one with tests is proved twice.
 #![tactic(auto)]
 
 #[cfg(test)]
@@ -7,8 +7,6 @@ mod counts;
 #[cfg(test)]
 mod demands;
 #[cfg(test)]
-mod documents;
-#[cfg(test)]
 mod levels;
 #[cfg(test)]
 mod loading;
@@ -16,7 +14,5 @@ mod loading;
 mod matches;
 #[cfg(test)]
 mod refinements;
-#[cfg(test)]
-mod schemas;
 #[cfg(test)]
 mod verdicts;
