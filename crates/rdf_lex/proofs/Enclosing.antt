@@ -93,11 +93,11 @@ long_marks q bs body low u e =
     three : (n : ℕ) → nat_lt 2 (suc (suc (suc n))) ≡ true
     three n = grind arith
 
-not_double : (cs : List ℕ) → Spells (short_body 34) (34 ∷ cs) → ⊥
+pub not_double : (cs : List ℕ) → Spells (short_body 34) (34 ∷ cs) → ⊥
 unfolding short_char text_escaped hexadecimal
 not_double cs h = to_past (short_body 34) 34 cs h
 
-not_single : (cs : List ℕ) → Spells (short_body 39) (39 ∷ cs) → ⊥
+pub not_single : (cs : List ℕ) → Spells (short_body 39) (39 ∷ cs) → ⊥
 unfolding short_char text_escaped hexadecimal
 not_single cs h = to_past (short_body 39) 39 cs h
 

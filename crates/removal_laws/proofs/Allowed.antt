@@ -60,7 +60,7 @@ module _ (s : Schema) (terms : List Term) (g : List Triple) (f : List ℕ) (stra
 
     hold_up : (t : Triple) (o : Occurrence) → Unit {0} → Contains sh.occs o → fits o p.node t ≡ true →
         MayHold s terms a Impossible (other_end o.inverse t) o.value → MayHold s terms b Impossible (other_end o.inverse t) o.value
-    hold_up t o base of fit = go o.value refl
+    hold_up t o elsewhere of fit = go o.value refl
       where
         go : (x : Option ExprId) → o.value ≡ x → MayHold s terms a Impossible (other_end o.inverse t) x → MayHold s terms b Impossible (other_end o.inverse t) x
         go None e h = h
@@ -70,7 +70,7 @@ module _ (s : Schema) (terms : List Term) (g : List Triple) (f : List ℕ) (stra
 
     fail_up : (t : Triple) (o : Occurrence) → Unit {0} → Contains sh.extra t.p → Contains sh.occs o → is_forward p.node t o ≡ true →
         MayFail s terms a Impossible t.o o.value → MayFail s terms b Impossible t.o o.value
-    fail_up t o base extra of forward = go o.value refl
+    fail_up t o elsewhere extra of forward = go o.value refl
       where
         go : (x : Option ExprId) → o.value ≡ x → MayFail s terms a Impossible t.o x → MayFail s terms b Impossible t.o x
         go None e h = h
@@ -93,8 +93,8 @@ module _ (s : Schema) (terms : List Term) (g : List Triple) (f : List ℕ) (stra
         IsAllowed (MayHold s terms a Possible) (MayFail s terms a Possible) sh p.node t place
     place_back t place h =
         (all_weaker_allowed (MayHold s terms b Possible) (MayFail s terms b Possible) (MayHold s terms a Possible) (MayFail s terms a Possible) sh p.node (λ u. Unit {0})
-        (λ u o base of fit. hold_alike s terms b a (other_end o.inverse u) Possible o.value (λ e value. alike_at u o of e value (other_end o.inverse u)))
-        (λ u o base extra of forward. fail_alike s terms b a u.o Possible o.value (λ e value. alike_at u o of e value u.o)) (t ∷ []) (place ∷ []) (λ u c. tt) (h, tt)).0
+        (λ u o elsewhere of fit. hold_alike s terms b a (other_end o.inverse u) Possible o.value (λ e value. alike_at u o of e value (other_end o.inverse u)))
+        (λ u o elsewhere extra of forward. fail_alike s terms b a u.o Possible o.value (λ e value. alike_at u o of e value u.o)) (t ∷ []) (place ∷ []) (λ u c. tt) (h, tt)).0
 
     pub states_hold : (ts : List Triple) (states : List State) → AreClosed (MayHold s terms a Possible) (MayFail s terms a Possible) sh p.node ts states →
         AreClosed (MayHold s terms b Possible) (MayFail s terms b Possible) sh p.node ts states

@@ -28,29 +28,29 @@ use Rattle.schema_tree.proofs.Pairs.{pair_same}
 use Rattle.schema_tree.proofs.Pairs.{pair_is}
 use Rattle.removal_laws.proofs.Marking.{from_mark, to_mark}
 
-module _ (s : Schema) (terms : List Term) (g : List Triple) (f : List ℕ) (pairs : List Pair) (budget : ℕ) (base : Known) (distinct : AreDistinct pairs)
+module _ (s : Schema) (terms : List Term) (g : List Triple) (f : List ℕ) (pairs : List Pair) (budget : ℕ) (elsewhere : Known) (distinct : AreDistinct pairs)
     (lower : Known) (k : ℕ) where
   abbrev Confirming : List Verdict → List Pair → (ℕ → Type 0) → Type 0
-  Confirming marks gone Todo = IsConfirming s terms g f pairs budget base lower k marks gone Todo
+  Confirming marks gone Todo = IsConfirming s terms g f pairs budget elsewhere lower k marks gone Todo
 
   abbrev Open : ℕ → Type 0
-  Open i = IsOpen s terms g f pairs budget base k i
+  Open i = IsOpen s terms g f pairs budget elsewhere k i
 
   abbrev view : List Pair → List Pair → Known
-  view gone cand = both s terms g f pairs budget base lower gone cand
+  view gone cand = both s terms g f pairs budget elsewhere lower gone cand
 
   -- ---- at the start every pair that did not go is Yes
 
-  module _ (old marks : List Verdict) (gone : List Pair) (None_ : ℕ → Type 0) (r : IsRemoving s terms g f pairs budget base lower k old gone None_)
+  module _ (old marks : List Verdict) (gone : List Pair) (None_ : ℕ → Type 0) (r : IsRemoving s terms g f pairs budget elsewhere lower k old gone None_)
       (low : (q : Pair) → Contains lower.yes q ⊎ Contains lower.no q → Contains pairs q → level f q.shape < k)
-      (raised : (i : ℕ) → IsRaised s terms g f pairs budget base k old marks i) where
+      (raised : (i : ℕ) → IsRaised s terms g f pairs budget elsewhere k old marks i) where
     on_stratum : Pair → Bool
     on_stratum q = nat_eq (level f q.shape) k
 
     abbrev start_cand : List Pair
     start_cand = filter (λ q. nat_eq (level f q.shape) k) (marked Yes pairs marks)
 
-    start_are : (q : Pair) → Contains start_cand q ↔ IsYesAt s terms g f pairs budget base k marks q
+    start_are : (q : Pair) → Contains start_cand q ↔ IsYesAt s terms g f pairs budget elsewhere k marks q
     start_are q = (
       (λ c. (let (m, e) = in_filter (λ u. nat_eq (level f u.shape) k) (marked Yes pairs marks) q c in
           let (i, there, mark) = to_mark Yes pairs marks q m in (i, there, mark, eqb-true (level f q.shape) k e))),
@@ -66,7 +66,7 @@ module _ (s : Schema) (terms : List Term) (g : List Triple) (f : List ℕ) (pair
       where
         no_yes : (slice_get old i ≡ Some Unknown) ⊎ Contains gone q → slice_get old i ≡ Some Yes → ⊥
         no_yes (inl u) y = cc
-        no_yes (inr c) y = let n = no_at base pairs distinct old i q there (r.knows.1.1 q (Contains-append_right lower.no gone q c)) in cc
+        no_yes (inr c) y = let n = no_at elsewhere pairs distinct old i q there (r.knows.1.1 q (Contains-append_right lower.no gone q c)) in cc
 
     same_no : (i : ℕ) → slice_get marks i ≡ Some No → slice_get old i ≡ Some No
     same_no i n = elim (raised i) [ inl (o, u, y) ↦ absurd (cc) | inr (none, same) ↦ sym same ∙ n ]
@@ -95,35 +95,35 @@ module _ (s : Schema) (terms : List Term) (g : List Triple) (f : List ℕ) (pair
       open_to = only;
     }
       where
-        yes_back : (q : Pair) → Contains (known_by base pairs marks).yes q → Contains (lower.yes ++ start_cand) q
-        yes_back q c = elim (Contains-append_cases (marked Yes pairs marks) (outside pairs base.yes) q c) [
+        yes_back : (q : Pair) → Contains (known_by elsewhere pairs marks).yes q → Contains (lower.yes ++ start_cand) q
+        yes_back q c = elim (Contains-append_cases (marked Yes pairs marks) (outside pairs elsewhere.yes) q c) [
           | inl m ↦ (let (i, there, mark) = to_mark Yes pairs marks q m in elim (raised i) [
             | inl (o, u, y) ↦ (let (p, at, n) = o in let same : Some p ≡ Some q = sym at ∙ there in let w : p ≡ q = cc in
                 Contains-append_right lower.yes start_cand q ((start_are q).1 (i, there, mark, ap (λ u. level f u.shape) (sym w) ∙ n.1)))
-            | inr (none, same) ↦ Contains-append_left lower.yes start_cand q (r.knows.0.0 q (is_yes base pairs distinct old i q there (sym same ∙ mark)))
+            | inr (none, same) ↦ Contains-append_left lower.yes start_cand q (r.knows.0.0 q (is_yes elsewhere pairs distinct old i q there (sym same ∙ mark)))
           ])
-          | inr o ↦ Contains-append_left lower.yes start_cand q (r.knows.0.0 q (Contains-append_right (marked Yes pairs old) (outside pairs base.yes) q o))
+          | inr o ↦ Contains-append_left lower.yes start_cand q (r.knows.0.0 q (Contains-append_right (marked Yes pairs old) (outside pairs elsewhere.yes) q o))
         ]
 
-        yes_on : (q : Pair) → Contains (lower.yes ++ start_cand) q → Contains (known_by base pairs marks).yes q
+        yes_on : (q : Pair) → Contains (lower.yes ++ start_cand) q → Contains (known_by elsewhere pairs marks).yes q
         yes_on q c = elim (Contains-append_cases lower.yes start_cand q c) [
-          | inl l ↦ elim (Contains-append_cases (marked Yes pairs old) (outside pairs base.yes) q (r.knows.0.1 q l)) [
-            | inl m ↦ (let (i, there, mark) = to_mark Yes pairs old q m in is_yes base pairs distinct marks i q there (still_yes i mark))
-            | inr o ↦ Contains-append_right (marked Yes pairs marks) (outside pairs base.yes) q o
+          | inl l ↦ elim (Contains-append_cases (marked Yes pairs old) (outside pairs elsewhere.yes) q (r.knows.0.1 q l)) [
+            | inl m ↦ (let (i, there, mark) = to_mark Yes pairs old q m in is_yes elsewhere pairs distinct marks i q there (still_yes i mark))
+            | inr o ↦ Contains-append_right (marked Yes pairs marks) (outside pairs elsewhere.yes) q o
           ]
-          | inr d ↦ (let (i, there, mark, e) = (start_are q).0 d in is_yes base pairs distinct marks i q there mark)
+          | inr d ↦ (let (i, there, mark, e) = (start_are q).0 d in is_yes elsewhere pairs distinct marks i q there mark)
         ]
 
-        no_back : (q : Pair) → Contains (known_by base pairs marks).no q → Contains (lower.no ++ gone) q
-        no_back q c = elim (Contains-append_cases (marked No pairs marks) (outside pairs base.no) q c) [
-          | inl m ↦ (let (i, there, mark) = to_mark No pairs marks q m in r.knows.1.0 q (is_no base pairs distinct old i q there (same_no i mark)))
-          | inr o ↦ r.knows.1.0 q (Contains-append_right (marked No pairs old) (outside pairs base.no) q o)
+        no_back : (q : Pair) → Contains (known_by elsewhere pairs marks).no q → Contains (lower.no ++ gone) q
+        no_back q c = elim (Contains-append_cases (marked No pairs marks) (outside pairs elsewhere.no) q c) [
+          | inl m ↦ (let (i, there, mark) = to_mark No pairs marks q m in r.knows.1.0 q (is_no elsewhere pairs distinct old i q there (same_no i mark)))
+          | inr o ↦ r.knows.1.0 q (Contains-append_right (marked No pairs old) (outside pairs elsewhere.no) q o)
         ]
 
-        no_on : (q : Pair) → Contains (lower.no ++ gone) q → Contains (known_by base pairs marks).no q
-        no_on q c = elim (Contains-append_cases (marked No pairs old) (outside pairs base.no) q (r.knows.1.1 q c)) [
-          | inl m ↦ (let (i, there, mark) = to_mark No pairs old q m in is_no base pairs distinct marks i q there (still_no i mark))
-          | inr o ↦ Contains-append_right (marked No pairs marks) (outside pairs base.no) q o
+        no_on : (q : Pair) → Contains (lower.no ++ gone) q → Contains (known_by elsewhere pairs marks).no q
+        no_on q c = elim (Contains-append_cases (marked No pairs old) (outside pairs elsewhere.no) q (r.knows.1.1 q c)) [
+          | inl m ↦ (let (i, there, mark) = to_mark No pairs old q m in is_no elsewhere pairs distinct marks i q there (still_no i mark))
+          | inr o ↦ Contains-append_right (marked No pairs marks) (outside pairs elsewhere.no) q o
         ]
 
         stay : (p : Pair) → Contains start_cand p → IsNarrow s terms g f pairs budget k p × (¬ Contains gone p)
@@ -133,7 +133,7 @@ module _ (s : Schema) (terms : List Term) (g : List Triple) (f : List ℕ) (pair
             let same : Some p ≡ Some q = sym there ∙ at in
             let w : q ≡ p = cc in (
               subst (λ z. IsNarrow s terms g f pairs budget k z) w n,
-              (λ d. let z = no_at base pairs distinct old i p there (r.knows.1.1 p (Contains-append_right lower.no gone p d)) in absurd cc),
+              (λ d. let z = no_at elsewhere pairs distinct old i p there (r.knows.1.1 p (Contains-append_right lower.no gone p d)) in absurd cc),
             )
 
         greatest : (more : List Pair) → IsConfirmed s terms g f pairs budget lower k gone more → IsPartOf more start_cand
@@ -155,7 +155,7 @@ module _ (s : Schema) (terms : List Term) (g : List Triple) (f : List ℕ) (pair
     same_at q there = let same : Some p ≡ Some q = sym here ∙ there in cc
 
     -- it matches, and stays
-    pub holds : PairCanMatch s terms g (known_by base pairs marks) Impossible p → Confirming marks gone Old
+    pub holds : PairCanMatch s terms g (known_by elsewhere pairs marks) Impossible p → Confirming marks gone Old
     holds match = record {
       cand = r.cand;
       are = r.are;
@@ -172,12 +172,12 @@ module _ (s : Schema) (terms : List Term) (g : List Triple) (f : List ℕ) (pair
             PairCanMatch s terms g (view gone r.cand) Impossible q
         settled i q there on mark out = elim (cases_eq i at) [
           | inl e ↦ subst (λ u. PairCanMatch s terms g (view gone r.cand) Impossible u) (sym (same_at q (subst (λ j. slice_get pairs j ≡ Some q) e there)))
-              (match_known s terms g (known_by base pairs marks) (view gone r.cand) Impossible p r.knows match)
+              (match_known s terms g (known_by elsewhere pairs marks) (view gone r.cand) Impossible p r.knows match)
           | inr ne ↦ r.settled i q there on mark (λ h. elim h [ inl o ↦ out o | inr e ↦ ne e ])
         ]
 
     -- it does not, and is Unknown
-    module _ (never : ¬ PairCanMatch s terms g (known_by base pairs marks) Impossible p) (least : (i : ℕ) → Old i → at < i)
+    module _ (never : ¬ PairCanMatch s terms g (known_by elsewhere pairs marks) Impossible p) (least : (i : ℕ) → Old i → at < i)
         (Needing New : ℕ → Type 0) (needing : (i : ℕ) (q : Pair) → slice_get pairs i ≡ Some q → Needs s g q p → Needing i)
         (new : (i : ℕ) → New i ↔ (Old i ⊎ (Needing i × Open i × (slice_get (slice_set marks at Unknown) i ≡ Some Yes)))) where
       abbrev marks' : List Verdict
@@ -223,16 +223,16 @@ module _ (s : Schema) (terms : List Term) (g : List Triple) (f : List ℕ) (pair
           by true e = absurd (ne (pair_is q p e))
           by false e = ap not e
 
-      are' : (q : Pair) → Contains cand' q ↔ IsYesAt s terms g f pairs budget base k marks' q
+      are' : (q : Pair) → Contains cand' q ↔ IsYesAt s terms g f pairs budget elsewhere k marks' q
       are' q = (to, from)
         where
-          to : Contains cand' q → IsYesAt s terms g f pairs budget base k marks' q
+          to : Contains cand' q → IsYesAt s terms g f pairs budget elsewhere k marks' q
           to c =
               let (d, ne) = less q c in
               let (i, there, mark, e) = (r.are q).0 d in
               (i, there, other_mark i (λ is. ne (same_at q (subst (λ j. slice_get pairs j ≡ Some q) is there))) ∙ mark, e)
 
-          from : IsYesAt s terms g f pairs budget base k marks' q → Contains cand' q
+          from : IsYesAt s terms g f pairs budget elsewhere k marks' q → Contains cand' q
           from (i, there, mark, e) =
               let ne : i ≢ at = not_here i Yes yes_apart mark in
               on q ((r.are q).1 (i, there, sym (other_mark i ne) ∙ mark, e)) (λ is. ne (distinct i at p (subst (λ u. slice_get pairs i ≡ Some u) is there) here))
@@ -241,51 +241,51 @@ module _ (s : Schema) (terms : List Term) (g : List Triple) (f : List ℕ) (pair
       low_apart q c e = let l : level f q.shape < k = r.low q (inl c) (subst (λ u. Contains pairs u) (sym e) narrow.0) in
           let z : level f q.shape ≡ level f p.shape = ap (λ u. level f u.shape) e in let w = narrow.1 in absurd (omega arith)
 
-      knows' : KnowSame (known_by base pairs marks') (view gone cand')
+      knows' : KnowSame (known_by elsewhere pairs marks') (view gone cand')
       knows' = ((yes_back, yes_on), (no_back, no_on))
         where
-          yes_back : (q : Pair) → Contains (known_by base pairs marks').yes q → Contains (lower.yes ++ cand') q
-          yes_back q c = elim (Contains-append_cases (marked Yes pairs marks') (outside pairs base.yes) q c) [
+          yes_back : (q : Pair) → Contains (known_by elsewhere pairs marks').yes q → Contains (lower.yes ++ cand') q
+          yes_back q c = elim (Contains-append_cases (marked Yes pairs marks') (outside pairs elsewhere.yes) q c) [
             | inl m ↦ (let (i, there, mark) = to_mark Yes pairs marks' q m in
                 let ne : i ≢ at = not_here i Yes yes_apart mark in
-                elim (Contains-append_cases lower.yes r.cand q (r.knows.0.0 q (is_yes base pairs distinct marks i q there (sym (other_mark i ne) ∙ mark)))) [
+                elim (Contains-append_cases lower.yes r.cand q (r.knows.0.0 q (is_yes elsewhere pairs distinct marks i q there (sym (other_mark i ne) ∙ mark)))) [
                   | inl l ↦ Contains-append_left lower.yes cand' q l
                   | inr d ↦ Contains-append_right lower.yes cand' q (on q d (λ is. ne (distinct i at p (subst (λ u. slice_get pairs i ≡ Some u) is there) here)))
                 ])
-            | inr o ↦ elim (Contains-append_cases lower.yes r.cand q (r.knows.0.0 q (Contains-append_right (marked Yes pairs marks) (outside pairs base.yes) q o))) [
+            | inr o ↦ elim (Contains-append_cases lower.yes r.cand q (r.knows.0.0 q (Contains-append_right (marked Yes pairs marks) (outside pairs elsewhere.yes) q o))) [
               | inl l ↦ Contains-append_left lower.yes cand' q l
               | inr d ↦ absurd (let (i, there, mark, e) = (r.are q).0 d in out_of q o (got_in pairs i q there))
             ]
           ]
             where
-              out_of : (q : Pair) → Contains (outside pairs base.yes) q → Contains pairs q → ⊥
+              out_of : (q : Pair) → Contains (outside pairs elsewhere.yes) q → Contains pairs q → ⊥
               out_of q o inside = (to_out q o).1 inside
                 where
-                  to_out : (u : Pair) → Contains (outside pairs base.yes) u → Contains base.yes u × (¬ Contains pairs u)
-                  to_out u h = to_outside pairs base.yes u h
+                  to_out : (u : Pair) → Contains (outside pairs elsewhere.yes) u → Contains elsewhere.yes u × (¬ Contains pairs u)
+                  to_out u h = to_outside pairs elsewhere.yes u h
 
-          yes_on : (q : Pair) → Contains (lower.yes ++ cand') q → Contains (known_by base pairs marks').yes q
+          yes_on : (q : Pair) → Contains (lower.yes ++ cand') q → Contains (known_by elsewhere pairs marks').yes q
           yes_on q c = elim (Contains-append_cases lower.yes cand' q c) [
-            | inl l ↦ elim (Contains-append_cases (marked Yes pairs marks) (outside pairs base.yes) q (r.knows.0.1 q (Contains-append_left lower.yes r.cand q l))) [
+            | inl l ↦ elim (Contains-append_cases (marked Yes pairs marks) (outside pairs elsewhere.yes) q (r.knows.0.1 q (Contains-append_left lower.yes r.cand q l))) [
               | inl m ↦ (let (i, there, mark) = to_mark Yes pairs marks q m in
-                  is_yes base pairs distinct marks' i q there (other_mark i (λ is. low_apart q l (same_at q (subst (λ j. slice_get pairs j ≡ Some q) is there))) ∙ mark))
-              | inr o ↦ Contains-append_right (marked Yes pairs marks') (outside pairs base.yes) q o
+                  is_yes elsewhere pairs distinct marks' i q there (other_mark i (λ is. low_apart q l (same_at q (subst (λ j. slice_get pairs j ≡ Some q) is there))) ∙ mark))
+              | inr o ↦ Contains-append_right (marked Yes pairs marks') (outside pairs elsewhere.yes) q o
             ]
-            | inr d ↦ (let (i, there, mark, e) = (are' q).0 d in is_yes base pairs distinct marks' i q there mark)
+            | inr d ↦ (let (i, there, mark, e) = (are' q).0 d in is_yes elsewhere pairs distinct marks' i q there mark)
           ]
 
-          no_back : (q : Pair) → Contains (known_by base pairs marks').no q → Contains (lower.no ++ gone) q
-          no_back q c = elim (Contains-append_cases (marked No pairs marks') (outside pairs base.no) q c) [
+          no_back : (q : Pair) → Contains (known_by elsewhere pairs marks').no q → Contains (lower.no ++ gone) q
+          no_back q c = elim (Contains-append_cases (marked No pairs marks') (outside pairs elsewhere.no) q c) [
             | inl m ↦ (let (i, there, mark) = to_mark No pairs marks' q m in
-                r.knows.1.0 q (is_no base pairs distinct marks i q there (sym (other_mark i (not_here i No no_apart mark)) ∙ mark)))
-            | inr o ↦ r.knows.1.0 q (Contains-append_right (marked No pairs marks) (outside pairs base.no) q o)
+                r.knows.1.0 q (is_no elsewhere pairs distinct marks i q there (sym (other_mark i (not_here i No no_apart mark)) ∙ mark)))
+            | inr o ↦ r.knows.1.0 q (Contains-append_right (marked No pairs marks) (outside pairs elsewhere.no) q o)
           ]
 
-          no_on : (q : Pair) → Contains (lower.no ++ gone) q → Contains (known_by base pairs marks').no q
-          no_on q c = elim (Contains-append_cases (marked No pairs marks) (outside pairs base.no) q (r.knows.1.1 q c)) [
+          no_on : (q : Pair) → Contains (lower.no ++ gone) q → Contains (known_by elsewhere pairs marks').no q
+          no_on q c = elim (Contains-append_cases (marked No pairs marks) (outside pairs elsewhere.no) q (r.knows.1.1 q c)) [
             | inl m ↦ (let (i, there, mark) = to_mark No pairs marks q m in
-                is_no base pairs distinct marks' i q there (other_mark i (λ is. (let w = here_open.1 in let z : slice_get marks at ≡ Some No = subst (λ j. slice_get marks j ≡ Some No) is mark in absurd cc)) ∙ mark))
-            | inr o ↦ Contains-append_right (marked No pairs marks') (outside pairs base.no) q o
+                is_no elsewhere pairs distinct marks' i q there (other_mark i (λ is. (let w = here_open.1 in let z : slice_get marks at ≡ Some No = subst (λ j. slice_get marks j ≡ Some No) is mark in absurd cc)) ∙ mark))
+            | inr o ↦ Contains-append_right (marked No pairs marks') (outside pairs elsewhere.no) q o
           ]
 
       -- another pair is known as before
@@ -319,7 +319,7 @@ module _ (s : Schema) (terms : List Term) (g : List Triple) (f : List ℕ) (pair
         where
           greatest : (more : List Pair) → IsConfirmed s terms g f pairs budget lower k gone more → IsPartOf more cand'
           greatest more confirmed q c = on q (r.greatest more confirmed q c) (λ e. never
-              (match_known s terms g (view gone r.cand) (known_by base pairs marks) Impossible p (know_turned _ _ r.knows)
+              (match_known s terms g (view gone r.cand) (known_by elsewhere pairs marks) Impossible p (know_turned _ _ r.knows)
               (match_up s terms g (view gone more) (view gone r.cand) p (λ u need. up u) (λ u need. down u)
               (subst (λ u. PairCanMatch s terms g (view gone more) Impossible u) e (confirmed q c).2))))
             where
@@ -361,7 +361,7 @@ module _ (s : Schema) (terms : List Term) (g : List Triple) (f : List ℕ) (pair
   -- ---- at the end the stratum is refined
 
   module _ (marks : List Verdict) (gone : List Pair) (Todo : ℕ → Type 0) (r : Confirming marks gone Todo) (none : (i : ℕ) → ¬ Todo i) where
-    pub refined : (old : List Verdict) (Past : ℕ → Type 0) → IsRemoving s terms g f pairs budget base lower k old gone Past →
+    pub refined : (old : List Verdict) (Past : ℕ → Type 0) → IsRemoving s terms g f pairs budget elsewhere lower k old gone Past →
         ((p : Pair) → ¬ CanGo s terms g f pairs budget lower k gone p) → IsRefinedAt s terms g f pairs budget lower k gone r.cand
     refined old Past removing finished = record {
       in_turn = removing.in_turn;
@@ -370,5 +370,5 @@ module _ (s : Schema) (terms : List Term) (g : List Triple) (f : List ℕ) (pair
       greatest = r.greatest;
     }
 
-    pub above : IsBefore s terms g f pairs budget base (view gone r.cand) (suc k) marks
+    pub above : IsBefore s terms g f pairs budget elsewhere (view gone r.cand) (suc k) marks
     above = record { knows = r.knows; new = λ i p there le. r.new i p there (omega arith) }

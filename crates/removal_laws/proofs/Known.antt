@@ -76,38 +76,38 @@ from_outside pairs others q held none =
 
 -- ---- what is known
 
-module _ (base : Known) (pairs : List Pair) (distinct : AreDistinct pairs) (marks : List Verdict) where
+module _ (elsewhere : Known) (pairs : List Pair) (distinct : AreDistinct pairs) (marks : List Verdict) where
   -- at a place with a mark
-  pub yes_at : (i : ℕ) (q : Pair) → slice_get pairs i ≡ Some q → Contains (known_by base pairs marks).yes q → slice_get marks i ≡ Some Yes
-  yes_at i q at c = elim (Contains-append_cases (marked Yes pairs marks) (outside pairs base.yes) q c) [
+  pub yes_at : (i : ℕ) (q : Pair) → slice_get pairs i ≡ Some q → Contains (known_by elsewhere pairs marks).yes q → slice_get marks i ≡ Some Yes
+  yes_at i q at c = elim (Contains-append_cases (marked Yes pairs marks) (outside pairs elsewhere.yes) q c) [
     | inl m ↦ (let (j, there, mark) = to_mark Yes pairs marks q m in subst (λ k. slice_get marks k ≡ Some Yes) (distinct j i q there at) mark)
-    | inr o ↦ absurd ((to_outside pairs base.yes q o).1 (got_in pairs i q at))
+    | inr o ↦ absurd ((to_outside pairs elsewhere.yes q o).1 (got_in pairs i q at))
   ]
 
-  pub no_at : (i : ℕ) (q : Pair) → slice_get pairs i ≡ Some q → Contains (known_by base pairs marks).no q → slice_get marks i ≡ Some No
-  no_at i q at c = elim (Contains-append_cases (marked No pairs marks) (outside pairs base.no) q c) [
+  pub no_at : (i : ℕ) (q : Pair) → slice_get pairs i ≡ Some q → Contains (known_by elsewhere pairs marks).no q → slice_get marks i ≡ Some No
+  no_at i q at c = elim (Contains-append_cases (marked No pairs marks) (outside pairs elsewhere.no) q c) [
     | inl m ↦ (let (j, there, mark) = to_mark No pairs marks q m in subst (λ k. slice_get marks k ≡ Some No) (distinct j i q there at) mark)
-    | inr o ↦ absurd ((to_outside pairs base.no q o).1 (got_in pairs i q at))
+    | inr o ↦ absurd ((to_outside pairs elsewhere.no q o).1 (got_in pairs i q at))
   ]
 
-  pub is_yes : (i : ℕ) (q : Pair) → slice_get pairs i ≡ Some q → slice_get marks i ≡ Some Yes → Contains (known_by base pairs marks).yes q
-  is_yes i q at mark = Contains-append_left (marked Yes pairs marks) (outside pairs base.yes) q (from_mark Yes pairs marks q (i, at, mark))
+  pub is_yes : (i : ℕ) (q : Pair) → slice_get pairs i ≡ Some q → slice_get marks i ≡ Some Yes → Contains (known_by elsewhere pairs marks).yes q
+  is_yes i q at mark = Contains-append_left (marked Yes pairs marks) (outside pairs elsewhere.yes) q (from_mark Yes pairs marks q (i, at, mark))
 
-  pub is_no : (i : ℕ) (q : Pair) → slice_get pairs i ≡ Some q → slice_get marks i ≡ Some No → Contains (known_by base pairs marks).no q
-  is_no i q at mark = Contains-append_left (marked No pairs marks) (outside pairs base.no) q (from_mark No pairs marks q (i, at, mark))
+  pub is_no : (i : ℕ) (q : Pair) → slice_get pairs i ≡ Some q → slice_get marks i ≡ Some No → Contains (known_by elsewhere pairs marks).no q
+  is_no i q at mark = Contains-append_left (marked No pairs marks) (outside pairs elsewhere.no) q (from_mark No pairs marks q (i, at, mark))
 
   -- the mark of a pair is what is known of it
-  pub answers_in : (i : ℕ) (q : Pair) (v : Verdict) → slice_get pairs i ≡ Some q → slice_get marks i ≡ Some v → PairIs (known_by base pairs marks) q v
+  pub answers_in : (i : ℕ) (q : Pair) (v : Verdict) → slice_get pairs i ≡ Some q → slice_get marks i ≡ Some v → PairIs (known_by elsewhere pairs marks) q v
   answers_in i q Yes at mark = is_yes i q at mark
   answers_in i q No at mark = ((λ c. (let e = yes_at i q at c in absurd cc)), is_no i q at mark)
   answers_in i q Unknown at mark = ((λ c. (let e = yes_at i q at c in absurd cc)), λ c. (let e = no_at i q at c in absurd cc))
 
   -- a pair without a mark is not known
-  pub answers_none : (i : ℕ) (q : Pair) → slice_get pairs i ≡ Some q → slice_get marks i ≡ None → PairIs (known_by base pairs marks) q Unknown
+  pub answers_none : (i : ℕ) (q : Pair) → slice_get pairs i ≡ Some q → slice_get marks i ≡ None → PairIs (known_by elsewhere pairs marks) q Unknown
   answers_none i q at mark = ((λ c. (let e = yes_at i q at c in absurd cc)), λ c. (let e = no_at i q at c in absurd cc))
 
   -- another pair is known as it was
-  pub answers_out : (q : Pair) (v : Verdict) → ¬ Contains pairs q → PairIs base q v → PairIs (known_by base pairs marks) q v
+  pub answers_out : (q : Pair) (v : Verdict) → ¬ Contains pairs q → PairIs elsewhere q v → PairIs (known_by elsewhere pairs marks) q v
   answers_out q v none is = by v is
     where
       out : (w : Verdict) (others : List Pair) → Contains (marked w pairs marks ++ outside pairs others) q → Contains others q
@@ -119,10 +119,10 @@ module _ (base : Known) (pairs : List Pair) (distinct : AreDistinct pairs) (mark
       in_ : (w : Verdict) (others : List Pair) → Contains others q → Contains (marked w pairs marks ++ outside pairs others) q
       in_ w others c = Contains-append_right (marked w pairs marks) (outside pairs others) q (from_outside pairs others q c none)
 
-      by : (w : Verdict) → PairIs base q w → PairIs (known_by base pairs marks) q w
-      by Yes h = in_ Yes base.yes h
-      by No h = ((λ c. h.0 (out Yes base.yes c)), in_ No base.no h.1)
-      by Unknown h = ((λ c. h.0 (out Yes base.yes c)), λ c. h.1 (out No base.no c))
+      by : (w : Verdict) → PairIs elsewhere q w → PairIs (known_by elsewhere pairs marks) q w
+      by Yes h = in_ Yes elsewhere.yes h
+      by No h = ((λ c. h.0 (out Yes elsewhere.yes c)), in_ No elsewhere.no h.1)
+      by Unknown h = ((λ c. h.0 (out Yes elsewhere.yes c)), λ c. h.1 (out No elsewhere.no c))
 
 -- ---- views with the same pairs
 

@@ -27,16 +27,16 @@ use Rattle.removal_laws.proofs.Carried.{match_alike}
 use Rattle.removal_laws.proofs.Known.{held_at, is_no, is_yes, know_turned, match_known, more_gone, no_at, same_alike, set_here, set_other, to_outside, yes_at}
 use Rattle.removal_laws.proofs.Marking.{from_mark, to_mark}
 
-module _ (s : Schema) (terms : List Term) (g : List Triple) (f : List ℕ) (pairs : List Pair) (budget : ℕ) (base : Known) (distinct : AreDistinct pairs)
+module _ (s : Schema) (terms : List Term) (g : List Triple) (f : List ℕ) (pairs : List Pair) (budget : ℕ) (elsewhere : Known) (distinct : AreDistinct pairs)
     (lower : Known) (k : ℕ) where
   abbrev Goes : List Pair → Pair → Type 0
   Goes gone p = GoesNext s terms g f pairs budget lower k gone p
 
   abbrev Removing : List Verdict → List Pair → (ℕ → Type 0) → Type 0
-  Removing marks gone Todo = IsRemoving s terms g f pairs budget base lower k marks gone Todo
+  Removing marks gone Todo = IsRemoving s terms g f pairs budget elsewhere lower k marks gone Todo
 
   abbrev Open : ℕ → Type 0
-  Open i = IsOpen s terms g f pairs budget base k i
+  Open i = IsOpen s terms g f pairs budget elsewhere k i
 
   -- one more went in its turn
   one_more :
@@ -65,11 +65,11 @@ module _ (s : Schema) (terms : List Term) (g : List Triple) (f : List ℕ) (pair
   not_gone : (marks : List Verdict) (gone : List Pair) (Todo : ℕ → Type 0) → Removing marks gone Todo → (i : ℕ) (p : Pair) → slice_get pairs i ≡ Some p →
       slice_get marks i ≡ Some Unknown → ¬ Contains gone p
   not_gone marks gone Todo r i p at mark c =
-      let e = no_at base pairs distinct marks i p at (r.knows.1.1 p (Contains-append_right lower.no gone p c)) in absurd cc
+      let e = no_at elsewhere pairs distinct marks i p at (r.knows.1.1 p (Contains-append_right lower.no gone p c)) in absurd cc
 
   -- ---- at the start every open pair is to be looked at
 
-  module _ (marks : List Verdict) (before : IsBefore s terms g f pairs budget base lower k marks) where
+  module _ (marks : List Verdict) (before : IsBefore s terms g f pairs budget elsewhere lower k marks) where
     -- lower knows no pair of the stratum or above
     pub low : (q : Pair) → Contains lower.yes q ⊎ Contains lower.no q → Contains pairs q → level f q.shape < k
     low q known inside = elim (cases_lt (level f q.shape) k) [
@@ -78,8 +78,8 @@ module _ (s : Schema) (terms : List Term) (g : List Triple) (f : List ℕ) (pair
     ]
       where
         by : Contains lower.yes q ⊎ Contains lower.no q → (i : ℕ) → slice_get pairs i ≡ Some q → slice_get marks i ≡ Some Unknown → ⊥
-        by (inl y) i at mark = let e = yes_at base pairs distinct marks i q at (before.knows.0.1 q y) in absurd cc
-        by (inr n) i at mark = let e = no_at base pairs distinct marks i q at (before.knows.1.1 q n) in absurd cc
+        by (inl y) i at mark = let e = yes_at elsewhere pairs distinct marks i q at (before.knows.0.1 q y) in absurd cc
+        by (inr n) i at mark = let e = no_at elsewhere pairs distinct marks i q at (before.knows.1.1 q n) in absurd cc
 
     pub start : (Todo : ℕ → Type 0) → ((i : ℕ) → Open i → Todo i) → ((i : ℕ) → Todo i → Open i) → Removing marks [] Todo
     start Todo all only = record {
@@ -99,7 +99,7 @@ module _ (s : Schema) (terms : List Term) (g : List Triple) (f : List ℕ) (pair
   module _ (marks : List Verdict) (gone : List Pair) (at : ℕ) (p : Pair) (here : slice_get pairs at ≡ Some p) (Old : ℕ → Type 0)
       (r : Removing marks gone (λ i. Old i ⊎ (i ≡ at))) where
     -- it can match, and stays
-    pub stays : PairCanMatch s terms g (known_by base pairs marks) Possible p → Removing marks gone Old
+    pub stays : PairCanMatch s terms g (known_by elsewhere pairs marks) Possible p → Removing marks gone Old
     stays match = record {
       in_turn = r.in_turn;
       knows = r.knows;
@@ -110,16 +110,16 @@ module _ (s : Schema) (terms : List Term) (g : List Triple) (f : List ℕ) (pair
     }
       where
         settled : (i : ℕ) (q : Pair) → slice_get pairs i ≡ Some q → IsNarrow s terms g f pairs budget k q → slice_get marks i ≡ Some Unknown → ¬ Old i →
-            PairCanMatch s terms g (without s terms g f pairs budget base lower gone) Possible q
+            PairCanMatch s terms g (without s terms g f pairs budget elsewhere lower gone) Possible q
         settled i q there narrow mark out = elim (cases_eq i at) [
-          | inl e ↦ subst (λ u. PairCanMatch s terms g (without s terms g f pairs budget base lower gone) Possible u)
+          | inl e ↦ subst (λ u. PairCanMatch s terms g (without s terms g f pairs budget elsewhere lower gone) Possible u)
               (let both : Some p ≡ Some q = sym here ∙ ap (λ j. slice_get pairs j) (sym e) ∙ there in cc)
-              (match_known s terms g (known_by base pairs marks) (without s terms g f pairs budget base lower gone) Possible p r.knows match)
+              (match_known s terms g (known_by elsewhere pairs marks) (without s terms g f pairs budget elsewhere lower gone) Possible p r.knows match)
           | inr ne ↦ r.settled i q there narrow mark (λ h. elim h [ inl o ↦ out o | inr e ↦ ne e ])
         ]
 
     -- it cannot, and goes
-    module _ (never : ¬ PairCanMatch s terms g (known_by base pairs marks) Possible p) (least : (i : ℕ) → Old i → at < i)
+    module _ (never : ¬ PairCanMatch s terms g (known_by elsewhere pairs marks) Possible p) (least : (i : ℕ) → Old i → at < i)
         (Needing New : ℕ → Type 0) (needing : (i : ℕ) (q : Pair) → slice_get pairs i ≡ Some q → Needs s g q p → Needing i)
         (new : (i : ℕ) → New i ↔ (Old i ⊎ (Needing i × Open i × (slice_get (slice_set marks at No) i ≡ Some Unknown)))) where
       abbrev marks' : List Verdict
@@ -145,7 +145,7 @@ module _ (s : Schema) (terms : List Term) (g : List Triple) (f : List ℕ) (pair
         (
           narrow,
           not_gone marks gone (λ i. Old i ⊎ (i ≡ at)) r at p here here_open.1,
-          (λ m. never (match_known s terms g (without s terms g f pairs budget base lower gone) (known_by base pairs marks) Possible p (know_turned _ _ r.knows) m)),
+          (λ m. never (match_known s terms g (without s terms g f pairs budget elsewhere lower gone) (known_by elsewhere pairs marks) Possible p (know_turned _ _ r.knows) m)),
         ),
         first,
       )
@@ -160,33 +160,33 @@ module _ (s : Schema) (terms : List Term) (g : List Triple) (f : List ℕ) (pair
               mark (inl m) = m
               mark (inr c) = absurd (new_q c)
 
-      knows' : KnowSame (known_by base pairs marks') (without s terms g f pairs budget base lower gone')
+      knows' : KnowSame (known_by elsewhere pairs marks') (without s terms g f pairs budget elsewhere lower gone')
       knows' = (((λ q c. r.knows.0.0 q (yes_back q c)), (λ q c. yes_on q (r.knows.0.1 q c))), (no_back, no_on))
         where
-          yes_back : (q : Pair) → Contains (known_by base pairs marks').yes q → Contains (known_by base pairs marks).yes q
-          yes_back q c = elim (Contains-append_cases (marked Yes pairs marks') (outside pairs base.yes) q c) [
+          yes_back : (q : Pair) → Contains (known_by elsewhere pairs marks').yes q → Contains (known_by elsewhere pairs marks).yes q
+          yes_back q c = elim (Contains-append_cases (marked Yes pairs marks') (outside pairs elsewhere.yes) q c) [
             | inl m ↦ (let (i, there, mark) = to_mark Yes pairs marks' q m in
-                is_yes base pairs distinct marks i q there (sym (other_mark i (λ e. (let w : slice_get marks' at ≡ Some No = set_here marks at Unknown No here_open.1 in
+                is_yes elsewhere pairs distinct marks i q there (sym (other_mark i (λ e. (let w : slice_get marks' at ≡ Some No = set_here marks at Unknown No here_open.1 in
                 let z : slice_get marks' at ≡ Some Yes = subst (λ j. slice_get marks' j ≡ Some Yes) e mark in absurd cc))) ∙ mark))
-            | inr o ↦ Contains-append_right (marked Yes pairs marks) (outside pairs base.yes) q o
+            | inr o ↦ Contains-append_right (marked Yes pairs marks) (outside pairs elsewhere.yes) q o
           ]
 
-          yes_on : (q : Pair) → Contains (known_by base pairs marks).yes q → Contains (known_by base pairs marks').yes q
-          yes_on q c = elim (Contains-append_cases (marked Yes pairs marks) (outside pairs base.yes) q c) [
+          yes_on : (q : Pair) → Contains (known_by elsewhere pairs marks).yes q → Contains (known_by elsewhere pairs marks').yes q
+          yes_on q c = elim (Contains-append_cases (marked Yes pairs marks) (outside pairs elsewhere.yes) q c) [
             | inl m ↦ (let (i, there, mark) = to_mark Yes pairs marks q m in
-                is_yes base pairs distinct marks' i q there (other_mark i (λ e. (let w = here_open.1 in let z : slice_get marks at ≡ Some Yes = subst (λ j. slice_get marks j ≡ Some Yes) e mark in absurd cc)) ∙ mark))
-            | inr o ↦ Contains-append_right (marked Yes pairs marks') (outside pairs base.yes) q o
+                is_yes elsewhere pairs distinct marks' i q there (other_mark i (λ e. (let w = here_open.1 in let z : slice_get marks at ≡ Some Yes = subst (λ j. slice_get marks j ≡ Some Yes) e mark in absurd cc)) ∙ mark))
+            | inr o ↦ Contains-append_right (marked Yes pairs marks') (outside pairs elsewhere.yes) q o
           ]
 
-          no_back : (q : Pair) → Contains (known_by base pairs marks').no q → Contains (lower.no ++ gone') q
-          no_back q c = elim (Contains-append_cases (marked No pairs marks') (outside pairs base.no) q c) [
+          no_back : (q : Pair) → Contains (known_by elsewhere pairs marks').no q → Contains (lower.no ++ gone') q
+          no_back q c = elim (Contains-append_cases (marked No pairs marks') (outside pairs elsewhere.no) q c) [
             | inl m ↦ (let (i, there, mark) = to_mark No pairs marks' q m in
                 elim (cases_eq i at) [
                   | inl e ↦ Contains-append_right lower.no gone' q (Contains-append_right gone (p ∷ []) q
                       (subst (λ u. Contains (u ∷ []) q) (same_at q (subst (λ j. slice_get pairs j ≡ Some q) e there)) (is_first q [])))
-                  | inr ne ↦ wider q (r.knows.1.0 q (is_no base pairs distinct marks i q there (sym (other_mark i ne) ∙ mark)))
+                  | inr ne ↦ wider q (r.knows.1.0 q (is_no elsewhere pairs distinct marks i q there (sym (other_mark i ne) ∙ mark)))
                 ])
-            | inr o ↦ wider q (r.knows.1.0 q (Contains-append_right (marked No pairs marks) (outside pairs base.no) q o))
+            | inr o ↦ wider q (r.knows.1.0 q (Contains-append_right (marked No pairs marks) (outside pairs elsewhere.no) q o))
           ]
             where
               wider : (u : Pair) → Contains (lower.no ++ gone) u → Contains (lower.no ++ gone') u
@@ -195,20 +195,20 @@ module _ (s : Schema) (terms : List Term) (g : List Triple) (f : List ℕ) (pair
                 | inr w ↦ Contains-append_right lower.no gone' u (Contains-append_left gone (p ∷ []) u w)
               ]
 
-          no_on : (q : Pair) → Contains (lower.no ++ gone') q → Contains (known_by base pairs marks').no q
+          no_on : (q : Pair) → Contains (lower.no ++ gone') q → Contains (known_by elsewhere pairs marks').no q
           no_on q c = elim (Contains-append_cases lower.no gone' q c) [
             | inl l ↦ kept q (r.knows.1.1 q (Contains-append_left lower.no gone q l))
             | inr w ↦ elim (Contains-append_cases gone (p ∷ []) q w) [
               | inl v ↦ kept q (r.knows.1.1 q (Contains-append_right lower.no gone q v))
-              | inr v ↦ subst (λ u. Contains (known_by base pairs marks').no u) (in_one p q v) (is_no base pairs distinct marks' at p here (set_here marks at Unknown No here_open.1))
+              | inr v ↦ subst (λ u. Contains (known_by elsewhere pairs marks').no u) (in_one p q v) (is_no elsewhere pairs distinct marks' at p here (set_here marks at Unknown No here_open.1))
             ]
           ]
             where
-              kept : (u : Pair) → Contains (known_by base pairs marks).no u → Contains (known_by base pairs marks').no u
-              kept u h = elim (Contains-append_cases (marked No pairs marks) (outside pairs base.no) u h) [
+              kept : (u : Pair) → Contains (known_by elsewhere pairs marks).no u → Contains (known_by elsewhere pairs marks').no u
+              kept u h = elim (Contains-append_cases (marked No pairs marks) (outside pairs elsewhere.no) u h) [
                 | inl m ↦ (let (i, there, mark) = to_mark No pairs marks u m in
-                    is_no base pairs distinct marks' i u there (other_mark i (λ e. (let w = here_open.1 in let z : slice_get marks at ≡ Some No = subst (λ j. slice_get marks j ≡ Some No) e mark in absurd cc)) ∙ mark))
-                | inr o ↦ Contains-append_right (marked No pairs marks') (outside pairs base.no) u o
+                    is_no elsewhere pairs distinct marks' i u there (other_mark i (λ e. (let w = here_open.1 in let z : slice_get marks at ≡ Some No = subst (λ j. slice_get marks j ≡ Some No) e mark in absurd cc)) ∙ mark))
+                | inr o ↦ Contains-append_right (marked No pairs marks') (outside pairs elsewhere.no) u o
               ]
 
       pub went : Removing marks' gone' New
@@ -232,11 +232,11 @@ module _ (s : Schema) (terms : List Term) (g : List Triple) (f : List ℕ) (pair
           ]
 
           settled : (i : ℕ) (q : Pair) → slice_get pairs i ≡ Some q → IsNarrow s terms g f pairs budget k q → slice_get marks' i ≡ Some Unknown → ¬ New i →
-              PairCanMatch s terms g (without s terms g f pairs budget base lower gone') Possible q
+              PairCanMatch s terms g (without s terms g f pairs budget elsewhere lower gone') Possible q
           settled i q there n mark out = elim (cases_eq i at) [
             | inl e ↦ (let w : slice_get marks' at ≡ Some No = set_here marks at Unknown No here_open.1 in
                 let z : slice_get marks' at ≡ Some Unknown = subst (λ j. slice_get marks' j ≡ Some Unknown) e mark in absurd cc)
-            | inr ne ↦ match_alike s terms g (without s terms g f pairs budget base lower gone) (without s terms g f pairs budget base lower gone') Possible q
+            | inr ne ↦ match_alike s terms g (without s terms g f pairs budget elsewhere lower gone) (without s terms g f pairs budget elsewhere lower gone') Possible q
                 (λ u need v. more_gone lower.yes lower.no gone p u v (λ e. out ((new i).1 (inr (needing i q there (subst (λ z. Needs s g q z) e need), (q, there, n), mark)))))
                 (r.settled i q there n (sym (other_mark i ne) ∙ mark) (λ h. elim h [ inl o ↦ out ((new i).1 (inl o)) | inr e ↦ ne e ]))
           ]

@@ -1,10 +1,11 @@
 //! Labels.
 
-ghost use Rattle.std.specs.Prelude.{◌≡◌, ◌++◌, IfOk, codes, string_bytes};
+ghost use Rattle.std.specs.Prelude.{◌≡◌, IfOk, string_bytes};
 ghost use Rattle.schema_documents.specs.Labels.{IsTextLabel, label_text};
 
 use rdf_terms::text::Text;
 use std::alloc::{AllocError, Global};
+use std::fmt;
 
 /// The name of a shape expression or of a triple expression (ShEx 2.1, sections 5.3 and 5.5): an IRI, or a blank node's
 /// label without `_:`.
@@ -16,18 +17,19 @@ pub enum Label {
     Blank(Text),
 }
 
-/// An IRI in angle brackets.
-fn in_brackets(alloc: Global, iri: &str) -> Result<String, AllocError>
-    ensures { IfOk result (λ s. string_bytes s ≡ codes "<" ++ (iri.now ++ codes ">")) }
-{
-    format!(in alloc; "<{iri}>")
-}
+impl fmt::Display for Label {
+    ghost use Rattle.std.specs.Prelude.{Some};
+    ghost use Rattle.schema_documents.specs.Labels.{label_text};
 
-/// `_:` and the label of a blank node.
-fn behind_mark(alloc: Global, name: &str) -> Result<String, AllocError>
-    ensures { IfOk result (λ s. string_bytes s ≡ codes "_:" ++ name.now) }
-{
-    format!(in alloc; "_:{name}")
+    ghost output = { λ l. Some (label_text l) };
+
+    /// An IRI in angle brackets, or `_:` and a blank node's label (ShapeMap Structure and Language, section 4).
+    fn fmt<W: fmt::Write>(&self, f: &mut fmt::Formatter<W>) -> fmt::Result {
+        match self {
+            Label::Iri(iri) => write!(f, "<{}>", iri.as_str()),
+            Label::Blank(name) => write!(f, "_:{}", name.as_str()),
+        }
+    }
 }
 
 impl Label {
@@ -46,9 +48,10 @@ impl Label {
         ensures written { IfOk result (λ s. string_bytes s ≡ label_text self.now) }
         ensures scalars { IsTextLabel self.now }
     {
-        match self {
-            Label::Iri(iri) => in_brackets(alloc, iri.as_str()),
-            Label::Blank(name) => behind_mark(alloc, name.as_str()),
-        }
+        let _text = match self {
+            Label::Iri(iri) => iri.as_str(),
+            Label::Blank(name) => name.as_str(),
+        };
+        format!(in alloc; "{self}")
     }
 }

@@ -5,7 +5,7 @@ use Rattle.std.proofs.lemmas.Bool.{cases_lt, eq-eqb, eqb-true}
 use Rattle.std.proofs.lemmas.List.{length-append}
 use Rattle.rdf_terms.specs.declared.terms.Term.{Term}
 use Rattle.tally.specs.declared.Bound.{Bound}
-use Rattle.tally.specs.Plan.{Plan, Plans, each, many, more_plans, no_plans, one, sym as symbol}
+use Rattle.tally.specs.Plan.{Plan, Plans, each, is_once, many, more_plans, no_plans, one, sym as symbol}
 use Rattle.tally.specs.Symbols.{AreDistinct, IsDistinct, has_symbol, some_has}
 use Rattle.tally.specs.Span.{AreSound, IsOrdered, IsSound}
 use Rattle.schema_tree.specs.declared.schema.ExprId.{ExprId}
@@ -13,7 +13,7 @@ use Rattle.schema_tree.specs.declared.schema.Occurrence.{Occurrence}
 use Rattle.schema_load.specs.declared.part.Part.{Part}
 use Rattle.schema_load.specs.Parts.{AreOrdered}
 use Rattle.schema_load.specs.Requirements.{HasOccurrences, HaveOccurrences, of_arc, of_each, of_include, of_more, of_none, of_one}
-use Rattle.schema_load.specs.Stands.{UnfoldAll, Unfolds, arc, each_of, included, is_once, more, none, one_of, times}
+use Rattle.schema_load.specs.Stands.{UnfoldAll, Unfolds, arc, each_of, included, more, none, one_of, times}
 
 -- the symbols of the plan are those from k on, n of them, each once; no minimum is above its bound
 pub record IsFit (k n : ℕ) (plan : Plan) : Type 0 where

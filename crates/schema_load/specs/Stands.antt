@@ -1,12 +1,11 @@
 -- The schema that documents stand for (ShEx 2.1, sections 5.1 to 5.5 and 5.7).
-use Rattle.std.specs.Prelude.{ℕ, Bool, false, ◌+◌, ◌<◌, ◌≤◌, ◌≡◌, List, [], ◌∷◌, ◌++◌, Option, Some, None, length, map, slice_get, get_or, filter, take, nat_eq, ◌&&◌, if◌then◌else◌, zero, suc}
+use Rattle.std.specs.Prelude.{ℕ, ◌+◌, ◌<◌, ◌≤◌, ◌≡◌, List, [], ◌∷◌, ◌++◌, Option, Some, None, length, map, slice_get, get_or, filter, take, nat_eq, if◌then◌else◌, zero, suc}
 use Rattle.std.specs.List.{AllZip}
 use Rattle.rdf_terms.specs.declared.terms.Term.{Term}
 use Rattle.rdf_terms.specs.declared.terms.TermId.{TermId}
 use Rattle.rdf_terms.specs.declared.terms.Term.TheVariants.{Iri}
 use Rattle.tally.specs.declared.Bound.{Bound}
-use Rattle.tally.specs.declared.Bound.TheVariants.{Upto, Free}
-use Rattle.tally.specs.Plan.{Plan, Plans, each, many, more_plans, no_plans, one, sym}
+use Rattle.tally.specs.Plan.{Plan, Plans, each, is_once, many, more_plans, no_plans, one, sym}
 use Rattle.schema_documents.specs.declared.label.Label.{Label}
 use Rattle.schema_documents.specs.Tree.{Document, MaybeShapeExpr, no_expr, one_expr}
 use Rattle.schema_tree.specs.declared.schema.Expr.{Expr}
@@ -25,11 +24,6 @@ use Rattle.schema_load.specs.Reading.{parts_of, root_start}
 use Rattle.schema_load.specs.Parts.{IsAt, IsNamed, declarations, is_entry, is_shape, places_where, shape_places}
 use Rattle.schema_load.specs.Graph.{HasDepth, Resolves}
 use Rattle.schema_load.specs.Requirements.{MeetsRequirements}
-
--- the cardinality is once and no more
-abbrev pub is_once : ℕ → Bound → Bool
-is_once min (Upto max) = nat_eq min 1 && nat_eq max 1
-is_once min Free = false
 
 -- the cardinality of an expression; once and no more says nothing (ShEx 2.1, section 5.5)
 abbrev pub times : ℕ → Bound → Plan → Plan

@@ -33,42 +33,6 @@ pub enum LoadError {
     Memory,
 }
 
-/// A label as it is shown: an IRI in angle brackets, or `_:` and a blank node's label.
-#[derive(Clone, Copy)]
-struct ShownLabel<'a>(&'a Label);
-
-impl<'a> fmt::Display for ShownLabel<'a> {
-    ghost use Rattle.std.specs.Prelude.{Some};
-    ghost use Rattle.schema_documents.specs.Labels.{label_text};
-
-    ghost output = { λ l. Some (label_text l.0.now) };
-
-    fn fmt<W: fmt::Write>(&self, f: &mut fmt::Formatter<W>) -> fmt::Result {
-        match self.0 {
-            Label::Iri(iri) => write!(f, "<{}>", iri.as_str()),
-            Label::Blank(name) => write!(f, "_:{}", name.as_str()),
-        }
-    }
-}
-
-/// A target as it is shown: its label, or `START`.
-#[derive(Clone, Copy)]
-struct ShownTarget<'a>(&'a Target);
-
-impl<'a> fmt::Display for ShownTarget<'a> {
-    ghost use Rattle.std.specs.Prelude.{Some};
-    ghost use Rattle.schema_tree.specs.Targets.{target_text};
-
-    ghost output = { λ t. Some (target_text t.0.now) };
-
-    fn fmt<W: fmt::Write>(&self, f: &mut fmt::Formatter<W>) -> fmt::Result {
-        match self.0 {
-            Target::Start => f.write_str("START"),
-            Target::Label(label) => write!(f, "{}", ShownLabel(label)),
-        }
-    }
-}
-
 impl fmt::Display for LoadError {
     ghost use Rattle.std.specs.Prelude.{Some};
     ghost use Rattle.schema_load.specs.Messages.{load_text};
@@ -77,12 +41,12 @@ impl fmt::Display for LoadError {
 
     fn fmt<W: fmt::Write>(&self, f: &mut fmt::Formatter<W>) -> fmt::Result {
         match self {
-            LoadError::Twice(label) => write!(f, "Twice({})", ShownLabel(label)),
-            LoadError::Missing(label) => write!(f, "Missing({})", ShownLabel(label)),
-            LoadError::Circle(label) => write!(f, "Circle({})", ShownLabel(label)),
-            LoadError::IncludeCircle(label) => write!(f, "IncludeCircle({})", ShownLabel(label)),
-            LoadError::Deep(target) => write!(f, "Deep({})", ShownTarget(target)),
-            LoadError::Occurrences(target) => write!(f, "Occurrences({})", ShownTarget(target)),
+            LoadError::Twice(label) => write!(f, "Twice({label})"),
+            LoadError::Missing(label) => write!(f, "Missing({label})"),
+            LoadError::Circle(label) => write!(f, "Circle({label})"),
+            LoadError::IncludeCircle(label) => write!(f, "IncludeCircle({label})"),
+            LoadError::Deep(target) => write!(f, "Deep({target})"),
+            LoadError::Occurrences(target) => write!(f, "Occurrences({target})"),
             LoadError::Shapes => f.write_str("Shapes"),
             LoadError::Full => f.write_str("Full"),
             LoadError::Memory => f.write_str("Memory"),

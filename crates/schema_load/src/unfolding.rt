@@ -6,7 +6,7 @@ ghost use Rattle.tally.specs.Plan.{plan_of, plans_of};
 ghost use Rattle.schema_tree.specs.declared.schema.Occurrence.{Occurrence};
 ghost use Rattle.schema_load.specs.declared.part.Part.{Part};
 ghost use Rattle.schema_load.specs.Building.{number_in};
-ghost use Rattle.schema_load.specs.Stands.{IsOccurrence, UnfoldAll, Unfolds, is_once, times};
+ghost use Rattle.schema_load.specs.Stands.{IsOccurrence, UnfoldAll, Unfolds, times};
 ghost use Rattle.schema_load.specs.Steps.{IsTripleAt};
 ghost use Rattle.schema_load.specs.Unfolding.{AreBelow, HasRoom, HaveRoom, IsFormAt, IsReady, IsValueInside, UnfoldsForm};
 
@@ -16,7 +16,7 @@ use rdf_terms::terms::{Term, TermId};
 use rdf_terms::text::Text;
 use schema_tree::schema::{ExprId, Occurrence};
 use std::alloc::{AllocError, Global};
-use tally::{Bound, Count};
+use tally::{Bound, Count, is_once};
 
 /// The number of an IRI of the table.
 pub fn find_iri(alloc: Global, iri: &Text, terms: &TermTable) -> Result<TermId, AllocError>
@@ -58,16 +58,6 @@ fn occurrence_of(
         predicate,
         value: number_of_value(arc.value, numbers),
     })
-}
-
-/// Whether the cardinality is once and no more.
-fn is_once(min: u32, max: Bound) -> bool
-    ensures { result ≡ is_once min max }
-{
-    match max {
-        Bound::Upto(max) => min == 1 && max == 1,
-        Bound::Free => false,
-    }
 }
 
 /// The expression with a cardinality.

@@ -8,6 +8,7 @@ use node_constraint::NodeConstraint;
 use rdf_terms::items::Items;
 use rdf_terms::terms::{TermId, Triple};
 use std::alloc::{AllocError, Global};
+use std::fmt;
 
 /// The number of a shape expression: its place among the schema's expressions.
 #[derive(Clone, Copy, Debug, PartialEq, Eq, Hash)]
@@ -105,6 +106,21 @@ pub enum Target {
     Start,
     /// The expression of a label.
     Label(Label),
+}
+
+impl fmt::Display for Target {
+    ghost use Rattle.std.specs.Prelude.{Some};
+    ghost use Rattle.schema_tree.specs.Targets.{target_text};
+
+    ghost output = { λ t. Some (target_text t) };
+
+    /// The text of its label, or `START` (ShapeMap Structure and Language, section 4).
+    fn fmt<W: fmt::Write>(&self, f: &mut fmt::Formatter<W>) -> fmt::Result {
+        match self {
+            Target::Start => f.write_str("START"),
+            Target::Label(label) => write!(f, "{label}"),
+        }
+    }
 }
 
 impl Target {

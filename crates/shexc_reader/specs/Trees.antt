@@ -1,9 +1,10 @@
 -- The trees that rules make of their parts (ShEx 2.1, sections 5.2 to 5.5).
-use Rattle.std.specs.Prelude.{ℕ, Bool, true, false, List, [], ◌∷◌, Option, Some, None, nat_eq, if◌then◌else◌, ◌&&◌}
+use Rattle.std.specs.Prelude.{ℕ, Bool, true, false, List, [], ◌∷◌, Option, Some, None, if◌then◌else◌}
 use Rattle.schema_documents.specs.declared.label.Label.{Label}
 use Rattle.schema_documents.specs.Tree.{ShapeExpr, TripleExpr, TripleBody, conj, disj, shape, no_triple, triple, each, one, arc, include, exprs, triples}
 use Rattle.tally.specs.declared.Bound.{Bound}
 use Rattle.tally.specs.declared.Bound.TheVariants as bound
+use Rattle.tally.specs.Plan.{is_once}
 
 -- a Shape with nothing
 abbrev pub empty_shape : ShapeExpr
@@ -45,11 +46,7 @@ one_of [] = with None once (one (triples []))
 one_of (t ∷ []) = t
 one_of (t ∷ u ∷ ts) = with None once (one (triples (t ∷ u ∷ ts)))
 
--- whether a cardinality is that of one copy, and whether a body is an inclusion
-abbrev pub is_once : ℕ → Bound → Bool
-is_once least (bound.Upto most) = nat_eq least 1 && nat_eq most 1
-is_once least bound.Free = false
-
+-- whether a body is an inclusion
 abbrev pub is_inclusion : TripleBody → Bool
 is_inclusion (include l) = true
 is_inclusion (each ts) = false

@@ -11,7 +11,7 @@ ghost use Rattle.shexc_constraints.specs.Meanings.{limit_of};
 ghost use Rattle.shexc_constraints.specs.Stops.{Gives};
 ghost use Rattle.shexc_reader.specs.Reading as reading;
 ghost use Rattle.shexc_reader.specs.Reading.{level};
-ghost use Rattle.shexc_reader.specs.Trees.{bracketed, labelled, is_bare, is_once, once, with};
+ghost use Rattle.shexc_reader.specs.Trees.{bracketed, labelled, is_bare, once, with};
 
 use crate::members::{once, single};
 use crate::shapes::opens;
@@ -22,7 +22,7 @@ use shexc_constraints::parts::label;
 use shexc_constraints::tokens::take;
 use shexc_constraints::{Fault, Stop, numbers};
 use std::alloc::{AllocFailed, Global};
-use tally::Bound;
+use tally::{Bound, is_once};
 use term_tokens::Names;
 
 /// A triple constraint.
@@ -48,16 +48,6 @@ pub fn arc_of(
             predicate,
             value,
         }),
-    }
-}
-
-/// Whether a cardinality is that of one copy.
-fn is_once(min: u32, max: Bound) -> bool
-    ensures { result ≡ is_once min max }
-{
-    match max {
-        Bound::Upto(most) => min == 1 && most == 1,
-        Bound::Free => false,
     }
 }
 

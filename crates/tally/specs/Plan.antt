@@ -1,6 +1,7 @@
 -- An expression over counts as a plain tree, with lists of children.
-use Rattle.std.specs.Prelude.{ℕ, List, [], ◌∷◌, map}
+use Rattle.std.specs.Prelude.{ℕ, Bool, false, List, [], ◌∷◌, ◌&&◌, map, nat_eq}
 use Rattle.tally.specs.declared.Bound.{Bound}
+use Rattle.tally.specs.declared.Bound.TheVariants.{Free, Upto}
 use Rattle.tally.specs.declared.Count.{Count}
 use Rattle.tally.specs.declared.Count.TheOpen.{Count-F, Sym, Each, One, Many}
 use Rattle.tally.specs.declared.Count.TheFolds.{fold-Count}
@@ -17,6 +18,11 @@ mutual
   pub data Plans : Type 0 where
     no_plans : Plans
     more_plans : Plan → Plans → Plans
+
+-- the cardinality is once and no more
+abbrev pub is_once : ℕ → Bound → Bool
+is_once min (Upto max) = nat_eq min 1 && nat_eq max 1
+is_once min Free = false
 
 -- a list of plans as the members of one
 abbrev pub row : List Plan → Plans

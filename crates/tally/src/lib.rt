@@ -6,6 +6,7 @@ pub mod counting;
 pub mod laws;
 
 ghost use Rattle.std.specs.Prelude.{◌≡◌, ◌↔◌, ◌<◌, ◌+◌, ◌^◌, IsTrue, IfSome};
+ghost use Rattle.tally.specs.Plan.{is_once};
 ghost use Rattle.tally.specs.Span.{HasSpan, add_ends, meet, plus, proper, repeated};
 
 pub use counter::Steps;
@@ -17,6 +18,16 @@ pub enum Bound {
     Upto(u32),
     /// Any number of repetitions.
     Free,
+}
+
+/// Whether a cardinality is that of one copy.
+pub fn is_once(min: u32, max: Bound) -> bool
+    ensures { result ≡ is_once min max }
+{
+    match max {
+        Bound::Upto(most) => min == 1 && most == 1,
+        Bound::Free => false,
+    }
 }
 
 /// A triple expression as far as counting sees it: each triple constraint is a symbol (ShEx 2.1 section 5.5).

@@ -21,12 +21,12 @@ use Rattle.rdf_lex.specs.declared.kinds.Mode.{Mode}
 use Rattle.rdf_lex.specs.declared.kinds.Mode.TheVariants.{NTriples, Turtle, Map, Schema}
 use Rattle.rdf_lex.specs.declared.machine.State.TheVariants.{Start}
 use Rattle.rdf_lex.specs.declared.escapes.LexError.TheVariants as error
-use Rattle.rdf_lex.specs.Characters.{short_char, text_escaped, hexadecimal}
 use Rattle.rdf_lex.specs.Escapes.{StandsFor, fits, inside_of, IsBehindColon, IsQuoted, Body, holds_text, IsSpelled, Means, Unescapes}
 use Rattle.rdf_lex.specs.Phrases.{Spells}
 use Rattle.rdf_lex.specs.Spelling.{Spelling, short_body}
 use Rattle.rdf_lex.specs.Tokens.{Spelled}
-use Rattle.rdf_lex.proofs.Languages.{heads, to_past}
+use Rattle.rdf_lex.proofs.Enclosing.{not_double, not_single}
+use Rattle.rdf_lex.proofs.Languages.{heads}
 use Rattle.rdf_lex.proofs.Meanings.{has_meaning}
 use Rattle.rdf_lex.proofs.Meant.{stands_for_one}
 use Rattle.rdf_lex.proofs.Recognised.{kind_from, to_kind, from_kind}
@@ -52,14 +52,6 @@ not_both q text (x ∷ a) b never h e f =
     let i = heads q q (x ∷ (a ++ q ∷ [])) (q ∷ q ∷ (b ++ q ∷ q ∷ q ∷ [])) (sym e ∙ f) in
     let j = heads x q (a ++ q ∷ []) (q ∷ (b ++ q ∷ q ∷ q ∷ [])) i.1 in
     never a (subst (λ (c : ℕ). Spells (short_body q) (c ∷ a)) j.0 h)
-
-not_double : (cs : List ℕ) → Spells (short_body 34) (34 ∷ cs) → ⊥
-unfolding short_char text_escaped hexadecimal
-not_double cs h = to_past (short_body 34) 34 cs h
-
-not_single : (cs : List ℕ) → Spells (short_body 39) (39 ∷ cs) → ⊥
-unfolding short_char text_escaped hexadecimal
-not_single cs h = to_past (short_body 39) 39 cs h
 
 quoted_one : (q : ℕ) (text a b : List ℕ) → ((cs : List ℕ) → Spells (short_body q) (q ∷ cs) → ⊥) → IsQuoted q text a → IsQuoted q text b → a ≡ b
 quoted_one q text a b never (inl (e, h)) (inl (f, k)) = framed_one q q text a b e f

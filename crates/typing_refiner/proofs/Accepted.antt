@@ -49,7 +49,7 @@ module _ (x : Setting) (p : Proof) (strat : IsStratified x.schema x.strata) (nod
       AreAllowed (λ m v. ⊤) (λ m v. ⊤) sh n ts places
   by_form places h =
       all_weaker_allowed (MayHold x.schema x.terms whole Impossible) (MayFail x.schema x.terms whole Impossible) (λ m v. ⊤) (λ m v. ⊤) sh n (λ t. Unit {0})
-      (λ t o base of fit held. tt) (λ t o base extra of forward failed. tt) ts places (λ t c. tt) h
+      (λ t o elsewhere of fit held. tt) (λ t o elsewhere extra of forward failed. tt) ts places (λ t c. tt) h
 
   by_value : (places : List Place) → AreAllowed (MayHold x.schema x.terms whole Impossible) (MayFail x.schema x.terms whole Impossible) sh n ts places →
       AreAllowed (MayHold x.schema x.terms (plus_view x.strata (yes_of x p) (no_of x p) k) Impossible) (MayFail x.schema x.terms (plus_view x.strata (yes_of x p) (no_of x p) k) Impossible) sh n ts places

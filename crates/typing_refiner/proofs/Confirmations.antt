@@ -21,24 +21,24 @@ use Rattle.typing_refiner.proofs.Outcomes.{never_cannot, placed_can}
 use Rattle.typing_refiner.proofs.Waiting.{in_more}
 
 abbrev pub IsLook : Ground → Known → List Verdict → ℕ → Outcome → Type 0
-IsLook h base marks at o = (p : Pair) → slice_get h.table.now at ≡ Some p →
-    IsOutcome h.schema.now h.terms.now h.graph.now.triples (known_of h base marks) Impossible p o
+IsLook h elsewhere marks at o = (p : Pair) → slice_get h.table.now at ≡ Some p →
+    IsOutcome h.schema.now h.terms.now h.graph.now.triples (known_of h elsewhere marks) Impossible p o
 
-module _ (h : Ground) (ready : IsReady h) (base lower : Known) (k : ℕ) (marks : List Verdict) (gone : List Pair) (at : ℕ) (agenda : List ℕ)
-    (r : IsConfirming h base lower k marks gone (λ i. Contains agenda i ⊎ (i ≡ at))) (o : Outcome) (look : IsLook h base marks at o) where
-  pub still : (places : List Place) → o ≡ Placed places → IsConfirming h base lower k marks gone (λ i. Contains agenda i)
+module _ (h : Ground) (ready : IsReady h) (elsewhere lower : Known) (k : ℕ) (marks : List Verdict) (gone : List Pair) (at : ℕ) (agenda : List ℕ)
+    (r : IsConfirming h elsewhere lower k marks gone (λ i. Contains agenda i ⊎ (i ≡ at))) (o : Outcome) (look : IsLook h elsewhere marks at o) where
+  pub still : (places : List Place) → o ≡ Placed places → IsConfirming h elsewhere lower k marks gone (λ i. Contains agenda i)
   still places is =
       let (p, here, narrow) = (r.open_to at (inr refl)).0 in
-      holds h.schema.now h.terms.now h.graph.now.triples h.strata.now h.table.now h.budget base ready.distinct lower k marks gone at p here (λ i. Contains agenda i) r
-      (placed_can h.schema.now h.terms.now h.graph.now.triples (known_of h base marks) Impossible p o places is (look p here))
+      holds h.schema.now h.terms.now h.graph.now.triples h.strata.now h.table.now h.budget elsewhere ready.distinct lower k marks gone at p here (λ i. Contains agenda i) r
+      (placed_can h.schema.now h.terms.now h.graph.now.triples (known_of h elsewhere marks) Impossible p o places is (look p here))
 
   further : (states : List State) → o ≡ Never states → ((i : ℕ) → Contains agenda i → at < i) → (next : List ℕ) →
       ((q : ℕ) → Contains next q ↔ (Contains agenda q ⊎ GoesBack h k at (slice_set marks at Unknown) Yes q)) →
-      IsConfirming h base lower k (slice_set marks at Unknown) gone (λ i. Contains next i)
+      IsConfirming h elsewhere lower k (slice_set marks at Unknown) gone (λ i. Contains next i)
   further states is least next put =
       let (p, here, narrow) = (r.open_to at (inr refl)).0 in
-      drops h.schema.now h.terms.now h.graph.now.triples h.strata.now h.table.now h.budget base ready.distinct lower k marks gone at p here (λ i. Contains agenda i) r
-      (never_cannot h.schema.now h.terms.now h.graph.now.triples (known_of h base marks) Impossible p o states is (look p here)) least
+      drops h.schema.now h.terms.now h.graph.now.triples h.strata.now h.table.now h.budget elsewhere ready.distinct lower k marks gone at p here (λ i. Contains agenda i) r
+      (never_cannot h.schema.now h.terms.now h.graph.now.triples (known_of h elsewhere marks) Impossible p o states is (look p here)) least
       (λ i. IsAmong (option_map (λ v. v.items) (slice_get h.needing.now at)) i) (λ i. Contains next i)
       (λ i q there need. ready.needing at i p q here there need)
       (λ i. (
@@ -47,16 +47,16 @@ module _ (h : Ground) (ready : IsReady h) (base lower : Known) (k : ℕ) (marks 
       ))
 
   pub further_as : (states : List State) → o ≡ Never states → ((i : ℕ) → Contains agenda i → at < i) → (marks' : List Verdict) → marks' ≡ slice_set marks at Unknown →
-      (next : List ℕ) → ((q : ℕ) → Contains next q ↔ (Contains agenda q ⊎ GoesBack h k at marks' Yes q)) → IsConfirming h base lower k marks' gone (λ i. Contains next i)
+      (next : List ℕ) → ((q : ℕ) → Contains next q ↔ (Contains agenda q ⊎ GoesBack h k at marks' Yes q)) → IsConfirming h elsewhere lower k marks' gone (λ i. Contains next i)
   further_as states is least marks' marked next put =
-      subst (λ ms. IsConfirming h base lower k ms gone (λ i. Contains next i)) (sym marked)
+      subst (λ ms. IsConfirming h elsewhere lower k ms gone (λ i. Contains next i)) (sym marked)
       (further states is least next (subst (λ ms. (q : ℕ) → Contains next q ↔ (Contains agenda q ⊎ GoesBack h k at ms Yes q)) marked put))
 
 -- the agenda as a condition that is met by the same numbers
 pub todo_same :
-    (h : Ground) (base lower : Known) (k : ℕ) (marks : List Verdict) (gone : List Pair) (Todo Todo' : ℕ → Type 0) → ((i : ℕ) → Todo i ↔ Todo' i) →
-    IsConfirming h base lower k marks gone Todo → IsConfirming h base lower k marks gone Todo'
-todo_same h base lower k marks gone Todo Todo' same r = record {
+    (h : Ground) (elsewhere lower : Known) (k : ℕ) (marks : List Verdict) (gone : List Pair) (Todo Todo' : ℕ → Type 0) → ((i : ℕ) → Todo i ↔ Todo' i) →
+    IsConfirming h elsewhere lower k marks gone Todo → IsConfirming h elsewhere lower k marks gone Todo'
+todo_same h elsewhere lower k marks gone Todo Todo' same r = record {
   cand = r.cand;
   are = r.are;
   knows = r.knows;
@@ -69,12 +69,12 @@ todo_same h base lower k marks gone Todo Todo' same r = record {
 }
 
 -- at the start
-pub started : (h : Ground) (ready : IsReady h) (base lower : Known) (k : ℕ) (old marks : List Verdict) (gone : List Pair) (members agenda : List ℕ) →
+pub started : (h : Ground) (ready : IsReady h) (elsewhere lower : Known) (k : ℕ) (old marks : List Verdict) (gone : List Pair) (members agenda : List ℕ) →
     ((i : ℕ) → Contains members i ↔ IsOpen h k i) → ((i : ℕ) → IsRaisedBy members old marks i) →
     ((i : ℕ) → Contains agenda i ↔ (Contains members i × (slice_get old i ≡ Some Unknown))) → IsLow h lower k →
-    IsRemoving h base lower k old gone (λ i. ⊥) → IsConfirming h base lower k marks gone (λ i. Contains agenda i)
-started h ready base lower k old marks gone members agenda are raised put low r =
-    begun h.schema.now h.terms.now h.graph.now.triples h.strata.now h.table.now h.budget base ready.distinct lower k old marks gone (λ i. ⊥) r low
+    IsRemoving h elsewhere lower k old gone (λ i. ⊥) → IsConfirming h elsewhere lower k marks gone (λ i. Contains agenda i)
+started h ready elsewhere lower k old marks gone members agenda are raised put low r =
+    begun h.schema.now h.terms.now h.graph.now.triples h.strata.now h.table.now h.budget elsewhere ready.distinct lower k old marks gone (λ i. ⊥) r low
     (λ i. elim (raised i) [
       | inl t ↦ inl ((are i).0 t.0, t.1, t.2)
       | inr t ↦ inr ((λ w. t.0 ((are i).1 w.0, w.1)), t.1)

@@ -150,19 +150,19 @@ module _ (h : Ground) (closed : HoldNeeds h.schema.now h.graph.now.triples h.tab
       Contains (marked v h.table.now marks ++ outside h.table.now ys) q
   either_way v marks xs ys q held c = Contains-append_left (marked v h.table.now marks) (outside h.table.now ys) q (of_marks v marks xs q held c)
 
-  same_marks : (base : Known) (marks : List Verdict) → SameIn (known_of h base marks) (known_of h nothing_known marks)
-  same_marks base marks q held = (
-    (either_way Yes marks base.yes [] q held, either_way Yes marks [] base.yes q held),
-    (either_way No marks base.no [] q held, either_way No marks [] base.no q held),
+  same_marks : (elsewhere : Known) (marks : List Verdict) → SameIn (known_of h elsewhere marks) (known_of h nothing_known marks)
+  same_marks elsewhere marks q held = (
+    (either_way Yes marks elsewhere.yes [] q held, either_way Yes marks [] elsewhere.yes q held),
+    (either_way No marks elsewhere.no [] q held, either_way No marks [] elsewhere.no q held),
   )
 
   by_marks : (v : Verdict) (marks : List Verdict) (q : Pair) → Contains (marked v h.table.now marks ++ []) q → Contains h.table.now q
   by_marks v marks q c = marked_inside v marks q (subst (λ xs. Contains xs q) (append-nil (marked v h.table.now marks)) c)
 
-  pub cut_off : (base : Known) (k : ℕ) (marks : List Verdict) (all : List (List Removed)) →
-      ((q : Pair) → Contains (known_by base h.table.now []).yes q ⊎ Contains (known_by base h.table.now []).no q → ¬ Contains h.table.now q) →
-      IsShownOver h base (known_by base h.table.now []) k marks all → IsShownOver h nothing_known none k marks all
-  cut_off base k marks all out shown = go (cut (known_by base h.table.now []) out k shown.known all shown.are)
+  pub cut_off : (elsewhere : Known) (k : ℕ) (marks : List Verdict) (all : List (List Removed)) →
+      ((q : Pair) → Contains (known_by elsewhere h.table.now []).yes q ⊎ Contains (known_by elsewhere h.table.now []).no q → ¬ Contains h.table.now q) →
+      IsShownOver h elsewhere (known_by elsewhere h.table.now []) k marks all → IsShownOver h nothing_known none k marks all
+  cut_off elsewhere k marks all out shown = go (cut (known_by elsewhere h.table.now []) out k shown.known all shown.are)
     where
       go : Cut k shown.known all → IsShownOver h nothing_known none k marks all
       go c = record {
@@ -171,19 +171,19 @@ module _ (h : Ground) (closed : HoldNeeds h.schema.now h.graph.now.triples h.tab
         before = record {
           knows = (
             (
-              (λ q m. let held = by_marks Yes marks q m in (c.same q held).0.0 (shown.before.knows.0.0 q ((same_marks base marks q held).0.1 m))),
-              (λ q o. let held = c.inside q (inl o) in (same_marks base marks q held).0.0 (shown.before.knows.0.1 q ((c.same q held).0.1 o))),
+              (λ q m. let held = by_marks Yes marks q m in (c.same q held).0.0 (shown.before.knows.0.0 q ((same_marks elsewhere marks q held).0.1 m))),
+              (λ q o. let held = c.inside q (inl o) in (same_marks elsewhere marks q held).0.0 (shown.before.knows.0.1 q ((c.same q held).0.1 o))),
             ),
             (
-              (λ q m. let held = by_marks No marks q m in (c.same q held).1.0 (shown.before.knows.1.0 q ((same_marks base marks q held).1.1 m))),
-              (λ q o. let held = c.inside q (inr o) in (same_marks base marks q held).1.0 (shown.before.knows.1.1 q ((c.same q held).1.1 o))),
+              (λ q m. let held = by_marks No marks q m in (c.same q held).1.0 (shown.before.knows.1.0 q ((same_marks elsewhere marks q held).1.1 m))),
+              (λ q o. let held = c.inside q (inr o) in (same_marks elsewhere marks q held).1.0 (shown.before.knows.1.1 q ((c.same q held).1.1 o))),
             ),
           );
           new = shown.before.new;
         };
       }
 
-  pub places_cut : (base : Known) (marks : List Verdict) (confirmed : List Confirmed) → HavePlaces h (known_of h base marks) confirmed → HavePlaces h (known_of h nothing_known marks) confirmed
-  places_cut base marks confirmed all j c at p there =
-      places_alike h.schema.now h.terms.now h.graph.now.triples (known_of h base marks) (known_of h nothing_known marks) p c.places
-      (agree (known_of h base marks) (known_of h nothing_known marks) (same_marks base marks) p (got_in h.table.now c.at p there)) (all j c at p there)
+  pub places_cut : (elsewhere : Known) (marks : List Verdict) (confirmed : List Confirmed) → HavePlaces h (known_of h elsewhere marks) confirmed → HavePlaces h (known_of h nothing_known marks) confirmed
+  places_cut elsewhere marks confirmed all j c at p there =
+      places_alike h.schema.now h.terms.now h.graph.now.triples (known_of h elsewhere marks) (known_of h nothing_known marks) p c.places
+      (agree (known_of h elsewhere marks) (known_of h nothing_known marks) (same_marks elsewhere marks) p (got_in h.table.now c.at p there)) (all j c at p there)

@@ -28,21 +28,21 @@ use Rattle.typing_refiner.specs.Statements.{AreTrueByAll, AreVerdictsOn, IsUnkno
 use Rattle.typing_refiner.proofs.Verdicts.{told_out}
 
 -- of one of the pairs, the marks know what they know beside what is kept
-module _ (base : Known) (pairs : List Pair) (marks : List Verdict) (p : Pair) (held : Contains pairs p) where
+module _ (elsewhere : Known) (pairs : List Pair) (marks : List Verdict) (p : Pair) (held : Contains pairs p) where
   beside : (v : Verdict) (others : List Pair) → Contains (marked v pairs marks) p ↔ Contains (marked v pairs marks ++ outside pairs others) p
   beside v others = (
     (λ c. Contains-append_left (marked v pairs marks) (outside pairs others) p c),
     (λ c. elim (Contains-append_cases (marked v pairs marks) (outside pairs others) p c) [ inl m ↦ m | inr o ↦ absurd ((to_outside pairs others p o).1 held) ]),
   )
 
-  same_beside : (v : Verdict) → PairIs (verdicts_of pairs marks) p v ↔ PairIs (known_by base pairs marks) p v
-  same_beside v = by_members (verdicts_of pairs marks) (known_by base pairs marks) p (beside Yes base.yes) (beside No base.no) v
+  same_beside : (v : Verdict) → PairIs (verdicts_of pairs marks) p v ↔ PairIs (known_by elsewhere pairs marks) p v
+  same_beside v = by_members (verdicts_of pairs marks) (known_by elsewhere pairs marks) p (beside Yes elsewhere.yes) (beside No elsewhere.no) v
 
 module _ (s : Schema) (terms : List Term) (g : List Triple) (f : List ℕ) (budget : ℕ) (pairs : List Pair) where
-  are_verdicts : (base : Known) (marks : List Verdict) → RefinementOverKeptIsLocal → IsStratified s f → AreKept s terms g f budget base pairs → AreDistinct pairs →
-      IsRefinedOn s terms g f pairs budget base (known_by base pairs marks) → AreVerdictsOn s terms g f budget pairs (verdicts_of pairs marks)
-  are_verdicts base marks law strat kept distinct (known, are, same) = (
-    (λ p v held is. law s terms g f budget pairs base known strat kept are p v held ((same_alike (known_by base pairs marks) known same p v).0 ((same_beside base pairs marks p held v).0 is))),
+  are_verdicts : (elsewhere : Known) (marks : List Verdict) → RefinementOverKeptIsLocal → IsStratified s f → AreKept s terms g f budget elsewhere pairs → AreDistinct pairs →
+      IsRefinedOn s terms g f pairs budget elsewhere (known_by elsewhere pairs marks) → AreVerdictsOn s terms g f budget pairs (verdicts_of pairs marks)
+  are_verdicts elsewhere marks law strat kept distinct (known, are, same) = (
+    (λ p v held is. law s terms g f budget pairs elsewhere known strat kept are p v held ((same_alike (known_by elsewhere pairs marks) known same p v).0 ((same_beside elsewhere pairs marks p held v).0 is))),
     (λ p none. told_out pairs distinct marks p none),
   )
 
@@ -67,12 +67,12 @@ module _ (s : Schema) (terms : List Term) (g : List Triple) (f : List ℕ) (budg
         )
 
 module _ {E : Type 0} (s : Schema) (terms : List Term) (g : List Triple) (f : List ℕ) (budget : ℕ) (pairs : List Pair) (loaded : IsLoaded s) (strat : IsStratified s f) where
-  pub ok_verdicts : (base : Known) (lent : List ℕ) (result : Result Refinement E) → lent ≡ f → RefinementOverKeptIsLocal → AreKept s terms g f budget base pairs → AreDistinct pairs →
-      IfOk result (λ r. IsRefinedOn s terms g lent pairs budget base (known_by base pairs r.marks)) → IfOk result (λ r. r.pairs ≡ pairs) → IfOk result (λ r. AreVerdictsOn s terms g f budget pairs (known_by_it r))
-  ok_verdicts base lent (Ok r) is law kept distinct a b =
+  pub ok_verdicts : (elsewhere : Known) (lent : List ℕ) (result : Result Refinement E) → lent ≡ f → RefinementOverKeptIsLocal → AreKept s terms g f budget elsewhere pairs → AreDistinct pairs →
+      IfOk result (λ r. IsRefinedOn s terms g lent pairs budget elsewhere (known_by elsewhere pairs r.marks)) → IfOk result (λ r. r.pairs ≡ pairs) → IfOk result (λ r. AreVerdictsOn s terms g f budget pairs (known_by_it r))
+  ok_verdicts elsewhere lent (Ok r) is law kept distinct a b =
       subst (λ ps. AreVerdictsOn s terms g f budget pairs (verdicts_of ps r.marks)) (sym b)
-      (are_verdicts s terms g f budget pairs base r.marks law strat kept distinct (subst (λ k. IsRefinedOn s terms g k pairs budget base (known_by base pairs r.marks)) is a))
-  ok_verdicts base lent (Err e) is law kept distinct a b = a
+      (are_verdicts s terms g f budget pairs elsewhere r.marks law strat kept distinct (subst (λ k. IsRefinedOn s terms g k pairs budget elsewhere (known_by elsewhere pairs r.marks)) is a))
+  ok_verdicts elsewhere lent (Err e) is law kept distinct a b = a
 
   pub ok_unknown : (result : Result Refinement E) → UnknownIsWide → IfOk result (λ r. AreVerdictsOn s terms g f budget pairs (known_by_it r)) → IfOk result (λ r. IsUnknownOnlyWide s terms g f budget pairs (known_by_it r))
   ok_unknown (Ok r) law h = unknown_only s terms g f budget pairs (known_by_it r) h loaded strat law

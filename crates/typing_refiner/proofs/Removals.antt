@@ -19,23 +19,23 @@ use Rattle.typing_refiner.proofs.Outcomes.{never_cannot, placed_can}
 
 -- the outcome of a look at the pair of a number
 abbrev pub IsLook : Ground → Known → List Verdict → ℕ → Outcome → Type 0
-IsLook h base marks at o = (p : Pair) → slice_get h.table.now at ≡ Some p →
-    IsOutcome h.schema.now h.terms.now h.graph.now.triples (known_of h base marks) Possible p o
+IsLook h elsewhere marks at o = (p : Pair) → slice_get h.table.now at ≡ Some p →
+    IsOutcome h.schema.now h.terms.now h.graph.now.triples (known_of h elsewhere marks) Possible p o
 
-module _ (h : Ground) (ready : IsReady h) (base lower : Known) (k : ℕ) (marks : List Verdict) (gone : List Pair) (at : ℕ) (agenda : List ℕ)
-    (r : IsRemoving h base lower k marks gone (λ i. Contains agenda i ⊎ (i ≡ at))) (o : Outcome) (look : IsLook h base marks at o) where
-  pub still : (places : List Place) → o ≡ Placed places → IsRemoving h base lower k marks gone (λ i. Contains agenda i)
+module _ (h : Ground) (ready : IsReady h) (elsewhere lower : Known) (k : ℕ) (marks : List Verdict) (gone : List Pair) (at : ℕ) (agenda : List ℕ)
+    (r : IsRemoving h elsewhere lower k marks gone (λ i. Contains agenda i ⊎ (i ≡ at))) (o : Outcome) (look : IsLook h elsewhere marks at o) where
+  pub still : (places : List Place) → o ≡ Placed places → IsRemoving h elsewhere lower k marks gone (λ i. Contains agenda i)
   still places is =
       let (p, here, narrow) = (r.open_to at (inr refl)).0 in
-      stays h.schema.now h.terms.now h.graph.now.triples h.strata.now h.table.now h.budget base ready.distinct lower k marks gone at p here (λ i. Contains agenda i) r
-      (placed_can h.schema.now h.terms.now h.graph.now.triples (known_of h base marks) Possible p o places is (look p here))
+      stays h.schema.now h.terms.now h.graph.now.triples h.strata.now h.table.now h.budget elsewhere ready.distinct lower k marks gone at p here (λ i. Contains agenda i) r
+      (placed_can h.schema.now h.terms.now h.graph.now.triples (known_of h elsewhere marks) Possible p o places is (look p here))
 
   pub further : (states : List State) → o ≡ Never states → ((i : ℕ) → Contains agenda i → at < i) → (p : Pair) → slice_get h.table.now at ≡ Some p →
       (next : List ℕ) → ((q : ℕ) → Contains next q ↔ (Contains agenda q ⊎ GoesBack h k at (slice_set marks at No) Unknown q)) →
-      IsRemoving h base lower k (slice_set marks at No) (gone ++ p ∷ []) (λ i. Contains next i)
+      IsRemoving h elsewhere lower k (slice_set marks at No) (gone ++ p ∷ []) (λ i. Contains next i)
   further states is least p here next put =
-      went h.schema.now h.terms.now h.graph.now.triples h.strata.now h.table.now h.budget base ready.distinct lower k marks gone at p here (λ i. Contains agenda i) r
-      (never_cannot h.schema.now h.terms.now h.graph.now.triples (known_of h base marks) Possible p o states is (look p here)) least
+      went h.schema.now h.terms.now h.graph.now.triples h.strata.now h.table.now h.budget elsewhere ready.distinct lower k marks gone at p here (λ i. Contains agenda i) r
+      (never_cannot h.schema.now h.terms.now h.graph.now.triples (known_of h elsewhere marks) Possible p o states is (look p here)) least
       (λ i. IsAmong (option_map (λ v. v.items) (slice_get h.needing.now at)) i) (λ i. Contains next i)
       (λ i q there need. ready.needing at i p q here there need)
       (λ i. (
@@ -46,17 +46,17 @@ module _ (h : Ground) (ready : IsReady h) (base lower : Known) (k : ℕ) (marks 
   pub further_as : (states : List State) → o ≡ Never states → ((i : ℕ) → Contains agenda i → at < i) → (p : Pair) → slice_get h.table.now at ≡ Some p →
       (marks' : List Verdict) → marks' ≡ slice_set marks at No → (gone' : List Pair) → gone' ≡ gone ++ p ∷ [] →
       (next : List ℕ) → ((q : ℕ) → Contains next q ↔ (Contains agenda q ⊎ GoesBack h k at marks' Unknown q)) →
-      IsRemoving h base lower k marks' gone' (λ i. Contains next i)
+      IsRemoving h elsewhere lower k marks' gone' (λ i. Contains next i)
   further_as states is least p here marks' marked gone' more next put =
-      subst (λ ms. IsRemoving h base lower k ms gone' (λ i. Contains next i)) (sym marked)
-      (subst (λ ps. IsRemoving h base lower k (slice_set marks at No) ps (λ i. Contains next i)) (sym more)
+      subst (λ ms. IsRemoving h elsewhere lower k ms gone' (λ i. Contains next i)) (sym marked)
+      (subst (λ ps. IsRemoving h elsewhere lower k (slice_set marks at No) ps (λ i. Contains next i)) (sym more)
       (further states is least p here next (subst (λ ms. (q : ℕ) → Contains next q ↔ (Contains agenda q ⊎ GoesBack h k at ms Unknown q)) marked put)))
 
 -- the agenda as a condition that is met by the same numbers
 pub todo_same :
-    (h : Ground) (base lower : Known) (k : ℕ) (marks : List Verdict) (gone : List Pair) (Todo Todo' : ℕ → Type 0) → ((i : ℕ) → Todo i ↔ Todo' i) →
-    IsRemoving h base lower k marks gone Todo → IsRemoving h base lower k marks gone Todo'
-todo_same h base lower k marks gone Todo Todo' same r = record {
+    (h : Ground) (elsewhere lower : Known) (k : ℕ) (marks : List Verdict) (gone : List Pair) (Todo Todo' : ℕ → Type 0) → ((i : ℕ) → Todo i ↔ Todo' i) →
+    IsRemoving h elsewhere lower k marks gone Todo → IsRemoving h elsewhere lower k marks gone Todo'
+todo_same h elsewhere lower k marks gone Todo Todo' same r = record {
   in_turn = r.in_turn;
   knows = r.knows;
   fresh = r.fresh;
@@ -78,9 +78,9 @@ on_agenda old members new P none put are i = (
 )
 
 -- at the start
-pub begun : (h : Ground) (ready : IsReady h) (base lower : Known) (k : ℕ) (marks : List Verdict) (agenda : List ℕ) → ((i : ℕ) → Contains agenda i ↔ IsOpen h k i) →
-    (gone : List Pair) → gone ≡ [] → IsBefore h base lower k marks → IsRemoving h base lower k marks gone (λ i. Contains agenda i)
-begun h ready base lower k marks agenda are gone none before =
-    subst (λ ps. IsRemoving h base lower k marks ps (λ i. Contains agenda i)) (sym none)
-    (start h.schema.now h.terms.now h.graph.now.triples h.strata.now h.table.now h.budget base ready.distinct lower k marks before (λ i. Contains agenda i)
+pub begun : (h : Ground) (ready : IsReady h) (elsewhere lower : Known) (k : ℕ) (marks : List Verdict) (agenda : List ℕ) → ((i : ℕ) → Contains agenda i ↔ IsOpen h k i) →
+    (gone : List Pair) → gone ≡ [] → IsBefore h elsewhere lower k marks → IsRemoving h elsewhere lower k marks gone (λ i. Contains agenda i)
+begun h ready elsewhere lower k marks agenda are gone none before =
+    subst (λ ps. IsRemoving h elsewhere lower k marks ps (λ i. Contains agenda i)) (sym none)
+    (start h.schema.now h.terms.now h.graph.now.triples h.strata.now h.table.now h.budget elsewhere ready.distinct lower k marks before (λ i. Contains agenda i)
     (λ i o. (are i).1 o) (λ i c. (are i).0 c))

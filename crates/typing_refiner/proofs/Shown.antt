@@ -60,22 +60,22 @@ out_of v pairs others q c = elim (Contains-append_cases (marked v pairs []) (out
 ]
 
 -- what is known before is of none of the pairs
-pub none_inside : (base : Known) (pairs : List Pair) (q : Pair) → Contains (known_by base pairs []).yes q ⊎ Contains (known_by base pairs []).no q → ¬ Contains pairs q
-none_inside base pairs q c = elim c [ inl y ↦ out_of Yes pairs base.yes q y | inr n ↦ out_of No pairs base.no q n ]
+pub none_inside : (elsewhere : Known) (pairs : List Pair) (q : Pair) → Contains (known_by elsewhere pairs []).yes q ⊎ Contains (known_by elsewhere pairs []).no q → ¬ Contains pairs q
+none_inside elsewhere pairs q c = elim c [ inl y ↦ out_of Yes pairs elsewhere.yes q y | inr n ↦ out_of No pairs elsewhere.no q n ]
 
 pub all_match :
-    (h : Ground) → IsReady h → (base : Known) (old marks : List Verdict) → length old ≡ length h.table.now → ((i : ℕ) → i < length old → slice_get old i ≡ Some Unknown) →
-    IsRefinedOver h base (known_of h base old) (suc (top_of h.strata.now)) marks → (i : ℕ) → slice_get marks i ≡ Some Yes → MatchesAt h (known_of h base marks) i
-all_match h ready base old marks same unknown r i mark p at =
-    match_known h.schema.now h.terms.now h.graph.now.triples r.known (known_of h base marks) Impossible p (know_turned (known_of h base marks) r.known r.before.knows)
-    (yes_matches h.schema.now h.terms.now h.graph.now.triples h.strata.now h.table.now h.budget (known_of h base old) out (suc (top_of h.strata.now)) r.known r.are p (got_in h.table.now i p at)
-    (r.before.knows.0.0 p (is_yes base h.table.now ready.distinct marks i p at mark)))
+    (h : Ground) → IsReady h → (elsewhere : Known) (old marks : List Verdict) → length old ≡ length h.table.now → ((i : ℕ) → i < length old → slice_get old i ≡ Some Unknown) →
+    IsRefinedOver h elsewhere (known_of h elsewhere old) (suc (top_of h.strata.now)) marks → (i : ℕ) → slice_get marks i ≡ Some Yes → MatchesAt h (known_of h elsewhere marks) i
+all_match h ready elsewhere old marks same unknown r i mark p at =
+    match_known h.schema.now h.terms.now h.graph.now.triples r.known (known_of h elsewhere marks) Impossible p (know_turned (known_of h elsewhere marks) r.known r.before.knows)
+    (yes_matches h.schema.now h.terms.now h.graph.now.triples h.strata.now h.table.now h.budget (known_of h elsewhere old) out (suc (top_of h.strata.now)) r.known r.are p (got_in h.table.now i p at)
+    (r.before.knows.0.0 p (is_yes elsewhere h.table.now ready.distinct marks i p at mark)))
   where
-    first : known_of h base old ≡ known_by base h.table.now []
-    first = begun_with base h.table.now old same unknown
+    first : known_of h elsewhere old ≡ known_by elsewhere h.table.now []
+    first = begun_with elsewhere h.table.now old same unknown
 
-    out : (q : Pair) → Contains (known_of h base old).yes q ⊎ Contains (known_of h base old).no q → ¬ Contains h.table.now q
-    out q c = none_inside base h.table.now q (subst (λ v. Contains v.yes q ⊎ Contains v.no q) first c)
+    out : (q : Pair) → Contains (known_of h elsewhere old).yes q ⊎ Contains (known_of h elsewhere old).no q → ¬ Contains h.table.now q
+    out q c = none_inside elsewhere h.table.now q (subst (λ v. Contains v.yes q ⊎ Contains v.no q) first c)
 
 -- ---- and is narrow
 
@@ -89,13 +89,13 @@ yes_within h first out (suc k) known all (lower, rest, gone, kept, before, r, st
     go (inl l) deeper = deeper l
     go (inr n) deeper = (r.confirmed p n).0.2
 
-pub all_narrow : (h : Ground) → IsReady h → (base : Known) (k : ℕ) (marks : List Verdict) (all : List (List Removed)) → IsShownOver h base (known_by base h.table.now []) k marks all →
+pub all_narrow : (h : Ground) → IsReady h → (elsewhere : Known) (k : ℕ) (marks : List Verdict) (all : List (List Removed)) → IsShownOver h elsewhere (known_by elsewhere h.table.now []) k marks all →
     (i : ℕ) → i < length h.table.now → slice_get marks i ≡ Some Yes → narrow_test h i ≡ true
-all_narrow h ready base k marks all shown i inside mark = by (slice_get h.table.now i) refl
+all_narrow h ready elsewhere k marks all shown i inside mark = by (slice_get h.table.now i) refl
   where
     by : (o : Option Pair) → slice_get h.table.now i ≡ o → narrow_test h i ≡ true
     by None e = absurd (let there = slice_get-get_or h.table.now i (record { node = record { 0 = 0 }; shape = record { 0 = 0 } }) inside in let both : Some _ ≡ None = sym there ∙ e in cc)
     by (Some p) e =
         narrow_true h ready i p e
-        (yes_within h (known_by base h.table.now []) (none_inside base h.table.now) k shown.known all shown.are p (got_in h.table.now i p e)
-        (shown.before.knows.0.0 p (is_yes base h.table.now ready.distinct marks i p e mark)))
+        (yes_within h (known_by elsewhere h.table.now []) (none_inside elsewhere h.table.now) k shown.known all shown.are p (got_in h.table.now i p e)
+        (shown.before.knows.0.0 p (is_yes elsewhere h.table.now ready.distinct marks i p e mark)))

@@ -34,36 +34,36 @@ pub top_more : (xs : List ℕ) (i : ℕ) → i < length xs → (top : ℕ) → t
 top_more xs i inside top is =
     ap (λ t. max t (get_or xs i 0)) is ∙ (sym (top_push (take i xs) (get_or xs i 0)) ∙ ap top_of (sym (take_more xs i 0 inside)))
 
-module _ (h : Ground) (ready : IsReady h) (base lower : Known) (k : ℕ) where
+module _ (h : Ground) (ready : IsReady h) (elsewhere lower : Known) (k : ℕ) where
   -- what is known below a stratum is of lower strata
-  pub is_low : (marks : List Verdict) → IsBefore h base lower k marks → IsLow h lower k
-  is_low marks before = low h.schema.now h.terms.now h.graph.now.triples h.strata.now h.table.now h.budget base ready.distinct lower k marks before
+  pub is_low : (marks : List Verdict) → IsBefore h elsewhere lower k marks → IsLow h lower k
+  is_low marks before = low h.schema.now h.terms.now h.graph.now.triples h.strata.now h.table.now h.budget elsewhere ready.distinct lower k marks before
 
   -- a stratum is refined
-  pub done : (old middle marks : List Verdict) (gone : List Pair) → IsRemoving h base lower k middle gone (λ i. ⊥) → IsConfirming h base lower k marks gone (λ i. ⊥) →
-      IsStratumDone h base lower k gone marks
+  pub done : (old middle marks : List Verdict) (gone : List Pair) → IsRemoving h elsewhere lower k middle gone (λ i. ⊥) → IsConfirming h elsewhere lower k marks gone (λ i. ⊥) →
+      IsStratumDone h elsewhere lower k gone marks
   done old middle marks gone removing confirming = record {
     kept = confirming.cand;
-    refined = refined h.schema.now h.terms.now h.graph.now.triples h.strata.now h.table.now h.budget base ready.distinct lower k marks gone (λ i. ⊥) confirming (λ i e. e)
+    refined = refined h.schema.now h.terms.now h.graph.now.triples h.strata.now h.table.now h.budget elsewhere ready.distinct lower k marks gone (λ i. ⊥) confirming (λ i e. e)
         middle (λ i. ⊥) removing
-        (ended h.schema.now h.terms.now h.graph.now.triples h.strata.now h.table.now h.budget base ready.distinct lower k middle gone (λ i. ⊥) removing (λ i e. e));
-    above = above h.schema.now h.terms.now h.graph.now.triples h.strata.now h.table.now h.budget base ready.distinct lower k marks gone (λ i. ⊥) confirming (λ i e. e);
+        (ended h.schema.now h.terms.now h.graph.now.triples h.strata.now h.table.now h.budget elsewhere ready.distinct lower k middle gone (λ i. ⊥) removing (λ i e. e));
+    above = above h.schema.now h.terms.now h.graph.now.triples h.strata.now h.table.now h.budget elsewhere ready.distinct lower k marks gone (λ i. ⊥) confirming (λ i e. e);
   }
 
 -- one more stratum
-pub one_more : (h : Ground) (base first : Known) (k : ℕ) (old marks : List Verdict) (gone : List Pair) → (r : IsRefinedOver h base first k old) →
-    IsStratumDone h base r.known k gone marks → IsRefinedOver h base first (suc k) marks
-one_more h base first k old marks gone r d = record {
+pub one_more : (h : Ground) (elsewhere first : Known) (k : ℕ) (old marks : List Verdict) (gone : List Pair) → (r : IsRefinedOver h elsewhere first k old) →
+    IsStratumDone h elsewhere r.known k gone marks → IsRefinedOver h elsewhere first (suc k) marks
+one_more h elsewhere first k old marks gone r d = record {
   known = record { yes = r.known.yes ++ d.kept; no = r.known.no ++ gone };
   are = (r.known, gone, d.kept, r.are, d.refined, refl, refl);
   before = d.above;
 }
 
 -- at first no pair has a verdict
-pub at_first : (h : Ground) (base : Known) (marks : List Verdict) → length marks ≡ length h.table.now → ((i : ℕ) → i < length marks → slice_get marks i ≡ Some Unknown) →
-    IsRefinedOver h base (known_of h base marks) 0 marks
-at_first h base marks same unknown = record {
-  known = known_of h base marks;
+pub at_first : (h : Ground) (elsewhere : Known) (marks : List Verdict) → length marks ≡ length h.table.now → ((i : ℕ) → i < length marks → slice_get marks i ≡ Some Unknown) →
+    IsRefinedOver h elsewhere (known_of h elsewhere marks) 0 marks
+at_first h elsewhere marks same unknown = record {
+  known = known_of h elsewhere marks;
   are = (refl, refl);
   before = record {
     knows = (((λ q c. c), (λ q c. c)), ((λ q c. c), (λ q c. c)));
@@ -72,8 +72,8 @@ at_first h base marks same unknown = record {
 }
 
 -- the open pairs of the stratum have none
-pub fresh : (h : Ground) (base first : Known) (k : ℕ) (marks : List Verdict) → IsRefinedOver h base first k marks → (i : ℕ) → IsOpen h k i → slice_get marks i ≡ Some Unknown
-fresh h base first k marks r i (p, at, narrow) = r.before.new i p at (let e = narrow.1 in omega arith)
+pub fresh : (h : Ground) (elsewhere first : Known) (k : ℕ) (marks : List Verdict) → IsRefinedOver h elsewhere first k marks → (i : ℕ) → IsOpen h k i → slice_get marks i ≡ Some Unknown
+fresh h elsewhere first k marks r i (p, at, narrow) = r.before.new i p at (let e = narrow.1 in omega arith)
 
 -- the numbers below one that have P
 abbrev pub AreBelow : (ℕ → Type 0) → ℕ → List ℕ → Type 0
@@ -97,10 +97,10 @@ below_pass P at old h none i = (
   (λ (lt, q). elim (cases_eq i at) [ inl e ↦ absurd (none (subst P e q)) | inr ne ↦ (h i).1 ((let l : i < at = omega arith in l), q) ]),
 )
 
-pub one_more_at : (h : Ground) (base first : Known) (k : ℕ) (old marks : List Verdict) (gone : List Pair) → (r : IsRefinedOver h base first k old) →
-    IsStratumDone h base r.known k gone marks → IsRefinedOver h base first (k + 1) marks
-one_more_at h base first k old marks gone r d =
-    let e : suc k ≡ k + 1 = omega arith in subst (λ j. IsRefinedOver h base first j marks) e (one_more h base first k old marks gone r d)
+pub one_more_at : (h : Ground) (elsewhere first : Known) (k : ℕ) (old marks : List Verdict) (gone : List Pair) → (r : IsRefinedOver h elsewhere first k old) →
+    IsStratumDone h elsewhere r.known k gone marks → IsRefinedOver h elsewhere first (k + 1) marks
+one_more_at h elsewhere first k old marks gone r d =
+    let e : suc k ≡ k + 1 = omega arith in subst (λ j. IsRefinedOver h elsewhere first j marks) e (one_more h elsewhere first k old marks gone r d)
 
 -- ---- over nothing that is kept, the verdicts are those of refinement
 
@@ -154,20 +154,20 @@ unmarked_by v pairs marks ne same unknown = nothing_in (marked v pairs marks) (�
     let w = slice_get_within marks i v mark in
     let both : Some v ≡ Some Unknown = sym mark ∙ unknown i w in ne (let e : v ≡ Unknown = cc in e))
 
-pub begun_with : (base : Known) (pairs : List Pair) (marks : List Verdict) → length marks ≡ length pairs → ((i : ℕ) → i < length marks → slice_get marks i ≡ Some Unknown) →
-    known_by base pairs marks ≡ known_by base pairs []
-begun_with base pairs marks same unknown = λ i. record {
-  yes = (unmarked_by Yes pairs marks (λ e. cc) same unknown ∙ sym (marks_of_none Yes pairs)) i ++ outside pairs base.yes;
-  no = (unmarked_by No pairs marks (λ e. cc) same unknown ∙ sym (marks_of_none No pairs)) i ++ outside pairs base.no;
+pub begun_with : (elsewhere : Known) (pairs : List Pair) (marks : List Verdict) → length marks ≡ length pairs → ((i : ℕ) → i < length marks → slice_get marks i ≡ Some Unknown) →
+    known_by elsewhere pairs marks ≡ known_by elsewhere pairs []
+begun_with elsewhere pairs marks same unknown = λ i. record {
+  yes = (unmarked_by Yes pairs marks (λ e. cc) same unknown ∙ sym (marks_of_none Yes pairs)) i ++ outside pairs elsewhere.yes;
+  no = (unmarked_by No pairs marks (λ e. cc) same unknown ∙ sym (marks_of_none No pairs)) i ++ outside pairs elsewhere.no;
 }
 
 pub refined_on :
-    (h : Ground) (pairs : List Pair) (base : Known) (old marks : List Verdict) → h.table.now ≡ pairs → length old ≡ length pairs → ((i : ℕ) → i < length old → slice_get old i ≡ Some Unknown) →
-    IsRefinedOver h base (known_of h base old) (suc (top_of h.strata.now)) marks →
-    IsRefinedOn h.schema.now h.terms.now h.graph.now.triples h.strata.now pairs h.budget base (known_by base pairs marks)
-refined_on h pairs base old marks is same unknown r =
-    subst (λ ps. IsRefinedOn h.schema.now h.terms.now h.graph.now.triples h.strata.now ps h.budget base (known_by base ps marks)) is
-    (r.known, subst (λ first. AreRefinedFrom h first (suc (top_of h.strata.now)) r.known) (begun_with base h.table.now old (same ∙ sym (ap length is)) unknown) r.are, r.before.knows)
+    (h : Ground) (pairs : List Pair) (elsewhere : Known) (old marks : List Verdict) → h.table.now ≡ pairs → length old ≡ length pairs → ((i : ℕ) → i < length old → slice_get old i ≡ Some Unknown) →
+    IsRefinedOver h elsewhere (known_of h elsewhere old) (suc (top_of h.strata.now)) marks →
+    IsRefinedOn h.schema.now h.terms.now h.graph.now.triples h.strata.now pairs h.budget elsewhere (known_by elsewhere pairs marks)
+refined_on h pairs elsewhere old marks is same unknown r =
+    subst (λ ps. IsRefinedOn h.schema.now h.terms.now h.graph.now.triples h.strata.now ps h.budget elsewhere (known_by elsewhere ps marks)) is
+    (r.known, subst (λ first. AreRefinedFrom h first (suc (top_of h.strata.now)) r.known) (begun_with elsewhere h.table.now old (same ∙ sym (ap length is)) unknown) r.are, r.before.knows)
 
 -- ---- over nothing that is kept, they are those of refinement
 

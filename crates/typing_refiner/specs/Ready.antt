@@ -54,20 +54,20 @@ GoesBack h k at marks mark i =
     IsAmong (option_map (λ v. v.items) (slice_get h.needing.now at)) i × Waits h k marks mark i
 
 abbrev pub known_of : Ground → Known → List Verdict → Known
-known_of h base marks = Marks.known_by base h.table.now marks
+known_of h elsewhere marks = Marks.known_by elsewhere h.table.now marks
 
--- how far a stratum is refined over these pairs; base is what is known of others
+-- how far a stratum is refined over these pairs; elsewhere is what is known of others
 abbrev pub IsBefore : Ground → Known → Known → ℕ → List Verdict → Type 0
-IsBefore h base lower k marks =
-    Stages.IsBefore h.schema.now h.terms.now h.graph.now.triples h.strata.now h.table.now h.budget base lower k marks
+IsBefore h elsewhere lower k marks =
+    Stages.IsBefore h.schema.now h.terms.now h.graph.now.triples h.strata.now h.table.now h.budget elsewhere lower k marks
 
 abbrev pub IsRemoving : Ground → Known → Known → ℕ → List Verdict → List Pair → (ℕ → Type 0) → Type 0
-IsRemoving h base lower k marks gone Todo =
-    Stages.IsRemoving h.schema.now h.terms.now h.graph.now.triples h.strata.now h.table.now h.budget base lower k marks gone Todo
+IsRemoving h elsewhere lower k marks gone Todo =
+    Stages.IsRemoving h.schema.now h.terms.now h.graph.now.triples h.strata.now h.table.now h.budget elsewhere lower k marks gone Todo
 
 abbrev pub IsConfirming : Ground → Known → Known → ℕ → List Verdict → List Pair → (ℕ → Type 0) → Type 0
-IsConfirming h base lower k marks gone Todo =
-    Stages.IsConfirming h.schema.now h.terms.now h.graph.now.triples h.strata.now h.table.now h.budget base lower k marks gone Todo
+IsConfirming h elsewhere lower k marks gone Todo =
+    Stages.IsConfirming h.schema.now h.terms.now h.graph.now.triples h.strata.now h.table.now h.budget elsewhere lower k marks gone Todo
 
 -- how often the mark stands among the marks
 abbrev pub count_of : Verdict → List Verdict → ℕ

@@ -65,7 +65,7 @@ AreShown h first (suc k) known all =
     × HaveStates h lower gone × (known.yes ≡ lower.yes ++ kept) × (known.no ≡ lower.no ++ pairs_gone gone) × (all ≡ rest ++ gone ∷ [])
 
 -- the strata below k are refined over these verdicts, the marks say so, and the pairs that went have their states
-pub record IsShownOver (h : Ground) (base first : Known) (k : ℕ) (marks : List Verdict) (all : List (List Removed)) : Type 0 where
+pub record IsShownOver (h : Ground) (elsewhere first : Known) (k : ℕ) (marks : List Verdict) (all : List (List Removed)) : Type 0 where
   pub known : Known
   pub are : AreShown h first k known all
-  pub before : IsBefore h base known k marks
+  pub before : IsBefore h elsewhere known k marks
