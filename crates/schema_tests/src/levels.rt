@@ -16,8 +16,9 @@ use schema_tree::labels::Labels;
 use schema_tree::schema::{Expr, ExprId, Occurrence, Schema, Shape, ShapeId};
 use std::alloc::{AllocError, Global};
 use std::test::Fail;
-use strata::list::{Strata, StrataError};
+use strata::list::StrataError;
 use strata::strata::strata;
+use strata::valid::is_stratified;
 use tally::Count;
 
 const P: TermId = TermId(1);
@@ -220,9 +221,9 @@ fn strata_count_negative_edges(rt: HostRuntime) -> Result<(), Fail> {
         ([1, 1, 0], false),
         ([2, 0, 0], false),
     ] {
-        let given = Strata::of(vec![in alloc; levels[0], levels[1], levels[2]]?);
-        assert_eq!(rt; given.valid(&schema), wanted, "{levels:?}");
+        let found = is_stratified(alloc, &schema, levels.as_slice())?;
+        assert_eq!(rt; found, wanted, "{levels:?}");
     }
-    assert!(rt; !Strata::of(vec![in alloc; 2, 1]?).valid(&schema));
+    assert!(rt; !is_stratified(alloc, &schema, [2, 1].as_slice())?);
     Ok(())
 }

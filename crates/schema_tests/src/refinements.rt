@@ -30,6 +30,7 @@ use std::sync::ledger::{Blank, Ledger};
 use std::test::Fail;
 use strata::list::Strata;
 use strata::strata::strata;
+use strata::valid::is_stratified;
 use tally::Steps;
 use typing_refiner::found::Nothing;
 use typing_refiner::{Refined, Wanted, refine, refine_from};
@@ -67,7 +68,7 @@ fn refined(
 {
     let pairs = close(alloc, schema, graph, terms, [root].as_slice())?;
     let levels = strata(alloc, schema)?;
-    if !levels.valid(schema) {
+    if !is_stratified(alloc, schema, levels.list())? {
         return Err("no strata".into());
     }
     if budget >= 1_000_000 {
@@ -355,7 +356,7 @@ fn asked_by_row<L: Ledger>(blank: Blank, alloc: Global) -> Result<u64, Fail>
     };
     let pairs = close(alloc, &schema, &graph, &terms, [root].as_slice())?;
     let levels = strata(alloc, &schema)?;
-    if !levels.valid(&schema) {
+    if !is_stratified(alloc, &schema, levels.list())? {
         return Err("no strata".into());
     }
     times_asked::<L>(blank, alloc, &schema, &graph, &terms, &levels, &pairs)

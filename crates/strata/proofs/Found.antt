@@ -32,21 +32,21 @@ either_of : (a b : Bool) → a || b ≡ true → (a ≡ true) ⊎ (b ≡ true)
 either_of true b e = inl refl
 either_of false b e = inr e
 
-pub from_extra : (extra : List TermId) (o : Occurrence) → is_extra extra o ≡ true → IsExtra extra o
+from_extra : (extra : List TermId) (o : Occurrence) → is_extra extra o ≡ true → IsExtra extra o
 from_extra extra o e =
     let t = both_of (not o.inverse) (list_any (same_id o.predicate) extra) e in
     (not_of o.inverse t.0, Contains-from_any {eq = same_id} same_is o.predicate extra t.1)
 
-pub to_extra : (extra : List TermId) (o : Occurrence) → IsExtra extra o → is_extra extra o ≡ true
+to_extra : (extra : List TermId) (o : Occurrence) → IsExtra extra o → is_extra extra o ≡ true
 to_extra extra o (forward, held) =
     let any : list_any (same_id o.predicate) extra ≡ true = any_true (same_id o.predicate) extra o.predicate held (eq-eqb o.predicate.0 o.predicate.0 refl) in
     rw (forward, any) refl
 
-pub or_first : (a b : Bool) → a ≡ true → a || b ≡ true
+or_first : (a b : Bool) → a ≡ true → a || b ≡ true
 or_first true b e = refl
 or_first false b e = absurd (let bad : ⊥ = cc in bad)
 
-pub or_second : (a b : Bool) → b ≡ true → a || b ≡ true
+or_second : (a b : Bool) → b ≡ true → a || b ≡ true
 or_second true b e = refl
 or_second false b e = e
 
