@@ -18,7 +18,7 @@ walk-requires-clause-has c =
     let to = (get_or c.args.arcs.now c.loop-arc.arc-index no_arc).to.0 in
     let inside : to < length c.in_ok-ranks.ranks.items = omega (arith, lt, c.in_ok-ranks.ensures.size) in
     let value = in_range c.in_ok-ranks.ranks.items to c.index.result.now inside in
-    subst (λ f. 0 < get_or f to 0) (sym c.deref.ensures.value) (omega (arith, value, c.index.ensures, c.if-index-ne0.true))
+    subst (λ f. 0 < get_or f to 0) (sym c.deref-then-index-ne0.ensures.value) (omega (arith, value, c.index.ensures, c.if-index-ne0.true))
 
 pub unreachable-requires : goal.unreachable-requires
 unreachable-requires c =
