@@ -1,4 +1,1 @@
-mod CheckedSchemas
-mod SampledMatches
 mod SampledRefinements
-mod SampledStrata

@@ -4,7 +4,7 @@ ghost use Rattle.std.specs.Prelude.{IfOk};
 ghost use Rattle.graph_index.specs.Contents.{IsSealedWith};
 ghost use Rattle.schema_tree.specs.Loaded.{IsLoaded};
 
-use crate::levels::{chain, excused_self, mutual};
+use crate::samples::{CIRCLE, EXCUSED_SELF, FALLING, MUTUAL, add, arcs, put, put_nodes, schema_of};
 use agenda::Agenda;
 use demand::links::{links, shapes_in};
 use demand::needs::needs;
@@ -12,8 +12,7 @@ use demand::table::PairTable;
 use demand::{Pairs, Root, close};
 use graph_index::graph::Graph;
 use rdf_terms::table::TermTable;
-use rdf_terms::terms::{Term, TermId, Triple};
-use rdf_terms::text::Text;
+use rdf_terms::terms::TermId;
 use schema_tree::schema::{ExprId, Pair, Schema, ShapeId};
 use std::alloc::Global;
 use std::fmt::Write;
@@ -21,44 +20,6 @@ use std::test::Fail;
 
 /// The number of nodes of the chain.
 const CHAIN: u32 = 100_000;
-
-/// The terms 0 `<http://d/c>`, 1 `<http://d/p>`, 2 `<http://d/a>`, 3 `<http://d/b>` and 4 `<http://d/d>`.
-pub fn table(alloc: Global) -> Result<TermTable, Fail> {
-    let mut terms = TermTable::new(alloc);
-    for name in ["c", "p", "a", "b", "d"] {
-        put(alloc, &mut terms, name)?;
-    }
-    Ok(terms)
-}
-
-/// Puts the IRI of that name into the table.
-pub fn put(alloc: Global, terms: &mut TermTable, name: &str) -> Result<(), Fail> {
-    let iri = format!(in alloc; "http://d/{name}")?;
-    terms.put(Term::Iri(Text::from_str(alloc, iri.as_str())?))?;
-    Ok(())
-}
-
-/// Adds the arc with the predicate 1.
-fn add(graph: &mut Graph, from: u32, to: u32) -> Result<(), Fail> {
-    graph.add(Triple {
-        s: TermId(from),
-        p: TermId(1),
-        o: TermId(to),
-    })?;
-    Ok(())
-}
-
-/// The graph of the arcs c to a, a to b, b to a, and d to c, sealed.
-fn circle(alloc: Global, terms: &TermTable) -> Result<Graph, Fail>
-    ensures { IfOk result (IsSealedWith terms.now) }
-{
-    let mut graph = Graph::new(alloc);
-    for (from, to) in [(0, 2), (2, 3), (3, 2), (4, 0)] {
-        add(&mut graph, from, to)?;
-    }
-    graph.seal(terms)?;
-    Ok(graph)
-}
 
 /// The pair of these numbers.
 fn pair(node: u32, shape: u32) -> Pair {
@@ -99,13 +60,26 @@ fn shown(alloc: Global, pairs: &Pairs) -> Result<String, Fail> {
     Ok(text)
 }
 
-/// The pairs that these nodes reach round the circle, where S0 and S1 need each other.
-fn round(alloc: Global, roots: &[(u32, u32)]) -> Result<String, Fail> {
-    let schema = mutual(alloc)?;
-    let terms = table(alloc)?;
-    let graph = circle(alloc, &terms)?;
-    let pairs = reached(alloc, &schema, &graph, &terms, roots)?;
+/// The pairs that these nodes reach round the circle.
+fn reached_round(
+    alloc: Global,
+    schema: &Schema,
+    terms: &TermTable,
+    roots: &[(u32, u32)],
+) -> Result<String, Fail>
+    requires { IsLoaded schema.now }
+{
+    let graph = arcs(alloc, terms, &CIRCLE)?;
+    let pairs = reached(alloc, schema, &graph, terms, roots)?;
     shown(alloc, &pairs)
+}
+
+/// The same where S0 and S1 need each other.
+fn round(alloc: Global, roots: &[(u32, u32)]) -> Result<String, Fail> {
+    let mut terms = TermTable::new(alloc);
+    let schema = schema_of(alloc, MUTUAL, &mut terms)?;
+    put_nodes(alloc, &mut terms)?;
+    reached_round(alloc, &schema, &terms, roots)
 }
 
 /// Needs go round the circle with both Shapes in turn and not back along an arc; what is reached stands in the order of
@@ -114,35 +88,40 @@ fn round(alloc: Global, roots: &[(u32, u32)]) -> Result<String, Fail> {
 fn pairs_that_needs_lead_to_stand_in_order(rt: HostRuntime) -> Result<(), Fail> {
     let alloc = rt.alloc();
     assert_eq!(rt; round(alloc, [].as_slice())?.as_str(), "");
-    assert_eq!(rt; round(alloc, [(0, 0)].as_slice())?.as_str(), " 2/1 3/0 0/0");
+    assert_eq!(rt; round(alloc, [(1, 0)].as_slice())?.as_str(), " 2/1 3/0 1/0");
     assert_eq!(rt;
-        round(alloc, [(0, 1), (0, 0), (0, 1)].as_slice())?.as_str(),
-        " 2/0 2/1 3/0 3/1 0/0 0/1"
+        round(alloc, [(1, 1), (1, 0), (1, 1)].as_slice())?.as_str(),
+        " 2/0 2/1 3/0 3/1 1/0 1/1"
     );
     Ok(())
 }
 
-/// S0 stands behind a ShapeNot in the expression 1 of the schema, and needs S1 at the ends of its triples.
+/// What the first Shape needs at the first node of the circle.
+fn needed(alloc: Global, schema: &Schema, terms: &TermTable) -> Result<Vec<Pair>, Fail>
+    requires { IsLoaded schema.now }
+{
+    let graph = arcs(alloc, terms, &CIRCLE)?;
+    let linked = links(alloc, schema)?;
+    let linked = linked.as_slice();
+    let found = needs(alloc, schema, linked, &graph, terms, pair(1, 0))?;
+    Ok(found)
+}
+
+/// S1 stands behind a ShapeNot in the expression 3 of the schema, and S0 needs it at the ends of its triples.
 #[test]
 fn a_shape_behind_a_not_is_linked_and_needed(rt: HostRuntime) -> Result<(), Fail> {
     let alloc = rt.alloc();
-    let schema = chain(alloc)?;
-    let terms = table(alloc)?;
-    let graph = circle(alloc, &terms)?;
+    let mut terms = TermTable::new(alloc);
+    let schema = schema_of(alloc, FALLING, &mut terms)?;
+    put_nodes(alloc, &mut terms)?;
     assert_eq!(rt;
-        shapes_in(alloc, &schema, ExprId(1))?.as_slice(),
+        shapes_in(alloc, &schema, ExprId(3))?.as_slice(),
         [ShapeId(1)].as_slice()
     );
-    let linked = links(alloc, &schema)?;
-    let needed = needs(
-        alloc,
-        &schema,
-        linked.as_slice(),
-        &graph,
-        &terms,
-        pair(0, 0),
-    )?;
-    assert_eq!(rt; needed.as_slice(), [pair(2, 1)].as_slice());
+    assert_eq!(rt;
+        needed(alloc, &schema, &terms)?.as_slice(),
+        [pair(2, 1)].as_slice()
+    );
     Ok(())
 }
 
@@ -167,16 +146,13 @@ fn agendas_and_tables_hold_each_once(rt: HostRuntime) -> Result<(), Fail> {
     Ok(())
 }
 
-/// The table of a chain: the nodes 0 and 2 on, whose names rise with their numbers.
-fn chain_table(alloc: Global) -> Result<TermTable, Fail> {
-    let mut terms = TermTable::new(alloc);
-    put(alloc, &mut terms, "0")?;
-    put(alloc, &mut terms, "p")?;
+/// Puts the nodes of a chain into the table, behind the only predicate: their names rise with their numbers.
+fn put_chain(alloc: Global, terms: &mut TermTable) -> Result<(), Fail> {
     for number in 0..CHAIN {
         let name = format!(in alloc; "{number:08}")?;
-        put(alloc, &mut terms, name.as_str())?;
+        put(alloc, terms, name.as_str())?;
     }
-    Ok(terms)
+    Ok(())
 }
 
 /// The arcs from each node of a chain to the next, sealed.
@@ -184,24 +160,32 @@ fn chain_graph(alloc: Global, terms: &TermTable) -> Result<Graph, Fail>
     ensures { IfOk result (IsSealedWith terms.now) }
 {
     let mut graph = Graph::new(alloc);
-    for number in 3..CHAIN + 2 {
-        add(&mut graph, number - 1, number)?;
+    for number in 1..CHAIN {
+        add(&mut graph, number, 0, number + 1)?;
     }
     graph.seal(terms)?;
     Ok(graph)
+}
+
+/// The pairs that the first node of a chain reaches.
+fn reached_along(alloc: Global, schema: &Schema, terms: &TermTable) -> Result<Pairs, Fail>
+    requires { IsLoaded schema.now }
+{
+    let graph = chain_graph(alloc, terms)?;
+    reached(alloc, schema, &graph, terms, [(1, 0)].as_slice())
 }
 
 /// The first node of the chain reaches each in turn.
 #[test]
 fn a_long_chain_is_followed_to_its_end(rt: HostRuntime) -> Result<(), Fail> {
     let alloc = rt.alloc();
-    let schema = excused_self(alloc)?;
-    let terms = chain_table(alloc)?;
-    let graph = chain_graph(alloc, &terms)?;
-    let pairs = reached(alloc, &schema, &graph, &terms, [(2, 0)].as_slice())?;
+    let mut terms = TermTable::new(alloc);
+    let schema = schema_of(alloc, EXCUSED_SELF, &mut terms)?;
+    put_chain(alloc, &mut terms)?;
+    let pairs = reached_along(alloc, &schema, &terms)?;
     assert_eq!(rt; pairs.list().len(), CHAIN as usize);
     for (at, held) in pairs.list().iter().enumerate() {
-        assert_eq!(rt; held.node.0 as usize, at + 2);
+        assert_eq!(rt; held.node.0 as usize, at + 1);
     }
     Ok(())
 }

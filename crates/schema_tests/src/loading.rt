@@ -1,17 +1,17 @@
 //! Schemas that are loaded from documents in ShExJ, with ample memory.
 
-ghost use Rattle.std.specs.Prelude.{◌<◌, IfOk, length, map};
+ghost use Rattle.std.specs.Prelude.{◌<◌, length, map};
 ghost use Rattle.std.specs.List.{AllByRecursion};
 ghost use Rattle.schema_documents.specs.Ordered.{IsOrderedDocument};
 ghost use Rattle.schema_documents.specs.Tree.{document_of};
 ghost use Rattle.schema_tree.specs.Loaded.{IsLoaded};
 
+use crate::samples::with_document;
 use rdf_terms::table::TermTable;
 use schema_documents::Doc;
 use schema_load::laws::parts_are_ordered;
 use schema_load::load::load;
 use schema_tree::schema::{Schema, ShapeId};
-use shexj_reader::laws::documents_are_ordered;
 use std::alloc::{AllocError, Global};
 use std::test::Fail;
 use strata::list::StrataError;
@@ -52,27 +52,6 @@ const ROOT: &str =
 /// A document with what `ROOT` refers to, and a start without a target.
 const IMPORTED: &str =
     r#"{"type":"Schema","start":"nowhere","shapes":[{"type":"Shape","id":"B"}]}"#;
-
-/// The document that a text spells.
-fn document(alloc: Global, text: &str) -> Result<Doc, Fail>
-    ensures { IfOk result (λ d. IsOrderedDocument (document_of d)) }
-{
-    documents_are_ordered();
-    match shexj_reader::read(alloc, text.as_bytes()) {
-        Ok(doc) => Ok(doc),
-        Err(_) => Err("no document".into()),
-    }
-}
-
-/// The documents with that of a text behind them.
-fn with_document(alloc: Global, docs: Vec<Doc>, text: &str) -> Result<Vec<Doc>, Fail>
-    requires { AllByRecursion IsOrderedDocument (map document_of docs.items) }
-    ensures { IfOk result (λ all. (0 < length all.items) × AllByRecursion IsOrderedDocument (map document_of all.items)) }
-{
-    let mut all = docs;
-    all.push(document(alloc, text)?)?;
-    Ok(all)
-}
 
 /// The numbers, a blank before each.
 fn listed(alloc: Global, numbers: &[u32]) -> Result<String, AllocError> {
@@ -142,7 +121,7 @@ fn shown(alloc: Global, docs: Vec<Doc>) -> Result<String, AllocError>
 }
 
 /// Whether the document of the text is loaded so.
-fn loads_as(alloc: Global, text: &str, wanted: &str) -> Result<bool, Fail> {
+pub fn loads_as(alloc: Global, text: &str, wanted: &str) -> Result<bool, Fail> {
     let docs = with_document(alloc, Vec::new(alloc), text)?;
     Ok(shown(alloc, docs)?.as_str() == wanted)
 }

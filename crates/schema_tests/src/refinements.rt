@@ -1,6 +1,6 @@
 //! Verdicts of refinement and their records over small schemas, with ample memory.
 
-ghost use Rattle.std.specs.Prelude.{[], ◌∷◌, ◌≡◌, ◌<◌, IfOk, None, Some, filter, nat_eq};
+ghost use Rattle.std.specs.Prelude.{◌≡◌, ◌<◌, IfOk, filter, nat_eq};
 ghost use Rattle.std.specs.List.Sorted.{IsStrictlySortedBy};
 ghost use Rattle.demand.specs.Orders.{compare_pairs};
 ghost use Rattle.graph_index.specs.Contents.{IsSealedWith};
@@ -8,18 +8,13 @@ ghost use Rattle.schema_tree.specs.Edges.{IsStratified};
 ghost use Rattle.schema_tree.specs.Loaded.{IsLoaded};
 ghost use Rattle.schema_tree.specs.Needs.{HoldNeeds};
 
-use crate::demands::{put, table};
-use crate::levels::{chain, mutual};
-use crate::matches::{arc, both};
+use crate::samples::{CIRCLE, FALLING, MUTUAL, SUCCESSORS, add, arcs, put, put_nodes, schema_of};
 use demand::{Pairs, Root, close};
 use graph_index::graph::Graph;
 use proof_file::{Record, RecordKind};
-use rdf_terms::items::Items;
 use rdf_terms::table::TermTable;
-use rdf_terms::terms::{TermId, Triple};
-use schema_tree::body::Body;
-use schema_tree::labels::Labels;
-use schema_tree::schema::{Expr, ExprId, Occurrence, Pair, Schema, Shape, ShapeId};
+use rdf_terms::terms::TermId;
+use schema_tree::schema::{ExprId, Pair, Schema};
 use schema_tree::sure::View;
 use schema_tree::verdicts::Verdict;
 use std::alloc::{AllocError, Global};
@@ -37,22 +32,6 @@ use typing_refiner::{Refined, Wanted, refine, refine_from};
 
 /// The number of nodes of the row.
 const ROW: u32 = 1000;
-
-/// The graph of these arcs with the predicate 1, sealed.
-fn arcs(alloc: Global, terms: &TermTable, ends: &[(u32, u32)]) -> Result<Graph, Fail>
-    ensures { IfOk result (IsSealedWith terms.now) }
-{
-    let mut graph = Graph::new(alloc);
-    for (from, to) in ends {
-        graph.add(Triple {
-            s: TermId(*from),
-            p: TermId(1),
-            o: TermId(*to),
-        })?;
-    }
-    graph.seal(terms)?;
-    Ok(graph)
-}
 
 /// The verdicts on what the node reaches with the expression, and their records.
 fn refined(
@@ -109,37 +88,50 @@ fn shown(alloc: Global, found: &Refined) -> Result<String, Fail> {
 }
 
 /// The records of a node with an expression of a schema over these arcs.
-fn records(
+fn records_of(
     alloc: Global,
     schema: &Schema,
+    terms: &TermTable,
     ends: &[(u32, u32)],
-    node: u32,
-    expr: u32,
+    root: Root,
     budget: u64,
 ) -> Result<String, Fail>
     requires { IsLoaded schema.now }
 {
-    let terms = table(alloc)?;
-    let graph = arcs(alloc, &terms, ends)?;
+    let graph = arcs(alloc, terms, ends)?;
+    let found = refined(alloc, schema, &graph, terms, root, budget)?;
+    shown(alloc, &found)
+}
+
+/// The same of the schema of a text.
+fn records(
+    alloc: Global,
+    text: &str,
+    ends: &[(u32, u32)],
+    node: u32,
+    expr: u32,
+    budget: u64,
+) -> Result<String, Fail> {
+    let mut terms = TermTable::new(alloc);
+    let schema = schema_of(alloc, text, &mut terms)?;
+    put_nodes(alloc, &mut terms)?;
     let root = Root {
         node: TermId(node),
         expr: ExprId(expr),
     };
-    let found = refined(alloc, schema, &graph, &terms, root, budget)?;
-    shown(alloc, &found)
+    records_of(alloc, &schema, &terms, ends, root, budget)
 }
 
 /// Round a circle each pair confirms the others, and along a path that ends each goes after the one it needs.
 #[test]
 fn circles_hold_and_paths_fall_from_their_end(rt: HostRuntime) -> Result<(), Fail> {
     let alloc = rt.alloc();
-    let schema = mutual(alloc)?;
     assert_eq!(rt;
-        records(alloc, &schema, [(0, 2), (2, 3), (3, 2)].as_slice(), 0, 0, 1)?.as_str(),
+        records(alloc, MUTUAL, [(1, 2), (2, 3), (3, 2)].as_slice(), 1, 0, 1)?.as_str(),
         " s0 +0/1 +1/0 +2/0"
     );
     assert_eq!(rt;
-        records(alloc, &schema, [(0, 2), (2, 3)].as_slice(), 0, 0, 1)?.as_str(),
+        records(alloc, MUTUAL, [(1, 2), (2, 3)].as_slice(), 1, 0, 1)?.as_str(),
         " s0 -0/1:2 -1/0:1 -2/0:3"
     );
     Ok(())
@@ -150,20 +142,14 @@ fn circles_hold_and_paths_fall_from_their_end(rt: HostRuntime) -> Result<(), Fai
 #[test]
 fn strata_have_records_of_their_own(rt: HostRuntime) -> Result<(), Fail> {
     let alloc = rt.alloc();
-    let schema = chain(alloc)?;
-    let ends = [(0, 2), (2, 3), (3, 2), (4, 0)];
-    assert_eq!(rt;
-        records(alloc, &schema, ends.as_slice(), 4, 0, 2)?.as_str(),
-        " s0 +0/2 +1/2 +2/2 s1 +3/1"
-    );
-    assert_eq!(rt;
-        records(alloc, &schema, ends.as_slice(), 4, 0, 1)?.as_str(),
-        " s0 +0/2 +1/2 +2/2"
-    );
-    assert_eq!(rt;
-        records(alloc, &schema, ends.as_slice(), 4, 0, 0)?.as_str(),
-        ""
-    );
+    for (budget, wanted) in [
+        (2, " s0 +0/2 +1/2 +2/2 s1 +3/1"),
+        (1, " s0 +0/2 +1/2 +2/2"),
+        (0, ""),
+    ] {
+        let found = records(alloc, FALLING, CIRCLE.as_slice(), 4, 1, budget)?;
+        assert_eq!(rt; found.as_str(), wanted, "{budget}");
+    }
     Ok(())
 }
 
@@ -187,92 +173,27 @@ impl View for Asked<'_> {
     }
 }
 
-/// A Shape without a body.
-fn bare(alloc: Global) -> Shape
-    ensures occs { result.occs ≡ [] }
-    ensures body { result.body ≡ None }
-{
-    Shape {
-        closed: false,
-        extra: Items::of(Vec::new(alloc)),
-        body: None,
-        occs: Items::of(Vec::new(alloc)),
-    }
-}
-
-/// An open Shape with two occurrences.
-fn linked(
-    alloc: Global,
-    body: Body,
-    first: Occurrence,
-    second: Occurrence,
-) -> Result<Shape, AllocError>
-    ensures occs { IfOk result (λ sh. sh.occs ≡ first ∷ second ∷ []) }
-    ensures body { IfOk result (λ sh. sh.body ≡ Some body) }
-{
-    Ok(Shape {
-        closed: false,
-        extra: Items::of(Vec::new(alloc)),
-        body: Some(body),
-        occs: Items::of(vec![in alloc; first, second]?),
-    })
-}
-
-/// S0 = `{ <next> @<S0> ; <out> @<S1> }`, S1 = `{ }`, with the predicates 1 and 2.
-fn successors(alloc: Global) -> Result<Schema, Fail>
-    ensures { IfOk result IsLoaded }
-{
-    let next = arc(false, 1, Some(ExprId(0)));
-    let out = arc(false, 2, Some(ExprId(1)));
-    let first = linked(alloc, both(alloc)?, next, out)?;
-    let second = bare(alloc);
-    let labels = Labels::new(alloc);
-    let _none = labels.len();
-    Ok(Schema {
-        exprs: Items::of(vec![in alloc; Expr::Shape(ShapeId(0)), Expr::Shape(ShapeId(1))]?),
-        shapes: Items::of(vec![in alloc; first, second]?),
-        labels,
-        start: None,
-    })
-}
-
-/// The terms of the row: 0 `<http://d/b>`, the predicates 1 and 2, and from 3 on the nodes, whose names rise.
-fn row_table(alloc: Global) -> Result<TermTable, Fail> {
-    let mut terms = TermTable::new(alloc);
-    put(alloc, &mut terms, "b")?;
-    put(alloc, &mut terms, "next")?;
-    put(alloc, &mut terms, "out")?;
+/// Puts the terms of the row into the table, behind the two predicates: 2 `<http://d/b>`, and from 3 on the nodes, whose
+/// names rise.
+fn put_row(alloc: Global, terms: &mut TermTable) -> Result<(), Fail> {
+    put(alloc, terms, "b")?;
     for number in 0..ROW {
         let name = format!(in alloc; "a{number:03}")?;
-        put(alloc, &mut terms, name.as_str())?;
+        put(alloc, terms, name.as_str())?;
     }
-    Ok(terms)
-}
-
-/// Adds the arcs of a node of the row: to the next one, if there is one, and to the node 0.
-fn add_node(graph: &mut Graph, node: u32) -> Result<(), Fail> {
-    if node < ROW + 2 {
-        graph.add(Triple {
-            s: TermId(node),
-            p: TermId(1),
-            o: TermId(node + 1),
-        })?;
-    }
-    graph.add(Triple {
-        s: TermId(node),
-        p: TermId(2),
-        o: TermId(0),
-    })?;
     Ok(())
 }
 
-/// The graph of the row, sealed.
+/// The graph of the row, sealed: an arc from each node to the next one, if there is one, and one to the node 2.
 fn row_graph(alloc: Global, terms: &TermTable) -> Result<Graph, Fail>
     ensures { IfOk result (IsSealedWith terms.now) }
 {
     let mut graph = Graph::new(alloc);
     for node in 3..ROW + 3 {
-        add_node(&mut graph, node)?;
+        if node < ROW + 2 {
+            add(&mut graph, node, 0, node + 1)?;
+        }
+        add(&mut graph, node, 1, 2)?;
     }
     graph.seal(terms)?;
     Ok(graph)
@@ -341,25 +262,41 @@ fn times_asked<L: Ledger>(
     Ok(times.get())
 }
 
-/// How often a refinement of the row asks for what is kept.
+/// How often a refinement of what the first node of the row reaches asks for what is kept.
+fn asked_along<L: Ledger>(
+    blank: Blank,
+    alloc: Global,
+    schema: &Schema,
+    terms: &TermTable,
+) -> Result<u64, Fail>
+    requires name { blank.name ≡ L.name }
+    requires parts { blank.parts ≡ L.parts }
+    requires some { 0 < blank.parts }
+    requires loaded { IsLoaded schema.now }
+{
+    let graph = row_graph(alloc, terms)?;
+    let root = Root {
+        node: TermId(3),
+        expr: ExprId(0),
+    };
+    let pairs = close(alloc, schema, &graph, terms, [root].as_slice())?;
+    let levels = strata(alloc, schema)?;
+    if !is_stratified(alloc, schema, levels.list())? {
+        return Err("no strata".into());
+    }
+    times_asked::<L>(blank, alloc, schema, &graph, terms, &levels, &pairs)
+}
+
+/// The same of the schema of the row.
 fn asked_by_row<L: Ledger>(blank: Blank, alloc: Global) -> Result<u64, Fail>
     requires name { blank.name ≡ L.name }
     requires parts { blank.parts ≡ L.parts }
     requires some { 0 < blank.parts }
 {
-    let schema = successors(alloc)?;
-    let terms = row_table(alloc)?;
-    let graph = row_graph(alloc, &terms)?;
-    let root = Root {
-        node: TermId(3),
-        expr: ExprId(0),
-    };
-    let pairs = close(alloc, &schema, &graph, &terms, [root].as_slice())?;
-    let levels = strata(alloc, &schema)?;
-    if !is_stratified(alloc, &schema, levels.list())? {
-        return Err("no strata".into());
-    }
-    times_asked::<L>(blank, alloc, &schema, &graph, &terms, &levels, &pairs)
+    let mut terms = TermTable::new(alloc);
+    let schema = schema_of(alloc, SUCCESSORS, &mut terms)?;
+    put_row(alloc, &mut terms)?;
+    asked_along::<L>(blank, alloc, &schema, &terms)
 }
 
 /// Each pair of a row needs the next one, and the last cannot match. A pair is looked at again only when the one that it

@@ -1,0 +1,2 @@
+mod CheckedSchemas
+mod SampledMatches
