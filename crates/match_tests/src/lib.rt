@@ -7,4 +7,6 @@ mod counts;
 #[cfg(test)]
 mod matches;
 #[cfg(test)]
+mod tables;
+#[cfg(test)]
 mod verdicts;

@@ -8,13 +8,13 @@ ghost use Rattle.schema_tree.specs.declared.schema.Occurrence.{Occurrence as Occ
 ghost use Rattle.schema_tree.specs.declared.schema.Expr.TheVariants as Exprs;
 ghost use Rattle.tally.specs.Plan.{many, more_plans, no_plans, plan_of, plans_of};
 
+use crate::tables::put;
 use bag_match::{Outcome, dead, match_pair, width};
 use graph_index::graph::Graph;
 use node_constraint::{Kind4, NodeConstraint};
 use rdf_terms::items::Items;
 use rdf_terms::table::TermTable;
-use rdf_terms::terms::{Literal, Term, TermId, Triple};
-use rdf_terms::text::Text;
+use rdf_terms::terms::{TermId, Triple};
 use schema_tree::body::Body;
 use schema_tree::labels::Labels;
 use schema_tree::schema::{Expr, ExprId, Occurrence, Pair, Schema, Shape, ShapeId};
@@ -43,12 +43,15 @@ impl View for Unsaid {
 /// The terms 0 `<http://d/n>`, 1 `<http://d/p>`, 2 `<http://d/q>`, 3 `"1"`, 4 `<http://d/x>` and 5 `<http://d/y>`.
 fn table(alloc: Global) -> Result<TermTable, Fail> {
     let mut terms = TermTable::new(alloc);
-    for iri in ["http://d/n", "http://d/p", "http://d/q"] {
-        terms.put(Term::Iri(Text::from_str(alloc, iri)?))?;
-    }
-    terms.put(Term::Lit(Literal::plain(alloc, Text::from_str(alloc, "1")?)?))?;
-    for iri in ["http://d/x", "http://d/y"] {
-        terms.put(Term::Iri(Text::from_str(alloc, iri)?))?;
+    for text in [
+        "<http://d/n>",
+        "<http://d/p>",
+        "<http://d/q>",
+        "\"1\"",
+        "<http://d/x>",
+        "<http://d/y>",
+    ] {
+        put(alloc, &mut terms, text)?;
     }
     Ok(terms)
 }
@@ -226,8 +229,8 @@ fn schema(alloc: Global, shape: Shape) -> Result<Schema, Fail>
     ensures loaded { IfOk result IsLoaded }
     ensures shapes { IfOk result (λ s. s.shapes ≡ shape ∷ []) }
 {
-    let literal = NodeConstraint::make(alloc, Some(Kind4::Literal), None, Vec::new(alloc), None)?;
-    let any = NodeConstraint::make(alloc, None, None, Vec::new(alloc), None)?;
+    let literal = NodeConstraint::of_kind(alloc, Some(Kind4::Literal));
+    let any = NodeConstraint::of_kind(alloc, None);
     let labels = Labels::new(alloc);
     let _none = labels.len();
     Ok(Schema {
@@ -305,24 +308,21 @@ fn answered<L: Ledger>(
 /// The outcome of a match at the node 0, and the Width.
 fn counted<L: Ledger>(
     alloc: Global,
-    shape: Shape,
+    schema: &Schema,
     triples: &[(u32, u32, u32)],
     lean: Lean,
     steps: &mut Steps<L>,
 ) -> Result<(Vec<u8>, u64), Fail>
-    requires body { BodyOk shape.occs shape.body }
-    requires low { (x : Occ) → Contains shape.occs x → (e : Id) → x.value ≡ Some e → e.0 < 3 }
-    requires few { length shape.occs ≤ 256 }
+    requires { IsLoaded schema.now }
 {
     let terms = table(alloc)?;
     let graph = sealed(alloc, &terms, triples)?;
-    let schema = schema(alloc, shape)?;
     let (node, shape) = (TermId(0), ShapeId(0));
     let pair = Pair { node, shape };
-    answered(alloc, &schema, &graph, &terms, lean, pair, steps)
+    answered(alloc, schema, &graph, &terms, lean, pair, steps)
 }
 
-/// The same with a counter of its own.
+/// The same of a Shape, with a counter of its own.
 fn matched<L: Ledger>(
     alloc: Global,
     shape: Shape,
@@ -337,8 +337,9 @@ fn matched<L: Ledger>(
     requires parts { blank.parts ≡ L.parts }
     requires some { 0 < blank.parts }
 {
+    let schema = schema(alloc, shape)?;
     let mut steps = Steps::<L>::new(blank);
-    counted(alloc, shape, triples, lean, &mut steps)
+    counted(alloc, &schema, triples, lean, &mut steps)
 }
 
 /// Whether the outcome is so shown, and the Width is this.

@@ -7,11 +7,11 @@ ghost use Rattle.schema_tree.specs.declared.schema.Shape.{Shape};
 ghost use Rattle.schema_tree.specs.Entries.{entry};
 ghost use Rattle.schema_tree.specs.Loaded.{IsLoaded, RefersBelow};
 
+use crate::tables::put;
 use node_constraint::{Kind4, NodeConstraint};
 use rdf_terms::items::Items;
 use rdf_terms::table::TermTable;
-use rdf_terms::terms::{Term, TermId};
-use rdf_terms::text::Text;
+use rdf_terms::terms::TermId;
 use schema_tree::labels::Labels;
 use schema_tree::schema::{Expr, ExprId, Pair, Schema, Shape, ShapeId};
 use schema_tree::sure::{View, may_fail, may_hold, sure};
@@ -188,7 +188,7 @@ fn diamonds(alloc: Global, levels: u32) -> Result<Schema, AllocError> {
 
 /// A node, and a view that is told of the first Shape that it is satisfied and of the second that it is not.
 fn node_and_view(alloc: Global, terms: &mut TermTable) -> Result<(TermId, Told), Fail> {
-    let node = terms.put(Term::Iri(Text::from_str(alloc, "http://localhost/n")?))?;
+    let node = put(alloc, terms, "<http://localhost/n>")?;
     let yes = Pair {
         node,
         shape: ShapeId(0),

@@ -33,6 +33,18 @@ use typing_refiner::{Refined, Wanted, refine, refine_from};
 /// The number of nodes of the row.
 const ROW: u32 = 1000;
 
+/// Strata of the schema, which are seen to be a stratification.
+fn levels_of(alloc: Global, schema: &Schema) -> Result<Strata, Fail>
+    requires { IsLoaded schema.now }
+    ensures { IfOk result (IsStratified schema.now) }
+{
+    let levels = strata(alloc, schema)?;
+    if !is_stratified(alloc, schema, levels.list())? {
+        return Err("no strata".into());
+    }
+    Ok(levels)
+}
+
 /// The verdicts on what the node reaches with the expression, and their records.
 fn refined(
     alloc: Global,
@@ -40,19 +52,14 @@ fn refined(
     graph: &Graph,
     terms: &TermTable,
     root: Root,
-    budget: u64,
+    budget: u32,
 ) -> Result<Refined, Fail>
     requires loaded { IsLoaded schema.now }
     requires sealed { IsSealedWith terms.now graph.now }
 {
     let pairs = close(alloc, schema, graph, terms, [root].as_slice())?;
-    let levels = strata(alloc, schema)?;
-    if !is_stratified(alloc, schema, levels.list())? {
-        return Err("no strata".into());
-    }
-    if budget >= 1_000_000 {
-        return Err("a budget out of range".into());
-    }
+    let levels = levels_of(alloc, schema)?;
+    let budget = u64::from(budget);
     let found = refine(
         alloc,
         schema,
@@ -94,7 +101,7 @@ fn records_of(
     terms: &TermTable,
     ends: &[(u32, u32)],
     root: Root,
-    budget: u64,
+    budget: u32,
 ) -> Result<String, Fail>
     requires { IsLoaded schema.now }
 {
@@ -103,38 +110,47 @@ fn records_of(
     shown(alloc, &found)
 }
 
-/// The same of the schema of a text.
-fn records(
+/// Whether these are the records of the schema of a text.
+fn has_records(
     alloc: Global,
     text: &str,
     ends: &[(u32, u32)],
-    node: u32,
-    expr: u32,
-    budget: u64,
-) -> Result<String, Fail> {
+    root: Root,
+    budget: u32,
+    wanted: &str,
+) -> Result<bool, Fail> {
     let mut terms = TermTable::new(alloc);
     let schema = schema_of(alloc, text, &mut terms)?;
     put_nodes(alloc, &mut terms)?;
-    let root = Root {
+    let found = records_of(alloc, &schema, &terms, ends, root, budget)?;
+    Ok(found.as_str() == wanted)
+}
+
+/// The node and the expression of these numbers.
+fn root(node: u32, expr: u32) -> Root {
+    Root {
         node: TermId(node),
         expr: ExprId(expr),
-    };
-    records_of(alloc, &schema, &terms, ends, root, budget)
+    }
+}
+
+/// Whether these are the records of the first node of the circle with S0, where S0 and S1 need each other, over these arcs.
+fn follows(alloc: Global, ends: &[(u32, u32)], wanted: &str) -> Result<bool, Fail> {
+    has_records(alloc, MUTUAL, ends, root(1, 0), 1, wanted)
 }
 
 /// Round a circle each pair confirms the others, and along a path that ends each goes after the one it needs.
 #[test]
 fn circles_hold_and_paths_fall_from_their_end(rt: HostRuntime) -> Result<(), Fail> {
     let alloc = rt.alloc();
-    assert_eq!(rt;
-        records(alloc, MUTUAL, [(1, 2), (2, 3), (3, 2)].as_slice(), 1, 0, 1)?.as_str(),
-        " s0 +0/1 +1/0 +2/0"
-    );
-    assert_eq!(rt;
-        records(alloc, MUTUAL, [(1, 2), (2, 3)].as_slice(), 1, 0, 1)?.as_str(),
-        " s0 -0/1:2 -1/0:1 -2/0:3"
-    );
+    assert!(rt; follows(alloc, &[(1, 2), (2, 3), (3, 2)], " s0 +0/1 +1/0 +2/0")?);
+    assert!(rt; follows(alloc, &[(1, 2), (2, 3)], " s0 -0/1:2 -1/0:1 -2/0:3")?);
     Ok(())
+}
+
+/// Whether these are the records of the last node of the circle with S1 that a budget allows, where strata fall.
+fn falls(alloc: Global, budget: u32, wanted: &str) -> Result<bool, Fail> {
+    has_records(alloc, FALLING, &CIRCLE, root(4, 1), budget, wanted)
 }
 
 /// A Shape under EXTRA is refined on a stratum below. A triple that the occurrence or EXTRA may take makes the Width of its
@@ -142,14 +158,9 @@ fn circles_hold_and_paths_fall_from_their_end(rt: HostRuntime) -> Result<(), Fai
 #[test]
 fn strata_have_records_of_their_own(rt: HostRuntime) -> Result<(), Fail> {
     let alloc = rt.alloc();
-    for (budget, wanted) in [
-        (2, " s0 +0/2 +1/2 +2/2 s1 +3/1"),
-        (1, " s0 +0/2 +1/2 +2/2"),
-        (0, ""),
-    ] {
-        let found = records(alloc, FALLING, CIRCLE.as_slice(), 4, 1, budget)?;
-        assert_eq!(rt; found.as_str(), wanted, "{budget}");
-    }
+    assert!(rt; falls(alloc, 2, " s0 +0/2 +1/2 +2/2 s1 +3/1")?);
+    assert!(rt; falls(alloc, 1, " s0 +0/2 +1/2 +2/2")?);
+    assert!(rt; falls(alloc, 0, "")?);
     Ok(())
 }
 
@@ -275,15 +286,8 @@ fn asked_along<L: Ledger>(
     requires loaded { IsLoaded schema.now }
 {
     let graph = row_graph(alloc, terms)?;
-    let root = Root {
-        node: TermId(3),
-        expr: ExprId(0),
-    };
-    let pairs = close(alloc, schema, &graph, terms, [root].as_slice())?;
-    let levels = strata(alloc, schema)?;
-    if !is_stratified(alloc, schema, levels.list())? {
-        return Err("no strata".into());
-    }
+    let pairs = close(alloc, schema, &graph, terms, [root(3, 0)].as_slice())?;
+    let levels = levels_of(alloc, schema)?;
     times_asked::<L>(blank, alloc, schema, &graph, terms, &levels, &pairs)
 }
 
