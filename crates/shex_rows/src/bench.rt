@@ -1,52 +1,36 @@
-//! The rows of a document, tried one after the other.
+//! A row that is tried.
 
-use crate::asking::Asking;
-use crate::document::Entry;
-use crate::inputs::{NamedFile, file_of, numbers_of};
-use crate::questions::Named;
+use crate::common::Common;
 use crate::trial::{Failing, call};
 use crate::verdict::Verdict;
 use anyhow::bail;
+use row_format::{Entry, NamedFile, file_of, first_word, note, numbers_of};
 use std::alloc::{AllocError, Global};
 
-/// A row that is being tried.
+/// A row that is being tried: its files, what fails in the next call, the last call with what was said of it, and what
+/// differs.
 #[derive(Drop)]
-struct Row {
-    title: String,
+struct Bench {
     files: Vec<NamedFile>,
     failing: Failing,
     verdict: Option<Verdict>,
-    asking: Asking,
     differences: String,
 }
 
-/// The rows of a document so far: the files and the words that all have, the row at hand, and the lines for those before
-/// it.
-#[derive(Drop)]
-pub struct Bench {
-    alloc: Global,
-    common: Vec<NamedFile>,
-    words: Option<String>,
-    row: Option<Row>,
-    report: String,
-}
-
-impl Row {
+impl Bench {
     /// A row that has called nothing.
-    fn new(alloc: Global, title: &str) -> Result<Row, AllocError> {
-        Ok(Row {
-            title: String::from_str(alloc, title)?,
+    fn new(alloc: Global) -> Bench {
+        Bench {
             files: Vec::new(alloc),
             failing: Failing::none(alloc),
             verdict: None,
-            asking: Asking::new(),
             differences: String::new(alloc),
-        })
+        }
     }
 
     /// Sets which calls of the files or of a sink fail in the next call.
     fn fail(&mut self, alloc: Global, line: &str) -> anyhow::Result<()> {
-        let (place, numbers) = line.split_once(' ').unwrap_or((line, ""));
+        let (place, numbers) = first_word(line);
         let numbers = numbers_of(alloc, numbers)?;
         match place {
             "files" => self.failing.files = numbers,
@@ -66,23 +50,46 @@ impl Row {
         Ok(())
     }
 
-    /// Asks single calls what a line with its text says, or compares the answer to what was asked.
-    fn ask(&mut self, alloc: Global, common: &[NamedFile], entry: &Entry) -> anyhow::Result<()> {
-        let own = self.files.as_slice();
-        let files = Named { common, own };
-        self.asking.obey(alloc, &mut self.differences, files, entry)
+    /// Calls with the words that all rows have, where nothing was called.
+    fn run_once(&mut self, alloc: Global, common: &Common) -> Result<(), AllocError> {
+        if let (None, Some(words)) = (&self.verdict, &common.words) {
+            self.run(alloc, common.files.as_slice(), words.as_str())?;
+        }
+        Ok(())
     }
 
-    /// Compares what is said of the last call.
-    fn say(&mut self, alloc: Global, verb: &str, rest: &str, text: &str) -> anyhow::Result<()> {
+    /// Compares what is said of the last call. A file that is said to be stored is there from now on.
+    fn say(&mut self, alloc: Global, entry: &Entry) -> anyhow::Result<()> {
         let Some(verdict) = &mut self.verdict else {
             bail!("something is said of a call before there is one");
         };
+        let (verb, rest, text) = (
+            entry.verb.as_str(),
+            entry.rest.as_str(),
+            entry.text.as_str(),
+        );
         verdict.say(alloc, &mut self.differences, verb, rest, text)?;
         if verb == "stored" {
-            self.files.push(file_of(alloc, verb, rest, text)?)?;
+            self.files.push(NamedFile::of_text(alloc, rest, text)?)?;
         }
         Ok(())
+    }
+
+    /// Does what an entry says.
+    fn obey(&mut self, alloc: Global, common: &Common, entry: &Entry) -> anyhow::Result<()> {
+        if let Some(file) = file_of(alloc, entry)? {
+            self.files.push(file)?;
+            return Ok(());
+        }
+        let rest = entry.rest.as_str();
+        match entry.verb.as_str() {
+            "fails" => self.fail(alloc, rest),
+            "run" => Ok(self.run(alloc, common.files.as_slice(), rest)?),
+            _ => {
+                self.run_once(alloc, common)?;
+                self.say(alloc, entry)
+            }
+        }
     }
 
     /// Ends what is said of the last call, if there is one.
@@ -93,94 +100,24 @@ impl Row {
         }
     }
 
-    /// The lines for the row, in which no call is to fail behind the last one.
-    fn into_lines(mut self, alloc: Global) -> anyhow::Result<String> {
+    /// What differs in the row, in which no call is to fail behind the last one.
+    fn into_differences(mut self, alloc: Global) -> anyhow::Result<String> {
         if !self.failing.is_none() {
             bail!("a row says what fails behind its last call");
         }
         self.end(alloc)?;
-        self.asking.end(&mut self.differences)?;
-        if self.verdict.is_none() && !self.asking.has_asked() {
-            self.differences.push_str("  nothing was called\n")?;
+        if self.verdict.is_none() {
+            note(&mut self.differences, "nothing was called")?;
         }
-        let mark = if self.differences.is_empty() {
-            "ok"
-        } else {
-            "DIFFERS"
-        };
-        Ok(format!(in alloc; "{mark} {}\n{}", self.title, self.differences)?)
+        Ok(self.differences)
     }
 }
 
-impl Bench {
-    /// No row was tried.
-    pub fn new(alloc: Global) -> Bench {
-        Bench {
-            alloc,
-            common: Vec::new(alloc),
-            words: None,
-            row: None,
-            report: String::new(alloc),
-        }
+/// What differs in the row of these entries, with what all rows have.
+pub fn tried(alloc: Global, common: &Common, entries: &[Entry]) -> anyhow::Result<String> {
+    let mut bench = Bench::new(alloc);
+    for entry in entries {
+        bench.obey(alloc, common, entry)?;
     }
-
-    /// Adds the lines for the row at hand, if there is one, to the report.
-    fn end_row(&mut self) -> anyhow::Result<()> {
-        if let Some(row) = self.row.take() {
-            let lines = row.into_lines(self.alloc)?;
-            self.report.push_str(lines.as_str())?;
-        }
-        Ok(())
-    }
-
-    /// Takes up what stands before the first row: the words of each row that calls with no others, or a file.
-    fn share(&mut self, verb: &str, rest: &str, text: &str) -> anyhow::Result<()> {
-        match verb {
-            "run" => self.words = Some(String::from_str(self.alloc, rest)?),
-            "file" | "text" | "bytes" | "times" => {
-                let file = file_of(self.alloc, verb, rest, text)?;
-                self.common.push(file)?;
-            }
-            _ => bail!("only files and words stand before the first row"),
-        }
-        Ok(())
-    }
-
-    /// Does what an entry says.
-    pub fn obey(&mut self, entry: &Entry) -> anyhow::Result<()> {
-        let alloc = self.alloc;
-        let line = entry.line.as_str();
-        let text = entry.text.as_str();
-        let (verb, rest) = line.split_once(' ').unwrap_or((line, ""));
-        if verb == "row" {
-            self.end_row()?;
-            self.row = Some(Row::new(alloc, rest)?);
-            return Ok(());
-        }
-        let Some(row) = &mut self.row else {
-            return self.share(verb, rest, text);
-        };
-        let common = self.common.as_slice();
-        match verb {
-            "file" | "text" | "bytes" | "times" => row
-                .files
-                .push(file_of(alloc, verb, rest, text)?)?,
-            "fails" => row.fail(alloc, rest)?,
-            "run" => row.run(alloc, common, rest)?,
-            "each" | "ask" | "hex" | "gives" => row.ask(alloc, common, entry)?,
-            _ => {
-                if let (None, Some(words)) = (&row.verdict, &self.words) {
-                    row.run(alloc, common, words.as_str())?;
-                }
-                row.say(alloc, verb, rest, text)?
-            }
-        }
-        Ok(())
-    }
-
-    /// The lines for all rows.
-    pub fn into_report(mut self) -> anyhow::Result<String> {
-        self.end_row()?;
-        Ok(self.report)
-    }
+    bench.into_differences(alloc)
 }

@@ -1,6 +1,6 @@
 //! One call, and what it gave.
 
-use crate::inputs::{NamedFile, words_of};
+use row_format::{NamedFile, words_of};
 use shex_io::{MemFiles, MemSink};
 use shex_run::run;
 use std::alloc::{AllocError, Global};

@@ -1,8 +1,8 @@
 //! What is said of a call, beside what it gave.
 
-use crate::differences::compare;
 use crate::trial::Trial;
 use anyhow::bail;
+use row_format::{compare, note};
 use shex_io::{MemFiles, MemSink};
 use std::alloc::{AllocError, Global};
 
@@ -31,8 +31,8 @@ fn compare_status(
     wanted: &str,
 ) -> anyhow::Result<()> {
     if wanted.parse::<u8>()? != found {
-        let line = format!(in alloc; "  the status is {found}, and not {wanted}\n")?;
-        differences.push_str(line.as_str())?;
+        let line = format!(in alloc; "the status is {found}, and not {wanted}")?;
+        note(differences, line.as_str())?;
     }
     Ok(())
 }
@@ -102,8 +102,8 @@ impl Verdict {
         match self.files.file(name) {
             Some(found) => compare(alloc, differences, name, found, wanted.as_bytes()),
             None => {
-                let line = format!(in alloc; "  {name} is not stored\n")?;
-                differences.push_str(line.as_str())
+                let line = format!(in alloc; "{name} is not stored")?;
+                note(differences, line.as_str())
             }
         }
     }
@@ -116,8 +116,8 @@ impl Verdict {
         name: &str,
     ) -> Result<(), AllocError> {
         if self.files.file(name).is_some() {
-            let line = format!(in alloc; "  {name} is there\n")?;
-            differences.push_str(line.as_str())?;
+            let line = format!(in alloc; "{name} is there")?;
+            note(differences, line.as_str())?;
         }
         Ok(())
     }
@@ -150,7 +150,7 @@ impl Verdict {
         self.out.end(alloc, differences, "out")?;
         self.err.end(alloc, differences, "err")?;
         if !self.has_status {
-            differences.push_str("  no status is said\n")?;
+            note(differences, "no status is said")?;
         }
         Ok(())
     }

@@ -8,6 +8,7 @@ use anyhow::bail;
 use graph_index::graph::Graph;
 use rdf_terms::table::TermTable;
 use rdf_terms::terms::{TermId, Triple};
+use row_format::first_word;
 use std::alloc::{AllocError, Global};
 
 /// The number of the term of a text, or one that no table has.
@@ -51,7 +52,7 @@ fn at_node(
 
 /// The arcs that a question is about: a kind, a node, and a predicate if one is meant.
 fn arcs_of(alloc: Global, data: &Data, question: &str) -> anyhow::Result<Vec<Triple>> {
-    let (kind, ends) = question.split_once(' ').unwrap_or((question, ""));
+    let (kind, ends) = first_word(question);
     let (node, predicate) = match ends.split_once(' ') {
         Some((node, predicate)) => (node, Some(number_of(alloc, &data.terms, predicate)?)),
         None => (ends, None),

@@ -1,15 +1,13 @@
 //! What a row asks of single calls, and what they have to answer.
 
-use crate::differences::compare;
-use crate::document::Entry;
-use crate::inputs::{bytes_of, cut};
 use crate::questions::{Named, answer};
 use anyhow::bail;
+use row_format::{Entry, NamedFile, bytes_of, compare, cut, file_of, note};
 use std::alloc::{AllocError, Global};
 
 /// The last answer to a question, until it is compared, and whether anything was asked.
 #[derive(Drop)]
-pub struct Asking {
+struct Asking {
     answer: Option<String>,
     has_asked: bool,
 }
@@ -50,20 +48,22 @@ fn ask_each(
     Ok(())
 }
 
+/// What a call answers to a text, which is asked as bytes in hexadecimal digits or as it is.
+fn answered(
+    alloc: Global,
+    files: Named<'_>,
+    verb: &str,
+    call: &str,
+    text: &str,
+) -> anyhow::Result<String> {
+    match verb {
+        "hex" => answer(alloc, files, call, bytes_of(alloc, text)?.as_slice()),
+        "ask" => answer(alloc, files, call, cut(text).as_bytes()),
+        _ => bail!("no line begins with this word"),
+    }
+}
+
 impl Asking {
-    /// Nothing was asked.
-    pub fn new() -> Asking {
-        Asking {
-            answer: None,
-            has_asked: false,
-        }
-    }
-
-    /// Whether anything was asked.
-    pub fn has_asked(&self) -> bool {
-        self.has_asked
-    }
-
     /// Compares the last answer with the one that is wanted.
     fn give(
         &mut self,
@@ -85,33 +85,59 @@ impl Asking {
     }
 
     /// Asks what a line with its text says, or compares the answer to what was asked.
-    pub fn obey(
+    fn obey(
         &mut self,
         alloc: Global,
         differences: &mut String,
         files: Named<'_>,
         entry: &Entry,
     ) -> anyhow::Result<()> {
-        let (line, text) = (entry.line.as_str(), entry.text.as_str());
-        let (verb, call) = line.split_once(' ').unwrap_or((line, ""));
+        let (verb, call, text) = (
+            entry.verb.as_str(),
+            entry.rest.as_str(),
+            entry.text.as_str(),
+        );
         if verb == "gives" {
             return self.give(alloc, differences, cut(text));
         }
         self.end(differences)?;
         self.has_asked = true;
-        match verb {
-            "each" => ask_each(alloc, differences, files, call, text)?,
-            "hex" => self.answer = Some(answer(alloc, files, call, &bytes_of(alloc, text)?)?),
-            _ => self.answer = Some(answer(alloc, files, call, cut(text).as_bytes())?),
+        if verb == "each" {
+            return ask_each(alloc, differences, files, call, text);
         }
+        self.answer = Some(answered(alloc, files, verb, call, text)?);
         Ok(())
     }
 
     /// Notes the difference where the last answer was compared with nothing.
-    pub fn end(&self, differences: &mut String) -> Result<(), AllocError> {
+    fn end(&self, differences: &mut String) -> Result<(), AllocError> {
         if self.answer.is_some() {
-            differences.push_str("  it is not said what is given\n")?;
+            note(differences, "it is not said what is given")?;
         }
         Ok(())
     }
+}
+
+/// What differs in the row of these entries, with the files that all rows have.
+pub fn tried(alloc: Global, common: &[NamedFile], entries: &[Entry]) -> anyhow::Result<String> {
+    let mut differences = String::new(alloc);
+    let mut own: Vec<NamedFile> = Vec::new(alloc);
+    let mut asking = Asking {
+        answer: None,
+        has_asked: false,
+    };
+    for entry in entries {
+        if let Some(file) = file_of(alloc, entry)? {
+            own.push(file)?;
+        } else {
+            let own = own.as_slice();
+            let files = Named { common, own };
+            asking.obey(alloc, &mut differences, files, entry)?;
+        }
+    }
+    asking.end(&mut differences)?;
+    if !asking.has_asked {
+        note(&mut differences, "nothing was asked")?;
+    }
+    Ok(differences)
 }

@@ -55,11 +55,17 @@ pub fn term_of(alloc: Global, text: &str) -> anyhow::Result<Term> {
     }
 }
 
+/// The number that a table gives to the term of a text.
+fn put(alloc: Global, text: &str, terms: &mut TermTable) -> anyhow::Result<TermId> {
+    let term = term_of(alloc, text)?;
+    Ok(terms.put(term)?)
+}
+
 /// The numbers that a table gives to the terms of texts, each on a line.
 fn put_all(alloc: Global, texts: &str, terms: &mut TermTable) -> anyhow::Result<Vec<TermId>> {
     let mut ids = Vec::new(alloc);
     for text in texts.lines() {
-        ids.push(terms.put(term_of(alloc, text)?)?)?;
+        ids.push(put(alloc, text, terms)?)?;
     }
     Ok(ids)
 }

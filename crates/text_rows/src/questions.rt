@@ -1,11 +1,11 @@
 //! Questions that rows ask of single calls of the libraries.
 
-use crate::inputs::NamedFile;
 use crate::{
     arcs, commands, compact, constraints, graphs, maps, numbers, patterns, proof_texts, references,
     terms, tokens,
 };
 use anyhow::bail;
+use row_format::{NamedFile, first_word};
 use std::alloc::Global;
 
 /// The files that a question may name: those of all rows, and those of the row.
@@ -75,7 +75,7 @@ pub fn answer(
     call: &str,
     question: &[u8],
 ) -> anyhow::Result<String> {
-    let (kind, with) = call.split_once(' ').unwrap_or((call, ""));
+    let (kind, with) = first_word(call);
     match kind {
         "triples" | "count" | "table" | "names" => Ok(graphs::asked(alloc, kind, with, question)?),
         "items" | "select" => maps::asked(alloc, kind, with, files.bytes_of(with)?, question),

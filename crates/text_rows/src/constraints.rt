@@ -7,12 +7,13 @@ use rdf_terms::items::Items;
 use rdf_terms::terms::{Literal, Term};
 use rdf_terms::text::Text;
 use rdf_terms::vocabulary::XSD_DECIMAL;
+use row_format::first_word;
 use std::alloc::{AllocError, Global};
 use value_sets::{Except, Exceptions, Value, ValueSet};
 
 /// The facet of a name with this value; a pattern stands behind its flags and a slash.
 fn facet_of(alloc: Global, line: &str) -> anyhow::Result<Facet> {
-    let (name, value) = line.split_once(' ').unwrap_or((line, ""));
+    let (name, value) = first_word(line);
     let text = Text::from_str(alloc, value)?;
     match name {
         "mininclusive" => Ok(Facet::MinInclusive(text)),
@@ -86,7 +87,7 @@ fn value_of(alloc: Global, form: &str, text: &str) -> anyhow::Result<Value> {
 
 /// Whether the value set of one value, which is a form and a text, holds for the term of a text.
 pub fn valued(alloc: Global, value: &str, term: &str) -> anyhow::Result<String> {
-    let (form, text) = value.split_once(' ').unwrap_or((value, ""));
+    let (form, text) = first_word(value);
     let values = vec![in alloc; value_of(alloc, form, text)?]?;
     let set = ValueSet::of(alloc, values)?;
     told(alloc, set.has(&term_of(alloc, term)?))

@@ -1,7 +1,7 @@
 //! What words ask for.
 
-use crate::inputs::words_of;
 use command_words::{Checking, Command, Import, Inputs, Validation, read};
+use row_format::words_of;
 use std::alloc::{AllocError, Global};
 
 /// The files and the bases of a command.

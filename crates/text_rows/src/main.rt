@@ -1,0 +1,87 @@
+//! Rows for single calls of the libraries that read: each asks something, and says what has to be answered. For each document
+//! that a word names its name is printed, and a line for each row, as `row_format` says. The program ends with 0 where rows
+//! differ too: what it prints tells of them. A line that cannot be obeyed ends it with an error.
+//!
+//! What stands before the first row of a document are files. The lines of a row give files and ask:
+//!
+//! - `each KIND ..` asks a single call: each line of its text is a question, ` -> ` and the answer.
+//! - `ask KIND ..` asks it about the whole text without the last line feed, `hex KIND ..` about bytes in hexadecimal digits;
+//!   `gives` says what is answered, which is its text without the last line feed.
+//!
+//! The kinds are these. A refusal is answered by its name, with what it names: a place, a name or a label, where there is one.
+//!
+//! - `resolve BASE` resolves a reference, and `components` cuts it.
+//! - `tokens LANGUAGE` gives the tokens of `N-Triples`, `Turtle`, a `map` or `ShExC`; `meaning` what the first token of a map
+//!   stands for.
+//! - `pattern FLAGS/PATTERN` seeks a pattern in a text.
+//! - `compare NUMBER` says how a number stands to this one, and `digits` how many digits it has, and how many behind the point.
+//! - `facet NAME VALUE` asks a node constraint of one facet about a decimal, and `facets` makes one of a facet a line. The
+//!   names are `mininclusive`, `minexclusive`, `maxinclusive`, `maxexclusive`, and `pattern` with `FLAGS/PATTERN` as its value.
+//! - `value FORM TEXT` asks a value set of one value about a term. The forms are `term`, `iri-stem`, `literal-stem`, `language`
+//!   and `language-stem`, and for all IRIs, literals and tags but those with this stem `iris-but`, `literals-but` and
+//!   `languages-but`.
+//! - `term` says what the text of a term says, `numbers` numbers terms as a table does, `sorted` puts them in order.
+//! - `triples NAME`, `count NAME`, `table NAME` and `names NAME` read data as of a file with this name, and give their triples,
+//!   how many these are, the terms by number, or the last base and the prefix `e`.
+//! - `arcs FILE` gives the arcs in this file's data that a question asks for: `outs NODE`, `ins NODE`, either with a predicate,
+//!   or `neigh NODE`.
+//! - `shexc` reads a schema in ShExC, and gives `read` or why it is refused.
+//! - `items FILE` reads a map over this file's data, and `select FILE` gives what it selects.
+//! - `words` says what words ask for.
+//! - `proof` writes the proof that is read of a text, and `proof-line` that of a line with `¶` for line feeds.
+#![tactic(auto)]
+
+mod arcs;
+mod asking;
+mod commands;
+mod compact;
+mod constraints;
+mod graphs;
+mod items;
+mod maps;
+mod numbers;
+mod patterns;
+mod proof_texts;
+mod questions;
+mod references;
+mod terms;
+mod tokens;
+
+use anyhow::bail;
+use row_format::{Entry, NamedFile, file_of, push_row, read};
+use std::alloc::Global;
+use std::{env, fs};
+
+/// The files that stand before the first row.
+fn shared(alloc: Global, entries: &[Entry]) -> anyhow::Result<Vec<NamedFile>> {
+    let mut files = Vec::new(alloc);
+    for entry in entries {
+        let Some(file) = file_of(alloc, entry)? else {
+            bail!("only files stand before the first row");
+        };
+        files.push(file)?;
+    }
+    Ok(files)
+}
+
+/// The lines for the rows of a document.
+fn report(alloc: Global, text: &str) -> anyhow::Result<String> {
+    let document = read(alloc, text)?;
+    let common = shared(alloc, document.common.as_slice())?;
+    let mut report = String::new(alloc);
+    for row in document.rows.as_slice() {
+        let differences = asking::tried(alloc, common.as_slice(), row.entries.as_slice())?;
+        push_row(&mut report, row.title.as_str(), differences.as_str())?;
+    }
+    Ok(report)
+}
+
+fn main(rt: HostRuntime) -> anyhow::Result<()> {
+    for name in env::args(&rt)?.skip(1) {
+        let text = fs::read_to_string(&rt, name.as_str())?;
+        let lines = report(rt.alloc(), text.as_str())?;
+        println!(rt; "{name}")?;
+        rt.print(lines)?;
+    }
+    Ok(())
+}
