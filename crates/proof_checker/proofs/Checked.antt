@@ -19,12 +19,14 @@ use Rattle.proof_file.specs.declared.RecordKind.{RecordKind}
 use Rattle.proof_file.specs.declared.RecordKind.TheVariants.{Plus, Minus}
 use Rattle.proof_file.specs.declared.Section.{Section}
 use Rattle.proof_file.specs.declared.Proof.{Proof}
+use Rattle.proof_file.specs.declared.head.Digests.{Digests}
 use Rattle.proof_file.specs.Accepts.{AreAccepted, IsAccepted, Setting, in_section, is_claim, items_of, setting_of}
 use Rattle.proof_file.specs.Laws.{LinesAreFew}
-use Rattle.proof_file.specs.Text.{IsKind, IsLine, ProofText, lines_of, section_lines}
+use Rattle.proof_file.specs.Text.{IsKind, IsLine, ProofText, body_lines, head_lines, lines_of, section_lines}
 use Rattle.proof_file.specs.declared.line.Line.TheVariants as Lines
 use Rattle.proof_checker.specs.declared.items.Fault.{Fault}
-use Rattle.proof_checker.specs.Checks.{IsReadAs, IsRejectedAs, KeepsTerms}
+use Rattle.proof_checker.specs.Checks.{IsReadAs, IsRejectedFor, KeepsTerms}
+use Rattle.proof_checker.specs.Current.{AreUsed, IsCurrent}
 use Rattle.proof_file.specs.Answers.{AreClaimed, answer_with}
 use Rattle.proof_checker.specs.Faults.{AreRising, FirstFault, StatesRise, proof_of, section_items}
 use Rattle.proof_checker.proofs.Found.{fault_none, fault_some, map_long}
@@ -50,12 +52,13 @@ sections_few (x ∷ xs) =
 items_few : (p : Proof) → length (items_of p) ≤ length (lines_of p)
 items_few p =
     let a = length-append (section_items p.sections) (map (λ c. is_claim c) p.claims) in
+    let h = length-append (head_lines p.head) (body_lines p) in
     let b = length-append (map (λ t. Lines.Node t) p.nodes) (flat_map section_lines p.sections ++ map (λ c. Lines.Claim c) p.claims) in
     let c = length-append (flat_map section_lines p.sections) (map (λ c. Lines.Claim c) p.claims) in
     let d = map_long (λ c. is_claim c) p.claims in
     let e = map_long (λ c. Lines.Claim c) p.claims in
     let f = sections_few p.sections in
-    omega (arith, a, b, c, d, e, f)
+    omega (arith, a, b, c, d, e, f, h)
 
 kind_rises : (kind : RecordKind) → IsKind kind → StatesRise kind
 kind_rises (Plus places) h = tt
@@ -94,16 +97,16 @@ module _ (p : Proof) (sections : List Section) (claims : List Claim) (same : sec
       (subst (λ xs. FirstFault x (proof_of xs claims) (items_of (proof_of xs claims)) o) same found)
 
   -- what the first fault says of the proof as it was read
-  pub rejected_as : (f : List ℕ) (s : Schema) (old terms : List Term) (g : List Triple) (bytes : List ℕ) (nodes lent : List TermId) → lent ≡ nodes →
-      IsReadAs old terms bytes p nodes → (o : Option Fault) (fault : Fault) → o ≡ Some fault →
+  pub rejected_for : (f : List ℕ) (s : Schema) (files : Digests) (old terms : List Term) (g : List Triple) (bytes : List ℕ) (nodes lent : List TermId) → lent ≡ nodes →
+      IsReadAs old terms bytes p nodes → IsCurrent s files p.head → AreUsed s p.head f → (o : Option Fault) (fault : Fault) → o ≡ Some fault →
       FirstFault (setting_of f s terms g lent) (proof_of sections claims) (items_of (proof_of sections claims)) o →
-      IsRejectedAs f s old terms g bytes fault.item fault.why
-  rejected_as f s old terms g bytes nodes lent one read o fault is found =
+      IsRejectedFor s files old terms g bytes fault.item fault.why
+  rejected_for f s files old terms g bytes nodes lent one read current used o fault is found =
       let at : FirstFault (setting_of f s terms g nodes) p (items_of p) (Some fault) =
       subst (λ ns. FirstFault (setting_of f s terms g ns) p (items_of p) (Some fault)) one
       (fault_some (setting_of f s terms g lent) p (items_of p) o fault is (whole (setting_of f s terms g lent) o found)) in
       let (within, all, fails) = at in
-      record { proof = p; nodes = nodes; read = read; rejected = (all, fails) }
+      record { strata = f; found = record { proof = p; nodes = nodes; read = read; rejected = (all, fails) }; current = current; used = used }
 
   pub accepted_all : (f : List ℕ) (s : Schema) (terms : List Term) (g : List Triple) (lent : List TermId) (o : Option Fault) → ((fault : Fault) → ¬ (o ≡ Some fault)) →
       FirstFault (setting_of f s terms g lent) (proof_of sections claims) (items_of (proof_of sections claims)) o → AreAccepted (setting_of f s terms g lent) p
@@ -124,10 +127,11 @@ module _ (p : Proof) (sections : List Section) (claims : List Claim) (same : sec
       line : IsLine (Lines.Record r)
       line =
           all_at IsLine (lines_of p) (Lines.Record r) text.keeps.lines
+          (Contains-append_right (head_lines p.head) (body_lines p) (Lines.Record r)
           (Contains-append_right (map (λ t. Lines.Node t) p.nodes) (flat_map section_lines p.sections ++ map (λ c. Lines.Claim c) p.claims) (Lines.Record r)
           (Contains-append_left (flat_map section_lines p.sections) (map (λ c. Lines.Claim c) p.claims) (Lines.Record r)
           (in_flat_map section_lines p.sections x (Lines.Record r) (subst (λ xs. Contains xs x) same held)
-          (is_later (Lines.Section x.stratum) (map (λ r. Lines.Record r) x.records) (Lines.Record r) (in_map (λ r. Lines.Record r) x.records r there)))))
+          (is_later (Lines.Section x.stratum) (map (λ r. Lines.Record r) x.records) (Lines.Record r) (in_map (λ r. Lines.Record r) x.records r there))))))
 
   pub sections_rise : (bytes : List ℕ) → ProofText p bytes → AreRising sections
   sections_rise bytes text = rises_at bytes text

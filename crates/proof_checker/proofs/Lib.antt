@@ -8,3 +8,4 @@ pub mod TakenUp
 pub mod Truthful
 pub mod Checked
 pub mod Halved
+pub mod Differing

@@ -1,13 +1,12 @@
 -- One more record changes the standing of its own pair alone.
 use Rattle.std.proofs.Common.{◌≡◌, ℕ, ◌+◌, ◌<◌, ◌≤◌, get_or, take, length, ◌⊎◌, inl, inr, List, [], ◌∷◌, ◌++◌, refl, arith, ap, sym, subst, ◌∙◌, Bool, true, false, true≢false, cond, if◌then◌else◌}
-use Rattle.std.proofs.lemmas.Bool.{cases_lt, and_parts}
-use Rattle.std.proofs.lemmas.Bool.Decides.{nat_tests}
+use Rattle.std.proofs.lemmas.Bool.{cases_lt}
 use Rattle.std.proofs.lemmas.List.Elements.{Contains-append_cases, Contains-append_left, Contains-append_right}
 use Rattle.std.proofs.Math.Nat.{min-eq_left, min-eq_right, min-le_left, min-le_right}
 use Rattle.std.proofs.lemmas.Grind.{flat_map-append}
 use Rattle.std.proofs.lemmas.List.{append-nil, append_assoc, take_all, take_more}
 use Rattle.std.specs.Map.{lookup}
-use Rattle.std.specs.Prelude.{unwrap_or, Contains, Option, Some, None, min, nat_eq, slice_get, option_map}
+use Rattle.std.specs.Prelude.{unwrap_or, Contains, Option, Some, None, min, slice_get, option_map}
 use Rattle.rdf_terms.specs.declared.terms.TermId.{TermId}
 use Rattle.schema_tree.proofs.Pairs.{pair_is, pair_same}
 use Rattle.schema_tree.specs.declared.schema.Pair.{Pair}

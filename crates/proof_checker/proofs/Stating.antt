@@ -1,7 +1,5 @@
 -- States and their counts, one at a time.
 use Rattle.std.proofs.Common.{◌≡◌, ℕ, suc, ◌+◌, ◌<◌, ◌≤◌, ◌⊎◌, inl, inr, length, get_or, List, [], ◌∷◌, refl, arith, ap, sym, subst, ◌∙◌, Bool, true, false, take, true≢false}
-use Rattle.std.proofs.lemmas.List.{take_all, take_more}
-use Rattle.std.proofs.lemmas.List.Elements.{Contains-append_cases}
 use Rattle.std.proofs.lemmas.Option.{slice_get-get_or}
 use Rattle.std.specs.Prelude.{Contains, IsTrue, Option, Some, ◌↔◌, slice_get, slice_index, ◌^◌, drop}
 use Rattle.rdf_terms.specs.declared.terms.TermId.{TermId}
@@ -18,7 +16,7 @@ use Rattle.bag_match.specs.Least.{ArePlacesFor}
 use Rattle.proof_checker.specs.Stated.{AllLeadOn, AreShaped, DecideSettled, IsSettled, IsShapedAt}
 use Rattle.bag_match.proofs.Stepping.{after_is as after_place, drop_few, left_few, places_now}
 use Rattle.lists.proofs.Fronts.{all_taken, take_cases}
-use Rattle.lists.proofs.Members.{in_one, item_there, not_in_none}
+use Rattle.lists.proofs.Members.{item_there, not_in_none}
 
 suc-add_one : (k : ℕ) → suc k ≡ k + 1
 suc-add_one k = omega arith

@@ -30,7 +30,7 @@ section_items sections = flat_map (λ x. map (λ r. in_section x.stratum r) x.re
 
 -- a proof by its sections and claims, which are all that the checks of an item look at
 abbrev pub proof_of : List Section → List Claim → Proof
-proof_of sections claims = record { nodes = []; sections = sections; claims = claims }
+proof_of sections claims = record { head = None; nodes = []; sections = sections; claims = claims }
 
 -- all items are accepted, or the given one is the first that is not, by the given check
 abbrev pub FirstFault : Setting → Proof → List Item → Option Fault → Type 0

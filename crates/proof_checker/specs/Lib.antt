@@ -1,4 +1,5 @@
 pub mod Standings
+pub mod Current
 pub mod Checks
 pub mod Stated
 pub mod Faults

@@ -5,29 +5,29 @@ ghost use Rattle.lists.specs.Distinct.{AreDistinct};
 ghost use Rattle.graph_index.specs.Contents.{IsSealedWith};
 ghost use Rattle.graph_index.specs.Laws.{IsOfTable};
 ghost use Rattle.schema_tree.specs.Cycles.{HasNegatedCycle};
-ghost use Rattle.schema_tree.specs.Edges.{IsStratum};
 ghost use Rattle.schema_tree.specs.Loaded.{IsLoaded};
 ghost use Rattle.proof_file.specs.Accepts.{items_of, setting_of};
-ghost use Rattle.proof_checker.specs.Checks.{FailsAs, IsAcceptedAs, IsTrueAs, KeepsTerms, OnStrata};
+ghost use Rattle.proof_checker.specs.Checks.{FailsAs, IsAcceptedFor, IsTrueAs, KeepsTerms};
 ghost use Rattle.proof_checker.specs.Faults.{AreRising, FirstFault, proof_of};
 
 use crate::claims::{Claims, answers};
+use crate::current::used_strata;
 use crate::items::{Fault, ProofInSetting};
 use crate::lines::take_up;
 use crate::standings::Standings;
 use graph_index::graph::Graph;
 use graph_index::laws::sealing_outlives_growth;
+use proof_file::head::{Digests, Part};
 use proof_file::laws::lines_are_few;
 use proof_file::read::{ReadError, read};
 use proof_file::{Claim, Proof, Section, Why, accepted_is_true};
 use rdf_terms::table::{PutError, TermTable};
 use rdf_terms::terms::TermId;
+use schema_tree::laws::{strata_are_alike, strata_are_least, typing_is_one};
 use schema_tree::schema::Schema;
 use std::alloc::{AllocError, Global};
 use std::error::Error;
 use std::fmt;
-use strata::list::StrataError;
-use strata::strata::strata;
 
 /// Why bytes are not accepted as a proof. It shows the text that a program prints for it.
 #[derive(Debug, Drop, PartialEq, Eq)]
@@ -35,6 +35,11 @@ pub enum CheckError {
     /// They are no text of a proof: the place of the first line for which the lines up to it begin none, or their length
     /// where they end before the last line.
     Syntax(u64),
+    /// They are the text of a proof that is made for other files: the first part of which the digests differ, in the order of
+    /// schema, imports and data.
+    Stale(Part),
+    /// They are the text of a proof that is made for these files, and the strata that it brings are no stratification.
+    Strata,
     /// They are the text of a proof with an item that is not accepted: its number, from 0 over records and claims, and
     /// the first check that it fails.
     Rejected(u64, Why),
@@ -53,6 +58,8 @@ impl fmt::Display for CheckError {
     fn fmt<W: fmt::Write>(&self, f: &mut fmt::Formatter<W>) -> fmt::Result {
         match self {
             CheckError::Syntax(at) => write!(f, "Syntax({at})"),
+            CheckError::Stale(part) => write!(f, "Stale({part})"),
+            CheckError::Strata => f.write_str("Strata"),
             CheckError::Rejected(number, why) => write!(f, "Rejected({number},{why})"),
             CheckError::Full => f.write_str("Full"),
             CheckError::Memory => f.write_str("Memory"),
@@ -113,21 +120,21 @@ fn size(bytes: &[u8]) -> u64
     bytes.len() as u64
 }
 
-/// Checks bytes that are given as a proof, with a stratum for each Shape, as `check` does.
+/// Checks bytes that are given as a proof, as `check` does.
 fn checked(
     alloc: Global,
     schema: &Schema,
-    strata: &[u32],
     graph: &Graph,
     terms: &mut TermTable,
+    files: &Digests,
     proof: &[u8],
 ) -> Result<Claims, CheckError>
     requires loaded { IsLoaded schema.now }
-    requires least { IsStratum schema.now strata.now }
+    requires stratified { ¬ HasNegatedCycle schema.now }
     requires sealed { IsSealedWith terms.old graph.now }
     requires numbers { All (IsOfTable terms.old) graph.now.triples }
-    ensures accepted { IfOk result (IsAcceptedAs strata.now schema.now terms.old terms.new graph.now.triples proof.now) }
-    ensures fails { IfErr result (FailsAs schema.now terms.old terms.new graph.now.triples proof.now) }
+    ensures accepted { IfOk result (IsAcceptedFor schema.now files.now terms.old terms.new graph.now.triples proof.now) }
+    ensures fails { IfErr result (FailsAs schema.now files.now terms.old terms.new graph.now.triples proof.now) }
     ensures kept { KeepsTerms terms.old terms.new }
     ensures distinct { AreDistinct terms.new }
 {
@@ -138,6 +145,7 @@ fn checked(
     lines_are_few();
     sealing_outlives_growth();
     let Proof {
+        head,
         nodes,
         sections,
         claims,
@@ -146,6 +154,7 @@ fn checked(
         Err(ReadError::Syntax(at)) => return Err(CheckError::Syntax(at)),
         Err(ReadError::Memory) => return Err(CheckError::Memory),
     };
+    let strata = used_strata(alloc, schema, files, head)?;
     let nodes = match take_up(alloc, terms, nodes.into_vec()) {
         Ok(nodes) => nodes,
         Err(PutError::Full) => return Err(CheckError::Full),
@@ -155,7 +164,7 @@ fn checked(
     let fault = first_fault(
         alloc,
         schema,
-        strata,
+        strata.list(),
         graph,
         terms,
         nodes,
@@ -168,35 +177,33 @@ fn checked(
     Ok(Claims::of(answers(alloc, nodes, claims.into_vec())?))
 }
 
-/// Checks bytes that are given as a proof, against a loaded schema in which no cycle of edges has a negative one, and a
-/// graph that is sealed with the table. The terms of the node lines are put into the table. Gives the claims in their
-/// order where the proof is accepted, with each Shape on its stratum; then each of its records and claims is true of the
-/// complete typing (ShEx 2.1, section 5.2). After a refusal the table may have more terms.
+/// Checks bytes that are given as a proof, against a loaded schema in which no cycle of edges has a negative one, a graph that
+/// is sealed with the table, and the digests of the files that these were read from. The terms of the node lines are put into
+/// the table. Gives the claims in their order where the proof is current for the files and accepted, with each Shape on the
+/// stratum that the proof brings for it, or on its own where it brings none; then each of its records and claims is true of
+/// the complete typing (ShEx 2.1, section 5.2). After a refusal the table may have more terms.
 pub fn check(
     alloc: Global,
     schema: &Schema,
     graph: &Graph,
     terms: &mut TermTable,
+    files: &Digests,
     proof: &[u8],
 ) -> Result<Claims, CheckError>
     requires loaded { IsLoaded schema.now }
     requires stratified { ¬ HasNegatedCycle schema.now }
     requires sealed { IsSealedWith terms.old graph.now }
     requires numbers { All (IsOfTable terms.old) graph.now.triples }
-    ensures accepted { IfOk result (λ a. OnStrata schema.now (λ f. IsAcceptedAs f schema.now terms.old terms.new graph.now.triples proof.now a)) }
+    ensures accepted { IfOk result (IsAcceptedFor schema.now files.now terms.old terms.new graph.now.triples proof.now) }
     ensures sound { IfOk result (IsTrueAs schema.now terms.old terms.new graph.now.triples proof.now) }
-    ensures fails { IfErr result (FailsAs schema.now terms.old terms.new graph.now.triples proof.now) }
+    ensures fails { IfErr result (FailsAs schema.now files.now terms.old terms.new graph.now.triples proof.now) }
     ensures kept { KeepsTerms terms.old terms.new }
     ensures distinct { AreDistinct terms.new }
 {
-    // The law that ties what is accepted to the complete typing.
+    // The laws that tie what is accepted, by whatever stratification, to the complete typing.
     accepted_is_true();
-    // The length of a table tells contracts that its terms are distinct.
-    let _distinct = terms.len();
-    let strata = match strata(alloc, schema) {
-        Ok(strata) => strata,
-        Err(StrataError::Memory) => return Err(CheckError::Memory),
-        Err(StrataError::NegatedCycle(_)) => unreachable!(),
-    };
-    checked(alloc, schema, strata.list(), graph, terms, proof)
+    strata_are_least();
+    strata_are_alike();
+    typing_is_one();
+    checked(alloc, schema, graph, terms, files, proof)
 }

@@ -3,6 +3,7 @@
 
 mod checking;
 mod claims;
+mod current;
 mod items;
 mod lines;
 mod standings;

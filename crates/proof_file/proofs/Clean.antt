@@ -4,7 +4,7 @@ use Rattle.std.proofs.lemmas.Bool.{ne_eqb}
 use Rattle.std.proofs.lemmas.List.{append_cancel_left}
 use Rattle.std.proofs.lemmas.List.Splits.{join_with_byte-slice_split}
 use Rattle.std.specs.Fmt.{decimal}
-use Rattle.std.specs.List.{All, AllByRecursion, join_with_byte}
+use Rattle.std.specs.List.{All, AllByRecursion, flat_map, join_with_byte}
 use Rattle.schema_tree.specs.declared.verdicts.Place.{Place}
 use Rattle.schema_tree.specs.declared.verdicts.Place.TheVariants.{At, Rest}
 use Rattle.schema_tree.specs.declared.verdicts.State.{State}
@@ -15,8 +15,9 @@ use Rattle.proof_file.specs.declared.line.Line.{Line}
 use Rattle.proof_file.specs.declared.line.Line.TheVariants as Lines
 use Rattle.proof_file.specs.declared.fields.Stop.{Stop}
 use Rattle.proof_file.specs.Text.{place_text, state_text, kind_fields, kind_mark, claim_mark, record_fields, line_text, IsNumber, IsPlace, IsState, IsKind, IsLine}
-use Rattle.proof_file.specs.Reading.{Reads, fields, IsPlus, IsMinus, IsPlusKind, IsMinusKind, IsWholeLine}
+use Rattle.proof_file.specs.Reading.{Reads, fields, strata_fields, IsPlus, IsMinus, IsPlusKind, IsMinusKind, IsWholeLine}
 use Rattle.proof_file.proofs.Gathered.{blames, cut_joined, clean_decimal}
+use Rattle.proof_file.proofs.Joined.{joined_map}
 use Rattle.lists.proofs.Quantifiers.{all_append}
 use Rattle.std.proofs.lemmas.List.Elements.{recursion_from_All, All-from_recursion}
 
@@ -75,6 +76,22 @@ record_cut r h =
     let clean = by_places 32 (record_fields r) (clean_fields 32 (omega arith) r h) in
     cut_joined 32 (decimal r.node) (decimal r.shape ∷ kind_fields r.kind) clean.0 clean.1
 
+-- ---- the strata of a head
+
+pub strata_joined : (ns : List ℕ) → line_text (Lines.Strata ns) ≡ join_with_byte 32 (strata_fields ns)
+strata_joined ns = sym (joined_map 32 decimal (codes "k") ns)
+
+-- the numbers of a line of strata are cut where they were joined
+pub strata_cut : (ns : List ℕ) → AllByRecursion IsNumber ns → fields 32 (line_text (Lines.Strata ns)) ≡ strata_fields ns
+strata_cut ns h =
+    ap (fields 32) (strata_joined ns)
+    ∙ cut_joined 32 (codes "k") (map decimal ns) (All-from_recursion (λ b. (b == 32) ≡ false) (codes "k") (refl, tt)) (by_places 32 (map decimal ns) (clean_numbers 32 (omega arith) ns h))
+
+-- the numbers are apart by spaces
+pub clean_strata : (ns : List ℕ) → AllByRecursion IsNumber ns → IsClean 10 (flat_map (λ n. 32 ∷ decimal n) ns)
+clean_strata [] h = tt
+clean_strata (n ∷ ns) (h, hs) = (refl, all_append (λ b. (b == 10) ≡ false) (decimal n) (flat_map (λ n. 32 ∷ decimal n) ns) (clean_number 10 n (omega arith) h) (clean_strata ns hs))
+
 -- ---- records by their marks
 
 tail_two : (a b : ℕ) (xs ys : List ℕ) → a ∷ b ∷ xs ≡ a ∷ b ∷ ys → xs ≡ ys
@@ -85,6 +102,8 @@ not_claim a xs ys true other e = other (ap (λ z. get_or z 0 0) e)
 not_claim a xs ys false other e = other (ap (λ z. get_or z 0 0) e)
 
 plus_part : (text rest : List ℕ) → text ≡ codes "+ " ++ rest → (l : Line) → IsWholeLine l → text ≡ line_text l → (r : Record) × (IsPlus r × (fields 32 rest ≡ record_fields r))
+plus_part text rest is (Lines.Digest part d) h e = absurd (omega (arith, ap (λ z. get_or z 0 0) (sym is ∙ e)))
+plus_part text rest is (Lines.Strata ns) h e = absurd (omega (arith, ap (λ z. get_or z 0 0) (sym is ∙ e)))
 plus_part text rest is (Lines.Node t) h e = absurd (omega (arith, ap (λ z. get_or z 0 0) (sym is ∙ e)))
 plus_part text rest is (Lines.Section k) h e = absurd (omega (arith, ap (λ z. get_or z 0 0) (sym is ∙ e)))
 plus_part text rest is (Lines.Claim c) h e = absurd (not_claim 43 (32 ∷ rest) _ c.holds (λ o. omega (arith, o)) (sym is ∙ e))
@@ -107,6 +126,8 @@ pub plus_found : (text rest : List ℕ) (r : Record) → text ≡ codes "+ " ++ 
 plus_found text rest r is made h = is ∙ ap (λ m. m ++ rest) (plus_mark r.kind h.1) ∙ ap (λ z. kind_mark r.kind ++ z) (sym (join_with_byte-slice_split 32 rest) ∙ ap (join_with_byte 32) made)
 
 minus_part : (text rest : List ℕ) → text ≡ codes "- " ++ rest → (l : Line) → IsWholeLine l → text ≡ line_text l → (r : Record) × (IsMinus r × (fields 32 rest ≡ record_fields r))
+minus_part text rest is (Lines.Digest part d) h e = absurd (omega (arith, ap (λ z. get_or z 0 0) (sym is ∙ e)))
+minus_part text rest is (Lines.Strata ns) h e = absurd (omega (arith, ap (λ z. get_or z 0 0) (sym is ∙ e)))
 minus_part text rest is (Lines.Node t) h e = absurd (omega (arith, ap (λ z. get_or z 0 0) (sym is ∙ e)))
 minus_part text rest is (Lines.Section k) h e = absurd (omega (arith, ap (λ z. get_or z 0 0) (sym is ∙ e)))
 minus_part text rest is (Lines.Claim c) h e = absurd (not_claim 45 (32 ∷ rest) _ c.holds (λ o. omega (arith, o)) (sym is ∙ e))

@@ -6,25 +6,29 @@ use Rattle.proof_file.specs.declared.lines.Lines.{Lines as Reader}
 use Rattle.proof_file.specs.declared.lines.Next.TheVariants as Nexts
 use Rattle.proof_file.specs.declared.read.Draft.{Draft}
 use Rattle.proof_file.specs.Text.{ProofText, IsFault}
-use Rattle.proof_file.specs.Reader.{Grows, Where, behind, ended, failed, Stands, Goes, no_lines, Opens}
-use Rattle.proof_file.specs.Drafts.{IsDraft, IsDraftAt}
+use Rattle.proof_file.specs.Reader.{Grows, Heading, Leads, Where, heading, opened, behind, ended, failed, Stands, Goes, no_lines, Opens}
+use Rattle.proof_file.specs.Drafts.{IsDraft, IsDraftAt, IsHeadingDraft}
 
-pub draft_begins : (r : Reader) (d : Draft) (bytes : List ℕ) → Opens r bytes → IsDraft d no_lines → (w : Where) × (Stands r w × IsDraftAt d w)
-draft_begins r d bytes (same, inl past) h = (behind no_lines, (past, h))
-draft_begins r d bytes (same, inr fault) h = (failed 0, (fault, tt))
+pub draft_begins : (r : Reader) (d : Draft) (bytes : List ℕ) → Opens r bytes → IsDraft d no_lines → IsHeadingDraft d opened → (w : Where) × (Stands r w × IsDraftAt d w)
+draft_begins r d bytes (same, inl past) h k = (behind no_lines, (past, h))
+draft_begins r d bytes (same, inr (inl read)) h k = (heading opened, (read, k))
+draft_begins r d bytes (same, inr (inr fault)) h k = (failed 0, (fault, tt))
 
-pub draft_grows : (w : Where) (old new : Reader) (l : Line) (d e : Draft) → Goes w old new (Nexts.Line l) → IsDraftAt d w → ((p q : Proof) → IsDraft d p → Grows p l q → IsDraft e q) →
+pub draft_grows : (w : Where) (old new : Reader) (l : Line) (d e : Draft) → Goes w old new (Nexts.Line l) → IsDraftAt d w → ((h : Heading) (w : Where) → IsHeadingDraft d h → Leads l h w → IsDraftAt e w) → ((p q : Proof) → IsDraft d p → Grows p l q → IsDraft e q) →
     (w : Where) × (Stands new w × IsDraftAt e w)
-draft_grows (behind p) old new l d e (q, (grows, past)) h add = (behind q, (past, add p q h grows))
-draft_grows (ended p) old new l d e goes h add = absurd h
-draft_grows (failed at) old new l d e goes h add = absurd goes
+draft_grows (heading k) old new l d e (w, (leads, stands)) h lead add = (w, (stands, lead k w h leads))
+draft_grows (behind p) old new l d e (q, (grows, past)) h lead add = (behind q, (past, add p q h grows))
+draft_grows (ended p) old new l d e goes h lead add = absurd h
+draft_grows (failed at) old new l d e goes h lead add = absurd goes
 
 pub draft_ends : (w : Where) (old new : Reader) (d : Draft) (x : Proof) (bytes : List ℕ) → Goes w old new Nexts.End → IsDraftAt d w → ((p : Proof) → IsDraft d p → x ≡ p) → new.whole.now ≡ bytes → ProofText x bytes
+draft_ends (heading k) old new d x bytes goes h same whole = absurd goes
 draft_ends (behind p) old new d x bytes goes h same whole = subst (ProofText x) whole (subst (λ z. ProofText z new.whole.now) (sym (same p h)) goes.1)
 draft_ends (ended p) old new d x bytes goes h same whole = absurd h
 draft_ends (failed at) old new d x bytes goes h same whole = absurd goes
 
 pub draft_fails : (w : Where) (old new : Reader) (d : Draft) (at : ℕ) (bytes : List ℕ) → Goes w old new (Nexts.Bad at) → IsDraftAt d w → new.whole.now ≡ bytes → IsFault bytes at
+draft_fails (heading k) old new d at bytes goes h whole = subst (λ z. IsFault z at) whole goes.1.1
 draft_fails (behind p) old new d at bytes goes h whole = subst (λ z. IsFault z at) whole goes.1.1
 draft_fails (ended p) old new d at bytes goes h whole = absurd h
 draft_fails (failed here) old new d at bytes goes h whole = subst (λ z. IsFault z at) whole (subst (IsFault new.whole.now) (sym goes.0) goes.1.1.1)

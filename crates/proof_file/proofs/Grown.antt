@@ -1,6 +1,6 @@
 -- A proof grows line by line.
 use Rattle.std.specs.Prelude.{⊤}
-use Rattle.std.proofs.Common.{◌≡◌, ℕ, suc, ◌<◌, ◌≤◌, ◌+◌, ◌⊎◌, inl, inr, subst, List, [], ◌∷◌, ◌++◌, refl, ap, sym, ◌∙◌, length, arith, map, append_assoc}
+use Rattle.std.proofs.Common.{◌≡◌, ℕ, suc, ◌<◌, ◌≤◌, ◌+◌, ◌⊎◌, inl, inr, Option, Some, None, subst, List, [], ◌∷◌, ◌++◌, refl, ap, sym, ◌∙◌, length, arith, map, append_assoc}
 use Rattle.std.proofs.lemmas.List.{map-append, length-append}
 use Rattle.std.proofs.lemmas.Grind.{flat_map-append}
 use Rattle.std.specs.List.{AllByRecursion, flat_map}
@@ -14,15 +14,15 @@ use Rattle.proof_file.specs.declared.line.Line.TheVariants as Lines
 use Rattle.proof_file.specs.declared.lines.Stage.{Stage}
 use Rattle.proof_file.specs.declared.lines.Stage.TheVariants as Stages
 use Rattle.schema_tree.specs.Rising.{Rises, RisesFrom}
-use Rattle.proof_file.specs.Text.{Keeps, IsLine, IsTermBefore, IsSectionBefore, IsRecordBefore, line_text, lines_of, section_lines}
-use Rattle.proof_file.specs.Reader.{IsBehind, Grows, node, section, entry, claim, Follows, next_stage, next_last, Runs, stage_after, last_after, InSection, Fits}
+use Rattle.proof_file.specs.Text.{Keeps, IsLine, IsTermBefore, IsSectionBefore, IsRecordBefore, line_text, head_lines, body_lines, lines_of, section_lines}
+use Rattle.proof_file.specs.declared.head.Digest256.{Digest256}
+use Rattle.proof_file.specs.declared.head.Head.{Head}
+use Rattle.proof_file.specs.declared.head.Part.TheVariants as Parts
+use Rattle.proof_file.specs.Reader.{IsBehind, Grows, node, section, entry, claim, Follows, MayEnd, first_stage, next_stage, next_last, Runs, stage_after, last_after, InSection, Fits}
+use Rattle.proof_file.proofs.Joined.{head_first}
 use Rattle.lists.proofs.Quantifiers.{all_append, all_front}
 
 -- ---- lines of a proof that keeps the orders follow one another
-
-pub runs_append : (stage : Stage) (last : List ℕ) (xs ys : List Line) → Runs stage last xs → Runs (stage_after stage xs) (last_after last xs) ys → Runs stage last (xs ++ ys)
-runs_append stage last [] ys h k = k
-runs_append stage last (x ∷ xs) ys (h, hs) k = (h, runs_append (next_stage stage x) (next_last last x) xs ys hs k)
 
 pub runs_back : (stage : Stage) (last : List ℕ) (xs ys : List Line) → Runs stage last (xs ++ ys) → Runs (stage_after stage xs) (last_after last xs) ys
 runs_back stage last [] ys h = h
@@ -40,9 +40,9 @@ last_append last (x ∷ xs) ys = last_append (next_last last x) xs ys
 IsIn : ℕ → Stage → Type 0
 IsIn k stage = ((stage ≡ Stages.Section k)) ⊎ ((n : ℕ) × ((s : ℕ) × (stage ≡ Stages.Record k n s)))
 
-claims_run : (stage : Stage) (last : List ℕ) → ((c : Claim) → Follows stage last (Lines.Claim c)) → (cs : List Claim) → Runs stage last (map (λ c. Lines.Claim c) cs)
-claims_run stage last h [] = tt
-claims_run stage last h (c ∷ cs) = (h c, claims_run Stages.Claims last (λ c. tt) cs)
+claims_run : (stage : Stage) (last : List ℕ) → MayEnd stage → ((c : Claim) → Follows stage last (Lines.Claim c)) → (cs : List Claim) → Runs stage last (map (λ c. Lines.Claim c) cs)
+claims_run stage last may h [] = may
+claims_run stage last may h (c ∷ cs) = (h c, claims_run Stages.Claims last tt (λ c. tt) cs)
 
 records_run : (k n s : ℕ) (last : List ℕ) (x : Record) (rs : List Record) (ls : List Line) → RisesFrom IsRecordBefore x rs → x.node ≡ n → x.shape ≡ s →
     ((n s : ℕ) → Runs (Stages.Record k n s) last ls) → Runs (Stages.Record k n s) last (map (λ r. Lines.Record r) rs ++ ls)
@@ -64,25 +64,25 @@ later ss cs = flat_map section_lines ss ++ map (λ c. Lines.Claim c) cs
 later_first : (s : Section) (ss : List Section) (cs : List Claim) → later (s ∷ ss) cs ≡ Lines.Section s.stratum ∷ (map (λ r. Lines.Record r) s.records ++ later ss cs)
 later_first s ss cs = append_assoc (section_lines s) (flat_map section_lines ss) (map (λ c. Lines.Claim c) cs)
 
-sections_run : (stage : Stage) (last : List ℕ) → ((c : Claim) → Follows stage last (Lines.Claim c)) → (x : Section) → ((k : ℕ) → x.stratum < k → Follows stage last (Lines.Section k)) →
+sections_run : (stage : Stage) (last : List ℕ) → MayEnd stage → ((c : Claim) → Follows stage last (Lines.Claim c)) → (x : Section) → ((k : ℕ) → x.stratum < k → Follows stage last (Lines.Section k)) →
     (ss : List Section) (cs : List Claim) → RisesFrom IsSectionBefore x ss → AllByRecursion (λ x. Rises IsRecordBefore x.records) ss → Runs stage last (later ss cs)
-sections_run stage last claims x above [] cs h k = claims_run stage last claims cs
-sections_run stage last claims x above (s ∷ ss) cs (h, hs) (k, ks) =
+sections_run stage last may claims x above [] cs h k = claims_run stage last may claims cs
+sections_run stage last may claims x above (s ∷ ss) cs (h, hs) (k, ks) =
     subst (Runs stage last) (sym (later_first s ss cs)) (
       above s.stratum h,
       section_run s.stratum last s.records (later ss cs) k
-          (sections_run (Stages.Section s.stratum) last (λ c. tt) s (λ j lt. lt) ss cs hs ks)
-          (λ n t. sections_run (Stages.Record s.stratum n t) last (λ c. tt) s (λ j lt. lt) ss cs hs ks),
+          (sections_run (Stages.Section s.stratum) last tt (λ c. tt) s (λ j lt. lt) ss cs hs ks)
+          (λ n t. sections_run (Stages.Record s.stratum n t) last tt (λ c. tt) s (λ j lt. lt) ss cs hs ks),
     )
 
 later_run : (n : ℕ) (last : List ℕ) (ss : List Section) (cs : List Claim) → Rises IsSectionBefore ss → AllByRecursion (λ x. Rises IsRecordBefore x.records) ss → Runs (Stages.Nodes n) last (later ss cs)
-later_run n last [] cs h k = claims_run (Stages.Nodes n) last (λ c. tt) cs
+later_run n last [] cs h k = claims_run (Stages.Nodes n) last tt (λ c. tt) cs
 later_run n last (s ∷ ss) cs h (k, ks) =
     subst (Runs (Stages.Nodes n) last) (sym (later_first s ss cs)) (
       tt,
       section_run s.stratum last s.records (later ss cs) k
-          (sections_run (Stages.Section s.stratum) last (λ c. tt) s (λ j lt. lt) ss cs h ks)
-          (λ m t. sections_run (Stages.Record s.stratum m t) last (λ c. tt) s (λ j lt. lt) ss cs h ks),
+          (sections_run (Stages.Section s.stratum) last tt (λ c. tt) s (λ j lt. lt) ss cs h ks)
+          (λ m t. sections_run (Stages.Record s.stratum m t) last tt (λ c. tt) s (λ j lt. lt) ss cs h ks),
     )
 
 nodes_run : (n : ℕ) (x : Term) (ns : List Term) (ls : List Line) → RisesFrom IsTermBefore x ns → n + length ns ≤ 16777216 → ((m : ℕ) (last : List ℕ) → Runs (Stages.Nodes m) last ls) →
@@ -90,8 +90,17 @@ nodes_run : (n : ℕ) (x : Term) (ns : List Term) (ls : List Line) → RisesFrom
 nodes_run n x [] ls h few then = then n (line_text (Lines.Node x))
 nodes_run n x (y ∷ ns) ls (h, hs) few then = (((omega arith), h), nodes_run (suc n) y ns ls hs (omega arith) then)
 
-pub proof_runs : (p : Proof) → Keeps p → Runs (Stages.Nodes 0) [] (lines_of p)
-proof_runs p h = by p.nodes h.nodes h.few
+imports_run : (last : List ℕ) (is : List Digest256) (g : Digest256) (ns : List ℕ) (ls : List Line) → Runs (Stages.Nodes 0) last ls →
+    Runs Stages.Imports last (map (λ d. Lines.Digest Parts.Import d) is ++ (Lines.Digest Parts.Data g ∷ Lines.Strata ns ∷ ls))
+imports_run last [] g ns ls h = (tt, (tt, h))
+imports_run last (i ∷ is) g ns ls h = (tt, imports_run last is g ns ls h)
+
+head_runs : (head : Option Head) (ls : List Line) → Runs (Stages.Nodes 0) [] ls → Runs (first_stage head) [] (head_lines head ++ ls)
+head_runs None ls h = h
+head_runs (Some head) ls h = subst (Runs Stages.Head []) (sym (head_first head ls)) (tt, imports_run [] head.files.imports head.files.graph head.strata ls h)
+
+pub proof_runs : (p : Proof) → Keeps p → Runs (first_stage p.head) [] (lines_of p)
+proof_runs p h = head_runs p.head (body_lines p) (by p.nodes h.nodes h.few)
   where
     rest : (m : ℕ) (last : List ℕ) → Runs (Stages.Nodes m) last (later p.sections p.claims)
     rest m last = later_run m last p.sections p.claims h.sections h.records
@@ -119,6 +128,10 @@ last_section : (front : List Section) (x y : Section) → x.stratum ≡ y.stratu
 last_section [] x y e h = tt
 last_section (v ∷ front) x y e h = last_from v front x y e h
 
+-- a line behind the head is one behind the whole
+behind_head : (head : Option Head) (xs ys : List Line) (l : Line) → xs ≡ ys ++ l ∷ [] → head_lines head ++ xs ≡ (head_lines head ++ ys) ++ l ∷ []
+behind_head head xs ys l e = ap (λ z. head_lines head ++ z) e ∙ sym (append_assoc (head_lines head) ys (l ∷ []))
+
 -- p with the line l is a proof that has come to this stage
 pub record Grown (p : Proof) (stage : Stage) (last : List ℕ) (l : Line) : Type 0 where
   pub whole : Proof
@@ -129,7 +142,7 @@ pub record Grown (p : Proof) (stage : Stage) (last : List ℕ) (l : Line) : Type
 
 node_grows : (p : Proof) (n : ℕ) (last : List ℕ) (t : Term) → Keeps p → Fits p (Stages.Nodes n) last → IsLine (Lines.Node t) → Follows (Stages.Nodes n) last (Lines.Node t) → Grown p (Stages.Nodes (suc n)) (line_text (Lines.Node t)) (Lines.Node t)
 node_grows p n last t keeps (sections, (claims, (count, more))) good (few, above) = record {
-  whole = record { nodes = p.nodes ++ t ∷ []; sections = []; claims = [] };
+  whole = record { head = p.head; nodes = p.nodes ++ t ∷ []; sections = []; claims = [] };
   grows = node t sections claims;
   keeps = record {
     nodes = more t above;
@@ -146,18 +159,19 @@ node_grows p n last t keeps (sections, (claims, (count, more))) good (few, above
     nil_end [] = refl
     nil_end (x ∷ xs) = ap (λ z. x ∷ z) (nil_end xs)
 
-    before : lines_of p ≡ map (λ t. Lines.Node t) p.nodes
+    before : body_lines p ≡ map (λ t. Lines.Node t) p.nodes
     before = ap (λ z. map (λ t. Lines.Node t) p.nodes ++ (flat_map section_lines z ++ map (λ c. Lines.Claim c) p.claims)) sections
         ∙ ap (λ z. map (λ t. Lines.Node t) p.nodes ++ map (λ c. Lines.Claim c) z) claims ∙ nil_end (map (λ t. Lines.Node t) p.nodes)
 
-    lines : lines_of (record { nodes = p.nodes ++ t ∷ []; sections = []; claims = [] }) ≡ lines_of p ++ Lines.Node t ∷ []
-    lines = nil_end (map (λ t. Lines.Node t) (p.nodes ++ t ∷ [])) ∙ map-append (λ t. Lines.Node t) p.nodes (t ∷ []) ∙ ap (λ z. z ++ Lines.Node t ∷ []) (sym before)
+    lines : lines_of (record { head = p.head; nodes = p.nodes ++ t ∷ []; sections = []; claims = [] }) ≡ lines_of p ++ Lines.Node t ∷ []
+    lines = behind_head p.head _ (body_lines p) (Lines.Node t)
+        (nil_end (map (λ t. Lines.Node t) (p.nodes ++ t ∷ [])) ∙ map-append (λ t. Lines.Node t) p.nodes (t ∷ []) ∙ ap (λ z. z ++ Lines.Node t ∷ []) (sym before))
 
 -- the lines of a proof whose sections are these, without claims
 lines_with : List Term → List Section → List Line
 lines_with ns ss = map (λ t. Lines.Node t) ns ++ flat_map section_lines ss
 
-without_claims : (p : Proof) → p.claims ≡ [] → lines_of p ≡ lines_with p.nodes p.sections
+without_claims : (p : Proof) → p.claims ≡ [] → body_lines p ≡ lines_with p.nodes p.sections
 unfolding lines_with
 without_claims p e = ap (λ z. map (λ t. Lines.Node t) p.nodes ++ (flat_map section_lines p.sections ++ map (λ c. Lines.Claim c) z)) e ∙ ap (λ z. map (λ t. Lines.Node t) p.nodes ++ z) (nil_end (flat_map section_lines p.sections))
   where
@@ -183,7 +197,7 @@ section_more ns ss k = ap (λ z. map (λ t. Lines.Node t) ns ++ z) (flat_map-app
 
 section_grows : (p : Proof) (last : List ℕ) (k : ℕ) → Keeps p → p.claims ≡ [] → Rises IsSectionBefore (p.sections ++ record { stratum = k; records = [] } ∷ []) → IsLine (Lines.Section k) → Grown p (Stages.Section k) last (Lines.Section k)
 section_grows p last k keeps claims rises good = record {
-  whole = record { nodes = p.nodes; sections = p.sections ++ record { stratum = k; records = [] } ∷ []; claims = [] };
+  whole = record { head = p.head; nodes = p.nodes; sections = p.sections ++ record { stratum = k; records = [] } ∷ []; claims = [] };
   grows = section k claims;
   keeps = record {
     nodes = keeps.nodes;
@@ -203,12 +217,13 @@ section_grows p last k keeps claims rises good = record {
   lines = lines;
 }
   where
-    lines : lines_of (record { nodes = p.nodes; sections = p.sections ++ record { stratum = k; records = [] } ∷ []; claims = [] }) ≡ lines_of p ++ Lines.Section k ∷ []
-    lines = without_claims (record { nodes = p.nodes; sections = p.sections ++ record { stratum = k; records = [] } ∷ []; claims = [] }) refl ∙ section_more p.nodes p.sections k ∙ ap (λ z. z ++ Lines.Section k ∷ []) (sym (without_claims p claims))
+    lines : lines_of (record { head = p.head; nodes = p.nodes; sections = p.sections ++ record { stratum = k; records = [] } ∷ []; claims = [] }) ≡ lines_of p ++ Lines.Section k ∷ []
+    lines = behind_head p.head _ (body_lines p) (Lines.Section k)
+        (without_claims (record { head = p.head; nodes = p.nodes; sections = p.sections ++ record { stratum = k; records = [] } ∷ []; claims = [] }) refl ∙ section_more p.nodes p.sections k ∙ ap (λ z. z ++ Lines.Section k ∷ []) (sym (without_claims p claims)))
 
 claim_grows : (p : Proof) (last : List ℕ) (c : Claim) → Keeps p → IsLine (Lines.Claim c) → Grown p Stages.Claims last (Lines.Claim c)
 claim_grows p last c keeps good = record {
-  whole = record { nodes = p.nodes; sections = p.sections; claims = p.claims ++ c ∷ [] };
+  whole = record { head = p.head; nodes = p.nodes; sections = p.sections; claims = p.claims ++ c ∷ [] };
   grows = claim c;
   keeps = record {
     nodes = keeps.nodes;
@@ -221,14 +236,14 @@ claim_grows p last c keeps good = record {
   lines = lines;
 }
   where
-    lines : lines_of (record { nodes = p.nodes; sections = p.sections; claims = p.claims ++ c ∷ [] }) ≡ lines_of p ++ Lines.Claim c ∷ []
-    lines = ap (λ z. map (λ t. Lines.Node t) p.nodes ++ (flat_map section_lines p.sections ++ z)) (map-append (λ c. Lines.Claim c) p.claims (c ∷ []))
+    lines : lines_of (record { head = p.head; nodes = p.nodes; sections = p.sections; claims = p.claims ++ c ∷ [] }) ≡ lines_of p ++ Lines.Claim c ∷ []
+    lines = behind_head p.head _ (body_lines p) (Lines.Claim c) (ap (λ z. map (λ t. Lines.Node t) p.nodes ++ (flat_map section_lines p.sections ++ z)) (map-append (λ c. Lines.Claim c) p.claims (c ∷ []))
         ∙ ap (λ z. map (λ t. Lines.Node t) p.nodes ++ z) (sym (append_assoc (flat_map section_lines p.sections) (map (λ c. Lines.Claim c) p.claims) (Lines.Claim c ∷ [])))
-        ∙ sym (append_assoc (map (λ t. Lines.Node t) p.nodes) (flat_map section_lines p.sections ++ map (λ c. Lines.Claim c) p.claims) (Lines.Claim c ∷ []))
+        ∙ sym (append_assoc (map (λ t. Lines.Node t) p.nodes) (flat_map section_lines p.sections ++ map (λ c. Lines.Claim c) p.claims) (Lines.Claim c ∷ [])))
 
 entry_grows : (p : Proof) (last : List ℕ) (k : ℕ) (Next : Record → Type 0) (r : Record) → Keeps p → InSection p k Next → Next r → IsLine (Lines.Record r) → Grown p (Stages.Record k r.node r.shape) last (Lines.Record r)
 entry_grows p last k Next r keeps inside next good = record {
-  whole = record { nodes = p.nodes; sections = inside.front ++ record { stratum = k; records = inside.records ++ r ∷ [] } ∷ []; claims = [] };
+  whole = record { head = p.head; nodes = p.nodes; sections = inside.front ++ record { stratum = k; records = inside.records ++ r ∷ [] } ∷ []; claims = [] };
   grows = entry r inside.front k inside.records inside.claims inside.sections;
   keeps = record {
     nodes = keeps.nodes;
@@ -253,13 +268,24 @@ entry_grows p last k Next r keeps inside next good = record {
     rises : Rises IsSectionBefore (inside.front ++ record { stratum = k; records = inside.records ++ r ∷ [] } ∷ [])
     rises = last_section inside.front (record { stratum = k; records = inside.records }) (record { stratum = k; records = inside.records ++ r ∷ [] }) refl (subst (Rises IsSectionBefore) inside.sections keeps.sections)
 
-    lines : lines_of (record { nodes = p.nodes; sections = inside.front ++ record { stratum = k; records = inside.records ++ r ∷ [] } ∷ []; claims = [] }) ≡ lines_of p ++ Lines.Record r ∷ []
-    lines = without_claims (record { nodes = p.nodes; sections = inside.front ++ record { stratum = k; records = inside.records ++ r ∷ [] } ∷ []; claims = [] }) refl
+    lines : lines_of (record { head = p.head; nodes = p.nodes; sections = inside.front ++ record { stratum = k; records = inside.records ++ r ∷ [] } ∷ []; claims = [] }) ≡ lines_of p ++ Lines.Record r ∷ []
+    lines = behind_head p.head _ (body_lines p) (Lines.Record r) (without_claims (record { head = p.head; nodes = p.nodes; sections = inside.front ++ record { stratum = k; records = inside.records ++ r ∷ [] } ∷ []; claims = [] }) refl
         ∙ line_more p.nodes inside.front (record { stratum = k; records = inside.records }) (record { stratum = k; records = inside.records ++ r ∷ [] }) (Lines.Record r)
         (ap (λ z. Lines.Section k ∷ z) (map-append (λ r. Lines.Record r) inside.records (r ∷ [])))
-        ∙ ap (λ z. z ++ Lines.Record r ∷ []) (sym (without_claims p inside.claims ∙ ap (lines_with p.nodes) inside.sections))
+        ∙ ap (λ z. z ++ Lines.Record r ∷ []) (sym (without_claims p inside.claims ∙ ap (lines_with p.nodes) inside.sections)))
 
 pub grow : (p : Proof) (stage : Stage) (last : List ℕ) (l : Line) → Keeps p → Fits p stage last → IsLine l → Follows stage last l → Grown p (next_stage stage l) (next_last last l) l
+grow p Stages.Head last l k f g h = absurd f
+grow p Stages.Imports last l k f g h = absurd f
+grow p Stages.Files last l k f g h = absurd f
+grow p (Stages.Nodes n) last (Lines.Digest q d) k f g h = absurd h
+grow p (Stages.Nodes n) last (Lines.Strata ns) k f g h = absurd h
+grow p (Stages.Section j) last (Lines.Digest q d) k f g h = absurd h
+grow p (Stages.Section j) last (Lines.Strata ns) k f g h = absurd h
+grow p (Stages.Record j n s) last (Lines.Digest q d) k f g h = absurd h
+grow p (Stages.Record j n s) last (Lines.Strata ns) k f g h = absurd h
+grow p Stages.Claims last (Lines.Digest q d) k f g h = absurd h
+grow p Stages.Claims last (Lines.Strata ns) k f g h = absurd h
 grow p (Stages.Nodes n) last (Lines.Node t) k f g h = node_grows p n last t k f g h
 grow p (Stages.Nodes n) last (Lines.Section j) k f g h = section_grows p last j k f.1.0 (subst (λ z. Rises IsSectionBefore (z ++ record { stratum = j; records = [] } ∷ [])) (sym f.0) tt) g
 grow p (Stages.Nodes n) last (Lines.Record r) k f g h = absurd h

@@ -1,12 +1,15 @@
 -- Fields with a byte between them, and lines after one another.
-use Rattle.std.proofs.Common.{◌≡◌, ℕ, List, [], ◌∷◌, ◌++◌, refl, ap, sym, ◌∙◌, map, append_assoc, codes, ◌≤◌, ◌-◌, length, take, drop, get_or, arith}
+use Rattle.std.proofs.Common.{◌≡◌, ℕ, Option, Some, None, List, [], ◌∷◌, ◌++◌, refl, ap, sym, ◌∙◌, map, append_assoc, codes, ◌≤◌, ◌-◌, length, take, drop, get_or, arith}
 use Rattle.std.proofs.lemmas.Grind.{flat_map-append}
 use Rattle.std.proofs.lemmas.List.Folds.{flat_map-map}
 use Rattle.std.specs.Fmt.{decimal}
 use Rattle.std.specs.List.{AllByRecursion, flat_map, join_with_byte}
 use Rattle.rdf_terms.specs.Values.{IsValue}
 use Rattle.schema_tree.specs.Targets.{IsTextTarget}
-use Rattle.proof_file.specs.Text.{ended, line_text, lines_text, section_lines, lines_of, first_line, last_line, text_of, IsUnicode}
+use Rattle.proof_file.specs.Text.{ended, line_text, lines_text, section_lines, head_lines, body_lines, lines_of, first_line, last_line, text_of, IsUnicode}
+use Rattle.proof_file.specs.declared.head.Digest256.{Digest256}
+use Rattle.proof_file.specs.declared.head.Head.{Head}
+use Rattle.proof_file.specs.declared.head.Part.TheVariants as Parts
 use Rattle.proof_file.specs.declared.Record.{Record}
 use Rattle.proof_file.specs.declared.Section.{Section}
 use Rattle.proof_file.specs.declared.Proof.{Proof}
@@ -50,19 +53,43 @@ pub sections_written : (xs : List Section) → flat_map (λ x. lines_text (secti
 sections_written [] = refl
 sections_written (x ∷ xs) = ap (λ z. lines_text (section_lines x) ++ z) (sections_written xs) ∙ sym (flat_map-append (λ l. ended (line_text l)) (section_lines x) (flat_map section_lines xs))
 
+-- the lines of a head, one after another, and what follows them
+pub head_first : (h : Head) (ls : List Line) →
+    head_lines (Some h) ++ ls ≡ Lines.Digest Parts.Schema h.files.schema ∷ (map (λ d. Lines.Digest Parts.Import d) h.files.imports ++ (Lines.Digest Parts.Data h.files.graph ∷ Lines.Strata h.strata ∷ ls))
+head_first h ls =
+    ap (λ z. Lines.Digest Parts.Schema h.files.schema ∷ z) (append_assoc (map (λ d. Lines.Digest Parts.Import d) h.files.imports) (Lines.Digest Parts.Data h.files.graph ∷ Lines.Strata h.strata ∷ []) ls)
+
+-- what `push_head` appends is the lines of the head
+pub head_written : (h : Head) →
+    ended (line_text (Lines.Digest Parts.Schema h.files.schema)) ++ (flat_map (λ d. ended (line_text (Lines.Digest Parts.Import d))) h.files.imports
+    ++ (ended (line_text (Lines.Digest Parts.Data h.files.graph)) ++ (107 ∷ (flat_map (λ n. 32 ∷ decimal n) h.strata ++ 10 ∷ [])))) ≡ lines_text (head_lines (Some h))
+head_written h =
+    ap (λ z. ended (line_text (Lines.Digest Parts.Schema h.files.schema)) ++ z)
+    ((λ i. lines_written (λ d. Lines.Digest Parts.Import d) h.files.imports i ++ (ended (line_text (Lines.Digest Parts.Data h.files.graph)) ++ nil_end (ended (line_text (Lines.Strata h.strata))) i))
+    ∙ sym (flat_map-append (λ l. ended (line_text l)) (map (λ d. Lines.Digest Parts.Import d) h.files.imports) (Lines.Digest Parts.Data h.files.graph ∷ Lines.Strata h.strata ∷ [])))
+  where
+    nil_end : (xs : List ℕ) → xs ≡ xs ++ []
+    nil_end [] = refl
+    nil_end (x ∷ xs) = ap (λ z. x ∷ z) (nil_end xs)
+
 pub proof_written : (p : Proof) →
-    first_line ++ (flat_map (λ t. ended (line_text (Lines.Node t))) p.nodes ++ (flat_map (λ x. lines_text (section_lines x)) p.sections ++ (flat_map (λ c. ended (line_text (Lines.Claim c))) p.claims ++ last_line)))
+    (first_line p.head ++ lines_text (head_lines p.head)) ++ (flat_map (λ t. ended (line_text (Lines.Node t))) p.nodes ++ (flat_map (λ x. lines_text (section_lines x)) p.sections ++ (flat_map (λ c. ended (line_text (Lines.Claim c))) p.claims ++ last_line)))
     ≡ text_of p
-proof_written p = ap (λ z. first_line ++ z) (
+proof_written p =
+    append_assoc (first_line p.head) (lines_text (head_lines p.head)) _
+    ∙ ap (λ z. first_line p.head ++ z) (
+    ap (λ z. lines_text (head_lines p.head) ++ z) (
     ap (λ z. flat_map (λ t. ended (line_text (Lines.Node t))) p.nodes ++ z) (sym (append_assoc _ _ last_line) ∙ ap (λ z. z ++ last_line) inner)
     ∙ sym (append_assoc _ _ last_line) ∙ ap (λ z. z ++ last_line) outer)
+    ∙ sym (append_assoc (lines_text (head_lines p.head)) (lines_text (body_lines p)) last_line)
+    ∙ ap (λ z. z ++ last_line) (sym (flat_map-append (λ l. ended (line_text l)) (head_lines p.head) (body_lines p))))
   where
     inner : flat_map (λ x. lines_text (section_lines x)) p.sections ++ flat_map (λ c. ended (line_text (Lines.Claim c))) p.claims ≡ lines_text (flat_map section_lines p.sections ++ map (λ c. Lines.Claim c) p.claims)
     inner = ap (λ z. z ++ flat_map (λ c. ended (line_text (Lines.Claim c))) p.claims) (sections_written p.sections)
         ∙ ap (λ z. lines_text (flat_map section_lines p.sections) ++ z) (lines_written (λ c. Lines.Claim c) p.claims)
         ∙ sym (flat_map-append (λ l. ended (line_text l)) (flat_map section_lines p.sections) (map (λ c. Lines.Claim c) p.claims))
 
-    outer : flat_map (λ t. ended (line_text (Lines.Node t))) p.nodes ++ lines_text (flat_map section_lines p.sections ++ map (λ c. Lines.Claim c) p.claims) ≡ lines_text (lines_of p)
+    outer : flat_map (λ t. ended (line_text (Lines.Node t))) p.nodes ++ lines_text (flat_map section_lines p.sections ++ map (λ c. Lines.Claim c) p.claims) ≡ lines_text (body_lines p)
     outer = ap (λ z. z ++ lines_text (flat_map section_lines p.sections ++ map (λ c. Lines.Claim c) p.claims)) (lines_written (λ t. Lines.Node t) p.nodes)
         ∙ sym (flat_map-append (λ l. ended (line_text l)) (map (λ t. Lines.Node t) p.nodes) (flat_map section_lines p.sections ++ map (λ c. Lines.Claim c) p.claims))
 
@@ -78,11 +105,25 @@ sections_unicode : (xs : List Section) → AllByRecursion IsUnicode (flat_map se
 sections_unicode [] = tt
 sections_unicode (x ∷ xs) = all_append IsUnicode (section_lines x) (flat_map section_lines xs) (section_unicode x) (sections_unicode xs)
 
+-- nor do those of a head
+pub head_unicode : (o : Option Head) → AllByRecursion IsUnicode (head_lines o)
+head_unicode None = tt
+head_unicode (Some h) = (
+  tt,
+  all_append IsUnicode (map (λ d. Lines.Digest Parts.Import d) h.files.imports) (Lines.Digest Parts.Data h.files.graph ∷ Lines.Strata h.strata ∷ [])
+      (all_mapped IsUnicode (λ d. Lines.Digest Parts.Import d) h.files.imports (imports h.files.imports)) (tt, (tt, tt)),
+)
+  where
+    imports : (ds : List Digest256) → AllByRecursion (λ d. IsUnicode (Lines.Digest Parts.Import d)) ds
+    imports [] = tt
+    imports (d ∷ ds) = (tt, imports ds)
+
 pub proof_unicode : (p : Proof) → AllByRecursion IsValue p.nodes → AllByRecursion (λ c. IsTextTarget c.target) p.claims → AllByRecursion IsUnicode (lines_of p)
 proof_unicode p nodes claims =
-    all_append IsUnicode (map (λ t. Lines.Node t) p.nodes) (flat_map section_lines p.sections ++ map (λ c. Lines.Claim c) p.claims)
+    all_append IsUnicode (head_lines p.head) (body_lines p) (head_unicode p.head)
+    (all_append IsUnicode (map (λ t. Lines.Node t) p.nodes) (flat_map section_lines p.sections ++ map (λ c. Lines.Claim c) p.claims)
     (all_mapped IsUnicode (λ t. Lines.Node t) p.nodes nodes)
-    (all_append IsUnicode (flat_map section_lines p.sections) (map (λ c. Lines.Claim c) p.claims) (sections_unicode p.sections) (all_mapped IsUnicode (λ c. Lines.Claim c) p.claims claims))
+    (all_append IsUnicode (flat_map section_lines p.sections) (map (λ c. Lines.Claim c) p.claims) (sections_unicode p.sections) (all_mapped IsUnicode (λ c. Lines.Claim c) p.claims claims)))
 
 pub numbers_written : (xs : List ℕ) → 1 ≤ length xs → decimal (get_or xs 0 0) ++ flat_map (λ n. 44 ∷ decimal n) (take (length xs - 1) (drop 1 xs)) ≡ join_with_byte 44 (map decimal xs)
 numbers_written [] h = absurd (omega arith)

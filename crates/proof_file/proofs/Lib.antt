@@ -2,6 +2,7 @@ pub mod Sound
 pub mod Rejected
 pub mod Joined
 pub mod Numbers
+pub mod Hex
 pub mod Gathered
 pub mod Parts
 pub mod Clean
@@ -10,3 +11,4 @@ pub mod Grown
 pub mod Faults
 pub mod Steps
 pub mod Drafted
+pub mod Heads

@@ -64,7 +64,7 @@ places_stop fs node shape source e is = blames (λ ps. map place_text ps) (AllBy
     part (Plus ps) good plus e = (ps, (good, e))
     part (Minus rank xs) good plus e = absurd plus
 
-numbers_same : (ms ns : List ℕ) → AllByRecursion IsNumber ms → AllByRecursion IsNumber ns → map decimal ms ≡ map decimal ns → ms ≡ ns
+pub numbers_same : (ms ns : List ℕ) → AllByRecursion IsNumber ms → AllByRecursion IsNumber ns → map decimal ms ≡ map decimal ns → ms ≡ ns
 numbers_same [] [] h k e = refl
 numbers_same [] (n ∷ ns) h k e = cc
 numbers_same (m ∷ ms) [] h k e = cc

@@ -1,8 +1,10 @@
--- What is printed of bytes that give no proof, and of a check that an item fails.
+-- What is printed of bytes that give no proof, of a check that an item fails, and of the files that a proof is made for.
 use Rattle.std.specs.Prelude.{ℕ, List, ◌++◌, codes}
 use Rattle.std.specs.Fmt.{decimal}
 use Rattle.proof_file.specs.declared.Why.{Why}
 use Rattle.proof_file.specs.declared.Why.TheVariants as Whys
+use Rattle.proof_file.specs.declared.head.Part.{Part}
+use Rattle.proof_file.specs.declared.head.Part.TheVariants as Parts
 use Rattle.proof_file.specs.declared.read.ReadError.{ReadError}
 use Rattle.proof_file.specs.declared.read.ReadError.TheVariants as ReadErrors
 
@@ -21,3 +23,9 @@ why_text Whys.Value = codes "Value"
 why_text Whys.Counts = codes "Counts"
 why_text Whys.States = codes "States"
 why_text Whys.Claim = codes "Claim"
+
+-- the name of a file of which a head has a digest
+abbrev pub part_text : Part → List ℕ
+part_text Parts.Schema = codes "schema"
+part_text Parts.Import = codes "import"
+part_text Parts.Data = codes "data"

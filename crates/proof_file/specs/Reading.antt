@@ -1,8 +1,8 @@
 -- Readers of parts of a line (own).
-use Rattle.std.specs.Prelude.{ℕ, suc, length, Bool, true, List, [], ◌++◌, ◌==◌, ◌<◌, ◌≡◌, Option, Some, None, Result, Ok, Err, codes, ⊤}
+use Rattle.std.specs.Prelude.{ℕ, suc, length, Bool, true, List, [], ◌∷◌, ◌++◌, map, ◌==◌, ◌<◌, ◌≡◌, Option, Some, None, Result, Ok, Err, codes, ⊤}
 use Rattle.std.specs.Borrow.{Bor}
 use Rattle.std.specs.Fmt.{decimal}
-use Rattle.std.specs.List.{slice_split}
+use Rattle.std.specs.List.{AllByRecursion, slice_split}
 use Rattle.std.specs.Str.{all_scalars}
 use Rattle.proof_file.specs.declared.RecordKind.{RecordKind}
 use Rattle.proof_file.specs.declared.RecordKind.TheVariants.{Plus, Minus}
@@ -13,7 +13,7 @@ use Rattle.proof_file.specs.declared.line.Line.TheVariants as Lines
 use Rattle.proof_file.specs.declared.fields.Stop.{Stop}
 use Rattle.proof_file.specs.declared.fields.Stop.TheVariants.{Bad, Memory}
 use Rattle.schema_tree.specs.Targets.{IsTextTarget, target_text}
-use Rattle.proof_file.specs.Text.{IsNumber, IsLine, IsUnicode}
+use Rattle.proof_file.specs.Text.{IsDigest, IsNumber, IsLine, IsUnicode}
 
 -- the source is the text of what is read, which is as it has to be; or it is the text of nothing that is so
 abbrev pub Reads : {X T : Type 0} → (X → T) → (X → Type 0) → T → Result X Stop → Type 0
@@ -68,6 +68,16 @@ claim_rest c = decimal c.node ++ (codes " " ++ target_text c.target)
 
 abbrev pub IsClaim : Bool → Claim → Type 0
 IsClaim holds c = (c.holds ≡ holds) × (IsNumber c.node × IsTextTarget c.target)
+
+-- the fields of strata in a head
+abbrev pub strata_fields : List ℕ → List (List ℕ)
+strata_fields numbers = codes "k" ∷ map decimal numbers
+
+-- a line of a head within its limits
+abbrev pub IsHeadLine : Line → Type 0
+IsHeadLine (Lines.Digest part d) = IsDigest d
+IsHeadLine (Lines.Strata numbers) = AllByRecursion IsNumber numbers
+IsHeadLine line = ⊥
 
 -- a line within its limits, with texts of Unicode characters
 abbrev pub IsWholeLine : Line → Type 0

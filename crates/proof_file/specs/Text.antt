@@ -1,5 +1,6 @@
--- The text of a proof (own): lines of UTF-8, each ended by a line feed, whose fields are separated by one space.
-use Rattle.std.specs.Prelude.{ℕ, Bool, true, false, List, [], ◌∷◌, ◌++◌, ◌<◌, ◌≤◌, ◌≡◌, ◌⊎◌, length, map, codes, Contains, ⊤}
+-- The text of a proof (own): lines of UTF-8, each ended by a line feed, whose fields are separated by one space. A proof with
+-- a head is written in format 2, and one without in format 1.
+use Rattle.std.specs.Prelude.{ℕ, Bool, true, false, List, [], ◌∷◌, ◌++◌, ◌+◌, ◌/◌, ◌%◌, ◌<◌, ◌≤◌, ◌≡◌, ◌⊎◌, if◌then◌else◌, nat_lt, length, map, codes, Contains, Option, Some, None, ⊤}
 use Rattle.std.specs.Fmt.{decimal}
 use Rattle.std.specs.List.{AllByRecursion, flat_map, join_with_byte}
 use Rattle.rdf_terms.specs.Values.{IsValue, IsWhole}
@@ -16,6 +17,10 @@ use Rattle.proof_file.specs.declared.RecordKind.TheVariants.{Plus, Minus}
 use Rattle.proof_file.specs.declared.Record.{Record}
 use Rattle.proof_file.specs.declared.Section.{Section}
 use Rattle.proof_file.specs.declared.Proof.{Proof}
+use Rattle.proof_file.specs.declared.head.Digest256.{Digest256}
+use Rattle.proof_file.specs.declared.head.Part.{Part}
+use Rattle.proof_file.specs.declared.head.Part.TheVariants as Parts
+use Rattle.proof_file.specs.declared.head.Head.{Head}
 use Rattle.proof_file.specs.declared.line.Line.{Line}
 use Rattle.proof_file.specs.declared.line.Line.TheVariants as Lines
 
@@ -47,7 +52,27 @@ abbrev pub claim_mark : Bool → List ℕ
 claim_mark true = codes "c + "
 claim_mark false = codes "c - "
 
+-- the lower-case hexadecimal digit of a number below 16: 0 to 9, and then a to f
+abbrev pub hex_digit : ℕ → ℕ
+hex_digit n = if nat_lt n 10 then n + 48 else n + 87
+
+-- the two digits of a byte
+abbrev pub hex_text : ℕ → List ℕ
+hex_text byte = hex_digit (byte / 16) ∷ hex_digit (byte % 16) ∷ []
+
+-- a digest is written as the digits of its bytes
+abbrev pub digest_text : Digest256 → List ℕ
+digest_text d = flat_map hex_text d.0
+
+-- which file a digest is of: s for the schema, i for an import and d for the data
+abbrev pub part_mark : Part → List ℕ
+part_mark Parts.Schema = codes "s "
+part_mark Parts.Import = codes "i "
+part_mark Parts.Data = codes "d "
+
 abbrev pub line_text : Line → List ℕ
+line_text (Lines.Digest part d) = codes "f " ++ (part_mark part ++ digest_text d)
+line_text (Lines.Strata numbers) = codes "k" ++ flat_map (λ n. codes " " ++ decimal n) numbers
 line_text (Lines.Node term) = codes "n " ++ term_text term
 line_text (Lines.Section stratum) = codes "s " ++ decimal stratum
 line_text (Lines.Record r) = kind_mark r.kind ++ join_with_byte 32 (record_fields r)
@@ -59,9 +84,19 @@ line_text (Lines.Claim c) = claim_mark c.holds ++ (decimal c.node ++ (codes " " 
 abbrev pub section_lines : Section → List Line
 section_lines x = Lines.Section x.stratum ∷ map (λ r. Lines.Record r) x.records
 
--- the lines of a proof: its nodes, its sections and its claims
+-- the lines of a head: the digests of the schema, of the imports and of the data, and then the strata
+abbrev pub head_lines : Option Head → List Line
+head_lines None = []
+head_lines (Some h) =
+    Lines.Digest Parts.Schema h.files.schema ∷ (map (λ d. Lines.Digest Parts.Import d) h.files.imports ++ Lines.Digest Parts.Data h.files.graph ∷ Lines.Strata h.strata ∷ [])
+
+-- the lines behind the head: the nodes, the sections and the claims
+abbrev pub body_lines : Proof → List Line
+body_lines p = map (λ t. Lines.Node t) p.nodes ++ (flat_map section_lines p.sections ++ map (λ c. Lines.Claim c) p.claims)
+
+-- the lines of a proof: those of its head, if it has one, its nodes, its sections and its claims
 abbrev pub lines_of : Proof → List Line
-lines_of p = map (λ t. Lines.Node t) p.nodes ++ (flat_map section_lines p.sections ++ map (λ c. Lines.Claim c) p.claims)
+lines_of p = head_lines p.head ++ body_lines p
 
 -- a line with its line feed
 abbrev pub ended : List ℕ → List ℕ
@@ -70,14 +105,23 @@ ended line = line ++ 10 ∷ []
 abbrev pub lines_text : List Line → List ℕ
 lines_text lines = flat_map (λ l. ended (line_text l)) lines
 
-abbrev pub first_line : List ℕ
-first_line = ended (codes "shex-proof 1")
+-- the first line of a proof without a head, and of one with a head
+abbrev pub plain_line : List ℕ
+plain_line = ended (codes "shex-proof 1")
+
+abbrev pub headed_line : List ℕ
+headed_line = ended (codes "shex-proof 2")
+
+-- the first line names the format
+abbrev pub first_line : Option Head → List ℕ
+first_line None = plain_line
+first_line (Some h) = headed_line
 
 abbrev pub last_line : List ℕ
 last_line = ended (codes "end")
 
 abbrev pub text_of : Proof → List ℕ
-text_of p = first_line ++ (lines_text (lines_of p) ++ last_line)
+text_of p = first_line p.head ++ (lines_text (lines_of p) ++ last_line)
 
 -- ---- the orders
 
@@ -97,6 +141,10 @@ IsRecordBefore a b = (a.node < b.node) ⊎ ((a.node ≡ b.node) × (a.shape < b.
 abbrev pub IsNumber : ℕ → Type 0
 IsNumber n = n ≤ 4294967295
 
+-- 32 bytes
+abbrev pub IsDigest : Digest256 → Type 0
+IsDigest d = (length d.0 ≡ 32) × AllByRecursion (λ byte. byte < 256) d.0
+
 abbrev pub IsPlace : Place → Type 0
 IsPlace (At occurrence) = occurrence ≤ 65534
 IsPlace Rest = ⊤
@@ -110,6 +158,8 @@ IsKind (Minus rank states) = IsNumber rank × (AllByRecursion IsState states × 
 
 -- the line is within the limits, its term is one that has a text of its own, and its states strictly rise
 abbrev pub IsLine : Line → Type 0
+IsLine (Lines.Digest part d) = IsDigest d
+IsLine (Lines.Strata numbers) = AllByRecursion IsNumber numbers
 IsLine (Lines.Node term) = IsWhole term
 IsLine (Lines.Section stratum) = IsNumber stratum
 IsLine (Lines.Record r) = IsNumber r.node × (IsNumber r.shape × IsKind r.kind)

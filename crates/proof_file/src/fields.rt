@@ -1,13 +1,14 @@
 //! The fields of a line.
 
-ghost use Rattle.std.specs.Prelude.{◌≡◌, ◌∷◌, ◌<◌, ◌↔◌, map, IsTrue};
+ghost use Rattle.std.specs.Prelude.{◌≡◌, ◌∷◌, [], ◌<◌, ◌↔◌, ℕ, map, IsTrue, MatchOption};
 ghost use Rattle.std.specs.Fmt.{decimal};
 ghost use Rattle.std.specs.List.{AllByRecursion, join_with_byte};
 ghost use Rattle.schema_tree.specs.Rising.{Rises, RisesFrom};
 ghost use Rattle.schema_tree.specs.States.{IsStateBefore};
-ghost use Rattle.proof_file.specs.Text.{place_text, state_text, IsNumber, IsPlace, IsState};
+ghost use Rattle.proof_file.specs.Text.{digest_text, hex_digit, hex_text, place_text, state_text, IsDigest, IsNumber, IsPlace, IsState};
 ghost use Rattle.proof_file.specs.Reading.{Reads, fields, fields_left, IsShorter, IsGiven};
 
+use crate::head::Digest256;
 use rdf_terms::items::Items;
 use schema_tree::verdicts::{Place, State};
 use std::alloc::{AllocError, Global};
@@ -55,6 +56,44 @@ pub(crate) fn number(field: &str) -> Result<u32, Stop>
     }
 }
 
+/// The number of a lower-case hexadecimal digit.
+fn hex_number(digit: u8) -> Option<u8>
+    ensures { MatchOption result ((n : ℕ) → n < 16 → ¬ (digit ≡ hex_digit n)) (λ n. (n < 16) × (digit ≡ hex_digit n)) }
+{
+    match digit {
+        b'0'..=b'9' => Some(digit - b'0'),
+        b'a'..=b'f' => Some(digit - b'a' + 10),
+        _ => None,
+    }
+}
+
+/// The byte of two digits.
+fn hex_byte(high: u8, low: u8) -> Option<u8>
+    ensures { MatchOption result ((n : ℕ) → n < 256 → ¬ (high ∷ low ∷ [] ≡ hex_text n)) (λ n. (n < 256) × (high ∷ low ∷ [] ≡ hex_text n)) }
+{
+    let high = hex_number(high)?;
+    let low = hex_number(low)?;
+    Some(high * 16 + low)
+}
+
+/// A digest.
+pub(crate) fn digest(field: &str) -> Result<Digest256, Stop>
+    ensures { Reads digest_text IsDigest field.now result }
+{
+    let digits = field.as_bytes();
+    if digits.len() != 64 {
+        return Err(Stop::Bad);
+    }
+    let mut bytes = [0; 32];
+    for i in 0..32 {
+        let Some(byte) = hex_byte(digits[2 * i], digits[2 * i + 1]) else {
+            return Err(Stop::Bad);
+        };
+        bytes[i] = byte;
+    }
+    Ok(Digest256(bytes))
+}
+
 /// The place of one triple.
 fn place(field: &str) -> Result<Place, Stop>
     ensures { Reads place_text IsPlace field.now result }
@@ -84,14 +123,19 @@ pub(crate) fn places(alloc: Global, text: Option<&str>) -> Result<Items<Place>, 
     Ok(Items::of(places))
 }
 
-/// Numbers between commas.
-fn numbers(alloc: Global, text: Option<&str>) -> Result<Items<u32>, Stop>
-    ensures { Reads (λ ns. map decimal ns) (AllByRecursion IsNumber) (fields_left 44 text.entry) result }
+/// Numbers between separators.
+pub(crate) fn numbers(
+    alloc: Global,
+    separator: char,
+    text: Option<&str>,
+) -> Result<Items<u32>, Stop>
+    requires { separator < 128 }
+    ensures { Reads (λ ns. map decimal ns) (AllByRecursion IsNumber) (fields_left separator text.entry) result }
 {
     let mut numbers = Vec::new(alloc);
     let mut left = text;
     while let Some(rest) = left {
-        let (field, more) = cut(rest, ',');
+        let (field, more) = cut(rest, separator);
         let n = number(field)?;
         numbers.push(n).map_err(AllocError::from)?;
         left = more;
@@ -107,7 +151,7 @@ fn state(alloc: Global, field: &str) -> Result<State, Stop>
         return Err(Stop::Bad);
     };
     let done = number(done)?;
-    let counts = numbers(alloc, none_if_empty(counts))?;
+    let counts = numbers(alloc, ',', none_if_empty(counts))?;
     Ok(State { done, counts })
 }
 

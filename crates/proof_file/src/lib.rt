@@ -4,12 +4,14 @@
 ghost use Rattle.proof_file.specs.Laws.{OneRejection, Soundness};
 
 pub(crate) mod fields;
+pub mod head;
 pub mod laws;
 pub mod line;
 pub mod lines;
 pub mod read;
 pub mod write;
 
+use crate::head::Head;
 use rdf_terms::items::Items;
 use rdf_terms::terms::Term;
 use schema_tree::schema::Target;
@@ -59,6 +61,8 @@ pub struct Claim {
 /// A proof: records that rest on one another, stratum by stratum, and claims that rest on all records.
 #[derive(Debug, Drop)]
 pub struct Proof {
+    /// What stands at its head, if it is of format 2. A proof of format 1 has none.
+    pub head: Option<Head>,
     /// The terms of the node lines.
     pub nodes: Items<Term>,
     /// The sections.

@@ -1,14 +1,17 @@
 //! The lines of a proof's text.
 
 ghost use Rattle.std.specs.Prelude.{encode_utf8_all};
+ghost use Rattle.std.specs.List.{AllByRecursion};
 ghost use Rattle.schema_tree.specs.Targets.{IsTextTarget, target_text};
-ghost use Rattle.proof_file.specs.Text.{record_fields, line_text};
+ghost use Rattle.proof_file.specs.Text.{record_fields, line_text, IsNumber};
 ghost use Rattle.rdf_terms.specs.Values.{IsWholeTerm};
 ghost use Rattle.rdf_terms.specs.Written.{term_text};
-ghost use Rattle.proof_file.specs.Reading.{Reads, fields, IsPlus, IsMinus, IsClaim, IsWholeLine, IsScalars, claim_rest};
+ghost use Rattle.proof_file.specs.Reading.{Reads, fields, strata_fields, IsPlus, IsMinus, IsClaim, IsHeadLine, IsWholeLine, IsScalars, claim_rest};
 
-use crate::fields::{Stop, are_rising, cut, number, places, states};
+use crate::fields::{Stop, are_rising, cut, digest, number, numbers, places, states};
+use crate::head::{Digest256, Part};
 use crate::{Claim, Record, RecordKind};
+use rdf_terms::items::Items;
 use rdf_terms::reader::{read_term, within_brackets};
 use rdf_terms::terms::Term;
 use rdf_terms::text::Text;
@@ -19,6 +22,10 @@ use std::alloc::Global;
 /// A line of a proof's text between the first and the last.
 #[derive(Debug, Drop)]
 pub enum Line {
+    /// The digest of a file, in a head.
+    Digest(Part, Digest256),
+    /// The strata, in a head.
+    Strata(Items<u32>),
     /// A term, whose number is the number of node lines before it.
     Node(Term),
     /// A stratum, to which the records that follow belong.
@@ -51,7 +58,34 @@ pub(crate) fn read_line(alloc: Global, text: &str) -> Result<Line, Stop>
     if let Some(claim) = text.strip_prefix("c - ") {
         return Ok(Line::Claim(read_claim(alloc, false, claim)?));
     }
-    Err(Stop::Bad)
+    read_head_line(alloc, text)
+}
+
+/// The line of a head of this text.
+fn read_head_line(alloc: Global, text: &str) -> Result<Line, Stop>
+    ensures { Reads line_text IsHeadLine text.now result }
+{
+    if let Some(field) = text.strip_prefix("f s ") {
+        return Ok(Line::Digest(Part::Schema, digest(field)?));
+    }
+    if let Some(field) = text.strip_prefix("f i ") {
+        return Ok(Line::Digest(Part::Import, digest(field)?));
+    }
+    if let Some(field) = text.strip_prefix("f d ") {
+        return Ok(Line::Digest(Part::Data, digest(field)?));
+    }
+    Ok(Line::Strata(read_strata(alloc, text)?))
+}
+
+/// The strata of a line.
+fn read_strata(alloc: Global, text: &str) -> Result<Items<u32>, Stop>
+    ensures { Reads strata_fields (AllByRecursion IsNumber) (fields 32 text.now) result }
+{
+    let (mark, strata) = cut(text, ' ');
+    if mark != "k" {
+        return Err(Stop::Bad);
+    }
+    numbers(alloc, ' ', strata)
 }
 
 /// The term of a node line.

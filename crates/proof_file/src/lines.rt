@@ -1,20 +1,24 @@
 //! The lines of a proof's text, one by one.
 
-ghost use Rattle.std.specs.Prelude.{List, ℕ, ◌≡◌, ◌==◌, ◌-◌, ◌++◌, ◌↔◌, IsTrue, MatchOption, length, position};
-ghost use Rattle.proof_file.specs.Text.{line_text, first_line};
+ghost use Rattle.std.specs.Prelude.{◌≡◌, ◌==◌, ◌-◌, ◌↔◌, IsTrue, length, position};
+ghost use Rattle.proof_file.specs.Text.{line_text};
 ghost use Rattle.proof_file.specs.Reading.{Reads};
 ghost use Rattle.proof_file.specs.declared.Proof.{Proof};
-ghost use Rattle.proof_file.specs.Reader.{Follows, IsBehind, IsNext, HasNoEnd, IsFirstLine, IsPast, IsFew, Steps, IsEndBefore, Where, behind, Stands, Goes, Opens, Shortens, next_stage, next_last};
+ghost use Rattle.proof_file.specs.Reader.{Follows, IsBehind, IsNext, HasNoEnd, IsFirstLine, IsHeading, IsPast, IsFew, IsLast, IsOpening, MayEnd, Steps, IsEndBefore, Heading, Where, heading, behind, Stands, Goes, Opens, Shortens, next_stage, next_last};
 
 use crate::Record;
 use crate::fields::Stop;
+use crate::head::Part;
 use crate::line::{Line, read_line};
 use std::alloc::Global;
 use std::cmp::Ordering;
 use std::str;
 
-/// The first line, with its line feed.
-const HEAD: &[u8] = b"shex-proof 1\n";
+/// The first line of a proof without a head, with its line feed.
+const PLAIN: &[u8] = b"shex-proof 1\n";
+
+/// The first line of a proof with a head, with its line feed.
+const HEADED: &[u8] = b"shex-proof 2\n";
 
 /// The last line, without its line feed.
 const END: &[u8] = b"end";
@@ -22,6 +26,12 @@ const END: &[u8] = b"end";
 /// What lines may follow.
 #[derive(Clone, Copy, Debug)]
 pub(crate) enum Stage {
+    /// Before the digest of the schema.
+    Head,
+    /// Behind the digest of the schema, and those of imports.
+    Imports,
+    /// Behind the digests of all files.
+    Files,
     /// Behind this many node lines and nothing else.
     Nodes(u32),
     /// Behind the line of a section of this stratum.
@@ -77,6 +87,10 @@ fn follows(stage: Stage, last: &[u8], line: &Line, text: &[u8]) -> bool
     ensures { IsTrue result ↔ Follows stage last.now line.now }
 {
     match (stage, line) {
+        (Stage::Head, Line::Digest(Part::Schema, _)) => true,
+        (Stage::Imports, Line::Digest(Part::Import | Part::Data, _)) => true,
+        (Stage::Files, Line::Strata(_)) => true,
+        (Stage::Head | Stage::Imports | Stage::Files, _) => false,
         (Stage::Nodes(n), Line::Node(_)) => n < 16_777_216 && last.cmp(&text) == Ordering::Less,
         (Stage::Nodes(_), Line::Section(_)) => true,
         (Stage::Section(k) | Stage::Record(k, _, _), Line::Section(next)) => k < *next,
@@ -139,13 +153,23 @@ fn next_step<'a>(alloc: Global, stage: Stage, last: &[u8], rest: &'a [u8]) -> St
     let Some((text, more)) = cut_line(rest) else {
         return Step::Bad(rest);
     };
-    if text == END {
+    if is_last(stage, text) {
         return end_before(more);
     }
     match read_next(alloc, stage, last, text) {
         Ok(line) => Step::Line(line, text, more),
         Err(Stop::Bad) => Step::Bad(rest),
         Err(Stop::Memory) => Step::Memory,
+    }
+}
+
+/// Whether the text is that of the last line, which may follow the stage.
+fn is_last(stage: Stage, text: &[u8]) -> bool
+    ensures { IsTrue result ↔ IsLast stage text.now }
+{
+    match stage {
+        Stage::Head | Stage::Imports | Stage::Files => false,
+        _ => text == END,
     }
 }
 
@@ -166,6 +190,9 @@ fn stage_behind(stage: Stage, line: &Line) -> Stage
     ensures { result ≡ next_stage stage line.now }
 {
     match (stage, line) {
+        (Stage::Head, Line::Digest(Part::Schema, _)) => Stage::Imports,
+        (Stage::Imports, Line::Digest(Part::Data, _)) => Stage::Files,
+        (Stage::Files, Line::Strata(_)) => Stage::Nodes(0),
         (Stage::Nodes(n), Line::Node(_)) => Stage::Nodes(n + 1),
         (_, Line::Section(stratum)) => Stage::Section(*stratum),
         (Stage::Section(stratum) | Stage::Record(stratum, _, _), Line::Record(record)) =>
@@ -193,24 +220,30 @@ fn place(whole: &[u8], rest: &[u8]) -> u64
     whole.len().saturating_sub(rest.len()) as u64
 }
 
-/// What follows the first line of a proof's text.
-fn behind_head(bytes: &[u8]) -> Option<&[u8]>
-    ensures { MatchOption result ((rest : List ℕ) → ¬ (bytes.now ≡ first_line ++ rest)) (λ x. bytes.now ≡ first_line ++ x.now) }
+/// What follows the first line of a proof's text, and the stage behind that line.
+fn behind_first(bytes: &[u8]) -> Option<(Stage, &[u8])>
+    ensures { IsOpening result bytes.now }
 {
-    bytes.strip_prefix(HEAD)
+    if let Some(rest) = bytes.strip_prefix(PLAIN) {
+        return Some((Stage::Nodes(0), rest));
+    }
+    match bytes.strip_prefix(HEADED) {
+        Some(rest) => Some((Stage::Head, rest)),
+        None => None,
+    }
 }
 
 impl<'a> Lines<'a> {
-    /// A reader of these bytes, before the first line.
+    /// A reader of these bytes, behind the line that names the format.
     pub fn new(bytes: &'a [u8]) -> Lines<'a>
         ensures { Opens result bytes.now }
     {
-        match behind_head(bytes) {
-            Some(rest) => Lines {
+        match behind_first(bytes) {
+            Some((stage, rest)) => Lines {
                 whole: bytes,
                 rest,
                 last: &[],
-                stage: Stage::Nodes(0),
+                stage,
             },
             None => Lines {
                 whole: bytes,
@@ -237,6 +270,7 @@ impl<'a> Lines<'a> {
 
     /// The next line, where the bytes have neither ended nor failed.
     fn advance(&mut self, alloc: Global) -> Next
+        ensures head { (h : Heading) → IsHeading self.old h → Goes (heading h) self.old self.new result }
         ensures goes { (p : Proof) → IsPast self.old p → Goes (behind p) self.old self.new result }
         ensures whole { self.new.whole.now ≡ self.old.whole.now }
         ensures shorter { Shortens self.old self.new result }

@@ -4,9 +4,10 @@ ghost use Rattle.std.specs.Prelude.{◌≡◌, ◌++◌, IfOk, IfErr, OnOk};
 ghost use Rattle.proof_file.specs.declared.Proof.{Proof};
 ghost use Rattle.proof_file.specs.Text.{ProofText};
 ghost use Rattle.proof_file.specs.Faults.{FaultsAs};
-ghost use Rattle.proof_file.specs.Reader.{Grows, no_lines};
-ghost use Rattle.proof_file.specs.Drafts.{IsDraft, last_section};
+ghost use Rattle.proof_file.specs.Reader.{AddsDigest, Grows, Heading, Leads, Where, no_lines, opened};
+ghost use Rattle.proof_file.specs.Drafts.{IsDraft, IsDraftAt, IsHeadDraft, IsHeadingDraft, head_of, last_section};
 
+use crate::head::{Digest256, Digests, Head, Part};
 use crate::line::Line;
 use crate::lines::{Lines, Next};
 use crate::{Claim, Proof, Record, Section};
@@ -52,9 +53,59 @@ impl From<AllocError> for ReadError {
     }
 }
 
+/// What of a head is read so far.
+#[derive(Drop)]
+pub(crate) struct HeadDraft {
+    schema: Option<Digest256>,
+    imports: Vec<Digest256>,
+    graph: Option<Digest256>,
+    strata: Option<Items<u32>>,
+}
+
+impl HeadDraft {
+    /// Adds a digest behind the last.
+    fn add(&mut self, part: Part, digest: Digest256) -> Result<(), AllocError>
+        ensures digest { OnOk result ((h more : Heading) → IsHeadDraft self.old h → AddsDigest h part digest more → IsHeadDraft self.new more) }
+        ensures strata { self.new.strata ≡ self.old.strata }
+    {
+        match part {
+            Part::Schema => {
+                self.schema = Some(digest);
+                Ok(())
+            }
+            Part::Import => {
+                self.imports.push(digest)?;
+                Ok(())
+            }
+            Part::Data => {
+                self.graph = Some(digest);
+                Ok(())
+            }
+        }
+    }
+
+    /// The head, if it is whole.
+    fn finish(self) -> Option<Head>
+        ensures { result ≡ head_of self.schema self.imports.items self.graph self.strata }
+    {
+        match (self.schema, self.graph, self.strata) {
+            (Some(schema), Some(graph), Some(strata)) => Some(Head {
+                files: Digests {
+                    schema,
+                    imports: Items::of(self.imports),
+                    graph,
+                },
+                strata,
+            }),
+            _ => None,
+        }
+    }
+}
+
 /// What of a proof is read so far.
 #[derive(Drop)]
 pub(crate) struct Draft {
+    head: HeadDraft,
     nodes: Vec<Term>,
     /// The sections before the last.
     sections: Vec<Section>,
@@ -66,11 +117,18 @@ pub(crate) struct Draft {
 }
 
 impl Draft {
-    /// The draft of a proof without lines.
+    /// The draft of a proof without lines, and of a head without lines.
     fn new(alloc: Global) -> Draft
-        ensures { IsDraft result no_lines }
+        ensures plain { IsDraft result no_lines }
+        ensures head { IsHeadingDraft result opened }
     {
         Draft {
+            head: HeadDraft {
+                schema: None,
+                imports: Vec::new(alloc),
+                graph: None,
+                strata: None,
+            },
             nodes: Vec::new(alloc),
             sections: Vec::new(alloc),
             stratum: None,
@@ -81,9 +139,18 @@ impl Draft {
 
     /// Adds a line behind the last.
     fn add(&mut self, alloc: Global, line: Line) -> Result<(), AllocError>
-        ensures { OnOk result ((p q : Proof) → IsDraft self.old p → Grows p line q → IsDraft self.new q) }
+        ensures head { OnOk result ((h : Heading) (w : Where) → IsHeadingDraft self.old h → Leads line h w → IsDraftAt self.new w) }
+        ensures body { OnOk result ((p q : Proof) → IsDraft self.old p → Grows p line q → IsDraft self.new q) }
     {
         match line {
+            Line::Digest(part, digest) => {
+                self.head.add(part, digest)?;
+                Ok(())
+            }
+            Line::Strata(strata) => {
+                self.head.strata = Some(strata);
+                Ok(())
+            }
             Line::Node(term) => {
                 self.nodes.push(term)?;
                 Ok(())
@@ -110,6 +177,7 @@ impl Draft {
         ensures { IfOk result (λ q. (p : Proof) → IsDraft self p → q ≡ p) }
     {
         let Draft {
+            head,
             nodes,
             mut sections,
             stratum,
@@ -118,6 +186,7 @@ impl Draft {
         } = self;
         close(&mut sections, stratum, records)?;
         Ok(Proof {
+            head: head.finish(),
             nodes: Items::of(nodes),
             sections: Items::of(sections),
             claims: Items::of(claims),

@@ -1,13 +1,15 @@
 //! Proofs as text.
 
-ghost use Rattle.std.specs.Prelude.{◌≡◌, ◌++◌, ◌∷◌, [], true, map, IfOk, OnOk, codes};
+ghost use Rattle.std.specs.Prelude.{◌≡◌, ◌++◌, ◌∷◌, ◌<◌, [], true, map, IfOk, OnOk, Some, codes};
 ghost use Rattle.std.specs.Fmt.{decimal};
 ghost use Rattle.std.specs.List.{AllByRecursion, flat_map, join_with_byte};
 ghost use Rattle.rdf_terms.specs.Values.{IsValue};
 ghost use Rattle.schema_tree.specs.Targets.{target_text, IsTextTarget};
-ghost use Rattle.proof_file.specs.Text.{place_text, state_text, kind_mark, kind_fields, ended, line_text, lines_text, section_lines, ProofText, Keeps, HasNoFeeds};
+ghost use Rattle.proof_file.specs.Text.{hex_digit, hex_text, place_text, state_text, part_mark, kind_mark, kind_fields, ended, line_text, lines_text, first_line, head_lines, section_lines, ProofText, Keeps, HasNoFeeds};
+ghost use Rattle.proof_file.specs.declared.head.Part.TheVariants as Parts;
 ghost use Rattle.proof_file.specs.declared.line.Line.TheVariants as Lines;
 
+use crate::head::{Digest256, Head, Part};
 use crate::{Claim, Proof, Record, RecordKind, Section};
 use rdf_terms::terms::Term;
 use rdf_terms::values::term_is_value;
@@ -20,12 +22,98 @@ pub fn write(alloc: Global, p: &Proof) -> Result<Vec<u8>, AllocError>
     requires { Keeps p.now }
     ensures { IfOk result (λ v. HasNoFeeds p.now → ProofText p.now v.items) }
 {
-    let mut out = Vec::from_slice(alloc, b"shex-proof 1\n")?;
+    let mut out = begun(alloc, &p.head)?;
     push_nodes(alloc, p.nodes.as_slice(), &mut out)?;
     push_sections(alloc, p.sections.as_slice(), &mut out)?;
     push_claims(alloc, p.claims.as_slice(), &mut out)?;
     out.extend_from_slice(b"end\n")?;
     Ok(out)
+}
+
+/// The first line, and the lines of the head.
+fn begun(alloc: Global, head: &Option<Head>) -> Result<Vec<u8>, AllocError>
+    ensures { IfOk result (λ v. v.items ≡ first_line head.now ++ lines_text (head_lines head.now)) }
+{
+    match head {
+        Some(head) => {
+            let mut out = Vec::from_slice(alloc, b"shex-proof 2\n")?;
+            push_head(alloc, head, &mut out)?;
+            Ok(out)
+        }
+        None => Ok(Vec::from_slice(alloc, b"shex-proof 1\n")?),
+    }
+}
+
+/// Appends the lines of a head.
+fn push_head(alloc: Global, head: &Head, out: &mut Vec<u8>) -> Result<(), AllocError>
+    ensures { OnOk result (out.new.items ≡ out.old.items ++ lines_text (head_lines (Some head.now))) }
+{
+    push_digest(Part::Schema, head.files.schema, out)?;
+    push_imports(head.files.imports.as_slice(), out)?;
+    push_digest(Part::Data, head.files.graph, out)?;
+    out.push(b'k')?;
+    push_separated(alloc, b' ', head.strata.as_slice(), out)?;
+    out.push(b'\n')?;
+    Ok(())
+}
+
+/// Appends the lines of the digests of imports.
+fn push_imports(imports: &[Digest256], out: &mut Vec<u8>) -> Result<(), AllocError>
+    ensures { OnOk result (out.new.items ≡ out.old.items ++ flat_map (λ d. ended (line_text (Lines.Digest Parts.Import d))) imports.now) }
+{
+    for digest in imports {
+        push_digest(Part::Import, *digest, out)?;
+    }
+    Ok(())
+}
+
+/// Appends the line of a digest.
+fn push_digest(part: Part, digest: Digest256, out: &mut Vec<u8>) -> Result<(), AllocError>
+    ensures { OnOk result (out.new.items ≡ out.old.items ++ ended (line_text (Lines.Digest part digest))) }
+{
+    out.extend_from_slice(b"f ")?;
+    out.extend_from_slice(letter(part))?;
+    push_bytes(&digest.0, out)?;
+    out.push(b'\n')?;
+    Ok(())
+}
+
+/// What stands before a digest of this part.
+fn letter(part: Part) -> &'static [u8]
+    ensures { result.now ≡ part_mark part }
+{
+    match part {
+        Part::Schema => b"s ",
+        Part::Import => b"i ",
+        Part::Data => b"d ",
+    }
+}
+
+/// Appends bytes as digits.
+fn push_bytes(bytes: &[u8], out: &mut Vec<u8>) -> Result<(), AllocError>
+    ensures { OnOk result (out.new.items ≡ out.old.items ++ flat_map hex_text bytes.now) }
+{
+    for byte in bytes {
+        push_byte(*byte, out)?;
+    }
+    Ok(())
+}
+
+/// Appends the two digits of a byte.
+fn push_byte(byte: u8, out: &mut Vec<u8>) -> Result<(), AllocError>
+    ensures { OnOk result (out.new.items ≡ out.old.items ++ hex_text byte) }
+{
+    out.push(digit(byte / 16))?;
+    out.push(digit(byte % 16))?;
+    Ok(())
+}
+
+/// The lower-case hexadecimal digit of a number.
+fn digit(n: u8) -> u8
+    requires { n < 16 }
+    ensures { result ≡ hex_digit n }
+{
+    if n < 10 { n + b'0' } else { n - 10 + b'a' }
 }
 
 /// Appends the node lines.
@@ -182,28 +270,33 @@ fn push_numbers(alloc: Global, numbers: &[u32], out: &mut Vec<u8>) -> Result<(),
         [] => Ok(()),
         [first, rest @ ..] => {
             push_number(alloc, *first, out)?;
-            push_counts(alloc, rest, out)?;
+            push_separated(alloc, b',', rest, out)?;
             Ok(())
         }
     }
 }
 
-/// Appends the counts, a comma before each.
-fn push_counts(alloc: Global, counts: &[u32], out: &mut Vec<u8>) -> Result<(), AllocError>
-    ensures { OnOk result (out.new.items ≡ out.old.items ++ flat_map (λ n. 44 ∷ decimal n) counts.now) }
+/// Appends the numbers, a separator before each.
+fn push_separated(
+    alloc: Global,
+    separator: u8,
+    numbers: &[u32],
+    out: &mut Vec<u8>,
+) -> Result<(), AllocError>
+    ensures { OnOk result (out.new.items ≡ out.old.items ++ flat_map (λ n. separator ∷ decimal n) numbers.now) }
 {
-    for count in counts {
-        push_count(alloc, *count, out)?;
+    for n in numbers {
+        push_behind(alloc, separator, *n, out)?;
     }
     Ok(())
 }
 
-/// Appends a comma and a count.
-fn push_count(alloc: Global, count: u32, out: &mut Vec<u8>) -> Result<(), AllocError>
-    ensures { OnOk result (out.new.items ≡ out.old.items ++ 44 ∷ decimal count) }
+/// Appends a separator and a number.
+fn push_behind(alloc: Global, separator: u8, n: u32, out: &mut Vec<u8>) -> Result<(), AllocError>
+    ensures { OnOk result (out.new.items ≡ out.old.items ++ separator ∷ decimal n) }
 {
-    out.push(b',')?;
-    push_number(alloc, count, out)
+    out.push(separator)?;
+    push_number(alloc, n, out)
 }
 
 /// Appends a number in decimal.

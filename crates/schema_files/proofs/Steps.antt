@@ -30,10 +30,10 @@ use Rattle.schema_files.specs.declared.asked.Asked.{Asked as LentAsked}
 use Rattle.schema_files.specs.declared.held.Held.{Held}
 use Rattle.schema_files.specs.declared.reading.Documents.{Documents}
 use Rattle.schema_files.specs.Files.{IsFile}
-use Rattle.schema_files.specs.Held.{AreAll, AreFollowed, AreFollowedTo, ComesTo, WereRead, and_next, asked_of, held_document, imports_at, imports_before, source_of, sources_of}
+use Rattle.schema_files.specs.Held.{AreAll, AreFollowed, AreFollowedTo, ComesTo, WereRead, and_next, asked_of, digests_of, held_document, imports_at, imports_before, source_of, sources_of}
 use Rattle.schema_files.specs.Named.{Asked, base_for, file_for, name_of}
 use Rattle.schema_files.specs.Refusals.{Explains, IsNext, LacksWord, imported}
-use Rattle.schema_files.specs.Sources.{AreHeld, AreRead, HoldsSource, Import, Source, documents_of, is_read, next, next_import, root}
+use Rattle.schema_files.specs.Sources.{AreDigestsOf, AreHeld, AreRead, HoldsSource, Import, IsDigestOf, Source, documents_of, is_read, next, next_import, root}
 use Rattle.schema_files.specs.Stops.{IsRefusalOf}
 use Rattle.schema_files.proofs.Few.{few_read}
 use Rattle.schema_files.proofs.Following.{all_before, comes_next, comes_to, counted, followed_on, last_read, passed}
@@ -114,6 +114,11 @@ module _ (told : Told) (a : Asked) where
         pub seen_on : is_read a (ss ++ s ∷ []) (file_for a.words i.iri) ≡ true
         seen_on = ap (is_read a (ss ++ s ∷ [])) (named ∙ ap (λ f. Some f) (sym same)) ∙ last_read a ss s
 
+-- the digest of one more document
+pub digests_on : (told : Told) (a : Asked) (held : List Held) (h : Held) → AreDigestsOf told a (sources_of a held) (digests_of held) → IsDigestOf told (name_of a h.file) h.digest → AreDigestsOf told a (sources_of a (held ++ h ∷ [])) (digests_of (held ++ h ∷ []))
+digests_on told a [] h are is = (is, tt)
+digests_on told a (k ∷ held) h are is = (are.0, digests_on told a held h are.1 is)
+
 pub with_last : (a : Asked) (held : List Held) (h : Held) → sources_of a (held ++ h ∷ []) ≡ sources_of a held ++ source_of a h ∷ []
 with_last a held h = map-append (source_of a) held (h ∷ [])
 
@@ -176,30 +181,34 @@ passed_here a (k ∷ ks) now at number count inside (more, e) counted_is low hig
 
 pub goes_down : (told : Told) (asked : LentAsked) (held : List Held) (at : ℕ) → WereRead told asked held → at < length held → length asked.words.now + 1 - (at + 1) < length asked.words.now + 1 - at
 goes_down told asked held at read inside =
-    let few : length (sources_of (asked_of asked) held) ≤ length (asked_of asked).words + 1 = few_read told (asked_of asked) (sources_of (asked_of asked) held) read in
+    let few : length (sources_of (asked_of asked) held) ≤ length (asked_of asked).words + 1 = few_read told (asked_of asked) (sources_of (asked_of asked) held) read.are_read in
     omega (arith, few, inside, length-map held (source_of (asked_of asked)), length-map asked.words.now import_of)
 
 pub all_here : (told : Told) (asked : LentAsked) (held : List Held) (at : ℕ) → WereRead told asked held → length held ≤ at → AreFollowedTo asked held at 0 → AreAll told asked held
 all_here told asked held at read past followed =
     let a = asked_of asked in
-    record { are_read = read; all_read = all_before a (sources_of a held) at (omega (arith, past, length-map held (source_of a))) followed }
+    record {
+      are_sources = record { are_read = read.are_read; all_read = all_before a (sources_of a held) at (omega (arith, past, length-map held (source_of a))) followed };
+      digests = read.digests;
+    }
 
 -- ---- the first document, and all of them
 
 pub first_read :
-    (told other : Told) (asked : LentAsked) (h : Held) (items : List Held) → h.file ≡ Root → HoldsSource told (asked_of asked) (source_of (asked_of asked) h) → items ≡ h ∷ [] → other ≡ told → WereRead other asked items
-first_read told other asked h items is held items_are same =
+    (told other : Told) (asked : LentAsked) (h : Held) (items : List Held) → h.file ≡ Root → HoldsSource told (asked_of asked) (source_of (asked_of asked) h) → IsDigestOf told (name_of (asked_of asked) h.file) h.digest → items ≡ h ∷ [] → other ≡ told →
+    WereRead other asked items
+first_read told other asked h items is held digest items_are same =
     let a = asked_of asked in
     let source : source_of a h ≡ record { file = Root; base = a.base; read = read_of h.parsed } = λ i. record { file = is i; base = base_for a (is i); read = read_of h.parsed } in
-    subst (λ t. WereRead t asked items) (sym same) (subst (λ hs. WereRead told asked hs) (sym items_are)
-    (subst (λ s. AreRead told a (s ∷ [])) (sym source) (root (read_of h.parsed) (subst (λ s. HoldsSource told a s) source held))))
+    let one : WereRead told asked (h ∷ []) = record { are_read = subst (λ s. AreRead told a (s ∷ [])) (sym source) (root (read_of h.parsed) (subst (λ s. HoldsSource told a s) source held)); digests = (digest, tt) } in
+    subst (λ t. WereRead t asked items) (sym same) (subst (λ hs. WereRead told asked hs) (sym items_are) one)
 
 some_source : (told : Told) (a : Asked) (ss : List Source) → AreRead told a ss → 0 < length ss
 some_source told a ss (root r h) = omega arith
 some_source told a ss (next before i file r h is named held) = omega (arith, length-append before (record { file = file; base = i.iri; read = r } ∷ []))
 
-pub some_held : (told : Told) (asked : LentAsked) (held : List Held) → WereRead told asked held → 0 < length held
-some_held told asked held read = omega (arith, some_source told (asked_of asked) (sources_of (asked_of asked) held) read, length-map held (source_of (asked_of asked)))
+pub some_held : (told : Told) (asked : LentAsked) (held : List Held) → AreAll told asked held → 0 < length held
+some_held told asked held all = omega (arith, some_source told (asked_of asked) (sources_of (asked_of asked) held) all.are_sources.are_read, length-map held (source_of (asked_of asked)))
 
 held_documents : (a : Asked) (held : List Held) → map held_document held ≡ documents_of (sources_of a held)
 held_documents a [] = refl
@@ -215,6 +224,10 @@ all_held a (k ∷ ks) rest h first d some is left parsed docs names =
       documents = docs ∙ (λ i. document_of (all i).doc ∷ map held_document (left i)) ∙ held_documents a (k ∷ ks);
       names = ap (λ p. Some (scope_of p)) (names ∙ ap (λ (p : Parsed). p.prefixes) all);
     }
+
+pub all_digests : (items rest : List Held) (h : Held) → 0 < length items → h ≡ get_or items 0 h → rest ≡ remove items 0 → h.digest ∷ digests_of rest ≡ digests_of items
+all_digests [] rest h some is left = absurd (omega (arith, some))
+all_digests (k ∷ ks) rest h some is left = λ i. (is i).digest ∷ digests_of (left i)
 
 module _ (told : Told) (a : Asked) (law : SchemasAreOrdered) where
   source_ordered : (s : Source) → HoldsSource told a s → IsOrderedDocument s.read.document

@@ -1,13 +1,14 @@
 -- What the code holds of the documents that were read.
 use Rattle.std.specs.Prelude.{ℕ, List, [], ◌∷◌, ◌++◌, ◌≡◌, All, Option, Some, None, drop, map, take, true}
 use Rattle.command_words.specs.Lent.{import_of}
+use Rattle.proof_file.specs.declared.head.Digest256.{Digest256}
 use Rattle.schema_documents.specs.Tree.{Document, document_of}
 use Rattle.schema_reader.specs.Documents.{read_of}
 use Rattle.shex_io.specs.Files.{Told}
 use Rattle.schema_files.specs.declared.asked.Asked.{Asked as LentAsked}
 use Rattle.schema_files.specs.declared.held.Held.{Held}
 use Rattle.schema_files.specs.Named.{Asked, base_for, file_for}
-use Rattle.schema_files.specs.Sources.{AreRead, AreSources, Import, Source, imports_of, is_read}
+use Rattle.schema_files.specs.Sources.{AreDigestsOf, AreRead, AreSources, Import, Source, imports_of, is_read}
 
 -- what is asked
 abbrev pub asked_of : LentAsked → Asked
@@ -23,12 +24,18 @@ sources_of a held = map (source_of a) held
 abbrev pub held_document : Held → Document
 held_document h = document_of h.parsed.doc
 
--- the documents were read so; and all that they import was read
-abbrev pub WereRead : Told → LentAsked → List Held → Type 0
-WereRead told asked held = AreRead told (asked_of asked) (sources_of (asked_of asked) held)
+abbrev pub digests_of : List Held → List Digest256
+digests_of held = map (λ h. h.digest) held
 
-abbrev pub AreAll : Told → LentAsked → List Held → Type 0
-AreAll told asked held = AreSources told (asked_of asked) (sources_of (asked_of asked) held)
+-- the documents were read so, and these are the digests of their files
+pub record WereRead (told : Told) (asked : LentAsked) (held : List Held) : Type 0 where
+  pub are_read : AreRead told (asked_of asked) (sources_of (asked_of asked) held)
+  pub digests : AreDigestsOf told (asked_of asked) (sources_of (asked_of asked) held) (digests_of held)
+
+-- and all that they import was read
+pub record AreAll (told : Told) (asked : LentAsked) (held : List Held) : Type 0 where
+  pub are_sources : AreSources told (asked_of asked) (sources_of (asked_of asked) held)
+  pub digests : AreDigestsOf told (asked_of asked) (sources_of (asked_of asked) held) (digests_of held)
 
 -- the imports of the document at a place
 abbrev pub imports_at : List Source → ℕ → List Import

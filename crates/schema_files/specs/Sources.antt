@@ -1,15 +1,18 @@
 -- The documents of a schema, in the order in which they are read.
 use Rattle.std.specs.Prelude.{ℕ, Bool, false, List, [], ◌∷◌, ◌++◌, ◌≡◌, Option, Some, None, encode_utf8_all, map, not, option_map, slice_get}
-use Rattle.std.specs.List.{find, flat_map}
+use Rattle.std.specs.List.{AllZip, find, flat_map}
 use Rattle.command_words.specs.Checks.{is_among}
+use Rattle.proof_file.specs.declared.head.Digest256.{Digest256}
 use Rattle.schema_documents.specs.Tree.{Document, document_of}
 use Rattle.schema_reader.specs.Documents.{IsSchema, Read}
 use Rattle.schema_reader.specs.Formats.{format_of}
+use Rattle.sha2.specs.Sha256.{sha256}
 use Rattle.shex_io.specs.Files.{Told}
 use Rattle.term_tokens.specs.Scopes.{Scope, scope_of}
 use Rattle.schema_files.specs.declared.error.SchemaFile.{SchemaFile}
 use Rattle.schema_files.specs.declared.error.SchemaFile.TheVariants.{Root}
 use Rattle.schema_files.specs.declared.reading.Documents.{Documents}
+use Rattle.schema_files.specs.declared.reading.FileDigests.{FileDigests}
 use Rattle.schema_files.specs.Files.{IsFile}
 use Rattle.schema_files.specs.Named.{Asked, file_for, name_of}
 
@@ -55,6 +58,20 @@ pub data AreRead (told : Told) (a : Asked) : List Source → Type 0 where
 pub record AreSources (told : Told) (a : Asked) (ss : List Source) : Type 0 where
   pub are_read : AreRead told a ss
   pub all_read : next_import a ss ≡ None
+
+-- the digest of what the file of this name holds, as far as is told (FIPS 180-4)
+pub record IsDigestOf (told : Told) (name : List ℕ) (d : Digest256) : Type 0 where
+  pub bytes : List ℕ
+  pub is_file : IsFile told name bytes
+  pub is_digest : d.0 ≡ sha256 bytes
+
+-- the digests of the files of documents, in their order
+abbrev pub AreDigestsOf : Told → Asked → List Source → List Digest256 → Type 0
+AreDigestsOf told a ss ds = AllZip (λ s d. IsDigestOf told (name_of a s.file) d) ss ds
+
+-- the digests of the files of a schema in the order of reading
+abbrev pub digest_list : FileDigests → List Digest256
+digest_list digests = digests.root ∷ digests.imports
 
 -- the documents, and the base and the prefixes at the end of the first
 abbrev pub documents_of : List Source → List Document

@@ -7,12 +7,12 @@ ghost use Rattle.schema_files.specs.Files.{IsFile};
 ghost use Rattle.schema_files.specs.Held.{asked_of, source_of};
 ghost use Rattle.schema_files.specs.Named.{base_for, name_of};
 ghost use Rattle.schema_files.specs.Refusals.{Explains, FaultsAs, IsNext, Reaches};
-ghost use Rattle.schema_files.specs.Sources.{HoldsSource};
+ghost use Rattle.schema_files.specs.Sources.{HoldsSource, IsDigestOf};
 ghost use Rattle.schema_files.specs.Stops.{IsRefusalOf};
 
 use crate::asked::Asked;
 use crate::error::{FilesError, FilesRefusal, SchemaFile};
-use crate::file_bytes::fetch;
+use crate::file_bytes::{digest_of, fetch};
 use crate::held::Held;
 use schema_documents::SchemaError;
 use schema_reader::Format;
@@ -50,7 +50,7 @@ fn document_error(file: SchemaFile, error: SchemaError) -> FilesError
     }
 }
 
-/// The document in a file, whose base has a scheme. The format is that of the file's name.
+/// The document in a file, whose base has a scheme, with the digest of the file's bytes. The format is that of the file's name.
 pub fn read_file<F: Files>(
     alloc: Global,
     files: &mut F,
@@ -60,6 +60,7 @@ pub fn read_file<F: Files>(
     requires { IsSome (scheme_of (base_for (asked_of asked.now) file)) }
     ensures held { IfOk result (λ h. HoldsSource (F.told files.old) (asked_of asked.now) (source_of (asked_of asked.now) h)) }
     ensures file { IfOk result (λ h. h.file ≡ file) }
+    ensures digest { IfOk result (λ h. IsDigestOf (F.told files.old) (name_of (asked_of asked.now) h.file) h.digest) }
     ensures cause { IfErr result (λ e. IsNext (F.told files.old) (asked_of asked.now) file (base_for (asked_of asked.now) file) → Explains (F.told files.old) (asked_of asked.now) e) }
     ensures faults { IfErr result (FaultsAs (asked_of asked.now) (F.faults files.old) (F.faults files.new) (F.blame files.new) (F.act files.new)) }
     ensures faults_stay { OnOk result (F.faults files.new ≡ F.faults files.old) }
@@ -68,7 +69,11 @@ pub fn read_file<F: Files>(
     let bytes = fetch_file(alloc, files, asked, file)?;
     let format = Format::of_name(asked.name(file));
     match schema_reader::read(alloc, format, asked.base(file), bytes.as_slice()) {
-        Ok(parsed) => Ok(Held { file, parsed }),
+        Ok(parsed) => Ok(Held {
+            file,
+            digest: digest_of(bytes.as_slice()),
+            parsed,
+        }),
         Err(error) => Err(document_error(file, error)),
     }
 }

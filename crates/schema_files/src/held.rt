@@ -6,15 +6,18 @@ ghost use Rattle.rdf_lex.specs.Prefixes.{base_of};
 ghost use Rattle.shexc_reader.specs.Laws.{HasScheme};
 
 use crate::error::SchemaFile;
+use proof_file::head::Digest256;
 use rdf_terms::text::Text;
 use schema_documents::Doc;
 use schema_reader::Parsed;
 
-/// A document that was read, and its file. Its last base and each of its imports have a scheme.
+/// A document that was read, with its file and the digest of that. Its last base and each of its imports have a scheme.
 #[derive(Drop)]
 pub struct Held {
     /// The file.
     pub file: SchemaFile,
+    /// The digest of the file's bytes.
+    pub digest: Digest256,
     /// The document, with the base and the prefixes at its end.
     pub parsed: Parsed,
     ghost scheme: { IsSome (scheme_of (base_of parsed.prefixes)) },

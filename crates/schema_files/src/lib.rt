@@ -15,6 +15,6 @@ mod reading;
 
 pub use asked::file_name;
 pub use error::{FilesError, FilesRefusal, SchemaFile};
-pub use file_bytes::{MAX_FILE, fetch};
+pub use file_bytes::{MAX_FILE, digest_of, fetch};
 pub use laws::{read_is_not_left, refused_is_one, sources_are_one};
-pub use reading::{Documents, read_documents};
+pub use reading::{Documents, FileDigests, read_documents};

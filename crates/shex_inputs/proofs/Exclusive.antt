@@ -30,12 +30,13 @@ use Rattle.shex_inputs.specs.declared.error.Refusal.TheVariants as Refusals
 use Rattle.shex_inputs.specs.declared.error.Source.{Source}
 use Rattle.shex_inputs.specs.declared.error.Source.TheVariants.{Schema as OfSchema, Data, Map}
 use Rattle.shex_inputs.specs.Asked.{EndsAs, HoldsMap, IsAskedOf, Question, node_names, root_of}
-use Rattle.shex_inputs.specs.Held.{Held, HoldsData, IsHolding, IsTaken, predicates_in}
+use Rattle.shex_inputs.specs.Held.{AreFilesOf, Held, HoldsData, IsHolding, IsTaken, predicates_in}
 use Rattle.shex_inputs.specs.Laws.{AskedIsNotLeft, HeldIsOne, InputsAreOne, LeftIsOne, QuestionIsOne, TakenIsLoaded, TakenIsNotLeft}
 use Rattle.shex_inputs.specs.Named.{Inputs, asked_of, source_name, source_of}
 use Rattle.shex_inputs.specs.Outcomes.{IsAbsent}
 use Rattle.shex_inputs.specs.Refusals.{AreUnread, AsksForMany, HasNegation, IsNoMap, IsRefused, IsSchemaTaken, IsUnresolved, Reaches, StandForNone, Takes}
 use Rattle.shex_inputs.proofs.Demanded.{asked_moved, asked_one}
+use Rattle.shex_inputs.proofs.Digested.{files_one}
 use Rattle.shex_inputs.proofs.Holdings.{one_holding, stands_one as one_standing}
 use Rattle.demand.specs.Demand.{AreTooMany}
 use Rattle.demand.proofs.Reached.{not_many}
@@ -112,7 +113,8 @@ module _ (contents : List ℕ → Option (List ℕ)) (i : Inputs) (laws : AreLaw
       let names : h.names ≡ k.names = ap (λ (p : Context × List TermTriple). p.0) whole in
       let triples : x.triples ≡ y.triples = ap (λ (p : Context × List TermTriple). p.1) whole in
       let docs : documents_of x.sources ≡ documents_of y.sources = ap documents_of same in
-      one_holding laws.one (documents_of y.sources) y.triples h k (subst (λ ts. IsHolding (documents_of y.sources) ts h) triples (subst (λ ds. IsHolding ds x.triples h) docs x.holding)) y.holding labels names
+      let files : h.files ≡ k.files = files_one contents i y.sources h.files k.files (subst (λ ss. AreFilesOf told i ss h.files) same x.digests) y.digests in
+      one_holding laws.one (documents_of y.sources) y.triples h k (subst (λ ts. IsHolding (documents_of y.sources) ts h) triples (subst (λ ds. IsHolding ds x.triples h) docs x.holding)) y.holding labels names files
 
   one_items : (v : Held) (a b : List Item) → HoldsMap told i v a → HoldsMap told i v b → a ≡ b
   one_items v a b h k =

@@ -1,6 +1,7 @@
 pub mod Asking
 pub mod Counted
 pub mod Demanded
+pub mod Digested
 pub mod Exclusive
 pub mod Holdings
 pub mod Reading

@@ -1,5 +1,5 @@
 -- What the files of the schema and the data file hold, in the numbers of one table of terms.
-use Rattle.std.specs.Prelude.{ℕ, List, [], ◌≡◌, ◌≤◌, Some, length}
+use Rattle.std.specs.Prelude.{ℕ, List, [], ◌∷◌, ◌≡◌, ◌≤◌, Some, length}
 use Rattle.shex_io.specs.Files.{Told}
 use Rattle.lists.specs.Additions.{AddsAll}
 use Rattle.lists.specs.Distinct.{AreDistinct}
@@ -10,9 +10,10 @@ use Rattle.graph_index.specs.declared.loading.TermTriple.{TermTriple}
 use Rattle.graph_index.specs.Loading.{IsWithin, Loads}
 use Rattle.data_reader.specs.Documents.{Context, IsData, context_of}
 use Rattle.data_reader.specs.Formats.{format_of}
+use Rattle.proof_file.specs.declared.head.Digests.{Digests}
 use Rattle.schema_documents.specs.Tree.{Document}
 use Rattle.schema_files.specs.Files.{IsFile}
-use Rattle.schema_files.specs.Sources.{AreSources, Source, documents_of, root_names}
+use Rattle.schema_files.specs.Sources.{AreDigestsOf, AreSources, IsDigestOf, Source, documents_of, root_names}
 use Rattle.schema_load.specs.Parts.{predicates_of}
 use Rattle.schema_load.specs.Reading.{parts_of}
 use Rattle.schema_load.specs.Stands.{Stands}
@@ -22,8 +23,8 @@ use Rattle.term_tokens.specs.Scopes.{Scope, scope_of}
 use Rattle.shex_inputs.specs.declared.holding.Holding.{Holding}
 use Rattle.shex_inputs.specs.Named.{Inputs, asked_of}
 
--- a schema with the strata of its Shapes and a graph in the numbers of one table of terms, and the base and the prefixes at the
--- end of the schema file and of the data file
+-- a schema with the strata of its Shapes and a graph in the numbers of one table of terms, the base and the prefixes at the end of
+-- the schema file and of the data file, and the digests of the files
 pub record Held : Type 0 where
   pub schema : Schema
   pub strata : List ℕ
@@ -31,10 +32,11 @@ pub record Held : Type 0 where
   pub terms : List Term
   pub graph : List Triple
   pub names : Context
+  pub files : Digests
 
 -- what the code holds
 abbrev pub held_by : Holding → Held
-held_by h = record { schema = h.schema; strata = h.strata; labels = scope_of h.labels; terms = h.terms; graph = h.graph.triples; names = context_of h.names }
+held_by h = record { schema = h.schema; strata = h.strata; labels = scope_of h.labels; terms = h.terms; graph = h.graph.triples; names = context_of h.names; files = h.files }
 
 -- the data file holds a document of these triples, in the format of the file's name and under the base of the data, with these
 -- base and prefixes at its end
@@ -64,8 +66,13 @@ pub record IsHolding (docs : List Document) (triples : List TermTriple) (h : Hel
   pub graph : Loads first [] triples h.terms h.graph
   pub within : IsWithin h.terms h.graph
 
--- the files of the schema and the data file hold these schema and graph: the documents are that of the schema file and those which
--- it imports, directly or through others
+-- the digests of the files of the schema, in the order of reading, and of the data file
+pub record AreFilesOf (told : Told) (i : Inputs) (ss : List Source) (files : Digests) : Type 0 where
+  pub schemas : AreDigestsOf told (asked_of i) ss (files.schema ∷ files.imports)
+  pub graph : IsDigestOf told i.data_file files.graph
+
+-- the files of the schema and the data file hold these schema and graph, and have these digests: the documents are that of the schema
+-- file and those which it imports, directly or through others
 pub record IsTaken (told : Told) (i : Inputs) (h : Held) : Type 0 where
   pub sources : List Source
   pub are_sources : AreSources told (asked_of i) sources
@@ -73,3 +80,4 @@ pub record IsTaken (told : Told) (i : Inputs) (h : Held) : Type 0 where
   pub triples : List TermTriple
   pub holds_data : HoldsData told i h.names triples
   pub holding : IsHolding (documents_of sources) triples h
+  pub digests : AreFilesOf told i sources h.files

@@ -7,7 +7,7 @@ ghost use Rattle.rdf_lex.specs.Prefixes.{base_of};
 ghost use Rattle.graph_index.specs.Laws.{IsOfTable};
 ghost use Rattle.lists.specs.Distinct.{AreDistinct};
 ghost use Rattle.schema_documents.specs.Tree.{document_of};
-ghost use Rattle.schema_files.specs.Sources.{AreHeld, AreSources, Source as SchemaSource};
+ghost use Rattle.schema_files.specs.Sources.{AreDigestsOf, AreHeld, AreSources, Source as SchemaSource, digest_list};
 ghost use Rattle.schema_load.specs.Parts.{AreOrdered};
 ghost use Rattle.schema_load.specs.Reading.{parts_of};
 ghost use Rattle.command_words.specs.Checks.{is_base};
@@ -26,6 +26,7 @@ use crate::schema::{Loaded, load_schema};
 use command_words::Inputs;
 use data_reader::Format;
 use graph_index::graph::Graph;
+use proof_file::head::Digests;
 use rdf_lex::Prefixes;
 use rdf_terms::table::TermTable;
 use schema_files::{Documents, read_documents};
@@ -34,8 +35,8 @@ use shex_io::Files;
 use std::alloc::Global;
 use strata::list::Strata;
 
-/// A schema with the strata of its Shapes and a graph in the numbers of one table of terms, and the base and the prefixes at the
-/// end of the schema file and of the data.
+/// A schema with the strata of its Shapes and a graph in the numbers of one table of terms, the base and the prefixes at the end
+/// of the schema file and of the data, and the digests of the files.
 #[derive(Drop)]
 pub struct Holding {
     /// The terms.
@@ -50,6 +51,8 @@ pub struct Holding {
     pub graph: Graph,
     /// The base and the prefixes at the end of the data.
     pub names: Prefixes,
+    /// The digests of the files of the schema and of the data file.
+    pub files: Digests,
 }
 
 /// The documents of the schema of inputs.
@@ -59,7 +62,7 @@ fn schema_documents<F: Files>(
     inputs: &Inputs<'_>,
 ) -> Result<Documents, InputError>
     requires { is_base inputs.now.schema_base.now ≡ true }
-    ensures taken { (map_name : Text) → IfOk result (λ d. (ss : List SchemaSource) × AreSources (F.told files.old) (asked_of (inputs_with inputs.now map_name)) ss × AreHeld d ss) }
+    ensures taken { (map_name : Text) → IfOk result (λ d. (ss : List SchemaSource) × AreSources (F.told files.old) (asked_of (inputs_with inputs.now map_name)) ss × AreHeld d ss × AreDigestsOf (F.told files.old) (asked_of (inputs_with inputs.now map_name)) ss (digest_list d.digests)) }
     ensures root { IfOk result (λ d. 0 < length d.docs.items) }
     ensures ordered { IfOk result (λ d. AreOrdered (parts_of (map document_of d.docs.items))) }
     ensures scheme { IfOk result (λ d. IsSome (scheme_of (base_of d.names))) }
@@ -76,14 +79,14 @@ fn schema_documents<F: Files>(
     }
 }
 
-/// The schema of inputs, with the strata of its Shapes.
+/// The schema of inputs, with the strata of its Shapes and the digests of its files.
 fn read_schema<F: Files>(
     alloc: Global,
     files: &mut F,
     inputs: &Inputs<'_>,
 ) -> Result<Loaded, InputError>
     requires { is_base inputs.now.schema_base.now ≡ true }
-    ensures taken { (map_name : Text) → IfOk result (λ l. Takes (F.told files.old) (inputs_with inputs.now map_name) l.terms l.schema l.strata (scope_of l.labels)) }
+    ensures taken { (map_name : Text) → IfOk result (λ l. (taken : Takes (F.told files.old) (inputs_with inputs.now map_name) l.terms l.schema l.strata (scope_of l.labels)) × AreDigestsOf (F.told files.old) (asked_of (inputs_with inputs.now map_name)) taken.sources (digest_list l.digests)) }
     ensures loaded { IfOk result (λ l. IsLoaded l.schema) }
     ensures labels { IfOk result (λ l. IsSome (scheme_of (base_of l.labels))) }
     ensures before_map { IfErr result IsBeforeMap }
@@ -98,7 +101,8 @@ fn read_schema<F: Files>(
 
 /// What the files of the schema and the data file hold, whose bases have a scheme. Each is fetched and read in turn, the schema file
 /// first, then those of the documents that are imported, then the data; the first that is not taken is named. The table has the
-/// predicates of the schema first, and then the terms of the data in their order.
+/// predicates of the schema first, and then the terms of the data in their order. The digest of each file is taken of the bytes that
+/// were read.
 pub fn read_holding<F: Files>(
     alloc: Global,
     files: &mut F,

@@ -56,6 +56,7 @@ fn associations_of(
     ensures stops { IfErr result (λ e. UnlessMemory e (EndsAs (held_by holding.old) map.now (refused e))) }
     ensures schema { holding.new.schema ≡ holding.old.schema }
     ensures strata { holding.new.strata ≡ holding.old.strata }
+    ensures files { holding.new.files ≡ holding.old.files }
     ensures graph { holding.new.graph.triples ≡ holding.old.graph.triples }
     ensures sealed { OnOk result (IsSealedWith holding.new.terms holding.new.graph) }
     ensures of_new_table { All (IsOfTable holding.new.terms) holding.new.graph.triples }
@@ -84,6 +85,7 @@ fn read_associations<F: Files>(
     ensures asked { IfOk result (λ v. (items : List Item) × HoldsMap (F.told files.old) (inputs_with inputs.now name.now) (held_by holding.old) items × EndsAs (held_by holding.old) items (selected v.items holding.new.terms)) }
     ensures schema { holding.new.schema ≡ holding.old.schema }
     ensures strata { holding.new.strata ≡ holding.old.strata }
+    ensures files { holding.new.files ≡ holding.old.files }
     ensures graph { holding.new.graph.triples ≡ holding.old.graph.triples }
     ensures sealed { OnOk result (IsSealedWith holding.new.terms holding.new.graph) }
     ensures of_new_table { All (IsOfTable holding.new.terms) holding.new.graph.triples }
@@ -169,6 +171,7 @@ pub fn read_map<F: Files>(
     ensures closed { IfOk result (λ v. HoldNeeds holding.new.schema holding.new.graph.triples v.pairs) }
     ensures schema { holding.new.schema ≡ holding.old.schema }
     ensures strata { holding.new.strata ≡ holding.old.strata }
+    ensures files { holding.new.files ≡ holding.old.files }
     ensures graph { holding.new.graph.triples ≡ holding.old.graph.triples }
     ensures sealed { OnOk result (IsSealedWith holding.new.terms holding.new.graph) }
     ensures of_new_table { All (IsOfTable holding.new.terms) holding.new.graph.triples }

@@ -12,14 +12,15 @@ ghost use Rattle.shex_inputs.specs.Stops.{LoadStops};
 use crate::error::{InputError, load_error, strata_error};
 use rdf_lex::Prefixes;
 use rdf_terms::table::TermTable;
-use schema_files::Documents;
+use schema_files::{Documents, FileDigests};
 use schema_load::load::load;
 use schema_tree::schema::Schema;
 use std::alloc::Global;
 use strata::list::Strata;
 use strata::strata::strata;
 
-/// A schema with the strata of its Shapes, the table of its predicates, and the base and the prefixes at the end of its file.
+/// A schema with the strata of its Shapes, the table of its predicates, the base and the prefixes at the end of its file, and the
+/// digests of its files.
 #[derive(Drop)]
 pub struct Loaded {
     /// The schema.
@@ -30,6 +31,8 @@ pub struct Loaded {
     pub terms: TermTable,
     /// The base and the prefixes at the end of the schema file.
     pub labels: Prefixes,
+    /// The digests of its files.
+    pub digests: FileDigests,
 }
 
 /// The schema for which documents stand, one at least, with its strata.
@@ -39,11 +42,13 @@ pub fn load_schema(alloc: Global, documents: Documents) -> Result<Loaded, InputE
     ensures schema { IfOk result (λ l. IsSchemaOf (map document_of documents.docs.items) l.terms l.schema l.strata) }
     ensures loaded { IfOk result (λ l. IsLoaded l.schema) }
     ensures labels { IfOk result (λ l. l.labels ≡ documents.names) }
+    ensures digests { IfOk result (λ l. l.digests ≡ documents.digests) }
     ensures stops { IfErr result (LoadStops (map document_of documents.docs.items)) }
 {
     let Documents {
         docs,
         names: labels,
+        digests,
     } = documents;
     let mut terms = TermTable::new(alloc);
     let loaded = load(alloc, docs, &mut terms);
@@ -62,5 +67,6 @@ pub fn load_schema(alloc: Global, documents: Documents) -> Result<Loaded, InputE
         strata,
         terms,
         labels,
+        digests,
     })
 }

@@ -175,6 +175,8 @@ module _ (told : Told) (c : Command) (b : Held) (taken : IsTaken told (inputs_of
     confirm_stopped after same before later blame act still (Stops.Refused (Refusals.Proof CheckErrors.Full)) h = record { cause = (b, bytes, given, h); faults = still; stored = same }
     confirm_stopped after same before later blame act still (Stops.Refused (Refusals.Proof CheckErrors.Memory)) h = absurd h
     confirm_stopped after same before later blame act still (Stops.Refused (Refusals.Proof (CheckErrors.Syntax at))) h = record { cause = (b, bytes, given, h); faults = still; stored = same }
+    confirm_stopped after same before later blame act still (Stops.Refused (Refusals.Proof (CheckErrors.Stale part))) h = record { cause = (b, bytes, given, h); faults = still; stored = same }
+    confirm_stopped after same before later blame act still (Stops.Refused (Refusals.Proof CheckErrors.Strata)) h = record { cause = (b, bytes, given, h); faults = still; stored = same }
     confirm_stopped after same before later blame act still (Stops.Refused (Refusals.Proof (CheckErrors.Rejected i w))) h = record { cause = (b, bytes, given, h); faults = still; stored = same }
     confirm_stopped after same before later blame act still (Stops.Failed file) h = absurd h
     confirm_stopped after same before later blame act still Stops.Memory h = record { cause = tt; faults = still; stored = inl same }

@@ -23,6 +23,8 @@ use Rattle.lists.proofs.Members.{got_in, from_flat_map, in_map, from_map, in_res
 use Rattle.proof_file.specs.declared.Proof.{Proof}
 use Rattle.schema_tree.specs.Targets.{target_text}
 use Rattle.proof_file.specs.Text.{ProofText}
+use Rattle.proof_checker.specs.Current.{AreUsed, IsCurrent}
+use Rattle.schema_tree.proofs.Strata.{stratum_stratified}
 use Rattle.shape_map.specs.declared.items.Focus.{Focus}
 use Rattle.shape_map.specs.declared.items.Focus.TheVariants.{Subject, Object}
 use Rattle.shape_map.specs.declared.items.Item.{Item}
@@ -47,7 +49,7 @@ use Rattle.shex_inputs.specs.Laws.{LabelsHaveLines}
 use Rattle.typing_answers.specs.Proofs.{HasLines, IsProofOf as Proves}
 use Rattle.typing_answers.specs.Replies.{AreGiven, AreReplies, AreSureAnswers, IsLeftOut, IsSureAnswer, IsTrueAnswer, IsUnsure, given, left, none}
 use Rattle.shex_run.specs.Proofs.{IsStoredProofOf}
-use Rattle.shex_run.specs.Ready.{AreOnLines, IsOnLine}
+use Rattle.shex_run.specs.Ready.{AreOnLines, IsOnLine, head_of}
 use Rattle.shex_run.specs.Stopping.{IsFit}
 use Rattle.shex_run.specs.Tasks.{inputs_of}
 use Rattle.shex_run.proofs.Alone.{IsNoEnd, decided_alone}
@@ -229,24 +231,31 @@ module _ (told : Told) (c : Command) (q : Question) (is : IsAskedOf told (inputs
               let (u, listed, e) = from_map (λ z. Some z) p.nodes (Some t) (subst (λ zs. Contains zs (Some t)) proof.numbers there) in
               subst (λ z. Contains p.nodes z) (one_term u t e) listed
 
-      pub proved : (bytes : List ℕ) → ProofText p bytes → length q.terms ≤ max_terms → IsStoredProofOf q budget answers bytes
-      proved bytes text few_terms = record {
+      pub proved : (bytes : List ℕ) → ProofText p bytes → p.head ≡ Some (head_of q.held) → length q.terms ≤ max_terms → IsStoredProofOf q budget answers bytes
+      proved bytes text headed few_terms = record {
         accepted = record {
-          strata = q.held.strata;
-          are_strata = is.taken.holding.is_schema.strata;
           found = record {
-            proof = p;
-            nodes = proof.nodes;
-            read = record {
-              text = text;
-              table = taken_up q.held.terms is.ends.takes.nodes q.terms p.nodes is.ends.takes.taken is.ends.takes.ordered.rising proof.keeps.nodes among (λ t h. numbered_held q.terms p.nodes proof.nodes proof.numbers t h);
-              numbers = proof.numbers;
+            strata = q.held.strata;
+            found = record {
+              proof = p;
+              nodes = proof.nodes;
+              read = record {
+                text = text;
+                table = taken_up q.held.terms is.ends.takes.nodes q.terms p.nodes is.ends.takes.taken is.ends.takes.ordered.rising proof.keeps.nodes among (λ t h. numbered_held q.terms p.nodes proof.nodes proof.numbers t h);
+                numbers = proof.numbers;
+              };
+              accepted = proof.accepted;
+              claims = proof.claims;
             };
-            accepted = proof.accepted;
-            claims = proof.claims;
+            current = subst (IsCurrent s q.held.files) (sym headed) (refl, stratum_stratified s q.held.strata is.taken.holding.is_schema.strata);
+            used = subst (λ o. AreUsed s o q.held.strata) (sym headed) refl;
           };
           few = few_terms;
         };
+        head = head_of q.held;
+        is_head = headed;
+        files = refl;
+        least = is.taken.holding.is_schema.strata;
         recorded = proof.recorded;
         lean = proof.lean;
       }

@@ -161,13 +161,13 @@ module _ (words : List Text) (c : Command) (is_asked : IsAsked words c) (law : A
           subst (λ y. Rejects b y r) (one_given files.told contents told c one k b x bytes also given)
           (subst (λ z. Rejects z x r) (one.held k b also.taken given.taken) h)
 
-      same_full : IsFull files.told c → IsFullFor b.terms bytes
+      same_full : IsFull files.told c → IsFullFor b.schema b.files b.terms bytes
       same_full (k, x, also, h) =
-          subst (λ y. IsFullFor b.terms y) (one_given files.told contents told c one k b x bytes also given)
-          (subst (λ z. IsFullFor z.terms x) (one.held k b also.taken given.taken) h)
+          subst (λ y. IsFullFor b.schema b.files b.terms y) (one_given files.told contents told c one k b x bytes also given)
+          (subst (λ z. IsFullFor z.schema z.files z.terms x) (one.held k b also.taken given.taken) h)
 
       -- what is refused is the proof
-      refused_full : IsLeft files.told → IsFullFor b.terms bytes
+      refused_full : IsLeft files.told → IsFullFor b.schema b.files b.terms bytes
       refused_full (inl (refusal, cause)) = absurd (check_not_refused files.told contents told c one b given.name given.taken given.task refusal cause)
       refused_full (inr full) = same_full full
 
@@ -204,7 +204,7 @@ module _ (words : List Text) (c : Command) (is_asked : IsAsked words c) (law : A
       rejected_ends_so rejection is (wanting stored same quiet also h) = inr (inr (inr h))
 
       -- a table that is full is said to be
-      full_ends : IsFullFor b.terms bytes → Ends words files out err status → (status ≡ 3) ⊎ IsInterrupted status
+      full_ends : IsFullFor b.schema b.files b.terms bytes → Ends words files out err status → (status ≡ 3) ⊎ IsInterrupted status
       full_ends full (faulty line by left quiet prints) = absurd (not_faulty line by)
       full_ends full (answered text notes wanted low r same prints) = elim (responded files.told files.told_after wanted text notes r) [
         | inl x ↦ absurd (no_wish text notes wanted x)

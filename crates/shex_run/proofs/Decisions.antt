@@ -1,6 +1,6 @@
 -- What answers rest on where a question is ready.
 use Rattle.std.proofs.Common.{◌≡◌, ◌<◌, ℕ, List, ap, subst, length, map}
-use Rattle.std.specs.Prelude.{Contains, Some, slice_get}
+use Rattle.std.specs.Prelude.{Contains, Option, Some, slice_get}
 use Rattle.std.proofs.lemmas.List.Elements.{All-contains}
 use Rattle.lists.proofs.Members.{from_map, in_map}
 use Rattle.graph_index.specs.Laws.{IsOfTable}
@@ -16,6 +16,7 @@ use Rattle.schema_tree.specs.Removal.{IsRefined}
 use Rattle.schema_tree.specs.Sure.{Known}
 use Rattle.removal_laws.specs.Marks.{KnowSame}
 use Rattle.proof_file.specs.declared.Section.{Section}
+use Rattle.proof_file.specs.declared.head.Head.{Head}
 use Rattle.shape_map.specs.Answers.{IsAsked}
 use Rattle.shape_map.specs.declared.resolve.Association.{Association}
 use Rattle.demand.specs.declared.reach.Root.{Root}
@@ -29,7 +30,7 @@ use Rattle.shex_inputs.specs.declared.holding.Holding.{Holding}
 use Rattle.shex_inputs.specs.Asked.{root_of}
 use Rattle.shex_run.specs.Ready.{IsOnLine, IsReady}
 
-module _ (h : Holding) (xs : List Association) (pairs : List Pair) (budget : ℕ) (is : IsReady h xs pairs budget) where
+module _ (h : Holding) (xs : List Association) (pairs : List Pair) (budget : ℕ) (head : Option Head) (is : IsReady h xs pairs budget head) where
   ends : (t : Triple) → Contains h.graph.triples t → (t.s.0 < length h.terms) × (t.o.0 < length h.terms)
   ends t held = let of : IsOfTable h.terms t = All-contains (IsOfTable h.terms) h.graph.triples t is.of_table held in (of.subject, of.object)
 

@@ -49,6 +49,8 @@ module _ (words : List Text) (c : Command) (is_asked : IsAsked words c) (files :
       refused (refusal_line c (Refusals.Proof CheckErrors.Full)) (record { command = c; is_asked = is_asked; refused = inr (cause, refl) }) (record { told_same = left; faults_same = still }) quiet prints
   with_stop (Stops.Refused (Refusals.Proof CheckErrors.Memory)) (h, bytes, given, none) still left quiet prints = absurd none
   with_stop (Stops.Refused (Refusals.Proof (CheckErrors.Syntax at))) cause still left quiet prints = with_rejection (CheckErrors.Syntax at) cause still left quiet prints
+  with_stop (Stops.Refused (Refusals.Proof (CheckErrors.Stale part))) cause still left quiet prints = with_rejection (CheckErrors.Stale part) cause still left quiet prints
+  with_stop (Stops.Refused (Refusals.Proof CheckErrors.Strata)) cause still left quiet prints = with_rejection CheckErrors.Strata cause still left quiet prints
   with_stop (Stops.Refused (Refusals.Proof (CheckErrors.Rejected i w))) cause still left quiet prints = with_rejection (CheckErrors.Rejected i w) cause still left quiet prints
   with_stop (Stops.Failed file) cause (rose, later, named, act) left quiet prints = failed (failed_line (name_of c file)) (record {
     rose = rose;

@@ -4,6 +4,7 @@ pub mod Asked
 pub mod Closing
 pub mod Confirmed
 pub mod Decisions
+pub mod Digests
 pub mod Ended
 pub mod Exclusive
 pub mod Fitting

@@ -1,6 +1,7 @@
 -- The answers to what a map asks, as they are decided over what the code holds.
 use Rattle.std.proofs.Common.{◌≡◌, ◌≤◌, ap, sym, subst, ℕ, List, length, map, ◌∙◌}
-use Rattle.std.specs.Prelude.{All, Bool, IfSome, Option, Some, None}
+use Rattle.std.specs.List.{AllByRecursion}
+use Rattle.std.specs.Prelude.{All, Bool, IfSome, Option, Some, None, is_some, true}
 use Rattle.std.specs.Str.{IsUtf8}
 use Rattle.shex_io.specs.Files.{Told}
 use Rattle.rdf_terms.specs.Tables.{max_terms}
@@ -16,6 +17,8 @@ use Rattle.schema_tree.specs.Loaded.{IsLoaded}
 use Rattle.schema_tree.specs.Needs.{HoldNeeds}
 use Rattle.schema_tree.specs.Removal.{IsRefined}
 use Rattle.proof_file.specs.declared.Proof.{Proof}
+use Rattle.proof_file.specs.declared.head.Head.{Head}
+use Rattle.proof_file.specs.Text.{IsLine, head_lines}
 use Rattle.demand.specs.Demand.{AreAsked}
 use Rattle.demand.specs.Orders.{max_pairs}
 use Rattle.shape_map.specs.declared.resolve.Association.{Association}
@@ -32,18 +35,14 @@ use Rattle.shape_map.specs.Answers.{IsAsked}
 use Rattle.typing_answers.specs.Proofs.{HasLines, IsProofOf as Proves}
 use Rattle.typing_answers.specs.Replies.{AreReplies}
 use Rattle.shex_run.specs.declared.deciding.Decided.{Decided}
-use Rattle.shex_run.specs.Ready.{AreOnLines, IsDecided, IsReady, IsReply, IsReplyProof}
+use Rattle.shex_run.specs.Ready.{AreOnLines, IsDecided, IsReady, IsReply, IsReplyProof, head_if, head_of}
 use Rattle.shex_run.specs.Statuses.{status_of}
 use Rattle.shex_run.specs.Stopping.{IsFit}
 use Rattle.shex_run.specs.Tasks.{IsToValidate, inputs_of}
 use Rattle.shex_run.specs.Texts.{notes_by}
 use Rattle.shex_run.specs.Wide.{AreWide}
 use Rattle.shex_run.proofs.Asked.{asked, ends, few, lines, proved}
-
--- what follows of what is there
-some_weaker : {X : Type 0} (P Q : X → Type 0) → ((x : X) → P x → Q x) → (o : Option X) → IfSome o P → IfSome o Q
-some_weaker P Q f (Some x) h = f x h
-some_weaker P Q f None h = h
+use Rattle.shex_run.proofs.Digests.{as_wanted, head_given}
 
 -- what a question holds, as the code holds it
 pub record IsHeld (b : Holding) (xs : List Association) (ps : List Pair) (q : Question) : Type 0 where
@@ -82,9 +81,9 @@ module _ (told : Told) (c : Command) (q : Question) (of : IsAskedOf told (inputs
   of_question all = to_question b xs pairs q is (λ s f ts g ys ps. All (IsOfTable ts) g) all
 
   -- the question can be answered over what the code holds
-  pub ready : (map_name : List ℕ) (proof_name : Option (List ℕ)) (budget : ℕ) → IsToValidate c map_name proof_name budget → IsLoaded b.schema → IsSealedWith b.terms b.graph → All (IsOfTable b.terms) b.graph.triples → HoldNeeds b.schema b.graph.triples pairs →
-      IsUtf8 c.schema_base → IsUtf8 c.data_base → DataHaveLines → MapHasLines → BasesAreLines → LabelsHaveLines → IsReady b xs pairs budget
-  ready map_name proof_name budget task loaded sealed all needs one other data_law map_law base_law label_law = record {
+  pub ready : (map_name : List ℕ) (proof_name : Option (List ℕ)) (budget : ℕ) (head : Option Head) → AllByRecursion IsLine (head_lines head) → IsToValidate c map_name proof_name budget → IsLoaded b.schema → IsSealedWith b.terms b.graph → All (IsOfTable b.terms) b.graph.triples → HoldNeeds b.schema b.graph.triples pairs →
+      IsUtf8 c.schema_base → IsUtf8 c.data_base → DataHaveLines → MapHasLines → BasesAreLines → LabelsHaveLines → IsReady b xs pairs budget head
+  ready map_name proof_name budget head headed task loaded sealed all needs one other data_law map_law base_law label_law = record {
     within = (fit.budget map_name proof_name budget task).1;
     loaded = loaded;
     strata = code (λ s f ts g ys ps. IsStratum s f) of.taken.holding.is_schema.strata;
@@ -96,24 +95,34 @@ module _ (told : Told) (c : Command) (q : Question) (of : IsAskedOf told (inputs
     needs = needs;
     few_pairs = code (λ s f ts g ys ps. length ps ≤ max_pairs) of.few;
     lines = code (λ s f ts g ys ps. All (HasLines ts) ys) (lines told c q of fit one other data_law map_law base_law label_law);
+    headed = headed;
     ends = code (λ s f ts g ys ps. AreOnLines ts g) (ends told c q of fit one other data_law map_law base_law label_law);
   }
 
-  module _ (map_name : List ℕ) (proof_name : Option (List ℕ)) (budget : ℕ) (task : IsToValidate c map_name proof_name budget) (with_proof : Bool) (d : Decided) (decided : IsDecided b xs pairs budget with_proof d) where
+  module _ (map_name : List ℕ) (proof_name : Option (List ℕ)) (budget : ℕ) (task : IsToValidate c map_name proof_name budget) (with_proof : Bool) (head : Option Head) (of_head : head ≡ head_if with_proof q.held) (d : Decided) (decided : IsDecided b xs pairs budget head d) where
     question : (P : Schema → List ℕ → List Term → List Triple → List Association → List Pair → Type 0) → P b.schema b.strata b.terms b.graph.triples xs pairs → P q.held.schema q.held.strata q.terms q.held.graph q.associations q.pairs
     question P h = to_question b xs pairs q is P h
 
     replies : AreReplies q.held.schema q.terms decided.verdicts q.held.graph budget q.associations decided.answers
     replies = question (λ s f ts g ys ps. AreReplies s ts decided.verdicts g budget ys decided.answers) decided.replies
 
-    reply_proof : length b.terms ≤ max_terms → All (IsOfTable q.held.terms) q.held.graph → DecidedByFormIsDecided → (p : Proof) → Proves b.strata b.schema b.terms b.graph.triples pairs budget decided.answers p → IsReplyProof q budget decided.answers p
-    reply_proof within of_held law p proves = record {
+    reply_proof : length b.terms ≤ max_terms → All (IsOfTable q.held.terms) q.held.graph → DecidedByFormIsDecided → (p : Proof) → Proves b.strata b.schema b.terms b.graph.triples pairs budget decided.answers p → p.head ≡ Some (head_of q.held) → IsReplyProof q budget decided.answers p
+    reply_proof within of_held law p proves headed = record {
       keeps = proves.keeps;
       no_feeds = proves.no_feeds;
       proves = λ bytes text.
           proved told c q of of_held budget (fit.budget map_name proof_name budget task).0 law decided.verdicts decided.answers replies p
-          (question (λ s f ts g ys ps. Proves f s ts g ps budget decided.answers p) proves) bytes text (subst (λ ts. length ts ≤ max_terms) is.terms within);
+          (question (λ s f ts g ys ps. Proves f s ts g ps budget decided.answers p) proves) bytes text headed (subst (λ ts. length ts ≤ max_terms) is.terms within);
     }
+
+    -- the head of a proof that is there
+    given_head : (p : Proof) → true ≡ is_some head → p.head ≡ head → p.head ≡ Some (head_of q.held)
+    given_head p there headed = headed ∙ of_head ∙ head_given with_proof q.held (there ∙ ap is_some of_head)
+
+    reply_proofs : length b.terms ≤ max_terms → All (IsOfTable q.held.terms) q.held.graph → DecidedByFormIsDecided → (o : Option Proof) → is_some o ≡ is_some head → IfSome o (Proves b.strata b.schema b.terms b.graph.triples pairs budget decided.answers) →
+        IfSome o (λ p. p.head ≡ head) → IfSome o (IsReplyProof q budget decided.answers)
+    reply_proofs within of_held law None there proves headed = proves
+    reply_proofs within of_held law (Some p) there proves headed = reply_proof within of_held law p proves (given_head p there headed)
 
     pub reply : length b.terms ≤ max_terms → All (IsOfTable q.held.terms) q.held.graph → DecidedByFormIsDecided → IsReply told c budget with_proof d
     reply within of_held law = record {
@@ -131,6 +140,6 @@ module _ (told : Told) (c : Command) (q : Question) (of : IsAskedOf told (inputs
       wide = decided.wide;
       are_wide = question (λ s f ts g ys ps. AreWide s ts g budget ps decided.wide) decided.are_wide;
       notes_are = decided.notes_are ∙ ap (λ ts. notes_by ts (length xs) budget decided.answers decided.wide) is.terms ∙ ap (λ ys. notes_by q.terms (length ys) budget decided.answers decided.wide) is.associations;
-      proof = some_weaker (Proves b.strata b.schema b.terms b.graph.triples pairs budget decided.answers) (IsReplyProof q budget decided.answers) (reply_proof within of_held law) d.proof decided.proof;
-      wanted = decided.wanted;
+      proof = reply_proofs within of_held law d.proof decided.wanted decided.proof decided.headed;
+      wanted = decided.wanted ∙ ap is_some of_head ∙ as_wanted with_proof q.held;
     }

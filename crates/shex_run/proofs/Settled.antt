@@ -11,16 +11,24 @@ use Rattle.schema_tree.specs.declared.schema.Answer.{Answer}
 use Rattle.lists.proofs.Members.{got_in, from_map, in_map}
 use Rattle.proof_file.specs.declared.Claim.{Claim}
 use Rattle.proof_file.specs.declared.Proof.{Proof}
+use Rattle.proof_file.specs.declared.head.Digests.{Digests}
+use Rattle.proof_file.specs.declared.head.Head.{Head}
+use Rattle.proof_file.specs.declared.head.Part.{Part}
+use Rattle.proof_file.specs.declared.head.Part.TheVariants as Parts
+use Rattle.proof_file.specs.Text.{ProofText}
 use Rattle.proof_file.specs.Accepts.{AreAccepted, AreNumbers, setting_of}
 use Rattle.proof_file.proofs.Apart.{proofs_same}
 use Rattle.proof_file.proofs.Rejected.{not_both}
 use Rattle.proof_file.specs.Answers.{AreClaimed, answer_with}
 use Rattle.proof_checker.specs.declared.checking.CheckError.{CheckError}
 use Rattle.proof_checker.specs.declared.checking.CheckError.TheVariants as CheckErrors
-use Rattle.proof_checker.specs.Checks.{IsFullFor, IsReadAs, KeepsTerms, TakesUp}
+use Rattle.proof_checker.specs.Checks.{IsFullFor, IsReadAs, IsStaleFor, IsUnstratified, KeepsTerms, TakesUp}
+use Rattle.proof_checker.specs.Current.{AreUsed, IsCurrent, IsStale}
 use Rattle.shex_inputs.specs.Held.{Held}
 use Rattle.shex_run.specs.Checking.{Rejects}
 use Rattle.shex_run.specs.Proofs.{Accepted}
+use Rattle.schema_tree.specs.declared.schema.Schema.{Schema}
+use Rattle.schema_tree.specs.Edges.{IsStratified}
 use Rattle.schema_tree.proofs.OneStrata.{strata_one}
 
 -- ---- tables
@@ -82,12 +90,12 @@ answers_there terms lines nodes claims answers numbers are a h =
 -- ---- one reading
 
 -- bytes are read as one proof, with one table and numbers of its lines
-record SameReading (terms terms' : List Term) (p q : Proof) (nodes nodes' : List TermId) : Type 0 where
-  proof : p ≡ q
-  table : terms ≡ terms'
-  numbers : nodes ≡ nodes'
+pub record SameReading (terms terms' : List Term) (p q : Proof) (nodes nodes' : List TermId) : Type 0 where
+  pub proof : p ≡ q
+  pub table : terms ≡ terms'
+  pub numbers : nodes ≡ nodes'
 
-reading_one : (old terms terms' : List Term) (bytes : List ℕ) (p q : Proof) (nodes nodes' : List TermId) → AreDistinct old → IsReadAs old terms bytes p nodes → IsReadAs old terms' bytes q nodes' → SameReading terms terms' p q nodes nodes'
+pub reading_one : (old terms terms' : List Term) (bytes : List ℕ) (p q : Proof) (nodes nodes' : List TermId) → AreDistinct old → IsReadAs old terms bytes p nodes → IsReadAs old terms' bytes q nodes' → SameReading terms terms' p q nodes nodes'
 reading_one old terms terms' bytes p q nodes nodes' d h k =
     let same : p ≡ q = proofs_same p q bytes h.text k.text in
     let table : terms ≡ terms' = taken_one q.nodes old terms terms' (subst (λ x. TakesUp old x.nodes terms) same h.table) k.table in
@@ -97,35 +105,72 @@ reading_one old terms terms' bytes p q nodes nodes' d h k =
       numbers = numbers_one terms' q.nodes nodes nodes' (taken_distinct q.nodes old terms' d k.table) (subst (λ ts. AreNumbers ts q.nodes nodes) table (subst (λ x. AreNumbers terms x.nodes nodes) same h.numbers)) k.numbers;
     }
 
+-- ---- heads
+
+-- the strata that a proof uses are one list
+used_one : (s : Schema) (head : Option Head) (f h : List ℕ) → AreUsed s head f → AreUsed s head h → f ≡ h
+used_one s None f h first second = strata_one s f h first second
+used_one s (Some head) f h first second = first ∙ sym second
+
+-- digests that are the same are not stale
+not_stale : (named files : Digests) → named ≡ files → (part : Part) → ¬ IsStale named files part
+not_stale named files same Parts.Schema stale = stale (ap (λ (d : Digests). d.schema) same)
+not_stale named files same Parts.Import (schema, stale) = stale (ap (λ (d : Digests). d.imports) same)
+not_stale named files same Parts.Data (schema, imports, stale) = stale (ap (λ (d : Digests). d.graph) same)
+
+-- what is current by a head names the files, and brings a stratification
+with_head : (s : Schema) (files : Digests) (o : Option Head) (head : Head) → o ≡ Some head → IsCurrent s files o → (head.files ≡ files) × IsStratified s head.strata
+with_head s files o head is current = subst (IsCurrent s files) is current
+
+module _ (b : Held) (bytes : List ℕ) (p : Proof) (text : ProofText p bytes) (current : IsCurrent b.schema b.files p.head) where
+  current_not_stale : (part : Part) → ¬ IsStaleFor b.files bytes part
+  current_not_stale part r =
+      let same : p ≡ r.proof = proofs_same p r.proof bytes text r.text in
+      let (files, strata) = with_head b.schema b.files p.head r.head (ap (λ (x : Proof). x.head) same ∙ r.is_head) current in
+      not_stale r.head.files b.files files part r.stale
+
+  current_stratified : ¬ IsUnstratified b.schema b.files bytes
+  current_stratified r =
+      let same : p ≡ r.proof = proofs_same p r.proof bytes text r.text in
+      let (files, strata) = with_head b.schema b.files p.head r.head (ap (λ (x : Proof). x.head) same ∙ r.is_head) current in
+      r.rises strata
+
 module _ (b : Held) (d : AreDistinct b.terms) (bytes : List ℕ) where
   -- what is accepted is not rejected
   pub accepted_not_rejected : (terms : List Term) (answers : List Answer) (r : CheckError) → Accepted b bytes terms answers → ¬ Rejects b bytes r
-  accepted_not_rejected terms answers (CheckErrors.Syntax at) a = λ fault. fault.none a.found.proof a.found.read.text
+  accepted_not_rejected terms answers (CheckErrors.Syntax at) a = λ fault. fault.none a.found.found.proof a.found.found.read.text
+  accepted_not_rejected terms answers (CheckErrors.Stale part) a = λ r. current_not_stale b bytes a.found.found.proof a.found.found.read.text a.found.current part r
+  accepted_not_rejected terms answers CheckErrors.Strata a = λ r. current_stratified b bytes a.found.found.proof a.found.found.read.text a.found.current r
   accepted_not_rejected terms answers CheckErrors.Full a = λ r. r
   accepted_not_rejected terms answers CheckErrors.Memory a = λ r. r
   accepted_not_rejected terms answers (CheckErrors.Rejected i w) a = λ r.
-      let one = reading_one b.terms terms r.terms bytes a.found.proof r.found.proof a.found.nodes r.found.nodes d a.found.read r.found.read in
-      let on_one : AreAccepted (setting_of r.strata b.schema terms b.graph a.found.nodes) a.found.proof =
-      subst (λ f. AreAccepted (setting_of f b.schema terms b.graph a.found.nodes) a.found.proof) (strata_one b.schema a.strata r.strata a.are_strata r.are_strata) a.found.accepted in
-      let A : List Term → List TermId → Proof → Type 0 = λ ts ns p. AreAccepted (setting_of r.strata b.schema ts b.graph ns) p in
-      let first : A r.terms a.found.nodes a.found.proof = subst (λ ts. A ts a.found.nodes a.found.proof) one.table on_one in
-      let second : A r.terms r.found.nodes a.found.proof = subst (λ ns. A r.terms ns a.found.proof) one.numbers first in
-      let third : A r.terms r.found.nodes r.found.proof = subst (λ p. A r.terms r.found.nodes p) one.proof second in
-      not_both (setting_of r.strata b.schema r.terms b.graph r.found.nodes) r.found.proof i w r.found.rejected third
+      let x = a.found.found in
+      let y = r.found.found in
+      let f = r.found.strata in
+      let one = reading_one b.terms terms r.terms bytes x.proof y.proof x.nodes y.nodes d x.read y.read in
+      let used : AreUsed b.schema y.proof.head a.found.strata = subst (λ (p : Proof). AreUsed b.schema p.head a.found.strata) one.proof a.found.used in
+      let A : List ℕ → List Term → List TermId → Proof → Type 0 = λ h ts ns p. AreAccepted (setting_of h b.schema ts b.graph ns) p in
+      let on_one : A f terms x.nodes x.proof = subst (λ h. A h terms x.nodes x.proof) (used_one b.schema y.proof.head a.found.strata f used r.found.used) x.accepted in
+      let first : A f r.terms x.nodes x.proof = subst (λ ts. A f ts x.nodes x.proof) one.table on_one in
+      let second : A f r.terms y.nodes x.proof = subst (λ ns. A f r.terms ns x.proof) one.numbers first in
+      let third : A f r.terms y.nodes y.proof = subst (λ p. A f r.terms y.nodes p) one.proof second in
+      not_both (setting_of f b.schema r.terms b.graph y.nodes) y.proof i w y.rejected third
 
   -- a table that takes the lines up is not full for them
-  not_full : (terms : List Term) (p : Proof) (nodes : List TermId) → IsReadAs b.terms terms bytes p nodes → length terms ≤ max_terms → ¬ IsFullFor b.terms bytes
+  not_full : (terms : List Term) (p : Proof) (nodes : List TermId) → IsReadAs b.terms terms bytes p nodes → length terms ≤ max_terms → ¬ IsFullFor b.schema b.files b.terms bytes
   not_full terms p nodes read few = λ full.
       let same : full.proof ≡ p = proofs_same full.proof p bytes full.text read.text in
       let much : max_terms < length terms = full.full terms (taken_distinct p.nodes b.terms terms d read.table) (taken_keeps p.nodes b.terms terms read.table)
       (λ t h. numbered_held terms p.nodes nodes read.numbers t (subst (λ x. Contains x.nodes t) same h)) in
       absurd (omega (arith, few, much))
 
-  pub accepted_not_full : (terms : List Term) (answers : List Answer) → Accepted b bytes terms answers → ¬ IsFullFor b.terms bytes
-  accepted_not_full terms answers a = not_full terms a.found.proof a.found.nodes a.found.read a.few
+  pub accepted_not_full : (terms : List Term) (answers : List Answer) → Accepted b bytes terms answers → ¬ IsFullFor b.schema b.files b.terms bytes
+  accepted_not_full terms answers a = not_full terms a.found.found.proof a.found.found.nodes a.found.found.read a.few
 
-  pub rejected_not_full : (r : CheckError) → Rejects b bytes r → ¬ IsFullFor b.terms bytes
+  pub rejected_not_full : (r : CheckError) → Rejects b bytes r → ¬ IsFullFor b.schema b.files b.terms bytes
   rejected_not_full (CheckErrors.Syntax at) fault = λ full. fault.none full.proof full.text
+  rejected_not_full (CheckErrors.Stale part) stale = λ full. current_not_stale b bytes full.proof full.text full.current part stale
+  rejected_not_full CheckErrors.Strata unstratified = λ full. current_stratified b bytes full.proof full.text full.current unstratified
   rejected_not_full CheckErrors.Full h = absurd h
   rejected_not_full CheckErrors.Memory h = absurd h
-  rejected_not_full (CheckErrors.Rejected i w) r = not_full r.terms r.found.proof r.found.nodes r.found.read r.few
+  rejected_not_full (CheckErrors.Rejected i w) r = not_full r.terms r.found.found.proof r.found.found.nodes r.found.found.read r.few

@@ -7,7 +7,6 @@ use Rattle.rdf_terms.specs.declared.terms.Term.{Term}
 use Rattle.rdf_terms.specs.declared.terms.TermId.{TermId}
 use Rattle.schema_tree.specs.declared.schema.Answer.{Answer}
 use Rattle.schema_tree.specs.declared.schema.Pair.{Pair}
-use Rattle.schema_tree.specs.Edges.{IsStratum}
 use Rattle.schema_tree.specs.Typings.{HoldsEnds}
 use Rattle.proof_file.specs.declared.Proof.{Proof}
 use Rattle.proof_file.specs.declared.Why.{Why}
@@ -15,7 +14,7 @@ use Rattle.proof_file.specs.Laws.{HoldsLines, IsTrueProof}
 use Rattle.proof_file.specs.Text.{IsFault}
 use Rattle.proof_checker.specs.declared.checking.CheckError.{CheckError}
 use Rattle.proof_checker.specs.declared.checking.CheckError.TheVariants as CheckErrors
-use Rattle.proof_checker.specs.Checks.{IsFullFor, IsRejectedAs}
+use Rattle.proof_checker.specs.Checks.{IsFullFor, IsRejectedFor, IsStaleFor, IsUnstratified}
 use Rattle.shape_map.specs.Results.{result_text}
 use Rattle.schema_tree.specs.Truths.{IsTypingOf}
 use Rattle.command_words.specs.Asked.{Command}
@@ -44,7 +43,7 @@ pub record Confirms (h : Held) (bytes text : List ℕ) : Type 0 where
   pub terms : List Term
   pub answers : List Answer
   pub accepted : Accepted h bytes terms answers
-  pub truth : IsTrueOf h terms accepted.found.nodes accepted.found.proof
+  pub truth : IsTrueOf h terms accepted.found.found.nodes accepted.found.found.proof
   pub text_is : text ≡ result_text terms answers
 
 -- the proof's file holds such bytes
@@ -54,17 +53,19 @@ pub record IsCheckedAs (told : Told) (c : Command) (text : List ℕ) : Type 0 wh
   pub given : IsGiven told c held bytes
   pub confirmed : Confirms held bytes text
 
--- the bytes are rejected by this check of the item i, with each Shape on its stratum, and the table can hold the terms
+-- the bytes are the text of a proof that is current for the files, and rejected by this check of the item i, by the strata that it
+-- uses, and the table can hold the terms
 pub record IsItemRejected (h : Held) (bytes : List ℕ) (i : ℕ) (w : Why) : Type 0 where
-  pub strata : List ℕ
-  pub are_strata : IsStratum h.schema strata
   pub terms : List Term
-  pub found : IsRejectedAs strata h.schema h.terms terms h.graph bytes i w
+  pub found : IsRejectedFor h.schema h.files h.terms terms h.graph bytes i w
   pub few : length terms ≤ max_terms
 
--- the bytes are rejected for this cause: they are the text of no proof, or an item is not accepted
+-- the bytes are rejected for this cause: they are the text of no proof, or of one that names other files, or of one whose strata are
+-- no stratification of the schema, or an item is not accepted
 abbrev pub Rejects : Held → List ℕ → CheckError → Type 0
 Rejects h bytes (CheckErrors.Syntax at) = IsFault bytes at
+Rejects h bytes (CheckErrors.Stale part) = IsStaleFor h.files bytes part
+Rejects h bytes CheckErrors.Strata = IsUnstratified h.schema h.files bytes
 Rejects h bytes (CheckErrors.Rejected i w) = IsItemRejected h bytes i w
 Rejects h bytes CheckErrors.Full = ⊥
 Rejects h bytes CheckErrors.Memory = ⊥
@@ -73,13 +74,13 @@ Rejects h bytes CheckErrors.Memory = ⊥
 abbrev pub IsRejected : Told → Command → CheckError → Type 0
 IsRejected told c error = (h : Held) × (bytes : List ℕ) × IsGiven told c h bytes × Rejects h bytes error
 
--- the table cannot take up the node lines of the proof that the proof's file holds
+-- the proof's file holds a proof that is current for the files, and whose node lines the table cannot take up
 abbrev pub IsFull : Told → Command → Type 0
-IsFull told c = (h : Held) × (bytes : List ℕ) × IsGiven told c h bytes × IsFullFor h.terms bytes
+IsFull told c = (h : Held) × (bytes : List ℕ) × IsGiven told c h bytes × IsFullFor h.schema h.files h.terms bytes
 
 -- the bytes are refused for this cause: they are rejected, or the table cannot take up the node lines
 abbrev pub Refuses : Held → List ℕ → CheckError → Type 0
-Refuses h bytes CheckErrors.Full = IsFullFor h.terms bytes
+Refuses h bytes CheckErrors.Full = IsFullFor h.schema h.files h.terms bytes
 Refuses h bytes error = Rejects h bytes error
 
 -- why the bytes are not confirmed

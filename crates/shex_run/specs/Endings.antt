@@ -43,7 +43,7 @@ pub record IsAnswered (told after : Told) (c : Command) (status : ℕ) (text not
   pub are_wide : AreWide question.held.schema question.terms question.held.graph budget question.pairs wide
   pub notes_are : notes ≡ notes_of question budget answers wide
 
--- the text is the result map of the claims of an accepted proof, nothing more is due, and nothing is stored
+-- the text is the result map of the claims of a current and accepted proof, nothing more is due, and nothing is stored
 pub record IsConfirmed (told after : Told) (c : Command) (status : ℕ) (text notes : List ℕ) : Type 0 where
   pub checked : IsCheckedAs told c text
   pub unstored : after ≡ told
@@ -64,7 +64,7 @@ pub record IsRespondedTo (told after : Told) (words : List Text) (status : ℕ) 
 abbrev pub IsWordsLine : List Text → List ℕ → Type 0
 IsWordsLine words line = (f : Fault) × IsFirstFault words f × (line ≡ words_line f)
 
--- the line is that of the refusal of a file of the inputs, or of a proof whose node lines the table cannot take up
+-- the line is that of the refusal of a file of the inputs, or of a current proof whose node lines the table cannot take up
 abbrev pub IsRefusalLine : Told → Command → List ℕ → Type 0
 IsRefusalLine told c line =
     ((refusal : InputRefusal) × IsRefused told c refusal × (line ≡ refusal_line c (Refusals.Input refusal)))

@@ -6,7 +6,8 @@ use Rattle.rdf_terms.specs.Tables.{max_terms}
 use Rattle.rdf_terms.specs.declared.terms.Term.{Term}
 use Rattle.schema_tree.specs.declared.schema.Answer.{Answer}
 use Rattle.schema_tree.specs.Edges.{IsStratum}
-use Rattle.proof_checker.specs.Checks.{IsAcceptedAs}
+use Rattle.proof_file.specs.declared.head.Head.{Head}
+use Rattle.proof_checker.specs.Checks.{IsAcceptedFor}
 use Rattle.command_words.specs.Asked.{Command}
 use Rattle.shex_inputs.specs.Asked.{IsAskedOf, Question}
 use Rattle.shex_inputs.specs.Held.{Held}
@@ -16,12 +17,11 @@ use Rattle.typing_answers.specs.Proofs.{AreRecordsOf, HasNoMoreNodes}
 use Rattle.typing_answers.specs.Replies.{AreReplies}
 use Rattle.shex_run.specs.Tasks.{IsToValidate, inputs_of}
 
--- the bytes are the text of a proof that is accepted for the schema, with each Shape on its stratum, and the graph, the table,
--- which can hold them, has these terms once it has taken up the proof's node lines, and the answers are the proof's claims
+-- the bytes are the text of a proof that is current for the files, and accepted for the schema and the graph by the strata that it
+-- uses, the table, which can hold them, has these terms once it has taken up the proof's node lines, and the answers are the proof's
+-- claims
 pub record Accepted (h : Held) (bytes : List ℕ) (terms : List Term) (answers : List Answer) : Type 0 where
-  pub strata : List ℕ
-  pub are_strata : IsStratum h.schema strata
-  pub found : IsAcceptedAs strata h.schema h.terms terms h.graph bytes answers
+  pub found : IsAcceptedFor h.schema h.files h.terms terms h.graph bytes answers
   pub few : length terms ≤ max_terms
 
 -- the files hold this question for the command, and these are its true answers: the associations' nodes and targets in their
@@ -33,13 +33,17 @@ pub record AreAnswers (told : Told) (c : Command) (q : Question) (budget : ℕ) 
   pub refined : IsRefined q.held.schema q.terms q.held.graph q.held.strata q.pairs budget verdicts
   pub replies : AreReplies q.held.schema q.terms verdicts q.held.graph budget q.associations answers
 
--- the bytes are a proof whose claims are the answers, so that a check of them with the same schema and data accepts them, whose
--- records are those of refinement over the pairs that are asked for, and which has no other node lines than those of its records and
--- claims
+-- the bytes are a proof whose claims are the answers, so that a check of them with the same files accepts them, which names these
+-- files and brings the strata of the schema, whose records are those of refinement over the pairs that are asked for, and which has no
+-- other node lines than those of its records and claims
 pub record IsStoredProofOf (q : Question) (budget : ℕ) (answers : List Answer) (bytes : List ℕ) : Type 0 where
   pub accepted : Accepted q.held bytes q.terms answers
-  pub recorded : AreRecordsOf q.held.schema q.terms q.held.graph q.held.strata q.pairs budget accepted.found.nodes accepted.found.proof.sections
-  pub lean : HasNoMoreNodes accepted.found.nodes answers accepted.found.proof
+  pub head : Head
+  pub is_head : accepted.found.found.proof.head ≡ Some head
+  pub files : head.files ≡ q.held.files
+  pub least : IsStratum q.held.schema head.strata
+  pub recorded : AreRecordsOf q.held.schema q.terms q.held.graph q.held.strata q.pairs budget accepted.found.found.nodes accepted.found.found.proof.sections
+  pub lean : HasNoMoreNodes accepted.found.found.nodes answers accepted.found.found.proof
 
 -- where a name is given, it holds some bytes of which P is true, as far as is told, and each other name what it held; where
 -- none is given, each name holds what it held

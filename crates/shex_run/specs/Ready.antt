@@ -1,5 +1,6 @@
 -- What the functions that answer promise one another.
-use Rattle.std.specs.Prelude.{ℕ, Bool, List, All, Contains, Some, ◌≡◌, ◌≤◌, IfSome, is_some, length, map, slice_get}
+use Rattle.std.specs.Prelude.{ℕ, Bool, List, All, Contains, Option, Some, None, ◌≡◌, ◌≤◌, IfSome, if◌then◌else◌, is_some, length, map, slice_get}
+use Rattle.std.specs.List.{AllByRecursion}
 use Rattle.rdf_terms.specs.OneLine.{HasOneLine}
 use Rattle.rdf_terms.specs.declared.terms.Term.{Term}
 use Rattle.rdf_terms.specs.declared.terms.TermId.{TermId}
@@ -10,13 +11,15 @@ use Rattle.graph_index.specs.Laws.{IsOfTable}
 use Rattle.schema_tree.specs.declared.schema.Answer.{Answer}
 use Rattle.schema_tree.specs.Loaded.{IsLoaded}
 use Rattle.proof_file.specs.declared.Proof.{Proof}
-use Rattle.proof_file.specs.Text.{HasNoFeeds, Keeps, ProofText}
+use Rattle.proof_file.specs.declared.head.Head.{Head}
+use Rattle.proof_file.specs.Text.{HasNoFeeds, IsLine, Keeps, ProofText, head_lines}
 use Rattle.shape_map.specs.declared.resolve.Association.{Association}
 use Rattle.shape_map.specs.Results.{result_text}
 use Rattle.shape_map.specs.Selection.{max_associations}
 use Rattle.command_words.specs.Asked.{Command}
 use Rattle.shex_inputs.specs.declared.holding.Holding.{Holding}
 use Rattle.shex_inputs.specs.Asked.{Question, root_of}
+use Rattle.shex_inputs.specs.Held.{Held}
 use Rattle.shape_map.specs.Answers.{IsAsked}
 use Rattle.typing_answers.specs.Proofs.{HasLines, IsProofOf as Proves}
 use Rattle.typing_answers.specs.Replies.{AreReplies}
@@ -43,8 +46,17 @@ IsOnLine terms n = (t : Term) → slice_get terms n.0 ≡ Some t → HasOneLine 
 abbrev pub AreOnLines : List Term → List Triple → Type 0
 AreOnLines terms graph = (t : Triple) → Contains graph t → IsOnLine terms t.s × IsOnLine terms t.o
 
--- the associations can be answered over the schema, the table and the graph, by the pairs that they reach
-pub record IsReady (h : Holding) (associations : List Association) (pairs : List Pair) (budget : ℕ) : Type 0 where
+-- the head of a proof over what is held: the digests of its files, and the strata of its Shapes
+abbrev pub head_of : Held → Head
+head_of h = record { files = h.files; strata = h.strata }
+
+-- the same, if it is wanted
+abbrev pub head_if : Bool → Held → Option Head
+head_if wanted h = if wanted then Some (head_of h) else None
+
+-- the associations can be answered over the schema, the table and the graph, by the pairs that they reach, and their proof can have
+-- this head, if it is one
+pub record IsReady (h : Holding) (associations : List Association) (pairs : List Pair) (budget : ℕ) (head : Option Head) : Type 0 where
   pub within : budget ≤ max_budget
   pub loaded : IsLoaded h.schema
   pub strata : IsStratum h.schema h.strata
@@ -57,16 +69,18 @@ pub record IsReady (h : Holding) (associations : List Association) (pairs : List
   pub few_pairs : length pairs ≤ max_pairs
   pub lines : All (HasLines h.terms) associations
   pub ends : AreOnLines h.terms h.graph.triples
+  pub headed : AllByRecursion IsLine (head_lines head)
 
--- the answers are those by the verdicts of refinement, their status, text and notes are these, and so is their proof, which is
--- there exactly where it is wanted
-pub record IsDecided (h : Holding) (associations : List Association) (pairs : List Pair) (budget : ℕ) (with_proof : Bool) (d : Decided) : Type 0 where
+-- the answers are those by the verdicts of refinement, their status, text and notes are these, and so is their proof, which
+-- is there exactly where there is a head, and has it
+pub record IsDecided (h : Holding) (associations : List Association) (pairs : List Pair) (budget : ℕ) (head : Option Head) (d : Decided) : Type 0 where
   pub verdicts : Known
   pub refined : IsRefined h.schema h.terms h.graph.triples h.strata pairs budget verdicts
   pub answers : List Answer
   pub replies : AreReplies h.schema h.terms verdicts h.graph.triples budget associations answers
   pub proof : IfSome d.proof (Proves h.strata h.schema h.terms h.graph.triples pairs budget answers)
-  pub wanted : is_some d.proof ≡ with_proof
+  pub headed : IfSome d.proof (λ p. p.head ≡ head)
+  pub wanted : is_some d.proof ≡ is_some head
   pub low : IsAnswering d.status
   pub status_is : d.status ≡ status_of associations answers
   pub text_is : d.text.items ≡ result_text h.terms answers

@@ -34,6 +34,8 @@ IsStatus status = IsAnswering status ⊎ ((status ≡ 2) ⊎ ((status ≡ 3) ⊎
 -- the status of a proof that is not accepted: 6 where it is rejected, and 3 where the table cannot take up its node lines
 abbrev pub check_status : CheckError → ℕ
 check_status (CheckErrors.Syntax at) = 6
+check_status (CheckErrors.Stale part) = 6
+check_status CheckErrors.Strata = 6
 check_status (CheckErrors.Rejected number why) = 6
 check_status CheckErrors.Full = 3
 check_status CheckErrors.Memory = 6

@@ -19,6 +19,7 @@ ghost use Rattle.shex_run.specs.Tasks.{inputs_of};
 
 use crate::checking::confirm;
 use crate::deciding::{Decided, decide};
+use crate::head::head_if;
 use crate::stop::{File, Stop, stop_of};
 use command_words::{Checking, Command, Validation, bases_are_lines};
 use data_reader::data_have_lines;
@@ -104,19 +105,14 @@ fn decide_map<F: Files>(
     labels_have_lines();
     width_is_one();
     are_texts(validation.inputs.schema_base, validation.inputs.data_base);
+    let head = head_if(alloc, holding, validation.proof.is_some())?;
     let asked = match read_map(alloc, files, &validation.inputs, validation.map, holding) {
         Ok(asked) => asked,
         Err(error) => return Err(stop_of(error)),
     };
     // The length of a table tells contracts that it is within the limit.
     let _count = holding.terms.len();
-    match decide(
-        alloc,
-        holding,
-        asked,
-        validation.budget,
-        validation.proof.is_some(),
-    ) {
+    match decide(alloc, holding, asked, validation.budget, head) {
         Ok(decided) => Ok(decided),
         Err(_) => Err(Stop::Memory),
     }

@@ -10,13 +10,12 @@ ghost use Rattle.shex_run.specs.Checking.{ConfirmStops, Confirms};
 
 use crate::stop::{Stop, check_stop};
 use proof_checker::check;
-use proof_file::accepted_is_true;
 use schema_tree::laws::typing_is_one;
 use shape_map::write_result;
 use shex_inputs::Holding;
 use std::alloc::Global;
 
-/// The result map of the claims of a proof that is accepted, or why it is not.
+/// The result map of the claims of a proof that is current and accepted, or why it is not.
 pub fn confirm(alloc: Global, holding: Holding, proof: &[u8]) -> Result<Vec<u8>, Stop>
     requires loaded { IsLoaded holding.schema }
     requires strata { IsStratum holding.schema holding.strata }
@@ -32,12 +31,12 @@ pub fn confirm(alloc: Global, holding: Holding, proof: &[u8]) -> Result<Vec<u8>,
         labels: _,
         mut graph,
         names: _,
+        files,
     } = holding;
-    // The laws that tie what is accepted to the complete typing.
+    // The law by which there is a complete typing.
     typing_is_one();
-    accepted_is_true();
     graph.seal(&terms)?;
-    let checked = check(alloc, &schema, &graph, &mut terms, proof);
+    let checked = check(alloc, &schema, &graph, &mut terms, &files, proof);
     // The length of a table tells contracts that it is within the limit.
     let _count = terms.len();
     let claims = match checked {

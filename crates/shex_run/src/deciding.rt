@@ -2,13 +2,14 @@
 
 ghost use Rattle.std.specs.Prelude.{◌≡◌, ◌++◌, ◌<◌, ℕ, Contains, IfOk, IfSome, List, OnOk, is_some, length, map, true};
 ghost use Rattle.std.specs.Bool.{beq};
-ghost use Rattle.std.specs.List.{flat_map};
+ghost use Rattle.std.specs.List.{AllByRecursion, flat_map};
 ghost use Rattle.rdf_terms.specs.Order.{text_at};
 ghost use Rattle.rdf_terms.specs.declared.terms.Triple.{Triple};
 ghost use Rattle.schema_tree.specs.declared.schema.Answer.{Answer as Given};
 ghost use Rattle.schema_tree.specs.declared.schema.Pair.{Pair};
 ghost use Rattle.schema_tree.specs.declared.schema.Schema.{Schema as Tree};
 ghost use Rattle.schema_tree.specs.Sure.{Known};
+ghost use Rattle.proof_file.specs.Text.{IsLine, head_lines};
 ghost use Rattle.shape_map.specs.Results.{result_text};
 ghost use Rattle.typing_answers.specs.Proofs.{AreInRange, AreShownFor, IsProofOf};
 ghost use Rattle.typing_refiner.specs.declared.wanted.Wanted.TheVariants as Wanteds;
@@ -17,6 +18,7 @@ ghost use Rattle.shex_run.specs.Statuses.{IsAnswering, are_wanted, status_by};
 ghost use Rattle.shex_run.specs.Texts.{notes_by, wide_line, wide_lines};
 
 use proof_file::Proof;
+use proof_file::head::Head;
 use rdf_terms::table::TermTable;
 use rdf_terms::terms::TermId;
 use rdf_terms::written::write_term;
@@ -173,38 +175,40 @@ fn wanted(with_proof: bool) -> Wanted
     }
 }
 
-/// The proof of answers that are sure by the verdicts of a refinement, if it is wanted.
+/// The proof of answers that are sure by the verdicts of a refinement, if there is a head for it.
 fn proof_if(
     alloc: Global,
-    with_proof: bool,
+    head: Option<Head>,
     terms: &TermTable,
     refined: Refined,
     answers: &[Answer],
 ) -> Result<Option<Proof>, AllocError>
-    requires { with_proof ≡ true → AreInRange terms.now refined.nodes refined.sections answers.now }
-    ensures wanted { IfOk result (λ p. is_some p ≡ with_proof) }
+    requires lines { AllByRecursion IsLine (head_lines head) }
+    requires range { is_some head ≡ true → AreInRange terms.now refined.nodes refined.sections answers.now }
+    ensures wanted { IfOk result (λ p. is_some p ≡ is_some head) }
+    ensures headed { IfOk result (λ p. IfSome p (λ q. q.head ≡ head)) }
     ensures proof { IfOk result (λ p. (s : Tree) (g : List Triple) (f : List ℕ) (pairs : List Pair) (budget : ℕ) (verdicts : Known) →
-        (with_proof ≡ true → AreShownFor s terms.now g f pairs budget verdicts refined.nodes refined.sections answers.now) →
+        (is_some head ≡ true → AreShownFor s terms.now g f pairs budget verdicts refined.nodes refined.sections answers.now) →
         IfSome p (IsProofOf f s terms.now g pairs budget answers.now)) }
 {
-    if !with_proof {
+    if head.is_none() {
         return Ok(None);
     }
     let records = refined.into_records();
-    Ok(Some(proof_of(alloc, terms, records, answers)?))
+    Ok(Some(proof_of(alloc, terms, head, records, answers)?))
 }
 
-/// The answers to what a map asks of a schema and a graph, with their proof if it is wanted. Pairs whose Width is above the
-/// budget are not looked into.
+/// The answers to what a map asks of a schema and a graph, with their proof, if there is a head for it. Pairs whose Width is above
+/// the budget are not looked into.
 pub fn decide(
     alloc: Global,
     holding: &Holding,
     asked: Asked,
     budget: u64,
-    with_proof: bool,
+    head: Option<Head>,
 ) -> Result<Decided, AllocError>
-    requires { IsReady holding.now asked.associations.items asked.pairs budget }
-    ensures { IfOk result (IsDecided holding.now asked.associations.items asked.pairs budget with_proof) }
+    requires { IsReady holding.now asked.associations.items asked.pairs budget head }
+    ensures { IfOk result (IsDecided holding.now asked.associations.items asked.pairs budget head) }
 {
     // The law by which what is sure is true.
     sure_answers_are_true();
@@ -215,7 +219,7 @@ pub fn decide(
     let schema = &holding.schema;
     let terms = &holding.terms;
     let strata = &holding.strata;
-    let wanted = wanted(with_proof);
+    let wanted = wanted(head.is_some());
     let wants = wants(alloc, associations.as_slice())?;
     let refined = refine(
         alloc,
@@ -233,7 +237,7 @@ pub fn decide(
     let wide = refined.wide();
     let notes = notes(alloc, terms, wants.len(), budget, answers, wide)?;
     let status = status(wants.as_slice(), answers);
-    let proof = proof_if(alloc, with_proof, terms, refined, answers)?;
+    let proof = proof_if(alloc, head, terms, refined, answers)?;
     Ok(Decided {
         status,
         text,

@@ -22,7 +22,7 @@ pub enum File {
 pub enum Refusal {
     /// A file of the inputs is not taken.
     Input(InputRefusal),
-    /// The proof that is checked is not accepted.
+    /// The proof that is checked is not current, or not accepted.
     Proof(CheckError),
 }
 

@@ -99,9 +99,10 @@ fn end<F: Files, O: Sink, E: Sink>(
 ///
 /// `validate --schema F --data F --map F [--proof F] [--budget N] [--schema-base I] [--data-base I] [IRI=FILE ..]` answers
 /// each association of the shape map over the schema and the data, and prints a result shape map to `out`. With `--proof` it
-/// first stores a proof of the answers under that name. `check --schema F --data F --proof F [--schema-base I]
-/// [--data-base I] [IRI=FILE ..]` asks whether the proof in the file of that name is accepted, and prints its claims as a
-/// result shape map. Where there is no answer, one line on `err` says why, unless memory ran out.
+/// first stores a proof of the answers under that name, which names the schema's files and the data file by their digests.
+/// `check --schema F --data F --proof F [--schema-base I] [--data-base I] [IRI=FILE ..]` asks whether the proof in the file
+/// of that name is current for these files and accepted, and prints its claims as a result shape map. Where there is no
+/// answer, one line on `err` says why, unless memory ran out.
 ///
 /// The status is 0 where each association is answered as it wants or the proof is accepted, 1 where some association is
 /// not, 4 where some association has no answer, since it depends on a pair that is wider than the budget, 2 where the words
@@ -119,8 +120,8 @@ pub fn run<F: Files, O: Sink, E: Sink>(
     // An answer is the truth of what the files hold, by the complete typing over the graph, and the answers alone are
     // printed. Those associations alone are left out, with status 4, on which the verdicts of refinement are Unknown, so that
     // they depend on a pair whose Width is above the budget, and then each such pair that the associations reach is noted.
-    // The proof that is stored is accepted, its claims are the answers, and its records those of refinement. The claims of a
-    // proof that is accepted are true.
+    // The proof that is stored is accepted, its claims are the answers, and its records those of refinement; it names the
+    // files by their digests, and brings the strata of the schema. The claims of a proof that is current and accepted are true.
     ensures answered { IsAnswering result →
         (text notes : List ℕ)
         × IsRespondedTo (F.told files.old) (F.told files.new) (map string_bytes words.now) result text notes

@@ -1,5 +1,5 @@
 -- The stored proof keeps the orders and limits of a proof's text.
-use Rattle.std.proofs.Common.{◌≡◌, ℕ, zero, suc, ◌<◌, ◌≤◌, inl, inr, ◌⊎◌, List, [], ◌∷◌, ◌++◌, refl, sym, ◌∙◌, ap, subst, arith, map, length}
+use Rattle.std.proofs.Common.{◌≡◌, ℕ, ◌<◌, ◌≤◌, inl, inr, ◌⊎◌, List, [], ◌∷◌, ◌++◌, refl, sym, ◌∙◌, ap, subst, arith, map, length}
 use Rattle.std.proofs.lemmas.Cmp.{nat_cmp_total, ranked, tied_itself}
 use Rattle.std.proofs.lemmas.List.{length-map}
 use Rattle.std.proofs.lemmas.Map.Keys.{sorted_head, sorted_tail}
@@ -10,13 +10,13 @@ use Rattle.std.specs.Cmp.Lexicographic.{slice_cmp}
 use Rattle.std.specs.List.{AllByRecursion, AllZip, flat_map}
 use Rattle.std.specs.List.Sorted.{IsStrictlySortedBy}
 use Rattle.std.specs.Ordering.{MatchOrdering, is_eq, nat_cmp, ordering_then}
-use Rattle.std.specs.Prelude.{Contains, Some, slice_get}
+use Rattle.std.specs.Prelude.{Contains, Option, Some, None, slice_get}
 use Rattle.std.specs.declared.cmp.Ordering.{Ordering}
 use Rattle.std.specs.declared.cmp.Ordering.TheVariants.{Less, Equal, Greater}
 use Rattle.lists.specs.Distinct.{AreDistinct}
 use Rattle.lists.proofs.Beside.{beside_back}
-use Rattle.lists.proofs.Members.{from_flat_map, from_map, got_in, in_map, in_rest}
-use Rattle.lists.proofs.Quantifiers.{all_append, all_at, all_mapped, all_of, all_weaker}
+use Rattle.lists.proofs.Members.{from_flat_map, from_map, in_map, in_rest}
+use Rattle.lists.proofs.Quantifiers.{all_append, all_mapped, all_of, all_weaker}
 use Rattle.rdf_terms.specs.Laws.{IsTerm, TextsAreDistinct}
 use Rattle.rdf_terms.specs.OneLine.{HasOneLine}
 use Rattle.rdf_terms.specs.Order.{compare_at, text_if_any}
@@ -29,11 +29,14 @@ use Rattle.rdf_terms.proofs.TermTexts.{whole_term}
 use Rattle.schema_tree.specs.Targets.{target_text}
 use Rattle.schema_tree.specs.Rising.{Rises, RisesFrom}
 use Rattle.proof_file.specs.Accepts.{AreNumbers}
-use Rattle.proof_file.specs.Text.{HasNoFeed, HasNoFeeds, IsKind, IsLine, IsNumber, IsRecordBefore, IsSectionBefore, IsTermBefore, Keeps, lines_of, section_lines}
+use Rattle.proof_file.specs.Text.{HasNoFeed, HasNoFeeds, IsKind, IsLine, IsNumber, IsRecordBefore, IsSectionBefore, IsTermBefore, Keeps, body_lines, head_lines, lines_of, section_lines}
 use Rattle.proof_file.specs.declared.Claim.{Claim}
 use Rattle.proof_file.specs.declared.Proof.{Proof}
 use Rattle.proof_file.specs.declared.Record.{Record}
 use Rattle.proof_file.specs.declared.Section.{Section}
+use Rattle.proof_file.specs.declared.head.Digest256.{Digest256}
+use Rattle.proof_file.specs.declared.head.Head.{Head}
+use Rattle.proof_file.specs.declared.head.Part.TheVariants as Parts
 use Rattle.proof_file.specs.declared.line.Line.{Line}
 use Rattle.proof_file.specs.declared.line.Line.TheVariants as Lines
 use Rattle.typing_refiner.specs.Evidence.{AreRenumbered, IsListed, IsSameRecord}
@@ -146,14 +149,24 @@ module _ (terms : List Term) (own lines : List TermId) (own_up : IsStrictlySorte
 
 -- ---- the lines
 
+-- the lines of a head have no term and no target
+head_clean : (head : Option Head) → AllByRecursion HasNoFeed (head_lines head)
+head_clean None = tt
+head_clean (Some h) = (tt, all_append HasNoFeed (map (λ d. Lines.Digest Parts.Import d) h.files.imports) (Lines.Digest Parts.Data h.files.graph ∷ Lines.Strata h.strata ∷ []) (imports h.files.imports) (tt, (tt, tt)))
+  where
+    imports : (ds : List Digest256) → AllByRecursion HasNoFeed (map (λ d. Lines.Digest Parts.Import d) ds)
+    imports [] = tt
+    imports (d ∷ ds) = (tt, imports ds)
+
 -- what holds of each kind of line holds of all lines
-all_lines : (P : Line → Type 0) (p : Proof) → ((t : Term) → Contains p.nodes t → P (Lines.Node t)) → ((x : Section) → Contains p.sections x → P (Lines.Section x.stratum)) →
+all_lines : (P : Line → Type 0) (p : Proof) → AllByRecursion P (head_lines p.head) → ((t : Term) → Contains p.nodes t → P (Lines.Node t)) → ((x : Section) → Contains p.sections x → P (Lines.Section x.stratum)) →
     ((k : ℕ) (r : Record) → IsListed p.sections k r → P (Lines.Record r)) → ((c : Claim) → Contains p.claims c → P (Lines.Claim c)) → AllByRecursion P (lines_of p)
-all_lines P p of_node of_section of_record of_claim =
-    all_append P (map (λ t. Lines.Node t) p.nodes) (flat_map section_lines p.sections ++ map (λ c. Lines.Claim c) p.claims)
+all_lines P p of_head of_node of_section of_record of_claim =
+    all_append P (head_lines p.head) (body_lines p) of_head
+    (all_append P (map (λ t. Lines.Node t) p.nodes) (flat_map section_lines p.sections ++ map (λ c. Lines.Claim c) p.claims)
     (all_mapped P (λ t. Lines.Node t) p.nodes (all_of (λ t. P (Lines.Node t)) p.nodes of_node))
     (all_append P (flat_map section_lines p.sections) (map (λ c. Lines.Claim c) p.claims) (all_of P (flat_map section_lines p.sections) middle)
-    (all_mapped P (λ c. Lines.Claim c) p.claims (all_of (λ c. P (Lines.Claim c)) p.claims of_claim)))
+    (all_mapped P (λ c. Lines.Claim c) p.claims (all_of (λ c. P (Lines.Claim c)) p.claims of_claim))))
   where
     of_line : (x : Section) (l : Line) → Contains p.sections x → (Lines.Section x.stratum ≡ l) ⊎ Contains (map (λ r. Lines.Record r) x.records) l → P l
     of_line x l held (inl first) = subst P first (of_section x held)
@@ -166,6 +179,7 @@ all_lines P p of_node of_section of_record of_claim =
 
 -- what the lines of the proof rest on: each node's term can stand on one line, and numbers are in range
 pub record AreLinesFit (terms : List Term) (nodes : List TermId) (p : Proof) : Type 0 where
+  pub head : AllByRecursion IsLine (head_lines p.head)
   pub numbers : AreNumbers terms p.nodes nodes
   pub values : AllByRecursion IsValue p.nodes
   pub few : length nodes ≤ 16777216
@@ -194,7 +208,7 @@ module _ (terms : List Term) (nodes : List TermId) (p : Proof) (fit : AreLinesFi
   claim_clean c held = let (n, at, clean) = fit.claims_fit c held in clean
 
   pub no_feeds : HasNoFeeds p
-  no_feeds = all_lines HasNoFeed p (λ t held. (line_fits t held).1) (λ x held. tt) (λ k r listed. tt) claim_clean
+  no_feeds = all_lines HasNoFeed p (head_clean p.head) (λ t held. (line_fits t held).1) (λ x held. tt) (λ k r listed. tt) claim_clean
 
   pub whole_terms : AllByRecursion IsTerm p.nodes
   whole_terms = all_weaker IsValue IsTerm p.nodes (λ t held v. whole_term t ((line_fits t held).0, v)) fit.values
@@ -210,5 +224,5 @@ module _ (terms : List Term) (nodes : List TermId) (p : Proof) (fit : AreLinesFi
     few = few_lines;
     sections = sections_up;
     records = records_up;
-    lines = all_lines IsLine p (λ t held. (line_fits t held).0) fit.strata_fit record_fits claim_fits;
+    lines = all_lines IsLine p fit.head (λ t held. (line_fits t held).0) fit.strata_fit record_fits claim_fits;
   }

@@ -1,9 +1,8 @@
 -- Node lines, places and claims that grow by one.
 use Rattle.std.proofs.Common.{◌≡◌, ℕ, ◌<◌, ◌+◌, List, [], ◌∷◌, ◌++◌, length, take, get_or, sym, ◌∙◌, ap, subst, map}
 use Rattle.std.specs.Prelude.{Some, slice_get}
-use Rattle.std.specs.List.{AllByRecursion, AllZip}
+use Rattle.std.specs.List.{AllByRecursion}
 use Rattle.std.proofs.lemmas.List.{map-append, take_more}
-use Rattle.lists.proofs.Beside.{zip_push}
 use Rattle.lists.proofs.Quantifiers.{all_append}
 use Rattle.rdf_terms.specs.declared.terms.TermId.{TermId}
 use Rattle.proof_file.specs.Accepts.{AreNumbers}

@@ -1,8 +1,7 @@
 -- What a caller shows before it has answers proved.
-use Rattle.std.proofs.Common.{◌≡◌, ◌∙◌, ap, sym, subst, refl, ℕ, suc, Bool, true, false, List, [], ◌∷◌, ◌++◌, map, length, ◌<◌, ◌≤◌, arith, inl, inr, ◌⊎◌, length-append}
+use Rattle.std.proofs.Common.{◌≡◌, ◌∙◌, ap, sym, subst, refl, ℕ, Bool, true, false, List, [], ◌∷◌, map, length, ◌<◌, ◌≤◌, arith, inl, inr}
 use Rattle.std.specs.Prelude.{Contains, Option, Some, None, slice_get}
 use Rattle.std.proofs.lemmas.List.{length-map}
-use Rattle.std.proofs.lemmas.List.Elements.{Contains-append_cases, Contains-append_left, Contains-append_right}
 use Rattle.std.proofs.lemmas.Option.{slice_get_within}
 use Rattle.lists.proofs.Among.{few_among}
 use Rattle.lists.proofs.Members.{in_map, in_rest, is_first, is_later}
@@ -15,7 +14,7 @@ use Rattle.schema_tree.specs.declared.schema.ExprId.{ExprId}
 use Rattle.schema_tree.specs.declared.schema.Pair.{Pair}
 use Rattle.schema_tree.specs.declared.schema.Schema.{Schema}
 use Rattle.schema_tree.specs.declared.schema.ShapeId.{ShapeId}
-use Rattle.schema_tree.specs.Edges.{IsStratum, StandsIn, StandsInValue, in_and, in_not, in_or, itself}
+use Rattle.schema_tree.specs.Edges.{IsStratum, StandsInValue}
 use Rattle.schema_tree.specs.Loaded.{IsLoaded, IsTarget}
 use Rattle.schema_tree.specs.Matches.{other_end}
 use Rattle.schema_tree.specs.Needs.{Leads, Reaches, here, step}

@@ -1,6 +1,6 @@
 -- The stored proof is one of the answers.
 use Rattle.std.proofs.Common.{◌≡◌, ◌∙◌, ap, sym, subst, refl, ℕ, suc, List, map, length, ◌<◌, ◌≤◌, ◌+◌, arith, inl, inr, ◌⊎◌}
-use Rattle.std.specs.Prelude.{Contains, Some, slice_get, ◌↔◌}
+use Rattle.std.specs.Prelude.{Contains, Option, Some, slice_get, ◌↔◌}
 use Rattle.std.specs.List.{AllByRecursion, AllZip}
 use Rattle.std.specs.List.Sorted.{IsStrictlySortedBy}
 use Rattle.lists.specs.Distinct.{AreDistinct}
@@ -20,8 +20,9 @@ use Rattle.schema_tree.specs.Targets.{target_text}
 use Rattle.schema_tree.specs.Typings.{top_of}
 use Rattle.demand.specs.Orders.{max_pairs}
 use Rattle.proof_file.specs.Accepts.{AreNumbers}
-use Rattle.proof_file.specs.Text.{IsKind, IsNumber}
+use Rattle.proof_file.specs.Text.{IsKind, IsLine, IsNumber, head_lines}
 use Rattle.proof_file.specs.declared.Claim.{Claim}
+use Rattle.proof_file.specs.declared.head.Head.{Head}
 use Rattle.proof_file.specs.declared.Proof.{Proof}
 use Rattle.proof_file.specs.declared.Record.{Record}
 use Rattle.proof_file.specs.declared.Section.{Section}
@@ -40,6 +41,7 @@ pub record AreMade (terms : List Term) (own : List TermId) (sections : List Sect
   pub sorted : IsStrictlySortedBy (compare_at terms) nodes
   pub exactly : (n : TermId) → Contains nodes n ↔ (Contains own n ⊎ IsAnswered answers n)
   pub few : length nodes ≤ max_pairs + max_associations
+  pub head : AllByRecursion IsLine (head_lines p.head)
   pub numbers : AreNumbers terms p.nodes nodes
   pub values : AllByRecursion IsValue p.nodes
   pub recorded : AreRenumbered own sections nodes p.sections
@@ -53,16 +55,17 @@ counted_by terms own recorded nodes sections answers places numbers lent made ra
     omega (arith, inside, ap length lent, ap length made, same_length (IsPlace nodes) recorded places zip)
 
 -- the parts as they are lent and made
-pub made_of : (terms : List Term) (own recorded distinct nodes : List TermId) (sections moved : List Section) (answers : List Answer) (places numbers : List ℕ) (lines a : List Term) (b : List Section) (claims d : List Claim) →
-    recorded ≡ own → nodes ≡ distinct → numbers ≡ places → AreInRange terms own sections answers →
+pub made_of : (terms : List Term) (head : Option Head) (own recorded distinct nodes : List TermId) (sections moved : List Section) (answers : List Answer) (places numbers : List ℕ) (lines a : List Term) (b : List Section) (claims d : List Claim) →
+    AllByRecursion IsLine (head_lines head) → recorded ≡ own → nodes ≡ distinct → numbers ≡ places → AreInRange terms own sections answers →
     IsStrictlySortedBy (compare_at terms) distinct → ((n : TermId) → Contains distinct n ↔ (Contains recorded n ⊎ IsAnswered answers n)) → length distinct ≤ length recorded + length answers →
     AllZip (IsPlace nodes) recorded places → moved ≡ map (moved_section numbers) sections → AreNumbers terms lines nodes → AllByRecursion IsValue lines → AllZip (IsClaimOf nodes) answers claims →
-    a ≡ lines → b ≡ moved → d ≡ claims → AreMade terms own sections answers nodes (record { nodes = a; sections = b; claims = d })
-made_of terms own recorded distinct nodes sections moved answers places numbers lines a b claims d lent lent_nodes lent_places range sorted exactly few zip moved_are numbered values claimed a_is b_is d_is = record {
+    a ≡ lines → b ≡ moved → d ≡ claims → AreMade terms own sections answers nodes (record { head = head; nodes = a; sections = b; claims = d })
+made_of terms head own recorded distinct nodes sections moved answers places numbers lines a b claims d headed lent lent_nodes lent_places range sorted exactly few zip moved_are numbered values claimed a_is b_is d_is = record {
   sorted = subst (IsStrictlySortedBy (compare_at terms)) (sym lent_nodes) sorted;
   exactly = subst (λ (ns : List TermId). (n : TermId) → Contains ns n ↔ (Contains own n ⊎ IsAnswered answers n)) (sym lent_nodes)
       (subst (λ (os : List TermId). (n : TermId) → Contains distinct n ↔ (Contains os n ⊎ IsAnswered answers n)) lent exactly);
   few = omega (arith, ap length lent_nodes, ap length lent, few, range.few_nodes, range.few_answers);
+  head = headed;
   numbers = subst (λ ls. AreNumbers terms ls nodes) (sym a_is) numbered;
   values = subst (AllByRecursion IsValue) (sym a_is) values;
   recorded = subst (AreRenumbered own sections nodes) (sym (b_is ∙ moved_are ∙ ap (λ ks. map (moved_section ks) sections) lent_places))
@@ -126,6 +129,7 @@ module _ (s : Schema) (terms : List Term) (g : List Triple) (f : List ℕ) (pair
 
     fit : AreLinesFit terms nodes p
     fit = record {
+      head = made.head;
       numbers = made.numbers;
       values = made.values;
       few = omega (arith, made.few);

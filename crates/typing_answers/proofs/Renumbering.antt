@@ -3,7 +3,7 @@ use Rattle.std.proofs.Common.{◌≡◌, ◌∙◌, ap, sym, subst, refl, ℕ, z
 use Rattle.std.specs.Prelude.{Some, Contains, get_or, slice_get, option_map}
 use Rattle.std.specs.List.{AllZip, flat_map}
 use Rattle.std.proofs.lemmas.Option.{slice_get-get_or}
-use Rattle.lists.proofs.Beside.{beside, beside_back, same_length}
+use Rattle.lists.proofs.Beside.{beside, beside_back}
 use Rattle.lists.proofs.Members.{from_flat_map, from_map, in_flat_map, in_map, in_one, is_first, is_later, not_in_none}
 use Rattle.rdf_terms.specs.declared.terms.Term.{Term}
 use Rattle.rdf_terms.specs.declared.terms.TermId.{TermId}

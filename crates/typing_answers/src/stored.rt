@@ -1,11 +1,13 @@
 //! The proof that is stored for answers.
 
-ghost use Rattle.std.specs.Prelude.{ℕ, IfOk, List};
+ghost use Rattle.std.specs.Prelude.{◌≡◌, ℕ, IfOk, List};
+ghost use Rattle.std.specs.List.{AllByRecursion};
 ghost use Rattle.rdf_terms.specs.declared.terms.Triple.{Triple as Arc};
 ghost use Rattle.schema_tree.specs.declared.schema.Pair.{Pair as Held};
 ghost use Rattle.schema_tree.specs.declared.schema.Schema.{Schema as Tree};
 ghost use Rattle.schema_tree.specs.Sure.{Known};
 ghost use Rattle.lists.specs.Distinct.{AreDistinct};
+ghost use Rattle.proof_file.specs.Text.{IsLine, head_lines};
 ghost use Rattle.typing_answers.specs.Laws.{AreLaws};
 ghost use Rattle.typing_answers.specs.Proofs.{AreInRange, AreShownFor, IsProofOf};
 
@@ -13,6 +15,7 @@ use crate::claims::claims_of;
 use crate::nodes::{lines, nodes_of, places_of};
 use crate::sections::moved_sections;
 use proof_file::Proof;
+use proof_file::head::Head;
 use rdf_terms::items::Items;
 use rdf_terms::laws::texts_are_distinct;
 use rdf_terms::table::TermTable;
@@ -32,17 +35,20 @@ fn laws(terms: &TermTable)
     texts_are_distinct();
 }
 
-/// The proof of answers that are sure by the verdicts which these records show. Its node lines are the nodes of the records
+/// The proof, with this head, of answers that are sure by the verdicts which these records show. Its node lines are the nodes of the records
 /// and of the answers, each once in the order of their texts, its sections are those of the records, and its claims are the
 /// answers in their order. There are at most 4,194,304 nodes of records and 1,000,000 answers.
 pub fn proof_of(
     alloc: Global,
     terms: &TermTable,
+    head: Option<Head>,
     records: Records,
     answers: &[Answer],
 ) -> Result<Proof, AllocError>
-    requires { AreInRange terms.now records.nodes.items records.sections.items answers.now }
-    ensures { IfOk result (λ p. (s : Tree) (g : List Arc) (f : List ℕ) (pairs : List Held) (budget : ℕ) (verdicts : Known) →
+    requires lines { AllByRecursion IsLine (head_lines head) }
+    requires range { AreInRange terms.now records.nodes.items records.sections.items answers.now }
+    ensures head { IfOk result (λ p. p.head ≡ head) }
+    ensures proof { IfOk result (λ p. (s : Tree) (g : List Arc) (f : List ℕ) (pairs : List Held) (budget : ℕ) (verdicts : Known) →
         AreShownFor s terms.now g f pairs budget verdicts records.nodes.items records.sections.items answers.now →
         IsProofOf f s terms.now g pairs budget answers.now p) }
 {
@@ -60,6 +66,7 @@ pub fn proof_of(
     let terms_of_nodes = lines(alloc, terms, nodes)?;
     let claims = claims_of(alloc, terms, nodes, answers)?;
     Ok(Proof {
+        head,
         nodes: Items::of(terms_of_nodes),
         sections: Items::of(renumbered),
         claims: Items::of(claims),

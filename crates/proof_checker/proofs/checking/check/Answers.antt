@@ -1,23 +1,19 @@
-use Rattle.std.proofs.Common.{subst, sym}
 use Rattle.std.proofs.lemmas.Result.{IfOk-weaker}
-use Rattle.schema_tree.specs.Edges.{IsStratum}
-use Rattle.proof_checker.specs.Checks.{IsAcceptedAs, IsTrueAs, OnStrata}
-use Rattle.proof_checker.proofs.Truthful.{true_as}
+use Rattle.proof_checker.specs.Checks.{IsAcceptedFor, IsTrueAs}
+use Rattle.proof_checker.proofs.Truthful.{AreLaws, true_as}
 use Rattle.proof_checker.proofs.checking.check.Goals as goal
-
-pub returns-clause-accepted : goal.returns-clause-accepted
-returns-clause-accepted c =
-    let least : IsStratum c.args.schema.now c.list.result.now = subst (IsStratum c.args.schema.now) (sym c.list.ensures) c.in-Ok.ensures.strata in
-    IfOk-weaker c.checked.result
-    (IsAcceptedAs c.list.result.now c.args.schema.now c.args.terms.now c.checked.new.terms c.args.graph.now.triples c.args.proof.now)
-    (λ a. OnStrata c.args.schema.now (λ f. IsAcceptedAs f c.args.schema.now c.args.terms.now c.checked.new.terms c.args.graph.now.triples c.args.proof.now a))
-    (λ answers a. (c.list.result.now, least, a)) c.checked.ensures.accepted
 
 pub returns-clause-sound : goal.returns-clause-sound
 returns-clause-sound c =
-    let least : IsStratum c.args.schema.now c.list.result.now = subst (IsStratum c.args.schema.now) (sym c.list.ensures) c.in-Ok.ensures.strata in
+    let laws : AreLaws = record {
+      sound = c.accepted_is_true.ensures;
+      stratified = c.strata_are_least.ensures.stratified;
+      exists = c.typing_is_one.ensures.exists;
+      typings = c.strata_are_alike.ensures.typings;
+      answers = c.strata_are_alike.ensures.answers;
+    } in
     IfOk-weaker c.checked.result
-    (IsAcceptedAs c.list.result.now c.args.schema.now c.args.terms.now c.checked.new.terms c.args.graph.now.triples c.args.proof.now)
+    (IsAcceptedFor c.args.schema.now c.args.files.now c.args.terms.now c.checked.new.terms c.args.graph.now.triples c.args.proof.now)
     (IsTrueAs c.args.schema.now c.args.terms.now c.checked.new.terms c.args.graph.now.triples c.args.proof.now)
-    (λ answers a. true_as c.accepted_is_true.ensures c.list.result.now c.args.schema.now c.args.terms.now c.checked.new.terms c.args.graph.now.triples c.args.proof.now c.requires.loaded least answers a)
+    (λ answers a. true_as laws c.args.schema.now c.args.files.now c.args.terms.now c.checked.new.terms c.args.graph.now.triples c.args.proof.now c.requires.loaded answers a)
     c.checked.ensures.accepted

@@ -21,6 +21,6 @@ returns c =
           (c.in_ok-push_sections.ensures ∙ ap (λ z. c.push_nodes.new.out.items ++ flat_map (λ x. lines_text (section_lines x)) z) c.as_slice-2.ensures)
           (c.in_ok-push_claims.ensures.lines ∙ ap (λ z. c.push_sections.new.out.items ++ flat_map (λ c. ended (line_text (Lines.Claim c))) z) c.as_slice-3.ensures)
           c.in_ok-extend_from_slice.ensures.items
-          ∙ ap (λ z. z ++ (flat_map (λ t. ended (line_text (Lines.Node t))) p.nodes ++ (flat_map (λ x. lines_text (section_lines x)) p.sections ++ (flat_map (λ c. ended (line_text (Lines.Claim c))) p.claims ++ last_line)))) c.in_ok-out.ensures.items
+          ∙ ap (λ z. z ++ (flat_map (λ t. ended (line_text (Lines.Node t))) p.nodes ++ (flat_map (λ x. lines_text (section_lines x)) p.sections ++ (flat_map (λ c. ended (line_text (Lines.Claim c))) p.claims ++ last_line)))) c.in_ok-out.ensures
           ∙ proof_written p;
     }

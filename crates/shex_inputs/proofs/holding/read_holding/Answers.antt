@@ -34,26 +34,26 @@ returns-in_err-bytes-clause-cause g c = λ map_name.
     let act = g.F.Files.act c.fetch.new.files in
     let l = c.in_ok-loaded.loaded in
     rw (p.1, p.2)
-    (fetch_explains (g.F.Files.told c.args.files.now) (inputs_with c.args.inputs.now map_name) Data before after blame act c.in_err-bytes.field-0.0 (l.terms, l.schema, l.strata, scope_of l.labels, c.in_ok-loaded.ensures.taken map_name)
+    (fetch_explains (g.F.Files.told c.args.files.now) (inputs_with c.args.inputs.now map_name) Data before after blame act c.in_err-bytes.field-0.0 (l.terms, l.schema, l.strata, scope_of l.labels, (c.in_ok-loaded.ensures.taken map_name).0)
     (subst (λ t. FetchStops t c.args.inputs.now.data.now Data before after blame act c.in_err-bytes.field-0.0) c.in_ok-loaded.ensures.told_stays c.in_err-bytes.ensures.stops))
 
 pub returns-in-Ok-clause-taken : goal.returns-in-Ok-clause-taken
 returns-in-Ok-clause-taken g c = λ map_name.
-    let taken = c.in_ok-loaded.ensures.taken map_name in
+    let (taken, digests) = c.in_ok-loaded.ensures.taken map_name in
     let (triples, spelled, holding) = c.in-Ok.ensures.read (documents_of taken.sources) taken.is_schema in
     let l = c.in_ok-loaded.loaded in
     are_taken (g.F.Files.told c.args.files.now) (inputs_with c.args.inputs.now map_name) (held_by c.in-Ok.holding) c.of_name-format.result l.terms l.schema l.strata (scope_of l.labels) c.in_ok-bytes.bytes.items c.as_slice.result.now triples taken (ap scope_of c.in-Ok.ensures.labels)
-    (subst (λ t. IsFile t c.args.inputs.now.data.now c.in_ok-bytes.bytes.items) c.in_ok-loaded.ensures.told_stays c.in_ok-bytes.ensures.bytes) c.of_name-format.ensures c.as_slice.ensures.value spelled holding
+    (subst (λ t. IsFile t c.args.inputs.now.data.now c.in_ok-bytes.bytes.items) c.in_ok-loaded.ensures.told_stays c.in_ok-bytes.ensures.bytes) c.of_name-format.ensures c.as_slice.ensures.value spelled holding l.digests digests c.in-Ok.ensures.schemas c.in-Ok.ensures.graph
 
 pub returns-in-Ok-clause-strata : goal.returns-in-Ok-clause-strata
 returns-in-Ok-clause-strata g c =
-    let taken = c.in_ok-loaded.ensures.taken (codes "") in
+    let (taken, digests) = c.in_ok-loaded.ensures.taken (codes "") in
     let (triples, spelled, holding) = c.in-Ok.ensures.read (documents_of taken.sources) taken.is_schema in
     holding.is_schema.strata
 
 pub returns-in-Ok-clause-distinct : goal.returns-in-Ok-clause-distinct
 returns-in-Ok-clause-distinct g c =
-    let taken = c.in_ok-loaded.ensures.taken (codes "") in
+    let (taken, digests) = c.in_ok-loaded.ensures.taken (codes "") in
     let (triples, spelled, holding) = c.in-Ok.ensures.read (documents_of taken.sources) taken.is_schema in
     holding.distinct
 
@@ -68,7 +68,7 @@ returns-clause-before_map g c = refused_before_map ReadErrors.Memory (λ e. Refu
 pub returns-clause-cause : goal.returns-clause-cause
 returns-clause-cause g c = λ map_name.
     let l = c.in_ok-loaded.loaded in
-    data_explains (g.F.Files.told c.args.files.now) (inputs_with c.args.inputs.now map_name) c.of_name-format.result l.terms l.schema l.strata (scope_of l.labels) c.in_ok-bytes.bytes.items c.as_slice.result.now c.in-Err.error c.data_error.result (c.in_ok-loaded.ensures.taken map_name)
+    data_explains (g.F.Files.told c.args.files.now) (inputs_with c.args.inputs.now map_name) c.of_name-format.result l.terms l.schema l.strata (scope_of l.labels) c.in_ok-bytes.bytes.items c.as_slice.result.now c.in-Err.error c.data_error.result (c.in_ok-loaded.ensures.taken map_name).0
     (subst (λ t. IsFile t c.args.inputs.now.data.now c.in_ok-bytes.bytes.items) c.in_ok-loaded.ensures.told_stays c.in_ok-bytes.ensures.bytes) c.of_name-format.ensures c.as_slice.ensures.value c.in-Err.ensures.unread c.data_error.ensures
 
 pub returns-clause-faults : goal.returns-clause-faults

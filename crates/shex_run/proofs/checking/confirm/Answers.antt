@@ -2,7 +2,7 @@ use Rattle.std.proofs.Common.{◌≤◌, ◌++◌, ◌∙◌, ap, subst, sym}
 use Rattle.std.specs.Prelude.{All, Contains}
 use Rattle.graph_index.specs.Laws.{IsOfTable}
 use Rattle.rdf_terms.specs.Tables.{max_terms}
-use Rattle.proof_checker.specs.Checks.{FailsAs, IsAcceptedAs}
+use Rattle.proof_checker.specs.Checks.{FailsAs, IsAcceptedFor, IsTrueAs}
 use Rattle.shape_map.specs.Results.{result_text}
 use Rattle.shex_inputs.specs.Held.{Held, held_by}
 use Rattle.shex_run.specs.Checking.{ConfirmStops}
@@ -21,7 +21,7 @@ check-checked-requires-clause-numbers c = subst (All (IsOfTable c.args.holding.t
 
 pub write_result-requires : goal.write_result-requires
 write_result-requires c = λ a h.
-    let (f, least, found) = c.in-Ok.ensures.accepted in
+    let found = c.in-Ok.ensures.accepted.found in
     answers_there c.check-checked.new.terms found.proof.nodes found.nodes found.proof.claims c.in-Ok.claims found.read.numbers found.claims a
     (subst (λ xs. Contains xs a) c.list.ensures h)
 
@@ -29,18 +29,16 @@ pub returns-in-Ok-write_result-clause-confirmed : goal.returns-in-Ok-write_resul
 returns-in-Ok-write_result-clause-confirmed c =
     let terms = c.check-checked.new.terms in
     let held : Held = held_by c.args.holding in
-    let (f, least, found) = c.in-Ok.ensures.accepted in
     let accepted : Accepted held c.args.proof.now terms c.in-Ok.claims = record {
-      strata = f;
-      are_strata = least;
-      found = subst (λ ts. IsAcceptedAs f held.schema held.terms terms ts c.args.proof.now c.in-Ok.claims) c.seal.ensures.same found;
+      found = subst (λ ts. IsAcceptedFor held.schema held.files held.terms terms ts c.args.proof.now c.in-Ok.claims) c.seal.ensures.same c.in-Ok.ensures.accepted;
       few = subst (λ k. k ≤ max_terms) c.len-count.ensures.count c.len-count.ensures.few;
     } in
+    let sound : IsTrueAs held.schema held.terms terms held.graph c.args.proof.now c.in-Ok.claims = subst (λ ts. IsTrueAs held.schema held.terms terms ts c.args.proof.now c.in-Ok.claims) c.seal.ensures.same c.in-Ok.ensures.sound in
     record {
       terms = terms;
       answers = c.in-Ok.claims;
       accepted = accepted;
-      truth = is_true held c.requires.loaded c.typing_is_one.ensures.exists c.accepted_is_true.ensures c.args.proof.now terms c.in-Ok.claims accepted;
+      truth = is_true held c.requires.loaded c.requires.strata c.requires.distinct c.typing_is_one.ensures.exists c.args.proof.now terms c.in-Ok.claims sound accepted;
       text_is = c.in-Ok-write_result.ensures.written ∙ ap (λ zs. zs ++ result_text terms c.list.result.now) c.new-text.ensures.items ∙ ap (λ xs. result_text terms xs) c.list.ensures;
     }
 
@@ -48,6 +46,6 @@ pub returns-in-Err-clause-stops : goal.returns-in-Err-clause-stops
 returns-in-Err-clause-stops c =
     let terms = c.check-checked.new.terms in
     let held : Held = held_by c.args.holding in
-    let fails : FailsAs held.schema held.terms terms held.graph c.args.proof.now c.in-Err.error = subst (λ ts. FailsAs held.schema held.terms terms ts c.args.proof.now c.in-Err.error) c.seal.ensures.same c.in-Err.ensures.fails in
+    let fails : FailsAs held.schema held.files held.terms terms held.graph c.args.proof.now c.in-Err.error = subst (λ ts. FailsAs held.schema held.files held.terms terms ts c.args.proof.now c.in-Err.error) c.seal.ensures.same c.in-Err.ensures.fails in
     subst (λ s. ConfirmStops held c.args.proof.now s) (sym c.check_stop.ensures)
     (stops held terms c.args.proof.now c.in-Err.error (subst (λ k. k ≤ max_terms) c.len-count.ensures.count c.len-count.ensures.few) fails)

@@ -20,15 +20,15 @@ text_of-requires c = λ x h.
     answers_within c.args.holding.now.schema c.args.holding.now.terms (known_by_it c.in_ok-refined.refined) c.args.asked.associations.items c.in_ok-given.given.items c.in_ok-given.ensures c.requires.asked x
     (subst (λ xs. Contains xs x) c.as_slice-answers.ensures.value h)
 
-pub proof_if-requires : goal.proof_if-requires
-proof_if-requires c = λ on.
+pub proof_if-requires-clause-range : goal.proof_if-requires-clause-range
+proof_if-requires-clause-range c = λ on.
     let h = c.args.holding.now in
     let r = c.in_ok-refined.refined in
     let sure : AreSureAnswers h.schema h.terms (known_by_it r) c.args.asked.associations.items c.as_slice-answers.result.now =
     subst (λ xs. AreSureAnswers h.schema h.terms (known_by_it r) c.args.asked.associations.items xs) (sym c.as_slice-answers.ensures.value) c.in_ok-given.ensures in
     in_range h.schema h.terms h.graph.triples h.strata c.args.asked.pairs c.args.budget (known_by_it r) r.nodes r.sections c.as_slice-answers.result.now
-    (shown h c.args.asked.associations.items c.args.asked.pairs c.args.budget c.requires (known_by_it r) r.nodes r.sections c.as_slice-answers.result.now
-    (c.in_ok-refined.ensures.records (c.wanted-wanted.ensures on)) (c.in_ok-refined.ensures.fine (c.wanted-wanted.ensures on)) (c.in_ok-refined.ensures.accepted (c.wanted-wanted.ensures on)) sure)
+    (shown h c.args.asked.associations.items c.args.asked.pairs c.args.budget c.args.head c.requires (known_by_it r) r.nodes r.sections c.as_slice-answers.result.now
+    (c.in_ok-refined.ensures.records (c.wanted-wanted.ensures (c.is_some.ensures ∙ on))) (c.in_ok-refined.ensures.fine (c.wanted-wanted.ensures (c.is_some.ensures ∙ on))) (c.in_ok-refined.ensures.accepted (c.wanted-wanted.ensures (c.is_some.ensures ∙ on))) sure)
 
 pub returns : goal.returns
 returns c =
@@ -44,11 +44,12 @@ returns c =
       verdicts = known;
       refined = refined;
       answers = answers;
-      replies = answered h xs c.args.asked.pairs c.args.budget c.requires c.sure_answers_are_true.ensures (known_by_it r) known refined same answers sure;
+      replies = answered h xs c.args.asked.pairs c.args.budget c.args.head c.requires c.sure_answers_are_true.ensures (known_by_it r) known refined same answers sure;
       proof = c.in_ok-proof.ensures.proof h.schema h.graph.triples h.strata c.args.asked.pairs c.args.budget (known_by_it r) (λ on. (
-          shown h xs c.args.asked.pairs c.args.budget c.requires (known_by_it r) r.nodes r.sections answers
-          (c.in_ok-refined.ensures.records (c.wanted-wanted.ensures on)) (c.in_ok-refined.ensures.fine (c.wanted-wanted.ensures on)) (c.in_ok-refined.ensures.accepted (c.wanted-wanted.ensures on)) sure
+          shown h xs c.args.asked.pairs c.args.budget c.args.head c.requires (known_by_it r) r.nodes r.sections answers
+          (c.in_ok-refined.ensures.records (c.wanted-wanted.ensures (c.is_some.ensures ∙ on))) (c.in_ok-refined.ensures.fine (c.wanted-wanted.ensures (c.is_some.ensures ∙ on))) (c.in_ok-refined.ensures.accepted (c.wanted-wanted.ensures (c.is_some.ensures ∙ on))) sure
           ));
+      headed = c.in_ok-proof.ensures.headed;
       wanted = c.in_ok-proof.ensures.wanted;
       low = c.status-status.ensures.low;
       status_is =
