@@ -151,20 +151,60 @@ def strata(size):
     return Case(PREFIXES + "\n".join(shapes) + "\n", f"{{FOCUS {iri('row')} _}}@{iri('S0')}", lines + first, rows - odd, odd)
 
 
-FAMILIES = [clinical, catalogue, ring, chain, clusters, values, strata]
+def alone(size):
+    """A node whose triples all have one predicate, under one constraint that takes any number of them."""
+    lines = [triple(iri("n"), "p", f'"{k}"') for k in range(size)]
+    return Case(PREFIXES + "b:S { b:p LITERAL * }\n", f"{iri('n')}@{iri('S')}", lines, 1, 0)
+
+
+def overlapping(size):
+    """A node with 200 triples of one predicate at most, each of which three constraints fit that each want a fifth of them."""
+    count = min(size, 200)
+    whole = "<http://www.w3.org/2001/XMLSchema#integer>"
+    lines = [triple(iri("n"), "p", f'"{k}"^^{whole}') for k in range(count)]
+    least = count // 5
+    schema = f"b:S {{ b:p LITERAL {{{least},}} ; b:p xsd:integer {{{least},}} ; b:p . {{{least},}} }}\n"
+    return Case(PREFIXES + schema, f"{iri('n')}@{iri('S')}", lines, 1, 0)
+
+
+def tenfold(size):
+    """Nodes with twenty values under ten constraints of four values each, of which each value stands in two."""
+    sets = [" ".join(str((2 * k + i) % 20) for i in range(4)) for k in range(10)]
+    schema = PREFIXES + "b:S { " + " ; ".join(f"b:p [ {values} ] {{2}}" for values in sets) + " }\n"
+    whole = "<http://www.w3.org/2001/XMLSchema#integer>"
+    nodes = max(1, min(size, 2000) // 20)
+    lines = [triple(iri(f"t{n}"), "p", f'"{k}"^^{whole}') for n in range(nodes) for k in range(20)]
+    return Case(schema, f"{{FOCUS {iri('p')} _}}@{iri('S')}", lines, nodes, 0)
+
+
+FAMILIES = [clinical, catalogue, ring, chain, clusters, values, strata, alone, overlapping, tenfold]
+
+
+def peak_of(child, name):
+    """The greatest memory of a running program so far in megabytes, and 0 where it is not there (any more, or yet)."""
+    try:
+        with open(f"/proc/{child}/status", encoding="utf-8") as file:
+            fields = dict(line.split(":", 1) for line in file)
+    except OSError:
+        return 0
+    is_it = fields["Name"].strip() == os.path.basename(name)[:15] and "VmHWM" in fields
+    return int(fields["VmHWM"].split()[0]) / 1024 if is_it else 0
 
 
 def run(words, folder):
     """Runs a program to its end, and gives its status, seconds, megabytes at the peak, and what it printed."""
     with tempfile.TemporaryFile() as out, tempfile.TemporaryFile() as err:
-        begun = time.perf_counter()
+        begun, peak, ended = time.perf_counter(), 0, 0
         child = subprocess.Popen(words, cwd=folder, stdout=out, stderr=err)
-        _, status, usage = os.wait4(child.pid, 0)
+        while not ended:
+            peak = max(peak, peak_of(child.pid, words[0]))
+            time.sleep(0.0005)
+            ended, status = os.waitpid(child.pid, os.WNOHANG)
         seconds = time.perf_counter() - begun
         child.returncode = os.waitstatus_to_exitcode(status)
         out.seek(0)
         err.seek(0)
-        return Run(child.returncode, seconds, usage.ru_maxrss / 1024, out.read(), err.read())
+        return Run(child.returncode, seconds, peak, out.read(), err.read())
 
 
 def counted(out):
@@ -225,7 +265,7 @@ def measure(program, family, size, folder):
 
 def exponent(before, after, step):
     """The exponent of the growth between two sizes, where both times are long enough to tell."""
-    if before is None or before[1][step].seconds < 0.02:
+    if before is None or before[0] == after[0] or before[1][step].seconds < 0.02:
         return ""
     return f"{math.log(after[1][step].seconds / before[1][step].seconds) / math.log(after[0] / before[0]):.2f}"
 
@@ -237,7 +277,7 @@ def show(name, before, after):
         ratio = ""
         if step in ("serdi", "jena"):
             beside = row["load" if step == "serdi" else "validate"]
-            ratio = f"shex takes {beside.seconds / made.seconds:.2f} of its time, {beside.megabytes / made.megabytes:.2f} of its memory"
+            ratio = f"shex takes {beside.seconds / made.seconds:.2f} of its time, {beside.megabytes / max(made.megabytes, 0.1):.2f} of its memory"
         print(f"| {name} | {triples} | {step} | {made.seconds:.3f} | {made.megabytes:.1f} | {exponent(before, after, step)} | {ratio} |", flush=True)
 
 
