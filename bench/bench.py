@@ -1,7 +1,7 @@
 #!/usr/bin/env python3
 """Times shex on made inputs with known answers, and prints a table.
 
-    bench/bench.py PROGRAM [--sizes 1000,10000,100000] [--only WORD] [--keep FOLDER]
+    bench/bench.py PROGRAM [--sizes 1000,10000,100000,1000000] [--only WORD] [--keep FOLDER]
 
 PROGRAM is the built program, as `crates/shex_cli/out/shex_cli`. Each family of inputs is made at each size (a number of
 triples), validated without and with a proof, and the proof is checked; what the program answers is counted and compared
@@ -255,6 +255,8 @@ def measure(program, family, size, folder):
     with open(os.path.join(folder, "none"), "w", encoding="utf-8") as file:
         file.write(f"{iri('nobody')}@{iri(case.map.rsplit('/', 1)[1][:-1])}")
     row["load"] = run([program, "validate", "--schema", "schema.shex", "--data", "data.ttl", "--map", "none"], folder)
+    if row["load"].status not in (0, 1) or sum(counted(row["load"].out)) != 1:
+        sys.exit(f"{family.__name__} {size}: the load is not answered: {row['load'].err.decode()[:200]}")
     if shutil.which("serdi"):
         row["serdi"] = run(["serdi", "-q", "data.ttl"], folder)
     words = jena()

@@ -355,6 +355,32 @@ class Shape:
         self.closed, self.extra, self.tree, self.body, self.occurrences = closed, set(extra), None, None, []
 
 
+def finite(digits):
+    """The number of digits that stand for no infinite one in 64 bits."""
+    number = float(digits)
+    expect(abs(number) != float("inf"))
+    return number
+
+
+def whole(digits):
+    """The integer of digits; `-0` is none."""
+    number = finite(digits)
+    return number if digits == "-0" else int(digits)
+
+
+def depth(value):
+    """How many lists and objects of a JSON value stand in one another."""
+    parts = value.values() if isinstance(value, dict) else value if isinstance(value, list) else None
+    return 0 if parts is None else 1 + max(map(depth, parts), default=0)
+
+
+def read_json(source):
+    """The JSON value of a document, of which at most 127 lists and objects stand in one another."""
+    value = json.loads(source.decode("utf-8"), parse_constant=lambda _: expect(False), parse_int=whole, parse_float=finite)
+    expect(depth(value) <= 127)
+    return value
+
+
 class Schema:
     """The Shapes by number, the expressions and triple expressions by label, and the labels that are referred to.
 
@@ -366,8 +392,7 @@ class Schema:
 
     def document(self, source, is_root):
         """Reads a document, and gives its imports; the start is that of the root alone."""
-        numbers = {"parse_constant": lambda _: expect(False), "parse_int": lambda digits: digits != "-0" and int(digits)}
-        value = object_of(json.loads(source.decode("utf-8"), **numbers), ["Schema"])
+        value = object_of(read_json(source), ["Schema"])
         json.dumps(value, ensure_ascii=False).encode("utf-8")  # a text with half a surrogate pair is none
         if "start" in value:
             start = (self if is_root else Schema()).expr(value["start"])

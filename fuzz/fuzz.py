@@ -1,13 +1,14 @@
 #!/usr/bin/env python3
 """Runs shex on mutated inputs, and keeps each input on which it does what it never may.
 
-    fuzz/fuzz.py PROGRAM [--runs 10000] [--seed 1] [--jobs 4] [--found found]
+    fuzz/fuzz.py PROGRAM [--runs 10000] [--seed 1] [--jobs N] [--found found]
 
 PROGRAM is the built program, as `crates/shex_cli/out/shex_cli`. The seeds are the examples: in each run one of their files
 (schema in either syntax, data in either format, shape map, or a proof that the program stored before) or the words
 themselves are mutated, and the program is run. It may end with the statuses 0 to 8 and nothing else, by no signal, within
-10 seconds, and with status 0 for `check` only where the claims are those of a run of `validate` on the same files; anything
-else is kept in a folder under `found` with its words. The number of runs for each status is printed at the end. The same
+10 seconds, with one line of error where it refuses; a proof that is stored has to be accepted with the printed answers as its
+claims, and one that is mutated accepted only where its claims are those of `validate` on the same files. Anything else is kept
+in a folder under `found` with its words. The number of runs for each status is printed at the end. The same
 seed makes the same inputs. Nothing but Python's standard library is wanted.
 """
 
@@ -87,8 +88,10 @@ class Runner:
         self.answers = {}
         for example in EXAMPLES:
             shutil.copytree(os.path.join(ROOT, "examples", example.folder), os.path.join(self.folder, example.folder))
-            words = self.words(example, "validate", "proof")
-            self.answers[example.folder] = self.run(example, words)[1]
+            status, out, err = self.run(example, self.words(example, "validate", "proof"))
+            if status not in (0, 1):
+                sys.exit(f"{example.folder}: {status} {err.decode()}")
+            self.answers[example.folder] = out
 
     def words(self, example, command, proof=None):
         """The words of a command on an example."""
@@ -106,9 +109,20 @@ class Runner:
                                   stdout=subprocess.PIPE, stderr=subprocess.PIPE, timeout=SECONDS)
         except subprocess.TimeoutExpired:
             return "late", b"", b""
-        except ValueError:
-            return "skipped", b"", b""
         return done.returncode, done.stdout, done.stderr
+
+    def sweep(self, example):
+        """Removes what a run stored, so that no run sees another's files."""
+        where = os.path.join(self.folder, example.folder)
+        kept = {example.schema, example.data, example.map, "proof", *example.imports.values()}
+        for name in os.listdir(where):
+            if name not in kept:
+                os.remove(os.path.join(where, name))
+
+    def is_confirmed(self, example, out):
+        """Whether a check of the proof that was just stored answers what was printed."""
+        status, again, _ = self.run(example, self.words(example, "check", "fresh"))
+        return status == 0 and again == out
 
     def attempt(self, number, seed):
         """One run on a mutated input; gives its status."""
@@ -121,25 +135,32 @@ class Runner:
             at = chance.randrange(len(words) + 1)
             words[at:at + chance.randint(0, 2)] = [chance.choice(PIECES["words"]) for _ in range(chance.randint(0, 2))]
             status, out, err = self.run(example, words)
-            return self.judge(number, example, words, None, status, out, err)
+            found = self.judge(number, example, words, None, status, out, err)
+            self.sweep(example)
+            return found
         with open(os.path.join(where, target), "rb") as file:
             kept = file.read()
         try:
             with open(os.path.join(where, target), "wb") as file:
                 file.write(mutated(chance, kept, pieces_for(target)))
-            words = self.words(example, "check" if target == "proof" else "validate", "proof" if target == "proof" else None)
+            words = self.words(example, "check", "proof") if target == "proof" else self.words(example, "validate", "fresh")
             status, out, err = self.run(example, words)
             return self.judge(number, example, words, target, status, out, err)
         finally:
             with open(os.path.join(where, target), "wb") as file:
                 file.write(kept)
+            self.sweep(example)
 
     def judge(self, number, example, words, target, status, out, err):
         """Keeps what may not be: another status, a run that takes too long, or an accepted proof with a false claim."""
-        fine = status in range(9) and len(err.splitlines()) <= 1 or status in ("skipped", 4)
-        if fine and target == "proof" and status == 0:
+        fine = status in range(9)
+        if status in (2, 3, 5, 6):
+            fine = out == b"" and err.startswith(b"shex: ") and err.endswith(b"\n")
+        if target == "proof":
             true = set(line.rstrip(b",") for line in self.answers[example.folder].splitlines())
-            fine = all(line.rstrip(b",") in true for line in out.splitlines())
+            fine = fine and status not in (1, 4) and all(line.rstrip(b",") in true for line in out.splitlines())
+        elif target is not None:
+            fine = fine and status != 6 and (status not in (0, 1, 4) or self.is_confirmed(example, out))
         if not fine:
             kept = os.path.join(self.found, str(number))
             shutil.copytree(os.path.join(self.folder, example.folder), kept, dirs_exist_ok=True)
