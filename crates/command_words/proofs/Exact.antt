@@ -6,7 +6,7 @@ use Rattle.command_words.specs.declared.command.Command.{Command as LentCommand}
 use Rattle.command_words.specs.declared.error.WordsError.{WordsError}
 use Rattle.command_words.specs.declared.error.WordsError.TheVariants as Error
 use Rattle.command_words.specs.Asked.{Command, IsAsked, IsFirstFault, command_by, failing, unasked}
-use Rattle.command_words.specs.Checks.{Fault, Import, IsRequestFault, AreImports, HasEndings, HasImports, IsImportFault, Passes, arguments, import_words, is_data_name, is_schema_name}
+use Rattle.command_words.specs.Checks.{Fault, Import, IsRequestFault, AreImports, HasEndings, HasImports, IsImportFault, Passes, PassesBases, arguments, import_words, is_base, is_data_name, is_schema_name}
 use Rattle.command_words.specs.Requests.{Asks, Request}
 use Rattle.command_words.specs.Lent.{Because, command_of}
 use Rattle.command_words.proofs.Once.{no_request_fault, one_list, one_request_fault}
@@ -84,3 +84,7 @@ imports_failed q ws (Err x) e h endings same fault =
 
 pub with_imports : (q : Request) (ws : List Text) (imports : List Import) → is_schema_name q.schema ≡ true → is_data_name q.data_file ≡ true → ws ≡ q.import_words → AreImports [] ws imports → HasImports q imports
 with_imports q ws imports s d same given = record { endings = record { schema = s; data_file = d }; imports_given = subst (λ (all : List Text). AreImports [] all imports) same given }
+
+pub with_bases : (q : Request) (ws : List Text) (imports : List Import) → is_schema_name q.schema ≡ true → is_data_name q.data_file ≡ true → ws ≡ q.import_words → AreImports [] ws imports
+    → is_base q.schema_base ≡ true → is_base q.data_base ≡ true → PassesBases q imports
+with_bases q ws imports s d same given a b = record { inputs = with_imports q ws imports s d same given; schema = a; data_file = b }

@@ -1,21 +1,28 @@
 -- Words ask for one request.
-use Rattle.std.proofs.Common.{◌≡◌, ◌∙◌, ℕ, List, ◌∷◌, refl, sym, ap, subst, length, codes, arith}
+use Rattle.std.proofs.Common.{◌≡◌, ◌<◌, ◌∙◌, ℕ, List, ◌∷◌, refl, sym, ap, subst, length, codes, arith, lit<}
 use Rattle.std.specs.Prelude.{Option, Some, None}
 use Rattle.std.proofs.lemmas.Fmt.{digits_value-decimal}
 use Rattle.std.proofs.lemmas.Str.Parse.{IsNumeralModel, numerals_by_value, tells_digits}
 use Rattle.std.specs.Str.Parse.{AllDigits, digits_value}
 use Rattle.clap.specs.Words.{App, Row, Text}
 use Rattle.command_words.specs.Commands.{rows}
-use Rattle.command_words.specs.Requests.{Asks, IsBudget, IsGiven, IsTask, Request, Task, checking, command_for, name_of, validation}
+use Rattle.command_words.specs.Requests.{Asks, IsBudget, IsGiven, IsTask, Request, Task, checking, command_for, name_of, upgrading, validation}
 
 pub own : IsNumeralModel (AllDigits 10) (digits_value 10)
 own = numerals_by_value (AllDigits 10) tells_digits
 
-eight_five : (a b : ℕ) → a ≡ 8 → b ≡ 5 → a ≡ b → ⊥
-eight_five a b p q e = omega arith
+-- texts of other lengths are other texts
+longer : (x y : Text) (m n : ℕ) → length x ≡ m → length y ≡ n → n < m → x ≡ y → ⊥
+longer x y m n p q l e = let same : length x ≡ length y = ap length e in omega (arith, p, q)
 
-pub names_differ : codes "validate" ≡ codes "check" → ⊥
-names_differ e = eight_five (length (codes "validate")) (length (codes "check")) refl refl (ap length e)
+pub no_check : codes "validate" ≡ codes "check" → ⊥
+no_check = longer (codes "validate") (codes "check") 8 5 refl refl (lit< tt)
+
+pub no_upgrade : codes "validate" ≡ codes "upgrade" → ⊥
+no_upgrade = longer (codes "validate") (codes "upgrade") 8 7 refl refl (lit< tt)
+
+pub upgrade_no_check : codes "upgrade" ≡ codes "check" → ⊥
+upgrade_no_check = longer (codes "upgrade") (codes "check") 7 5 refl refl (lit< tt)
 
 one_value : {X : Type 0} (o : Option X) (x y : X) → o ≡ Some x → o ≡ Some y → x ≡ y
 one_value o x y p q = let e : Some x ≡ Some y = sym p ∙ q in cc
@@ -31,15 +38,28 @@ one_task found (validation m p n) (validation k q o) e a b =
     let proofs : p ≡ q = sym a.proof ∙ b.proof in
     let budgets : n ≡ o = one_budget _ n o a.is_budget b.is_budget in
     cc
-one_task found (validation m p n) (checking q) e a b = absurd (names_differ e)
-one_task found (checking p) (validation k q o) e a b = absurd (names_differ (sym e))
+one_task found (validation m p n) (checking q) e a b = absurd (no_check e)
+one_task found (validation m p n) (upgrading q t) e a b = absurd (no_upgrade e)
+one_task found (checking p) (validation k q o) e a b = absurd (no_check (sym e))
 one_task found (checking p) (checking q) e a b = ap checking (one_value _ p q a b)
+one_task found (checking p) (upgrading q t) e a b = absurd (upgrade_no_check (sym e))
+one_task found (upgrading p s) (validation k q o) e a b = absurd (no_upgrade (sym e))
+one_task found (upgrading p s) (checking q) e a b = absurd (upgrade_no_check e)
+one_task found (upgrading p s) (upgrading q t) e a b =
+    let proofs : p ≡ q = one_value _ p q a.proof b.proof in
+    let files : s ≡ t = one_value _ s t a.to_file b.to_file in
+    cc
 
 same_command : (t u : Task) → name_of t ≡ name_of u → command_for t ≡ command_for u
 same_command (validation m p n) (validation k q o) e = refl
-same_command (validation m p n) (checking q) e = absurd (names_differ e)
-same_command (checking p) (validation k q o) e = absurd (names_differ (sym e))
+same_command (validation m p n) (checking q) e = absurd (no_check e)
+same_command (validation m p n) (upgrading q t) e = absurd (no_upgrade e)
+same_command (checking p) (validation k q o) e = absurd (no_check (sym e))
 same_command (checking p) (checking q) e = refl
+same_command (checking p) (upgrading q t) e = absurd (upgrade_no_check (sym e))
+same_command (upgrading p s) (validation k q o) e = absurd (no_upgrade (sym e))
+same_command (upgrading p s) (checking q) e = absurd (upgrade_no_check e)
+same_command (upgrading p s) (upgrading q t) e = refl
 
 one_given : (found : List Row) (r s : Request) → IsGiven found r → IsGiven found s → r.task ≡ s.task → r ≡ s
 one_given found r s a b tasks = λ k. record {

@@ -7,17 +7,24 @@ use Rattle.command_words.specs.declared.requests.Request.{Request as LentRequest
 use Rattle.command_words.specs.Checks.{arguments}
 use Rattle.command_words.specs.Lent.{Because, request_of, task_of}
 use Rattle.command_words.proofs.Exact.{because}
-use Rattle.command_words.specs.Commands.{check, faults, rows, validate}
-use Rattle.command_words.specs.Requests.{Asks, IsFound, IsGiven, IsTask, Request, Task, checking, command_for, name_of, validation}
-use Rattle.command_words.proofs.Requested.{names_differ}
+use Rattle.command_words.specs.Commands.{check, faults, rows, upgrade, validate}
+use Rattle.command_words.specs.Requests.{Asks, IsFound, IsGiven, IsTask, Request, Task, checking, command_for, name_of, upgrading, validation}
+use Rattle.command_words.proofs.Requested.{no_check, no_upgrade, upgrade_no_check}
 
 pub to_validate : (t : Task) → name_of t ≡ codes "validate" → command_for t ≡ validate
 to_validate (validation m p n) e = refl
-to_validate (checking p) e = absurd (names_differ (sym e))
+to_validate (checking p) e = absurd (no_check (sym e))
+to_validate (upgrading p s) e = absurd (no_upgrade (sym e))
 
 pub to_check : (t : Task) → name_of t ≡ codes "check" → command_for t ≡ check
-to_check (validation m p n) e = absurd (names_differ e)
+to_check (validation m p n) e = absurd (no_check e)
 to_check (checking p) e = refl
+to_check (upgrading p s) e = absurd (upgrade_no_check e)
+
+pub to_upgrade : (t : Task) → name_of t ≡ codes "upgrade" → command_for t ≡ upgrade
+to_upgrade (validation m p n) e = absurd (no_upgrade e)
+to_upgrade (checking p) e = absurd (upgrade_no_check (sym e))
+to_upgrade (upgrading p s) e = refl
 
 -- the command b is that of the tasks with the name n
 module _ (n : Text) (a b : App) (owns : (t : Task) → name_of t ≡ n → command_for t ≡ a) (e : b ≡ a) (words : List Text) where
@@ -65,12 +72,13 @@ heads e = cc
 pub tails : {x y : Text} {xs ys : List Text} → x ∷ xs ≡ y ∷ ys → xs ≡ ys
 tails e = cc
 
-named_one : (t : Task) → (name_of t ≡ codes "validate" → ⊥) → (name_of t ≡ codes "check" → ⊥) → ⊥
-named_one (validation m p n) a b = a refl
-named_one (checking p) a b = b refl
+named_one : (t : Task) → (name_of t ≡ codes "validate" → ⊥) → (name_of t ≡ codes "check" → ⊥) → (name_of t ≡ codes "upgrade" → ⊥) → ⊥
+named_one (validation m p n) a b u = a refl
+named_one (checking p) a b u = b refl
+named_one (upgrading p s) a b u = u refl
 
-pub no_name : (name : Text) (behind : List Text) → name ≢ codes "validate" → name ≢ codes "check" → (r : Request) → ¬ Asks (name ∷ behind) r
-no_name name behind a b r asks = named_one r.task (λ e. a (heads asks.named ∙ e)) (λ e. b (heads asks.named ∙ e))
+pub no_name : (name : Text) (behind : List Text) → name ≢ codes "validate" → name ≢ codes "check" → name ≢ codes "upgrade" → (r : Request) → ¬ Asks (name ∷ behind) r
+no_name name behind a b u r asks = named_one r.task (λ e. a (heads asks.named ∙ e)) (λ e. b (heads asks.named ∙ e)) (λ e. u (heads asks.named ∙ e))
 
 -- behind a command's name
 pub asks_behind : (words behind : List Text) (n : Text) (r : Request) → words ≡ n ∷ behind → IsFound behind r → name_of r.task ≡ n → Asks words r

@@ -1,12 +1,13 @@
 -- The checks of a request, and the first one that it fails (own).
-use Rattle.std.specs.Prelude.{◌≡◌, ◌≢◌, ◌⊎◌, ◌||◌, ◌&&◌, ◌++◌, Bool, true, false, List, [], ◌∷◌, Some, ⊤, codes, is_some, map, nat_eq}
+use Rattle.std.specs.Prelude.{◌≡◌, ◌≢◌, ◌⊎◌, ◌||◌, ◌&&◌, ◌++◌, Bool, true, false, List, [], ◌∷◌, Option, Some, ⊤, codes, is_some, map, nat_eq}
 use Rattle.std.specs.List.{ends_with, list_all, list_any}
+use Rattle.std.specs.Option.{option_to_list}
 use Rattle.std.specs.Str.{bytes_eq, chars}
 use Rattle.clap.specs.Words.{Text}
 use Rattle.iri_resolve.specs.Reference.{scheme_of}
 use Rattle.iri_resolve.specs.Text.{Lacks}
 use Rattle.rdf_lex.specs.Characters.{has, iri_char}
-use Rattle.command_words.specs.Requests.{Request, map_names, proof_of}
+use Rattle.command_words.specs.Requests.{Request, map_names, proof_of, to_of}
 
 -- why words are refused, with the name, the word or the IRI that is at fault
 pub data Fault : Type 0 where
@@ -31,6 +32,10 @@ is_base text = is_some (scheme_of text) && list_all (has iri_char) (chars text)
 -- the text is one of these
 abbrev pub is_among : Text → List Text → Bool
 is_among text texts = list_any (λ other. bytes_eq other text) texts
+
+-- the name, if there is one, is none of these
+abbrev pub IsApart : Option Text → List Text → Type 0
+IsApart given names = (name : Text) → given ≡ Some name → is_among name names ≡ false
 
 -- an IRI, and the file that holds the document which is imported by it
 pub record Import : Type 0 where
@@ -84,14 +89,19 @@ pub record PassesBases (r : Request) (imports : List Import) : Type 0 where
   pub schema : is_base r.schema_base ≡ true
   pub data_file : is_base r.data_base ≡ true
 
--- the names of all files but the proof
+-- the names of the files of the schema, the data, the map and the imports
 abbrev pub other_names : Request → List Import → List Text
 other_names r imports = r.schema ∷ r.data_file ∷ map_names r.task ++ map (λ i. i.file) imports
 
--- and the proof has a name of its own: the request passes all checks
+-- and that of the proof, if there is one
+abbrev pub names_with_proof : Request → List Import → List Text
+names_with_proof r imports = option_to_list (proof_of r.task) ++ other_names r imports
+
+-- and the proof has a name of its own, and so has the file in which a checked proof is to be stored: the request passes all checks
 pub record Passes (r : Request) (imports : List Import) : Type 0 where
   pub bases : PassesBases r imports
-  pub apart : (name : Text) → proof_of r.task ≡ Some name → is_among name (other_names r imports) ≡ false
+  pub apart : IsApart (proof_of r.task) (other_names r imports)
+  pub to_apart : IsApart (to_of r.task) (names_with_proof r imports)
 
 -- the first check that a request fails
 pub data IsRequestFault (r : Request) : Fault → Type 0 where
@@ -101,3 +111,4 @@ pub data IsRequestFault (r : Request) : Fault → Type 0 where
   schema_base : (imports : List Import) → HasImports r imports → is_base r.schema_base ≡ false → IsRequestFault r (base r.schema_base)
   data_base : (imports : List Import) → HasImports r imports → is_base r.schema_base ≡ true → is_base r.data_base ≡ false → IsRequestFault r (base r.data_base)
   same_name : (imports : List Import) → PassesBases r imports → (name : Text) → proof_of r.task ≡ Some name → is_among name (other_names r imports) ≡ true → IsRequestFault r (same name)
+  same_to : (imports : List Import) → PassesBases r imports → IsApart (proof_of r.task) (other_names r imports) → (name : Text) → to_of r.task ≡ Some name → is_among name (names_with_proof r imports) ≡ true → IsRequestFault r (same name)

@@ -45,6 +45,18 @@ check = command (codes "check")
     ∷ rest (codes "imports")
     ∷ [])
 
+-- `upgrade --schema F --data F --proof F --to F [--schema-base I] [--data-base I] [IRI=FILE ..]`
+abbrev pub upgrade : App
+upgrade = command (codes "upgrade")
+    (needed (option (codes "schema"))
+    ∷ needed (option (codes "data"))
+    ∷ needed (option (codes "proof"))
+    ∷ needed (option (codes "to"))
+    ∷ option (codes "schema-base")
+    ∷ option (codes "data-base")
+    ∷ rest (codes "imports")
+    ∷ [])
+
 -- the kinds of fault that `clap` finds in the words; none where it takes them
 unfoldable pub faults : App → List Text → Kinds
 faults app words = fault_of app words

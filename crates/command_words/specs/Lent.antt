@@ -10,7 +10,7 @@ use Rattle.command_words.specs.declared.error.WordsError.TheVariants as Error
 use Rattle.command_words.specs.declared.requests.Request.{Request as LentRequest}
 use Rattle.command_words.specs.declared.requests.Task.{Task as LentTask}
 use Rattle.command_words.specs.declared.requests.Task.TheVariants as Tasks
-use Rattle.command_words.specs.Requests.{Request, Task, checking, validation}
+use Rattle.command_words.specs.Requests.{Request, Task, checking, upgrading, validation}
 use Rattle.command_words.specs.Checks.{Fault, Import, arguments, base, ending, import_word, same}
 use Rattle.command_words.specs.Asked.{Command, fault_text}
 
@@ -20,6 +20,7 @@ import_of i = record { iri = i.iri.now; file = i.file.now }
 abbrev pub task_of : LentTask → Task
 task_of (Tasks.Validate map_file proof budget) = validation map_file.now (option_map (λ s. s.now) proof) budget
 task_of (Tasks.Check proof) = checking proof.now
+task_of (Tasks.Upgrade proof to_file) = upgrading proof.now to_file.now
 
 abbrev pub request_of : LentRequest → Request
 request_of r = record {
@@ -45,6 +46,7 @@ command_with inputs task = record {
 abbrev pub command_of : LentCommand → Command
 command_of (Lent.Validate v) = command_with v.inputs (validation v.map.now (option_map (λ s. s.now) v.proof) v.budget)
 command_of (Lent.Check c) = command_with c.inputs (checking c.proof.now)
+command_of (Lent.Upgrade u) = command_with u.inputs (upgrading u.proof.now u.to.now)
 
 -- the fault that an error names has a property; of want of memory nothing is said
 abbrev pub Because : (Fault → Type 0) → WordsError → Type 0

@@ -2,14 +2,15 @@
 
 ghost use Rattle.std.specs.Prelude.{◌≡◌, List, ℕ, IfErr, IfOk, IfSome, IsNone, Some, false, map, nat_eq, option_map, true};
 ghost use Rattle.std.specs.List.{ends_with, list_all, list_any};
+ghost use Rattle.std.specs.Option.{option_to_list};
 ghost use Rattle.std.specs.Str.{bytes_eq, chars};
 ghost use Rattle.rdf_lex.specs.Characters.{has, iri_char};
 ghost use Rattle.command_words.specs.Asked.{command_by};
-ghost use Rattle.command_words.specs.Checks.{IsRequestFault, Passes, is_among, is_base, is_data_name, is_schema_name, other_names};
+ghost use Rattle.command_words.specs.Checks.{IsApart, IsRequestFault, Passes, is_among, is_base, is_data_name, is_schema_name, names_with_proof, other_names};
 ghost use Rattle.command_words.specs.Lent.{Because, command_of, import_of, request_of, task_of};
-ghost use Rattle.command_words.specs.Requests.{map_names, proof_of};
+ghost use Rattle.command_words.specs.Requests.{map_names, proof_of, to_of};
 
-use crate::command::{Checking, Command, Import, Inputs, Validation};
+use crate::command::{Checking, Command, Import, Inputs, Upgrading, Validation};
 use crate::error::WordsError;
 use crate::imports::read_imports;
 use crate::requests::{Request, Task};
@@ -62,6 +63,17 @@ fn proof_name<'a>(task: Task<'a>) -> Option<&'a str>
     match task {
         Task::Validate { proof, .. } => proof,
         Task::Check { proof } => Some(proof),
+        Task::Upgrade { proof, .. } => Some(proof),
+    }
+}
+
+/// The name under which a checked proof is to be stored, if it is.
+fn to_name<'a>(task: Task<'a>) -> Option<&'a str>
+    ensures { option_map (λ s. s.now) result ≡ to_of (task_of task.entry) }
+{
+    match task {
+        Task::Upgrade { to, .. } => Some(to),
+        Task::Validate { .. } | Task::Check { .. } => None,
     }
 }
 
@@ -71,7 +83,17 @@ fn is_map(name: &str, task: Task<'_>) -> bool
 {
     match task {
         Task::Validate { map, .. } => map == name,
-        Task::Check { .. } => false,
+        Task::Check { .. } | Task::Upgrade { .. } => false,
+    }
+}
+
+/// Whether the name is that of the proof.
+fn is_proof(name: &str, task: Task<'_>) -> bool
+    ensures { result ≡ is_among name.now (option_to_list (proof_of (task_of task.entry))) }
+{
+    match proof_name(task) {
+        Some(proof) => proof == name,
+        None => false,
     }
 }
 
@@ -82,7 +104,7 @@ fn is_imported(name: &str, imports: &[Import<'_>]) -> bool
     imports.iter().any(|import| import.file == name)
 }
 
-/// Whether a name is that of a file of the request other than the proof.
+/// Whether a name is that of the schema, the data, the map or an import.
 fn is_named(name: &str, request: &Request<'_>, imports: &[Import<'_>]) -> bool
     ensures { result ≡ is_among name.now (other_names (request_of request.now) (map import_of imports.now)) }
 {
@@ -92,13 +114,33 @@ fn is_named(name: &str, request: &Request<'_>, imports: &[Import<'_>]) -> bool
     is_map(name, request.task) || is_imported(name, imports)
 }
 
+/// Whether a name is that of the schema, the data, the map, an import or the proof.
+fn is_taken(name: &str, request: &Request<'_>, imports: &[Import<'_>]) -> bool
+    ensures { result ≡ is_among name.now (names_with_proof (request_of request.now) (map import_of imports.now)) }
+{
+    is_proof(name, request.task) || is_named(name, request, imports)
+}
+
 /// The name of the proof where it is that of another file too.
 fn same_name<'a>(request: &Request<'a>, imports: &[Import<'_>]) -> Option<&'a str>
     ensures found { IfSome result (λ name. (proof_of (task_of request.now.task) ≡ Some name.now) × (is_among name.now (other_names (request_of request.now) (map import_of imports.now)) ≡ true)) }
-    ensures missed { IsNone result → (name : List ℕ) → proof_of (task_of request.now.task) ≡ Some name → is_among name (other_names (request_of request.now) (map import_of imports.now)) ≡ false }
+    ensures missed { IsNone result → IsApart (proof_of (task_of request.now.task)) (other_names (request_of request.now) (map import_of imports.now)) }
 {
     let name = proof_name(request.task)?;
     if is_named(name, request, imports) {
+        Some(name)
+    } else {
+        None
+    }
+}
+
+/// The name under which a checked proof is to be stored, where it is that of another file too.
+fn same_to<'a>(request: &Request<'a>, imports: &[Import<'_>]) -> Option<&'a str>
+    ensures found { IfSome result (λ name. (to_of (task_of request.now.task) ≡ Some name.now) × (is_among name.now (names_with_proof (request_of request.now) (map import_of imports.now)) ≡ true)) }
+    ensures missed { IsNone result → IsApart (to_of (task_of request.now.task)) (names_with_proof (request_of request.now) (map import_of imports.now)) }
+{
+    let name = to_name(request.task)?;
+    if is_taken(name, request, imports) {
         Some(name)
     } else {
         None
@@ -124,6 +166,7 @@ fn command_for<'a>(request: Request<'a>, imports: Vec<Import<'a>>) -> Command<'a
             budget,
         }),
         Task::Check { proof } => Command::Check(Checking { inputs, proof }),
+        Task::Upgrade { proof, to } => Command::Upgrade(Upgrading { inputs, proof, to }),
     }
 }
 
@@ -147,6 +190,9 @@ pub fn checked<'a>(alloc: Global, request: Request<'a>) -> Result<Command<'a>, W
         return Err(WordsError::Base(request.data_base));
     }
     if let Some(name) = same_name(&request, &imports) {
+        return Err(WordsError::Same(name));
+    }
+    if let Some(name) = same_to(&request, &imports) {
         return Err(WordsError::Same(name));
     }
     Ok(command_for(request, imports))

@@ -46,6 +46,17 @@ pub struct Checking<'a> {
     pub proof: &'a str,
 }
 
+/// What `upgrade` asks for.
+#[derive(Debug, Drop, PartialEq, Eq)]
+pub struct Upgrading<'a> {
+    /// The schema and the data.
+    pub inputs: Inputs<'a>,
+    /// The name of the file with the proof.
+    pub proof: &'a str,
+    /// The name under which the proof is to be stored in the newest format.
+    pub to: &'a str,
+}
+
 /// What words ask for.
 #[derive(Debug, Drop, PartialEq, Eq)]
 pub enum Command<'a> {
@@ -53,6 +64,8 @@ pub enum Command<'a> {
     Validate(Validation<'a>),
     /// To check a proof.
     Check(Checking<'a>),
+    /// To check a proof and to store it in the newest format.
+    Upgrade(Upgrading<'a>),
 }
 
 impl<'a> Command<'a> {
@@ -67,6 +80,7 @@ impl<'a> Command<'a> {
         match self {
             Command::Validate(validation) => &validation.inputs,
             Command::Check(checking) => &checking.inputs,
+            Command::Upgrade(upgrading) => &upgrading.inputs,
         }
     }
 }

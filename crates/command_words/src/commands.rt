@@ -2,7 +2,7 @@
 
 ghost use Rattle.std.specs.Prelude.{◌≡◌, IfOk, [], false};
 ghost use Rattle.clap.specs.Words.{app_of, rule_of, with_rule};
-ghost use Rattle.command_words.specs.Commands.{check, command, needed, option, rest, validate};
+ghost use Rattle.command_words.specs.Commands.{check, command, needed, option, rest, upgrade, validate};
 
 use clap::{Arg, ArgAction, Command};
 use std::alloc::{AllocError, Global};
@@ -75,6 +75,21 @@ pub fn check<'a>(alloc: Global) -> Result<Command<'a>, AllocError>
     command = with(command, needed(option(alloc, "schema")))?;
     command = with(command, needed(option(alloc, "data")))?;
     command = with(command, needed(option(alloc, "proof")))?;
+    command = with(command, option(alloc, "schema-base"))?;
+    command = with(command, option(alloc, "data-base"))?;
+    let whole = with(command, rest(alloc, "imports"))?;
+    Ok(whole)
+}
+
+/// The command `upgrade`.
+pub fn upgrade<'a>(alloc: Global) -> Result<Command<'a>, AllocError>
+    ensures { IfOk result (λ c. app_of c ≡ upgrade) }
+{
+    let mut command = bare(alloc, "upgrade");
+    command = with(command, needed(option(alloc, "schema")))?;
+    command = with(command, needed(option(alloc, "data")))?;
+    command = with(command, needed(option(alloc, "proof")))?;
+    command = with(command, needed(option(alloc, "to")))?;
     command = with(command, option(alloc, "schema-base"))?;
     command = with(command, option(alloc, "data-base"))?;
     let whole = with(command, rest(alloc, "imports"))?;

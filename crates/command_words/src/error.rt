@@ -19,7 +19,7 @@ pub enum WordsError<'a> {
     Import(&'a str),
     /// A base has no scheme, or a character that may not stand in an IRI.
     Base(&'a str),
-    /// The proof has the name of another file.
+    /// The name of the proof, or the one under which it is to be stored in the newest format, is that of another file.
     Same(&'a str),
     /// Memory ran out.
     Memory,

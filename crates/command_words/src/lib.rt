@@ -1,4 +1,4 @@
-//! The words of the commands `validate` and `check`, read with `clap` and checked.
+//! The words of the commands `validate`, `check` and `upgrade`, read with `clap` and checked.
 #![tactic(auto)]
 
 mod checks;
@@ -12,7 +12,7 @@ mod numbers;
 mod requests;
 mod words;
 
-pub use command::{Checking, Command, Import, Inputs, Validation};
+pub use command::{Checking, Command, Import, Inputs, Upgrading, Validation};
 pub use error::WordsError;
 pub use laws::{answers_are_one, bases_are_lines};
 pub use words::read;

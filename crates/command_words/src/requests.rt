@@ -6,7 +6,7 @@ ghost use Rattle.command_words.specs.Checks.{arguments};
 ghost use Rattle.command_words.specs.Lent.{Because, request_of, task_of};
 ghost use Rattle.command_words.specs.Requests.{Asks, IsFound, IsGiven, IsTask, Request as Requested, Task as Asked, name_of};
 
-use crate::commands::{check, validate};
+use crate::commands::{check, upgrade, validate};
 use crate::error::WordsError;
 use crate::matches::{matches_of, value_of, value_or, values_of};
 use crate::numbers::budget;
@@ -28,6 +28,11 @@ pub enum Task<'a> {
     /// To check a proof.
     Check {
         proof: &'a str,
+    },
+    /// To check a proof and to store it in the newest format.
+    Upgrade {
+        proof: &'a str,
+        to: &'a str,
     },
 }
 
@@ -100,6 +105,17 @@ fn checking<'a>(matches: &ArgMatches<'a>) -> Option<Task<'a>>
     Some(Task::Check { proof })
 }
 
+/// What `upgrade` is given alone, by what `clap` finds, and `None` where that is nothing.
+fn upgrading<'a>(matches: &ArgMatches<'a>) -> Option<Task<'a>>
+    ensures found { IfSome result (λ t. IsTask (rows_of (found_of matches.now)) (task_of t)) }
+    ensures named { IfSome result (λ t. name_of (task_of t) ≡ codes "upgrade") }
+    ensures missed { IsNone result → (t : Asked) → name_of t ≡ codes "upgrade" → ¬ IsTask (rows_of (found_of matches.now)) t }
+{
+    let proof = value_of(matches, "proof")?;
+    let to = value_of(matches, "to")?;
+    Some(Task::Upgrade { proof, to })
+}
+
 /// What the words behind `validate` ask for.
 fn read_to_validate<'a>(alloc: Global, words: &'a [String]) -> Result<Request<'a>, WordsError<'a>>
     ensures ok { IfOk result (λ r. IsFound (map string_bytes words.entry.now) (request_of r)) }
@@ -134,6 +150,23 @@ fn read_to_check<'a>(alloc: Global, words: &'a [String]) -> Result<Request<'a>, 
     Ok(request)
 }
 
+/// What the words behind `upgrade` ask for.
+fn read_to_upgrade<'a>(alloc: Global, words: &'a [String]) -> Result<Request<'a>, WordsError<'a>>
+    ensures ok { IfOk result (λ r. IsFound (map string_bytes words.entry.now) (request_of r)) }
+    ensures named { IfOk result (λ r. name_of (task_of r.task) ≡ codes "upgrade") }
+    ensures fault { IfErr result (Because (λ f. (f ≡ arguments) × ((r : Requested) → name_of r.task ≡ codes "upgrade" → ¬ IsFound (map string_bytes words.entry.now) r))) }
+{
+    let command = upgrade(alloc)?;
+    let Some(matches) = matches_of(command, words)? else {
+        return Err(WordsError::Arguments);
+    };
+    let Some(task) = upgrading(&matches) else {
+        return Err(WordsError::Arguments);
+    };
+    let request = request_for(alloc, &matches, task)?;
+    Ok(request)
+}
+
 /// What the words ask for.
 pub fn read_request<'a>(alloc: Global, words: &'a [String]) -> Result<Request<'a>, WordsError<'a>>
     ensures ok { IfOk result (λ r. Asks (map string_bytes words.entry.now) (request_of r)) }
@@ -146,6 +179,8 @@ pub fn read_request<'a>(alloc: Global, words: &'a [String]) -> Result<Request<'a
         read_to_validate(alloc, behind)
     } else if name.as_str() == "check" {
         read_to_check(alloc, behind)
+    } else if name.as_str() == "upgrade" {
+        read_to_upgrade(alloc, behind)
     } else {
         Err(WordsError::Arguments)
     }

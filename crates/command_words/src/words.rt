@@ -13,7 +13,8 @@ use std::alloc::Global;
 
 /// What the words behind the program's name ask for. It fails with the first thing that is wrong with them, in this order:
 /// `Arguments`; `Ending` of the schema's name, then of the data's; for each import word in turn `Import` and then `Ending` of
-/// its file's name; `Base` of the schema, then of the data; `Same`.
+/// its file's name; `Base` of the schema, then of the data; `Same` of the proof's name, then of that under which it is to be
+/// stored.
 pub fn read<'a>(alloc: Global, words: &'a [String]) -> Result<Command<'a>, WordsError<'a>>
     ensures asked { IfOk result (λ c. IsAsked (map string_bytes words.entry.now) (command_of c)) }
     ensures complete { (c : Asking) → IsAsked (map string_bytes words.entry.now) c → MatchResult result (λ d. command_of d ≡ c) (Because (λ f. ⊥)) }

@@ -18,3 +18,11 @@ returns-then-eq-2-clause-ok c =
     let all : map (string_bytes {Z = Global}) c.args.words.now ≡ codes "check" ∷ behind =
     first_and_rest (string_bytes {Z = Global}) c.args.words.now c.name-item.result c.in-len1-up.len_at_least c.name-item.is ∙ ap (λ w. w ∷ behind) (sym c.as_str-else-eq.ensures.value ∙ named) in
     requested (map (string_bytes {Z = Global}) c.args.words.now) behind (codes "check") c.read_to_check.result all c.read_to_check.ensures.ok c.read_to_check.ensures.named
+
+pub returns-then-eq-3-clause-ok : goal.returns-then-eq-3-clause-ok
+returns-then-eq-3-clause-ok c =
+    let behind = map (string_bytes {Z = Global}) (take (length c.args.words.now - 1) (drop 1 c.args.words.now)) in
+    let named : c.as_str-else-eq-2.result.now ≡ codes "upgrade" = (bytes_decides c.as_str-else-eq-2.result.now (codes "upgrade")).0 (sym c.if-eq-3.ensures) in
+    let all : map (string_bytes {Z = Global}) c.args.words.now ≡ codes "upgrade" ∷ behind =
+    first_and_rest (string_bytes {Z = Global}) c.args.words.now c.name-item.result c.in-len1-up.len_at_least c.name-item.is ∙ ap (λ w. w ∷ behind) (sym c.as_str-else-eq-2.ensures.value ∙ named) in
+    requested (map (string_bytes {Z = Global}) c.args.words.now) behind (codes "upgrade") c.read_to_upgrade.result all c.read_to_upgrade.ensures.ok c.read_to_upgrade.ensures.named
