@@ -8,7 +8,7 @@ use Rattle.shex_io.specs.declared.files.Act.TheVariants as Acts
 use Rattle.schema_tree.specs.declared.schema.Answer.{Answer}
 use Rattle.shape_map.specs.Results.{result_text}
 use Rattle.command_words.specs.Asked.{Command}
-use Rattle.command_words.specs.Requests.{Task, checking, proof_of, validation}
+use Rattle.command_words.specs.Requests.{Task, checking, proof_of, upgrading, validation}
 use Rattle.shex_inputs.specs.declared.error.InputError.{InputError}
 use Rattle.shex_inputs.specs.declared.error.InputError.TheVariants as Errors
 use Rattle.shex_inputs.specs.declared.error.Source.{Source}
@@ -23,16 +23,18 @@ use Rattle.proof_checker.specs.declared.checking.CheckError.TheVariants as Check
 use Rattle.shex_run.specs.declared.stop.Refusal.TheVariants as Refusals
 use Rattle.shex_run.specs.declared.stop.Stop.{Stop}
 use Rattle.shex_run.specs.declared.stop.Stop.TheVariants as Stops
-use Rattle.shex_run.specs.Checking.{ConfirmStops, Confirms, IsGiven}
+use Rattle.shex_run.specs.Checking.{ConfirmStops, Confirms, IsCheckedAs, IsGiven}
 use Rattle.shex_run.specs.Endings.{IsResponse}
 use Rattle.shex_run.specs.Outcomes.{Reaches, ReachesProof}
-use Rattle.shex_run.specs.Proofs.{AreAnswers, IsCutStore, IsDueProof, IsStoredProofOf, Stores}
+use Rattle.shex_run.specs.Proofs.{AreAnswers, IsDueProof, IsStoredProofOf, Stores}
 use Rattle.shex_run.specs.Statuses.{status_of}
 use Rattle.shex_run.specs.Stopping.{Explains, FaultsAs, LeavesStored, ProofStops, stop_of}
+use Rattle.shex_run.specs.Storing.{IsCutStore, IsDueUpgrade, IsUpgradeOf, Upgrades}
 use Rattle.shex_run.specs.Texts.{notes_of}
 use Rattle.shex_run.specs.Wide.{AreWide}
 use Rattle.typing_refiner.specs.declared.building.WidePair.{WidePair}
-use Rattle.shex_run.specs.Tasks.{IsInputOf, IsToCheck, IsToValidate, act_of, inputs_of, name_of}
+use Rattle.shex_run.specs.Tasks.{IsInputOf, IsToCheck, IsToStore, IsToValidate, act_of, inputs_of, name_of, stored_of}
+use Rattle.shex_run.proofs.Checked.{fetched_act, fetched_name, reaches, stored_name}
 
 -- what a stop says of the cause, the faults and the store
 pub record Stopped (told after : Told) (c : Command) (before later : ℕ) (blame : List ℕ) (act : Act) (stop : Stop) : Type 0 where
@@ -55,16 +57,19 @@ wish_of_task m p n (Errors.Failed source) = tt
 wish_of_task m p n Errors.Memory = tt
 
 -- a stop of schema or data is about a file of every task
-no_map_of : (name : Text) (source : Source) → source ≢ Sources.Map → IsInputOf (checking name) source
-no_map_of name (Sources.Schema file) other = tt
-no_map_of name Sources.Data other = tt
-no_map_of name Sources.Map other = other refl
+no_map_of : (t : Task) (source : Source) → source ≢ Sources.Map → IsInputOf t source
+no_map_of (validation m p n) source other = tt
+no_map_of (checking name) (Sources.Schema file) other = tt
+no_map_of (checking name) Sources.Data other = tt
+no_map_of (checking name) Sources.Map other = other refl
+no_map_of (upgrading name to) (Sources.Schema file) other = tt
+no_map_of (upgrading name to) Sources.Data other = tt
+no_map_of (upgrading name to) Sources.Map other = other refl
 
 pub base_of_task : (t : Task) (e : InputError) → IsBeforeMap e → IsOfTask t e
-base_of_task (validation m p n) e before = wish_of_task m p n e
-base_of_task (checking name) (Errors.Refused refusal) before = no_map_of name (source_of refusal) before
-base_of_task (checking name) (Errors.Failed source) before = no_map_of name source before
-base_of_task (checking name) Errors.Memory before = tt
+base_of_task t (Errors.Refused refusal) before = no_map_of t (source_of refusal) before
+base_of_task t (Errors.Failed source) before = no_map_of t source before
+base_of_task t Errors.Memory before = tt
 
 pub input_stopped : (told after : Told) (c : Command) (before later : ℕ) (blame : List ℕ) (act : Act) (e : InputError) → IsOfTask c.task e → ExplainsInput told (inputs_of c) e → FaultsAsInput (inputs_of c) before later blame act e → after ≡ told →
     Stopped told after c before later blame act (stop_of e)
@@ -123,14 +128,14 @@ module _ (told : Told) (c : Command) (map_name : Text) (proof_name : Option Text
     stored after held others = responds after (subst (λ p. Stores told after p (IsStoredProofOf q budget answers)) (sym named) (bytes, proof, held, others))
 
     cut : (after : Told) → HoldsPart told after name bytes → KeepsOthers told after name → IsCutStore told after c
-    cut after part others = record { name = name; bytes = bytes; due = due_proof; part = part; others = others }
+    cut after part others = record { name = name; bytes = bytes; due = inl due_proof; part = part; others = others }
 
     reached : (file : File) → file ≡ Files.Proof → Reaches told c file
     reached file e =
         subst (λ f. Reaches told c f) (sym e)
         (subst (λ t. ReachesProof told c t) (sym due.task) (name, (bytes, due_proof)))
 
-    pub store_stopped : (after : Told) (before later : ℕ) (blame : List ℕ) (act : Act) (stop : Stop) → ProofStops name Acts.Store before later blame act stop → HoldsPart told after name bytes → KeepsOthers told after name → Stopped told after c before later blame act stop
+    pub store_stopped : (after : Told) (before later : ℕ) (blame : List ℕ) (act : Act) (stop : Stop) → ProofStops Files.Proof name Acts.Store before later blame act stop → HoldsPart told after name bytes → KeepsOthers told after name → Stopped told after c before later blame act stop
     store_stopped after before later blame act (Stops.Refused refusal) h part others = absurd h
     store_stopped after before later blame act (Stops.Failed file) (e, (rose, up, blamed, acted)) part others = record {
       cause = reached file e;
@@ -145,30 +150,38 @@ module _ (told : Told) (c : Command) (map_name : Text) (proof_name : Option Text
         own_act = sym (ap (λ f. act_of c.task f) e ∙ ap (λ t. act_of t Files.Proof) due.task)
     store_stopped after before later blame act Stops.Memory h part others = record { cause = tt; faults = h; stored = inr (cut after part others) }
 
--- ---- `check`
+-- ---- `check` and `upgrade`
 
 module _ (told : Told) (c : Command) (b : Held) (taken : IsTaken told (inputs_of c) b) (name : List ℕ) (is : IsToCheck c name) where
-  pub fetch_stopped : (after : Told) → after ≡ told → (before later : ℕ) (blame : List ℕ) (act : Act) (stop : Stop) → ProofStops name Acts.Fetch before later blame act stop → Stopped told after c before later blame act stop
+  pub fetch_stopped : (after : Told) → after ≡ told → (before later : ℕ) (blame : List ℕ) (act : Act) (stop : Stop) → ProofStops Files.Proof name Acts.Fetch before later blame act stop → Stopped told after c before later blame act stop
   fetch_stopped after same before later blame act (Stops.Refused refusal) h = absurd h
   fetch_stopped after same before later blame act (Stops.Failed file) (e, (rose, up, blamed, acted)) = record {
-    cause = subst (λ f. Reaches told c f) (sym e) (subst (λ t. ReachesProof told c t) (sym is) (b, taken));
+    cause = subst (λ f. Reaches told c f) (sym e) (reaches told c c.task name is b taken);
     faults = (rose, up, blamed ∙ own_name, acted ∙ own_act);
     stored = inl same;
   }
     where
       own_name : name ≡ name_of c file
-      own_name = sym (ap (λ f. name_of c f) e ∙ ap (λ t. unwrap_or (proof_of t) []) is)
+      own_name = fetched_name c.task name is ∙ sym (ap (λ f. name_of c f) e)
 
       own_act : Acts.Fetch ≡ act_of c.task file
-      own_act = sym (ap (λ f. act_of c.task f) e ∙ ap (λ t. act_of t Files.Proof) is)
+      own_act = fetched_act c.task name is ∙ sym (ap (λ f. act_of c.task f) e)
   fetch_stopped after same before later blame act Stops.Memory h = record { cause = tt; faults = h; stored = inl same }
 
   module _ (bytes : List ℕ) (held : Holds told name (Some bytes)) where
     given : IsGiven told c b bytes
     given = record { taken = taken; name = name; task = is; held = held }
 
-    pub confirmed : (after : Told) → after ≡ told → (text : List ℕ) → Confirms b bytes text → IsResponse told after c 0 text []
-    confirmed after same text k = inr (record { checked = record { held = b; bytes = bytes; given = given; confirmed = k }; unstored = same; status_is = refl; notes_are = refl })
+    abbrev checked_as : (text : List ℕ) → Confirms b bytes text → IsCheckedAs told c text
+    checked_as text k = record { held = b; bytes = bytes; given = given; confirmed = k }
+
+    pub confirmed : stored_of c.task ≡ None → (after : Told) → after ≡ told → (text : List ℕ) → Confirms b bytes text → IsResponse told after c 0 text []
+    confirmed none after same text k = inr (record {
+      checked = checked_as text k;
+      stored = subst (λ o. Stores told after o (IsUpgradeOf b k.accepted.found.found.proof bytes)) (sym none) same;
+      status_is = refl;
+      notes_are = refl;
+    })
 
     pub confirm_stopped : (after : Told) → after ≡ told → (before later : ℕ) (blame : List ℕ) (act : Act) → later ≡ before → (stop : Stop) → ConfirmStops b bytes stop → Stopped told after c before later blame act stop
     confirm_stopped after same before later blame act still (Stops.Refused (Refusals.Input refusal)) h = absurd h
@@ -180,3 +193,40 @@ module _ (told : Told) (c : Command) (b : Held) (taken : IsTaken told (inputs_of
     confirm_stopped after same before later blame act still (Stops.Refused (Refusals.Proof (CheckErrors.Rejected i w))) h = record { cause = (b, bytes, given, h); faults = still; stored = same }
     confirm_stopped after same before later blame act still (Stops.Failed file) h = absurd h
     confirm_stopped after same before later blame act still Stops.Memory h = record { cause = tt; faults = still; stored = inl same }
+
+    -- the proof that is accepted is stored in format 2
+    module _ (to : List ℕ) (at : IsToStore c to) (text new : List ℕ) (k : Upgrades b bytes text new) (mid after : Told) (same : mid ≡ told) where
+      pub upgraded : Holds after to (Some new) → KeepsOthers mid after to → IsResponse told after c 0 text []
+      upgraded held_new others = inr (record {
+        checked = checked_as text k.confirmed;
+        stored = subst (λ o. Stores told after o (IsUpgradeOf b k.confirmed.accepted.found.found.proof bytes)) (sym at) (new, k.upgrade, held_new, subst (λ t. KeepsOthers t after to) same others);
+        status_is = refl;
+        notes_are = refl;
+      })
+
+      due_upgrade : IsDueUpgrade told c to new
+      due_upgrade = record { task = at; held = b; old = bytes; given = given; text = text; upgrades = k }
+
+      cut_upgrade : HoldsPart mid after to new → KeepsOthers mid after to → IsCutStore told after c
+      cut_upgrade part others = record {
+        name = to;
+        bytes = new;
+        due = inr due_upgrade;
+        part = subst (λ t. HoldsPart t after to new) same part;
+        others = subst (λ t. KeepsOthers t after to) same others;
+      }
+
+      pub upgrade_stopped : (before later : ℕ) (blame : List ℕ) (act : Act) (stop : Stop) → ProofStops Files.Upgraded to Acts.Store before later blame act stop → HoldsPart mid after to new → KeepsOthers mid after to → Stopped told after c before later blame act stop
+      upgrade_stopped before later blame act (Stops.Refused refusal) h part others = absurd h
+      upgrade_stopped before later blame act (Stops.Failed file) (e, (rose, up, blamed, acted)) part others = record {
+        cause = subst (λ f. Reaches told c f) (sym e) (to, (new, due_upgrade));
+        faults = (rose, up, blamed ∙ own_name, acted ∙ own_act);
+        stored = inr (cut_upgrade part others);
+      }
+        where
+          own_name : to ≡ name_of c file
+          own_name = stored_name c.task name to is at ∙ sym (ap (λ f. name_of c f) e)
+
+          own_act : Acts.Store ≡ act_of c.task file
+          own_act = sym (ap (λ f. act_of c.task f) e)
+      upgrade_stopped before later blame act Stops.Memory h part others = record { cause = tt; faults = h; stored = inr (cut_upgrade part others) }

@@ -16,20 +16,22 @@ use Rattle.proof_checker.specs.Checks.{IsFullFor}
 use Rattle.command_words.specs.Asked.{Command, IsAsked, IsFirstFault}
 use Rattle.command_words.specs.Checks.{Fault}
 use Rattle.command_words.specs.Laws.{AnswersAreOne}
-use Rattle.command_words.specs.Requests.{Task, checking, proof_of, validation}
+use Rattle.command_words.specs.Requests.{Task, checking, proof_of, upgrading, validation}
 use Rattle.shex_inputs.specs.declared.error.Refusal.{Refusal}
 use Rattle.shex_inputs.specs.Asked.{IsAskedOf, Question}
 use Rattle.shex_inputs.specs.Held.{Held}
 use Rattle.shex_run.specs.declared.stop.File.{File}
 use Rattle.shex_run.specs.Checking.{IsFull, IsGiven, IsRejected, Rejects}
-use Rattle.shex_run.specs.Endings.{Ends, FilesSeen, IsAnswered, IsPartlyStored, IsPrintedInPart, IsRefusalLine, IsRefusedBy, IsRejectedBy, IsRespondedTo, IsResponse, IsUnprinted, IsWhollyStored, IsWordsLine, KeepsTold, MayPrintInPart, PrintsBoth, PrintsTo, SinkSeen, answer_in_part, answered, failed, faulty, line_in_part, notes_in_part, refused, rejected, wanting}
+use Rattle.shex_run.specs.Endings.{Ends, FilesSeen, IsAnswered, IsConfirmed, IsPartlyStored, IsPrintedInPart, IsRefusalLine, IsRefusedBy, IsRejectedBy, IsRespondedTo, IsResponse, IsUnprinted, IsWhollyStored, IsWhollyUpgraded, IsWordsLine, KeepsTold, MayPrintInPart, PrintsBoth, PrintsTo, SinkSeen, answer_in_part, answered, failed, faulty, line_in_part, notes_in_part, refused, rejected, wanting}
 use Rattle.shex_run.specs.Outcomes.{AreTaken, IsAbsent, IsRefused, TakesFor}
 use Rattle.shex_run.specs.Proofs.{Accepted, IsStoredProofOf, Stores}
 use Rattle.shex_run.specs.Printing.{IsCut}
 use Rattle.shex_run.specs.Statuses.{Concludes, IsAnswering, IsInterrupted, are_wanted, status_by}
+use Rattle.shex_run.specs.Storing.{IsDueStore, IsUpgradeOf}
 use Rattle.shex_run.specs.Texts.{notes_by, wide_lines}
-use Rattle.shex_run.specs.Tasks.{IsToValidate, inputs_of}
-use Rattle.shex_run.proofs.Exclusive.{AreOne, asked_not_absent, asked_not_refused, check_not_refused, full_not_absent, full_not_wish, given_not_absent, no_both, one_given, refused_not_absent}
+use Rattle.shex_run.specs.Tasks.{IsToStore, IsToValidate, checked_of, inputs_of, stored_of}
+use Rattle.shex_run.proofs.Checked.{concludes, no_both}
+use Rattle.shex_run.proofs.Exclusive.{AreOne, asked_not_absent, asked_not_refused, check_not_refused, full_not_absent, full_not_wish, given_not_absent, one_given, refused_not_absent}
 use Rattle.shex_run.proofs.Settled.{accepted_not_full, accepted_not_rejected, rejected_not_full}
 
 -- what is printed has the status that is wanted, or printing was interrupted
@@ -87,17 +89,18 @@ module _ (words : List Text) (c : Command) (is_asked : IsAsked words c) (law : A
     taken_ends taken (faulty line by left quiet prints) = absurd (not_faulty line by)
     taken_ends taken (answered text notes wanted low r same prints) = elim (responded files.told files.told_after wanted text notes r) [
       | inl a ↦ or_interrupted (Concludes c.task status) wanted status (λ h. subst (λ t. Concludes t status) (sym a.task) (answering status wanted low h)) (wanted_both out err text notes wanted status prints)
-      | inr k ↦ or_interrupted (Concludes c.task status) wanted status (λ h. subst (λ t. Concludes t status) (sym k.checked.given.task) (inl (h ∙ k.status_is))) (wanted_both out err text notes wanted status prints)
+      | inr k ↦ or_interrupted (Concludes c.task status) wanted status (λ h. concludes c.task k.checked.given.name k.checked.given.task status (inl (h ∙ k.status_is))) (wanted_both out err text notes wanted status prints)
     ]
     taken_ends taken (refused line by left quiet prints) = or_interrupted (Concludes c.task status) 3 status (λ h. go (refusal_of files.told line by) c.task refl taken h) (wanted_or err line 3 status prints)
       where
         go : IsLeft files.told → (t : Task) → c.task ≡ t → TakesFor files.told c t → status ≡ 3 → Concludes c.task status
         go (inl (refusal, cause)) (validation m p n) is (q, asked) h = absurd (asked_not_refused files.told contents told c one q asked refusal cause)
-        go (inl (refusal, cause)) (checking name) is (k, held) h = absurd (check_not_refused files.told contents told c one k name held is refusal cause)
-        go (inr (k, bytes, given, full)) t is taken h = subst (λ x. Concludes x status) (sym given.task) (inr (inl h))
+        go (inl (refusal, cause)) (checking name) is (k, held) h = absurd (check_not_refused files.told contents told c one k name held (ap checked_of is) refusal cause)
+        go (inl (refusal, cause)) (upgrading name to) is (k, held) h = absurd (check_not_refused files.told contents told c one k name held (ap checked_of is) refusal cause)
+        go (inr (k, bytes, given, full)) t is taken h = concludes c.task given.name given.task status (inr (inl h))
     taken_ends taken (rejected line by left quiet prints) =
         let (k, bytes, given, rejects) = rejection_of files.told line by in
-        or_interrupted (Concludes c.task status) 6 status (λ h. subst (λ x. Concludes x status) (sym given.task) (inr (inr h))) (wanted_or err line 6 status prints)
+        or_interrupted (Concludes c.task status) 6 status (λ h. concludes c.task given.name given.task status (inr (inr h))) (wanted_or err line 6 status prints)
     taken_ends taken (failed line by have quiet prints) = inr (five_interrupts status (wanted_or err line 5 status prints))
     taken_ends taken (wanting stored same quiet also h) = inr (inr (inr h))
 
@@ -126,7 +129,7 @@ module _ (words : List Text) (c : Command) (is_asked : IsAsked words c) (law : A
                 subst (λ z. Holds files.told_after z (Some x)) same held,
                 subst (λ z. KeepsOthers files.told files.told_after z) same others,
               )
-      whole text notes wanted (inr k) = absurd (no_both map (Some name) budget k.checked.given.name (sym to ∙ k.checked.given.task))
+      whole text notes wanted (inr k) = absurd (no_both map (Some name) budget c.task k.checked.given.name to k.checked.given.task)
 
       taken : AreTaken files.told c → (q : Question) × IsAskedOf files.told (inputs_of c) q
       taken h = subst (λ t. TakesFor files.told c t) to h
@@ -142,7 +145,7 @@ module _ (words : List Text) (c : Command) (is_asked : IsAsked words c) (law : A
           go (inr full) = absurd (full_not_wish files.told contents told c one map (Some name) budget to full)
       whole_ends h (rejected line by left quiet prints) at still =
           let (k, x, given, rejects) = rejection_of files.told line by in
-          absurd (no_both map (Some name) budget given.name (sym to ∙ given.task))
+          absurd (no_both map (Some name) budget c.task given.name to given.task)
       whole_ends h (failed line by have quiet prints) at still = absurd (still by.rose)
       whole_ends h (wanting stored same quiet also e) at still = absurd (omega (arith, e, at))
 
@@ -172,7 +175,7 @@ module _ (words : List Text) (c : Command) (is_asked : IsAsked words c) (law : A
       refused_full (inr full) = same_full full
 
       no_wish : (text notes : List ℕ) (wanted : ℕ) → IsAnswered files.told files.told_after c wanted text notes → ⊥
-      no_wish text notes wanted a = no_both a.map_name a.proof_name a.budget given.name (sym a.task ∙ given.task)
+      no_wish text notes wanted a = no_both a.map_name a.proof_name a.budget c.task given.name a.task given.task
 
       -- a proof that is accepted is said to be
       pub accepted_ends : (terms : List Term) (answers : List Answer) → Accepted b bytes terms answers → Ends words files out err status → (status ≡ 0) ⊎ IsInterrupted status
@@ -188,6 +191,31 @@ module _ (words : List Text) (c : Command) (is_asked : IsAsked words c) (law : A
           absurd (accepted_not_rejected b distinct bytes terms answers by.rejection a (same_rejects k x by.rejection also rejects))
       accepted_ends terms answers a (failed line by have quiet prints) = inr (five_interrupts status (wanted_or err line 5 status prints))
       accepted_ends terms answers a (wanting stored same quiet also h) = inr (inr (inr h))
+
+      -- and where it is to be stored and a sink alone failed, it is stored whole
+      module _ (name : Text) (to : IsToStore c name) where
+        whole_upgrade : (text notes : List ℕ) (wanted : ℕ) → IsConfirmed files.told files.told_after c wanted text notes → IsWhollyUpgraded files.told files.told_after c name
+        whole_upgrade text notes wanted k =
+            let (new, upgrade, held, others) = subst (λ o. Stores files.told files.told_after o (IsUpgradeOf k.checked.held k.checked.confirmed.accepted.found.found.proof k.checked.bytes)) to k.stored in (
+              new,
+              record { task = to; held = k.checked.held; old = k.checked.bytes; given = k.checked.given; text = text; upgrades = record { confirmed = k.checked.confirmed; upgrade = upgrade } },
+              held,
+              others,
+            )
+
+        pub upgraded_ends : (terms : List Term) (answers : List Answer) → Accepted b bytes terms answers → Ends words files out err status → status ≡ 7 → ¬ Rose files.faults files.faults_after → IsWhollyUpgraded files.told files.told_after c name
+        upgraded_ends terms answers a (faulty line by left quiet prints) at still = absurd (not_faulty line by)
+        upgraded_ends terms answers a (answered text notes wanted low r same prints) at still = elim (responded files.told files.told_after wanted text notes r) [
+          | inl x ↦ absurd (no_wish text notes wanted x)
+          | inr k ↦ whole_upgrade text notes wanted k
+        ]
+        upgraded_ends terms answers a (refused line by left quiet prints) at still =
+            absurd (accepted_not_full b distinct bytes terms answers a (refused_full (refusal_of files.told line by)))
+        upgraded_ends terms answers a (rejected line by left quiet prints) at still =
+            let (k, x, also, rejects) = rejection_of files.told line by in
+            absurd (accepted_not_rejected b distinct bytes terms answers by.rejection a (same_rejects k x by.rejection also rejects))
+        upgraded_ends terms answers a (failed line by have quiet prints) at still = absurd (still by.rose)
+        upgraded_ends terms answers a (wanting stored same quiet also e) at still = absurd (omega (arith, e, at))
 
       -- and one that is rejected too
       rejected_ends_so : (rejection : CheckError) → Rejects b bytes rejection → Ends words files out err status → (status ≡ 6) ⊎ IsInterrupted status
@@ -374,7 +402,7 @@ module _ (told after : Told) (words : List Text) where
     record {
       name = name;
       bytes = bytes;
-      due = record {
+      due = inl (record {
         map_name = a.map_name;
         budget = a.budget;
         task = subst (λ n. IsToValidate c a.map_name n a.budget) is a.task;
@@ -382,8 +410,23 @@ module _ (told after : Told) (words : List Text) where
         answers = a.answers;
         are_answers = a.are_answers;
         proof = proof;
-      };
+      });
       part = held_part told after name bytes held others;
+      others = others;
+    },
+  )
+
+  upgraded_partly : (status : ℕ) (text notes : List ℕ) (c : Command) → IsAsked words c → (k : IsConfirmed told after c status text notes) → (name : Option Text) → stored_of c.task ≡ name →
+      Stores told after name (IsUpgradeOf k.checked.held k.checked.confirmed.accepted.found.found.proof k.checked.bytes) → IsPartlyStored told after words
+  upgraded_partly status text notes c is_asked k None is same = inl same
+  upgraded_partly status text notes c is_asked k (Some name) is (new, upgrade, held, others) = inr (
+    c,
+    is_asked,
+    record {
+      name = name;
+      bytes = new;
+      due = inr (record { task = is; held = k.checked.held; old = k.checked.bytes; given = k.checked.given; text = text; upgrades = record { confirmed = k.checked.confirmed; upgrade = upgrade } });
+      part = held_part told after name new held others;
       others = others;
     },
   )
@@ -393,11 +436,16 @@ module _ (told after : Told) (words : List Text) where
     where
       go : IsResponse told after r.command status text notes → IsPartlyStored told after words
       go (inl a) = stored_partly status text notes r.command r.is_asked a a.proof_name refl a.stored
-      go (inr k) = inl k.unstored
+      go (inr k) = upgraded_partly status text notes r.command r.is_asked k (stored_of r.command.task) refl k.stored
+
+  -- what is due is asked for under its name
+  to_store : (c : Command) (name bytes : List ℕ) → IsDueStore told c name bytes → IsToStore c name
+  to_store c name bytes (inl due) = ap stored_of due.task
+  to_store c name bytes (inr due) = due.task
 
   partly_kept : IsPartlyStored told after words → KeepsTold told after words
   partly_kept (inl same) = inl same
-  partly_kept (inr (c, is_asked, cut)) = inr (c, is_asked, (cut.due.map_name, cut.name, cut.due.budget, cut.due.task, cut.others))
+  partly_kept (inr (c, is_asked, cut)) = inr (c, is_asked, (cut.name, to_store c cut.name cut.bytes cut.due, cut.others))
 
 -- however a call ends, no more than the proof is stored
 pub ends_partly : (words : List Text) (files : FilesSeen) (out err : SinkSeen) (status : ℕ) → Ends words files out err status → IsPartlyStored files.told files.told_after words

@@ -16,9 +16,9 @@ use Rattle.shex_run.specs.declared.stop.Stop.TheVariants as Stops
 use Rattle.shex_run.specs.Checking.{IsRejected}
 use Rattle.shex_run.specs.Endings.{AreLeft, Ends, FilesSeen, IsPartlyStored, IsQuiet, IsResponse, PrintsBoth, PrintsTo, SinkSeen, answered, failed, faulty, refused, rejected, wanting}
 use Rattle.shex_run.specs.Printing.{Prints, RefusesWords}
-use Rattle.shex_run.specs.Proofs.{MayStore}
 use Rattle.shex_run.specs.Statuses.{IsAnswering, refusal_status}
 use Rattle.shex_run.specs.Stopping.{Explains, FaultsAs, LeavesStored}
+use Rattle.shex_run.specs.Storing.{MayStore}
 use Rattle.shex_run.specs.Tasks.{name_of}
 use Rattle.shex_run.specs.Texts.{failed_line, refusal_line, words_line}
 

@@ -5,7 +5,7 @@ use Rattle.clap.specs.Words.{Row, Text, first_of}
 use Rattle.command_words.specs.Asked.{Command, IsAsked}
 use Rattle.command_words.specs.Checks.{is_base}
 use Rattle.command_words.specs.Commands.{rows}
-use Rattle.command_words.specs.Requests.{IsBudget, IsTask, Task, checking, command_for, max_budget, validation}
+use Rattle.command_words.specs.Requests.{IsBudget, IsTask, Task, checking, command_for, max_budget, upgrading, validation}
 use Rattle.shex_run.specs.Stopping.{IsFit}
 
 -- a budget is from 1 to the greatest one
@@ -18,6 +18,7 @@ of_task found (validation a b k) asked m p n same =
     let one : k ≡ n = cc in
     subst (λ j. (1 ≤ j) × (j ≤ max_budget)) one (budget_within (first_of (codes "budget") found) k asked.is_budget)
 of_task found (checking name) asked m p n same = cc
+of_task found (upgrading name to) asked m p n same = cc
 
 pub fit : (words : List Text) (c : Command) → IsAsked words c → IsFit c
 fit words c is = record {

@@ -1,6 +1,7 @@
 pub mod Alone
 pub mod Answering
 pub mod Asked
+pub mod Checked
 pub mod Closing
 pub mod Confirmed
 pub mod Decisions
@@ -8,6 +9,7 @@ pub mod Digests
 pub mod Ended
 pub mod Exclusive
 pub mod Fitting
+pub mod Newest
 pub mod Replies
 pub mod Risen
 pub mod Selected

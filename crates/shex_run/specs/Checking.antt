@@ -31,7 +31,8 @@ pub record IsTrueOf (h : Held) (terms : List Term) (nodes : List TermId) (p : Pr
   pub exists : (U : List TermId) → (f : List ℕ) × (T : List Pair) × IsTypingOf h.schema terms h.graph f U T
   pub true_of : (f : List ℕ) (U : List TermId) (T : List Pair) → HoldsEnds U h.graph → HoldsLines U terms p.nodes → IsTypingOf h.schema terms h.graph f U T → IsTrueProof h.schema terms nodes T p
 
--- the command is to check a proof, whose file holds these bytes, for the schema and the graph that the files hold
+-- the command is to check a proof, whose file holds these bytes, for the schema and the graph that the files hold; it is `check` or
+-- `upgrade`
 pub record IsGiven (told : Told) (c : Command) (h : Held) (bytes : List ℕ) : Type 0 where
   pub taken : IsTaken told (inputs_of c) h
   pub name : Text

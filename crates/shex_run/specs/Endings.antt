@@ -18,9 +18,10 @@ use Rattle.shex_run.specs.declared.stop.Refusal.TheVariants as Refusals
 use Rattle.shex_run.specs.Checking.{IsCheckedAs, IsFull, IsRejected}
 use Rattle.shex_run.specs.Outcomes.{IsRefused, Reaches}
 use Rattle.shex_run.specs.Printing.{IsCut, Prints}
-use Rattle.shex_run.specs.Proofs.{AreAnswers, IsCutStore, IsDueProof, IsStoredProofOf, Stores}
+use Rattle.shex_run.specs.Proofs.{AreAnswers, IsDueProof, IsStoredProofOf, Stores}
 use Rattle.shex_run.specs.Statuses.{IsAnswering, status_of}
-use Rattle.shex_run.specs.Tasks.{IsToValidate, act_of, name_of}
+use Rattle.shex_run.specs.Storing.{IsCutStore, IsDueUpgrade, IsUpgradeOf}
+use Rattle.shex_run.specs.Tasks.{IsToStore, IsToValidate, act_of, name_of, stored_of}
 use Rattle.shex_run.specs.Texts.{failed_line, refusal_line, notes_of, words_line}
 use Rattle.shex_run.specs.Wide.{AreWide}
 use Rattle.typing_refiner.specs.declared.building.WidePair.{WidePair}
@@ -43,10 +44,11 @@ pub record IsAnswered (told after : Told) (c : Command) (status : ℕ) (text not
   pub are_wide : AreWide question.held.schema question.terms question.held.graph budget question.pairs wide
   pub notes_are : notes ≡ notes_of question budget answers wide
 
--- the text is the result map of the claims of a current and accepted proof, nothing more is due, and nothing is stored
+-- the text is the result map of the claims of a current and accepted proof, and nothing more is due; where the proof is to be stored,
+-- the name for it holds the proof in format 2, and no other name changed
 pub record IsConfirmed (told after : Told) (c : Command) (status : ℕ) (text notes : List ℕ) : Type 0 where
   pub checked : IsCheckedAs told c text
-  pub unstored : after ≡ told
+  pub stored : Stores told after (stored_of c.task) (IsUpgradeOf checked.held checked.confirmed.accepted.found.found.proof checked.bytes)
   pub status_is : status ≡ 0
   pub notes_are : notes ≡ []
 
@@ -119,7 +121,7 @@ IsPartlyStored told after words = (after ≡ told) ⊎ ((c : Command) × IsAsked
 -- each name holds what it held, but for the one under which the words ask for a proof to be stored
 abbrev pub KeepsTold : Told → Told → List Text → Type 0
 KeepsTold told after words =
-    (after ≡ told) ⊎ ((c : Command) × IsAsked words c × ((map_name name : Text) × (budget : ℕ) × IsToValidate c map_name (Some name) budget × KeepsOthers told after name))
+    (after ≡ told) ⊎ ((c : Command) × IsAsked words c × ((name : Text) × IsToStore c name × KeepsOthers told after name))
 
 -- nothing was printed, and no fault came
 pub record IsQuiet (sink : SinkSeen) : Type 0 where
@@ -185,3 +187,7 @@ MayPrintInPart words files out err = IsPrintedInPart words files out err ⊎ IsU
 -- the proof for which the command asks under this name is stored whole, as far as is told, and no other name changed
 abbrev pub IsWhollyStored : Told → Told → Command → Text → Type 0
 IsWhollyStored told after c name = Stores told after (Some name) (IsDueProof told c name)
+
+-- the same of the proof that is checked and stored in format 2
+abbrev pub IsWhollyUpgraded : Told → Told → Command → Text → Type 0
+IsWhollyUpgraded told after c name = Stores told after (Some name) (IsDueUpgrade told c name)

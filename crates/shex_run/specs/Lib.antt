@@ -2,6 +2,7 @@ pub mod Tasks
 pub mod Statuses
 pub mod Proofs
 pub mod Checking
+pub mod Storing
 pub mod Outcomes
 pub mod Stopping
 pub mod Ready

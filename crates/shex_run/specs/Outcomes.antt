@@ -3,7 +3,7 @@ use Rattle.std.specs.Prelude.{ℕ, List}
 use Rattle.clap.specs.Words.{Text}
 use Rattle.shex_io.specs.Files.{Told, Lacks}
 use Rattle.command_words.specs.Asked.{Command}
-use Rattle.command_words.specs.Requests.{Task, checking, validation}
+use Rattle.command_words.specs.Requests.{Task, checking, upgrading, validation}
 use Rattle.shex_inputs.specs.declared.error.Refusal.{Refusal}
 use Rattle.shex_inputs.specs.Asked.{IsAskedOf, Question}
 use Rattle.shex_inputs.specs.Held.{Held, IsTaken}
@@ -12,12 +12,14 @@ use Rattle.shex_inputs.specs.Refusals.{IsRefused as IsInputRefused, Reaches as R
 use Rattle.shex_run.specs.declared.stop.File.{File}
 use Rattle.shex_run.specs.declared.stop.File.TheVariants as Files
 use Rattle.shex_run.specs.Proofs.{IsDueProof}
+use Rattle.shex_run.specs.Storing.{IsDueUpgrade}
 use Rattle.shex_run.specs.Tasks.{IsFetched, IsInputOf, inputs_of, name_of}
 
 -- the inputs of the task are taken: the schema and the data, and for `validate` the map
 abbrev pub TakesFor : Told → Command → Task → Type 0
 TakesFor told c (validation map_name proof_name budget) = (q : Question) × IsAskedOf told (inputs_of c) q
 TakesFor told c (checking name) = (h : Held) × IsTaken told (inputs_of c) h
+TakesFor told c (upgrading name to_name) = (h : Held) × IsTaken told (inputs_of c) h
 
 -- the inputs of the command are taken
 abbrev pub AreTaken : Told → Command → Type 0
@@ -28,11 +30,13 @@ AreTaken told c = TakesFor told c c.task
 abbrev pub ReachesProof : Told → Command → Task → Type 0
 ReachesProof told c (validation map_name proof_name budget) = (name : Text) × ((bytes : List ℕ) × IsDueProof told c name bytes)
 ReachesProof told c (checking name) = (h : Held) × IsTaken told (inputs_of c) h
+ReachesProof told c (upgrading name to_name) = (h : Held) × IsTaken told (inputs_of c) h
 
--- the steps come to the file
+-- the steps come to the file; to that in which an upgraded proof is stored, where it is accepted
 abbrev pub Reaches : Told → Command → File → Type 0
 Reaches told c (Files.Input source) = IsInputOf c.task source × ReachesInput told (inputs_of c) source
 Reaches told c Files.Proof = ReachesProof told c c.task
+Reaches told c Files.Upgraded = (name : Text) × ((bytes : List ℕ) × IsDueUpgrade told c name bytes)
 
 -- a file of the task is the first of the inputs that is not taken, and this is why
 abbrev pub IsRefused : Told → Command → Refusal → Type 0

@@ -1,7 +1,7 @@
 -- The answers that are due, their proof, and how it is stored.
-use Rattle.std.specs.Prelude.{ℕ, List, ◌≡◌, ◌≤◌, ◌⊎◌, Option, Some, None, length}
+use Rattle.std.specs.Prelude.{ℕ, List, ◌≡◌, ◌≤◌, Option, Some, None, length}
 use Rattle.clap.specs.Words.{Text}
-use Rattle.shex_io.specs.Files.{Told, Holds, HoldsPart, KeepsOthers}
+use Rattle.shex_io.specs.Files.{Told, Holds, KeepsOthers}
 use Rattle.rdf_terms.specs.Tables.{max_terms}
 use Rattle.rdf_terms.specs.declared.terms.Term.{Term}
 use Rattle.schema_tree.specs.declared.schema.Answer.{Answer}
@@ -51,7 +51,7 @@ abbrev pub Stores : Told → Told → Option Text → (List ℕ → Type 0) → 
 Stores told after None P = after ≡ told
 Stores told after (Some name) P = (bytes : List ℕ) × P bytes × Holds after name (Some bytes) × KeepsOthers told after name
 
--- the command is to store a proof under this name, and the bytes are a proof of the true answers
+-- the command is to validate and to store a proof under this name, and the bytes are a proof of the true answers
 pub record IsDueProof (told : Told) (c : Command) (name : Text) (bytes : List ℕ) : Type 0 where
   pub map_name : Text
   pub budget : ℕ
@@ -60,15 +60,3 @@ pub record IsDueProof (told : Told) (c : Command) (name : Text) (bytes : List �
   pub answers : List Answer
   pub are_answers : AreAnswers told c question budget answers
   pub proof : IsStoredProofOf question budget answers bytes
-
--- the name of the proof holds what it held or a prefix of the proof, as far as is told, and each other name what it held
-pub record IsCutStore (told after : Told) (c : Command) : Type 0 where
-  pub name : Text
-  pub bytes : List ℕ
-  pub due : IsDueProof told c name bytes
-  pub part : HoldsPart told after name bytes
-  pub others : KeepsOthers told after name
-
--- nothing is stored, or the proof in part
-abbrev pub MayStore : Told → Told → Command → Type 0
-MayStore told after c = (after ≡ told) ⊎ IsCutStore told after c

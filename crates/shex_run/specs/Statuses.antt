@@ -6,7 +6,7 @@ use Rattle.schema_tree.specs.declared.schema.Answer.{Answer}
 use Rattle.shape_map.specs.declared.resolve.Association.{Association}
 use Rattle.proof_checker.specs.declared.checking.CheckError.{CheckError}
 use Rattle.proof_checker.specs.declared.checking.CheckError.TheVariants as CheckErrors
-use Rattle.command_words.specs.Requests.{Task, checking, validation}
+use Rattle.command_words.specs.Requests.{Task, checking, upgrading, validation}
 use Rattle.shex_run.specs.declared.stop.Refusal.{Refusal}
 use Rattle.shex_run.specs.declared.stop.Refusal.TheVariants as Refusals
 
@@ -49,7 +49,8 @@ refusal_status (Refusals.Proof error) = check_status error
 abbrev pub IsInterrupted : ℕ → Type 0
 IsInterrupted status = (status ≡ 5) ⊎ ((status ≡ 7) ⊎ (status ≡ 8))
 
--- the statuses of a task whose inputs are taken: 0, 1 or 4; or, for a check, 0, 6, or 3 where the table is full
+-- the statuses of a task whose inputs are taken: 0, 1 or 4; or, where a proof is checked, 0, 6, or 3 where the table is full
 abbrev pub Concludes : Task → ℕ → Type 0
 Concludes (validation map_name proof_name budget) status = IsAnswering status
 Concludes (checking name) status = (status ≡ 0) ⊎ ((status ≡ 3) ⊎ (status ≡ 6))
+Concludes (upgrading name to_name) status = (status ≡ 0) ⊎ ((status ≡ 3) ⊎ (status ≡ 6))

@@ -11,13 +11,14 @@ use Rattle.command_words.specs.Asked.{Command}
 use Rattle.command_words.specs.Checks.{is_base}
 use Rattle.shex_inputs.specs.declared.error.InputError.{InputError}
 use Rattle.shex_inputs.specs.declared.error.InputError.TheVariants as Errors
+use Rattle.shex_run.specs.declared.stop.File.{File}
 use Rattle.shex_run.specs.declared.stop.File.TheVariants as Files
 use Rattle.shex_run.specs.declared.stop.Refusal.TheVariants as Refusals
 use Rattle.shex_run.specs.declared.stop.Stop.{Stop}
 use Rattle.shex_run.specs.declared.stop.Stop.TheVariants as Stops
 use Rattle.shex_run.specs.Checking.{IsFull, IsRejected}
 use Rattle.shex_run.specs.Outcomes.{IsRefused, Reaches}
-use Rattle.shex_run.specs.Proofs.{MayStore}
+use Rattle.shex_run.specs.Storing.{MayStore}
 use Rattle.shex_run.specs.Tasks.{IsToValidate, act_of, name_of}
 
 -- both bases of the command are ones, and its budget is from 1 to the greatest one
@@ -61,8 +62,8 @@ LeavesStored told after c (Stops.Refused refusal) = after ≡ told
 LeavesStored told after c (Stops.Failed file) = MayStore told after c
 LeavesStored told after c Stops.Memory = MayStore told after c
 
--- how a call on the proof's file stops: the call failed, or memory ran out
-abbrev pub ProofStops : List ℕ → Act → ℕ → ℕ → List ℕ → Act → Stop → Type 0
-ProofStops name wanted before after blame act (Stops.Failed file) = (file ≡ Files.Proof) × (Rose before after × (before ≤ after) × (blame ≡ name) × (act ≡ wanted))
-ProofStops name wanted before after blame act Stops.Memory = after ≡ before
-ProofStops name wanted before after blame act stop = ⊥
+-- how a call on a file of this name stops, which holds a proof or is to hold one: the call failed, or memory ran out
+abbrev pub ProofStops : File → List ℕ → Act → ℕ → ℕ → List ℕ → Act → Stop → Type 0
+ProofStops asked name wanted before after blame act (Stops.Failed file) = (file ≡ asked) × (Rose before after × (before ≤ after) × (blame ≡ name) × (act ≡ wanted))
+ProofStops asked name wanted before after blame act Stops.Memory = after ≡ before
+ProofStops asked name wanted before after blame act stop = ⊥

@@ -16,12 +16,14 @@ ghost use Rattle.shex_run.specs.Ready.{IsReply};
 ghost use Rattle.shex_run.specs.Statuses.{IsAnswering};
 ghost use Rattle.shex_run.specs.Stopping.{Explains, FaultsAs, IsFit, LeavesStored, ProofStops};
 ghost use Rattle.shex_run.specs.Tasks.{inputs_of};
+ghost use Rattle.shex_run.specs.declared.stop.File.TheVariants as Files;
 
 use crate::checking::confirm;
 use crate::deciding::{Decided, decide};
 use crate::head::head_if;
 use crate::stop::{File, Stop, stop_of};
-use command_words::{Checking, Command, Validation, bases_are_lines};
+use crate::upgrading::{Upgraded, confirm_newest};
+use command_words::{Checking, Command, Upgrading, Validation, bases_are_lines};
 use data_reader::data_have_lines;
 use proof_file::write::write;
 use schema_tree::laws::width_is_one;
@@ -44,7 +46,7 @@ pub struct Response {
 /// The bytes of the proof's file.
 fn fetch_proof<F: Files>(alloc: Global, files: &mut F, name: &str) -> Result<Vec<u8>, Stop>
     ensures bytes { IfOk result (λ bytes. Holds (F.told files.old) name.now (Some bytes.items)) }
-    ensures stops { IfErr result (ProofStops name.now Acts.Fetch (F.faults files.old) (F.faults files.new) (F.blame files.new) (F.act files.new)) }
+    ensures stops { IfErr result (ProofStops Files.Proof name.now Acts.Fetch (F.faults files.old) (F.faults files.new) (F.blame files.new) (F.act files.new)) }
     ensures faults_stay { OnOk result (F.faults files.new ≡ F.faults files.old) }
     ensures told_stays { F.told files.new ≡ F.told files.old }
 {
@@ -56,17 +58,17 @@ fn fetch_proof<F: Files>(alloc: Global, files: &mut F, name: &str) -> Result<Vec
     }
 }
 
-/// Stores the text of a proof.
-fn store<F: Files>(files: &mut F, name: &str, bytes: &[u8]) -> Result<(), Stop>
+/// Stores the text of a proof in this file, which has this name.
+fn store<F: Files>(files: &mut F, file: File, name: &str, bytes: &[u8]) -> Result<(), Stop>
     ensures holds { OnOk result (Holds (F.told files.new) name.now (Some bytes.now)) }
     ensures part { OnErr result (HoldsPart (F.told files.old) (F.told files.new) name.now bytes.now) }
     ensures others { KeepsOthers (F.told files.old) (F.told files.new) name.now }
-    ensures stops { IfErr result (ProofStops name.now Acts.Store (F.faults files.old) (F.faults files.new) (F.blame files.new) (F.act files.new)) }
+    ensures stops { IfErr result (ProofStops file name.now Acts.Store (F.faults files.old) (F.faults files.new) (F.blame files.new) (F.act files.new)) }
     ensures faults_stay { OnOk result (F.faults files.new ≡ F.faults files.old) }
 {
     match files.store(name, bytes) {
         Ok(()) => Ok(()),
-        Err(StoreError::Failed) => Err(Stop::Failed(File::Proof)),
+        Err(StoreError::Failed) => Err(Stop::Failed(file)),
         Err(StoreError::Memory) => Err(Stop::Memory),
     }
 }
@@ -153,7 +155,7 @@ fn keep<F: Files>(
     let Ok(bytes) = write(alloc, &proof) else {
         return Err(Stop::Memory);
     };
-    store(files, name, bytes.as_slice())?;
+    store(files, File::Proof, name, bytes.as_slice())?;
     Ok(response)
 }
 
@@ -208,6 +210,33 @@ fn check<F: Files>(
     })
 }
 
+/// The claims of the proof that `upgrade` is given, where it is accepted. The proof is stored in format 2.
+fn upgrade<F: Files>(
+    alloc: Global,
+    files: &mut F,
+    holding: Holding,
+    upgrading: &Upgrading<'_>,
+) -> Result<Response, Stop>
+    requires taken { IsTaken (F.told files.old) (inputs_of (command_of (Lent.Upgrade upgrading.now))) (held_by holding) }
+    requires loaded { IsLoaded holding.schema }
+    requires of_table { All (IsOfTable holding.terms) holding.graph.triples }
+    ensures response { IfOk result (λ r. IsResponse (F.told files.old) (F.told files.new) (command_of (Lent.Upgrade upgrading.now)) r.status r.text.items r.notes.items) }
+    ensures low { IfOk result (λ r. IsAnswering r.status) }
+    ensures cause { IfErr result (Explains (F.told files.old) (command_of (Lent.Upgrade upgrading.now))) }
+    ensures faults { IfErr result (FaultsAs (command_of (Lent.Upgrade upgrading.now)) (F.faults files.old) (F.faults files.new) (F.blame files.new) (F.act files.new)) }
+    ensures stored { IfErr result (LeavesStored (F.told files.old) (F.told files.new) (command_of (Lent.Upgrade upgrading.now))) }
+    ensures faults_stay { OnOk result (F.faults files.new ≡ F.faults files.old) }
+{
+    let bytes = fetch_proof(alloc, files, upgrading.proof)?;
+    let Upgraded { text, proof } = confirm_newest(alloc, holding, bytes)?;
+    store(files, File::Upgraded, upgrading.to, proof.as_slice())?;
+    Ok(Response {
+        status: 0,
+        text,
+        notes: Vec::new(alloc),
+    })
+}
+
 /// What the files of the schema and the data file of a command hold.
 fn hold<F: Files>(alloc: Global, files: &mut F, command: &Command<'_>) -> Result<Holding, Stop>
     requires { IsFit (command_of command.now) }
@@ -246,5 +275,6 @@ pub fn respond<F: Files>(
     match command {
         Command::Validate(validation) => validate(alloc, files, holding, validation),
         Command::Check(checking) => check(alloc, files, holding, checking),
+        Command::Upgrade(upgrading) => upgrade(alloc, files, holding, upgrading),
     }
 }

@@ -21,7 +21,7 @@ fn copied(alloc: Global, files: &Digests) -> Result<Digests, AllocError>
 }
 
 /// The head of a proof over what is held: the digests of its files, and the strata of its Shapes.
-fn head_of(alloc: Global, holding: &Holding) -> Result<Head, AllocError>
+pub fn head_of(alloc: Global, holding: &Holding) -> Result<Head, AllocError>
     ensures { IfOk result (λ h. h ≡ head_of (held_by holding.now)) }
 {
     Ok(Head {

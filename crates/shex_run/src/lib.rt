@@ -8,5 +8,6 @@ mod head;
 mod report;
 mod stop;
 mod top;
+mod upgrading;
 
 pub use top::run;

@@ -33,7 +33,7 @@ fn map_name<'a>(command: &Command<'a>) -> &'a str
 {
     match command {
         Command::Validate(validation) => validation.map,
-        Command::Check(_) => "",
+        Command::Check(_) | Command::Upgrade(_) => "",
     }
 }
 
@@ -47,6 +47,17 @@ fn proof_name<'a>(command: &Command<'a>) -> &'a str
             None => "",
         },
         Command::Check(checking) => checking.proof,
+        Command::Upgrade(upgrading) => upgrading.proof,
+    }
+}
+
+/// The name under which a checked proof is to be stored, and the empty text where it is not.
+fn upgraded_name<'a>(command: &Command<'a>) -> &'a str
+    ensures { result.now ≡ name_of (command_of command.now) Files.Upgraded }
+{
+    match command {
+        Command::Upgrade(upgrading) => upgrading.to,
+        Command::Validate(_) | Command::Check(_) => "",
     }
 }
 
@@ -76,6 +87,7 @@ fn name<'a>(command: &Command<'a>, file: File) -> &'a str
     match file {
         File::Input(source) => input_name(command, source),
         File::Proof => proof_name(command),
+        File::Upgraded => upgraded_name(command),
     }
 }
 

@@ -13,8 +13,10 @@ use std::alloc::AllocError;
 pub enum File {
     /// A file of the inputs.
     Input(Source),
-    /// The proof: `validate` stores it, and `check` reads it.
+    /// The proof: `validate` stores it, and `check` and `upgrade` read it.
     Proof,
+    /// The file in which `upgrade` stores the proof.
+    Upgraded,
 }
 
 /// Why a file is refused. Want of memory is never the cause.

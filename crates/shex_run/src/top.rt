@@ -10,12 +10,12 @@ ghost use Rattle.command_words.specs.Asked.{Command as Asking, IsAsked, IsFirstF
 ghost use Rattle.command_words.specs.Checks.{Fault};
 ghost use Rattle.shex_inputs.specs.Held.{Held};
 ghost use Rattle.shex_run.specs.Checking.{IsFull, IsGiven, IsRejected};
-ghost use Rattle.shex_run.specs.Endings.{Ends, IsFailedBy, IsPartlyStored, IsPrintedInPart, IsRefusedBy, IsRejectedBy, IsRespondedTo, IsWhollyStored, IsWordsLine, KeepsTold, MayPrintInPart, PrintsBoth};
+ghost use Rattle.shex_run.specs.Endings.{Ends, IsFailedBy, IsPartlyStored, IsPrintedInPart, IsRefusedBy, IsRejectedBy, IsRespondedTo, IsWhollyStored, IsWhollyUpgraded, IsWordsLine, KeepsTold, MayPrintInPart, PrintsBoth};
 ghost use Rattle.shex_run.specs.Outcomes.{AreTaken, IsAbsent, IsRefused};
 ghost use Rattle.shex_run.specs.Printing.{Prints, RefusesWords};
 ghost use Rattle.shex_run.specs.Proofs.{Accepted};
 ghost use Rattle.shex_run.specs.Statuses.{Concludes, IsAnswering, IsInterrupted, IsStatus};
-ghost use Rattle.shex_run.specs.Tasks.{IsToValidate};
+ghost use Rattle.shex_run.specs.Tasks.{IsToStore, IsToValidate};
 
 use crate::answers::{Response, respond};
 use crate::report;
@@ -101,8 +101,11 @@ fn end<F: Files, O: Sink, E: Sink>(
 /// each association of the shape map over the schema and the data, and prints a result shape map to `out`. With `--proof` it
 /// first stores a proof of the answers under that name, which names the schema's files and the data file by their digests.
 /// `check --schema F --data F --proof F [--schema-base I] [--data-base I] [IRI=FILE ..]` asks whether the proof in the file
-/// of that name is current for these files and accepted, and prints its claims as a result shape map. Where there is no
-/// answer, one line on `err` says why, unless memory ran out.
+/// of that name is current for these files and accepted, and prints its claims as a result shape map.
+/// `upgrade --schema F --data F --proof F --to F [--schema-base I] [--data-base I] [IRI=FILE ..]` does the same, and where the
+/// proof is accepted it first stores it in format 2 under the name of `--to`: its own bytes where they are of that format, and
+/// else the same nodes, sections and claims behind a head that names these files and brings the strata of the schema. Where
+/// there is no answer, one line on `err` says why, unless memory ran out.
 ///
 /// The status is 0 where each association is answered as it wants or the proof is accepted, 1 where some association is
 /// not, 4 where some association has no answer, since it depends on a pair that is wider than the budget, 2 where the words
@@ -121,7 +124,8 @@ pub fn run<F: Files, O: Sink, E: Sink>(
     // printed. Those associations alone are left out, with status 4, on which the verdicts of refinement are Unknown, so that
     // they depend on a pair whose Width is above the budget, and then each such pair that the associations reach is noted.
     // The proof that is stored is accepted, its claims are the answers, and its records those of refinement; it names the
-    // files by their digests, and brings the strata of the schema. The claims of a proof that is current and accepted are true.
+    // files by their digests, and brings the strata of the schema. The claims of a proof that is current and accepted are true,
+    // and where it is to be upgraded, it is stored in format 2.
     ensures answered { IsAnswering result →
         (text notes : List ℕ)
         × IsRespondedTo (F.told files.old) (F.told files.new) (map string_bytes words.now) result text notes
@@ -174,6 +178,11 @@ pub fn run<F: Files, O: Sink, E: Sink>(
         IsToValidate c map_name (Some name) budget → AreTaken (F.told files.old) c →
         result ≡ 7 → ¬ Rose (F.faults files.old) (F.faults files.new) →
         IsWhollyStored (F.told files.old) (F.told files.new) c name }
+    ensures upgraded_whole { (contents : List ℕ → Option (List ℕ)) (c : Asking) (name : Text) (h : Held) (bytes : List ℕ) (terms : List Term) (answers : List Answer) →
+        F.told files.old ≡ Some contents → IsAsked (map string_bytes words.now) c → IsToStore c name →
+        IsGiven (F.told files.old) c h bytes → Accepted h bytes terms answers →
+        result ≡ 7 → ¬ Rose (F.faults files.old) (F.faults files.new) →
+        IsWhollyUpgraded (F.told files.old) (F.told files.new) c name }
     ensures told { KeepsTold (F.told files.old) (F.told files.new) (map string_bytes words.now) }
 
     // Where contents are told, words and files decide how the call ends, but for faults and want of memory.

@@ -1,6 +1,6 @@
 //! What words ask for.
 
-use command_words::{Checking, Command, Import, Inputs, Validation, read};
+use command_words::{Checking, Command, Import, Inputs, Upgrading, Validation, read};
 use row_format::words_of;
 use std::alloc::{AllocError, Global};
 
@@ -36,12 +36,21 @@ fn shown_checking(alloc: Global, asked: &Checking<'_>) -> Result<String, AllocEr
     with_imports(line, &asked.inputs.imports)
 }
 
+/// What `upgrade` asks for.
+fn shown_upgrading(alloc: Global, asked: &Upgrading<'_>) -> Result<String, AllocError> {
+    let inputs = shown_inputs(alloc, &asked.inputs)?;
+    let (proof, to) = (asked.proof, asked.to);
+    let line = format!(in alloc; "upgrade {inputs} {proof} {to}")?;
+    with_imports(line, &asked.inputs.imports)
+}
+
 /// What the words of a line ask for, or why they are refused.
 pub fn asked(alloc: Global, line: &str) -> Result<String, AllocError> {
     let words = words_of(alloc, line)?;
     match read(alloc, &words) {
         Ok(Command::Validate(validation)) => shown_validation(alloc, &validation),
         Ok(Command::Check(checking)) => shown_checking(alloc, &checking),
+        Ok(Command::Upgrade(upgrading)) => shown_upgrading(alloc, &upgrading),
         Err(error) => format!(in alloc; "{error}"),
     }
 }

@@ -1,4 +1,4 @@
-use Rattle.shex_run.proofs.Closing.{absent_ends, accepted_ends, ends_kept, ends_partly, ends_quietly, faulty_ends, filled_ends, five_rose, in_part, refused_ends, rejected_ends, seven_rose, taken_ends, unfaulted, unprinted, whole_ends}
+use Rattle.shex_run.proofs.Closing.{absent_ends, accepted_ends, ends_kept, ends_partly, ends_quietly, faulty_ends, filled_ends, five_rose, in_part, refused_ends, rejected_ends, seven_rose, taken_ends, unfaulted, unprinted, upgraded_ends, whole_ends}
 use Rattle.shex_run.proofs.Exclusive.{are_one}
 use Rattle.shex_run.proofs.top.run.Goals as goal
 
@@ -11,6 +11,10 @@ returns-clause-unprinted g c = unprinted _ _ _ _ _ c.end.ensures
 pub returns-clause-stored_whole : goal.returns-clause-stored_whole
 returns-clause-stored_whole g c = λ contents k map_name name budget told is_asked to taken.
     whole_ends _ k is_asked c.answers_are_one.ensures _ _ _ _ contents told (are_one c.inputs_are_one.ensures contents _ told k) map_name name budget to taken c.end.ensures
+
+pub returns-clause-upgraded_whole : goal.returns-clause-upgraded_whole
+returns-clause-upgraded_whole g c = λ contents k name h bytes terms answers told is_asked to given accepted.
+    upgraded_ends _ k is_asked c.answers_are_one.ensures _ _ _ _ contents told (are_one c.inputs_are_one.ensures contents _ told k) h bytes given name to terms answers accepted c.end.ensures
 
 pub returns-clause-stored_in_part : goal.returns-clause-stored_in_part
 returns-clause-stored_in_part g c = λ interrupted. ends_partly _ _ _ _ _ c.end.ensures

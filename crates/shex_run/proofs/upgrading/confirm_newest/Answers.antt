@@ -1,0 +1,11 @@
+use Rattle.std.proofs.Common.{subst}
+use Rattle.shex_inputs.specs.Held.{held_by}
+use Rattle.shex_run.specs.Checking.{Confirms}
+use Rattle.shex_run.proofs.Newest.{upgrades}
+use Rattle.shex_run.proofs.upgrading.confirm_newest.Goals as goal
+
+pub returns-clause-upgrades : goal.returns-clause-upgrades
+returns-clause-upgrades c =
+    let held = held_by c.args.holding in
+    upgrades held c.in_ok-head.head c.args.proof.items c.in_ok-text.text.items c.in_ok-proof.proof.items c.requires.strata c.in_ok-head.ensures
+    (subst (λ bytes. Confirms held bytes c.in_ok-text.text.items) c.as_slice.ensures.value c.in_ok-text.ensures.confirmed) c.in_ok-proof.ensures.newest
