@@ -7,7 +7,7 @@ PROGRAM is the built program, as `crates/shex_cli/out/shex_cli`. The seeds are t
 (schema in either syntax, data in either format, shape map, or a proof that the program stored before) or the words
 themselves are mutated, and the program is run. It may end with the statuses 0 to 8 and nothing else, by no signal, within
 10 seconds, with one line of error where it refuses; a proof that is stored has to be accepted with the printed answers as its
-claims, and one that is mutated accepted only where its claims are those of `validate` on the same files. Anything else is kept
+claims, and one that is mutated accepted only where `validate`, asked for its claims, answers them so. Anything else is kept
 in a folder under `found` with its words. The number of runs for each status is printed at the end. The same
 seed makes the same inputs. Nothing but Python's standard library is wanted.
 """
@@ -85,13 +85,11 @@ class Runner:
     def __init__(self, program, found):
         self.program, self.found = program, found
         self.folder = tempfile.mkdtemp(dir="/dev/shm" if os.path.isdir("/dev/shm") else None)
-        self.answers = {}
         for example in EXAMPLES:
             shutil.copytree(os.path.join(ROOT, "examples", example.folder), os.path.join(self.folder, example.folder))
             status, out, err = self.run(example, self.words(example, "validate", "proof"))
             if status not in (0, 1):
                 sys.exit(f"{example.folder}: {status} {err.decode()}")
-            self.answers[example.folder] = out
 
     def words(self, example, command, proof=None):
         """The words of a command on an example."""
@@ -123,6 +121,14 @@ class Runner:
         """Whether a check of the proof that was just stored answers what was printed."""
         status, again, _ = self.run(example, self.words(example, "check", "fresh"))
         return status == 0 and again == out
+
+    def is_true(self, example, claims):
+        """Whether claims, asked as a shape map, are answered as they stand: they want what they say. A proof may speak of nodes
+        that no map can, such as an IRI with a space, and then the map is refused."""
+        with open(os.path.join(self.folder, example.folder, "claims"), "wb") as file:
+            file.write(claims)
+        status, again, _ = self.run(example, self.words(example._replace(map="claims"), "validate"))
+        return status == 3 or status == 0 and again == claims
 
     def attempt(self, number, seed):
         """One run on a mutated input; gives its status."""
@@ -157,8 +163,7 @@ class Runner:
         if status in (2, 3, 5, 6):
             fine = out == b"" and err.startswith(b"shex: ") and err.endswith(b"\n")
         if target == "proof":
-            true = set(line.rstrip(b",") for line in self.answers[example.folder].splitlines())
-            fine = fine and status not in (1, 4) and all(line.rstrip(b",") in true for line in out.splitlines())
+            fine = fine and status not in (1, 4) and (status != 0 or self.is_true(example, out))
         elif target is not None:
             fine = fine and status != 6 and (status not in (0, 1, 4) or self.is_confirmed(example, out))
         if not fine:
