@@ -1,8 +1,5 @@
 -- How many pairs of a list a test picks.
-use Rattle.std.proofs.Common.{◌≡◌, ◌∙◌, ℕ, zero, suc, ◌≤◌, ◌+◌, inl, inr, List, [], ◌∷◌, refl, arith, sym, subst, ap, length, Bool, true, false, cond, remove}
-use Rattle.std.proofs.lemmas.List.Edits.{length-remove}
-use Rattle.std.proofs.lemmas.List.Sorted.{Contains-permutation, IsPermutation-remove}
-use Rattle.std.specs.List.Sorted.{IsPermutation}
+use Rattle.std.proofs.Common.{◌≡◌, ◌∙◌, ℕ, zero, suc, ◌+◌, inl, inr, List, [], ◌∷◌, refl, arith, sym, subst, ap, length, Bool, true, false, cond}
 use Rattle.std.specs.Prelude.{◌↔◌, Contains, Some, slice_get}
 use Rattle.lists.specs.Distinct.{AreDistinct}
 use Rattle.lists.proofs.Among.{few_among}

@@ -1,10 +1,7 @@
 -- A pair that cannot match still cannot once more is known: more No of what it needs, and more Yes of what it needs by a
 -- negative edge.
-use Rattle.std.proofs.Common.{◌≡◌, inl, inr, List, [], Bool, true, false, suc, refl, sym, subst, ap}
-use Rattle.std.proofs.lemmas.Bool.{and_parts}
+use Rattle.std.proofs.Common.{◌≡◌, inl, inr, List, Bool, true, false, suc, refl, sym, subst, ap}
 use Rattle.std.specs.Prelude.{Contains, Option, Some, None}
-use Rattle.rdf_terms.proofs.SameTerms.{same_is}
-use Rattle.rdf_terms.specs.Graphs.{same_id}
 use Rattle.rdf_terms.specs.declared.terms.Term.{Term}
 use Rattle.rdf_terms.specs.declared.terms.Triple.{Triple}
 use Rattle.schema_tree.specs.declared.schema.ExprId.{ExprId}
@@ -17,14 +14,12 @@ use Rattle.schema_tree.specs.declared.verdicts.Lean.TheVariants.{Possible}
 use Rattle.schema_tree.specs.declared.verdicts.Verdict.TheVariants.{Yes, No}
 use Rattle.schema_tree.specs.Edges.{IsExtra, StandsIn, StandsInValue}
 use Rattle.schema_tree.specs.Entries.{pair_of, shape_at}
-use Rattle.schema_tree.specs.Matches.{fits, near_end, other_end}
+use Rattle.schema_tree.specs.Matches.{fits, other_end}
 use Rattle.schema_tree.specs.Needs.{Needs}
 use Rattle.schema_tree.specs.Places.{CanMatch, MayFail, MayHold, PairCanMatch}
 use Rattle.schema_tree.specs.Relevant.{is_forward}
-use Rattle.schema_tree.specs.Satisfies.{Sat}
 use Rattle.schema_tree.specs.Sure.{Known, PairIs}
 use Rattle.schema_tree.proofs.Leans.{places_weaker}
-use Rattle.schema_tree.proofs.ToPlaces.{forward_parts}
 use Rattle.removal_laws.proofs.Carried.{sure_carries}
 use Rattle.schema_tree.proofs.Needed.{in_graph, need_of, under_extra}
 use Rattle.locality_laws.specs.Local.{IsNegativeNeed}

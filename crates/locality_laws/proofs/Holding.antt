@@ -1,32 +1,27 @@
 -- Each pair is one of distinct pairs that have all that they need, so that what refinement says of these holds of its verdict.
-use Rattle.std.proofs.Common.{◌≡◌, ℕ, ◌<◌, ◌⊎◌, inl, inr, List, [], ◌∷◌, refl, sym, subst, length, map, Bool, true, false}
+use Rattle.std.proofs.Common.{◌≡◌, ◌<◌, ◌⊎◌, inl, inr, List, [], ◌∷◌, sym, subst, length, map, Bool, true, false}
 use Rattle.std.specs.List.{flat_map}
-use Rattle.std.specs.Prelude.{Contains, Option, Some, None, slice_get}
+use Rattle.std.specs.Prelude.{Contains, Option, Some, None}
 use Rattle.lists.specs.Distinct.{AreDistinct}
 use Rattle.lists.proofs.Decided.{Decided, decide_member}
 use Rattle.lists.proofs.Members.{from_flat_map, from_map, in_flat_map, in_map, in_rest, is_first, is_later, not_in_none}
 use Rattle.lists.proofs.Numbers.{in_upto, upto}
-use Rattle.rdf_terms.specs.declared.terms.Term.{Term}
 use Rattle.rdf_terms.specs.declared.terms.TermId.{TermId}
 use Rattle.rdf_terms.specs.declared.terms.Triple.{Triple}
 use Rattle.schema_tree.specs.declared.schema.ExprId.{ExprId}
 use Rattle.schema_tree.specs.declared.schema.Pair.{Pair}
 use Rattle.schema_tree.specs.declared.schema.Schema.{Schema}
 use Rattle.schema_tree.specs.declared.schema.ShapeId.{ShapeId}
-use Rattle.schema_tree.specs.declared.verdicts.Verdict.TheVariants.{No, Unknown, Yes}
-use Rattle.schema_tree.specs.Edges.{IsStratified, StandsInValue}
+use Rattle.schema_tree.specs.Edges.{StandsInValue}
 use Rattle.schema_tree.specs.Entries.{pair_of}
 use Rattle.schema_tree.specs.Laws.{NarrowIsKnown, RefinementExists, RefinementIsTrue}
 use Rattle.schema_tree.specs.Loaded.{IsLoaded}
 use Rattle.schema_tree.specs.Matches.{other_end}
-use Rattle.schema_tree.specs.Needs.{HoldNeeds, LeadsToNarrow, Needs}
-use Rattle.schema_tree.specs.Removal.{IsRefined}
-use Rattle.schema_tree.specs.Sure.{Known, PairIs}
-use Rattle.schema_tree.specs.Typings.{HaveSame, HoldsEnds}
+use Rattle.schema_tree.specs.Needs.{HoldNeeds}
+use Rattle.schema_tree.specs.Typings.{HaveSame}
 use Rattle.schema_tree.proofs.Decide.{same_pairs}
 use Rattle.schema_tree.proofs.Strata.{stands_there}
 use Rattle.locality_laws.specs.Laws.{UnknownIsWide, VerdictIsOne, VerdictIsTrue}
-use Rattle.locality_laws.specs.Local.{IsVerdict}
 use Rattle.locality_laws.proofs.Alike.{one_verdict, some_verdict}
 use Rattle.locality_laws.proofs.Counting.{with_first}
 use Rattle.locality_laws.proofs.Whole.{closed_local}

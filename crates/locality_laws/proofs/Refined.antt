@@ -1,6 +1,5 @@
 -- What refinement of some pairs knows: of a stratum what went and what is kept there, of others what was known.
-use Rattle.std.proofs.Common.{◌≡◌, ◌∙◌, ℕ, zero, suc, ◌<◌, ◌≤◌, inl, inr, List, [], ◌∷◌, arith, sym, subst, ap, take}
-use Rattle.std.proofs.lemmas.Option.{slice_get-get_or}
+use Rattle.std.proofs.Common.{◌≡◌, ℕ, zero, suc, ◌<◌, ◌≤◌, inl, inr, List, [], ◌∷◌, arith, sym, subst, ap, take}
 use Rattle.std.specs.Prelude.{Contains, Some, slice_get}
 use Rattle.lists.proofs.Members.{in_rest, not_in_none, place_of}
 use Rattle.rdf_terms.specs.declared.terms.Term.{Term}
