@@ -1,4 +1,5 @@
 pub mod Alike
+pub mod Beside
 pub mod Bounding
 pub mod Counting
 pub mod Falling

@@ -149,7 +149,7 @@ closed_local s terms g f budget pairs all known whole closed_pairs closed_all re
     (λ u q c d n none lt. absurd (none (closed_pairs u q c n))) p held held_all v
 
 -- a need is along an edge, which is negative where the need is by a negative edge
-abbrev edge_of : (s : Schema) (g : List Triple) (p q : Pair) → Needs s g p q → Edge s p.shape q.shape
+abbrev pub edge_of : (s : Schema) (g : List Triple) (p q : Pair) → Needs s g p q → Edge s p.shape q.shape
 edge_of s g p q n = record { shape = n.shape; is = n.is; occ = n.occ; of = n.of; sign = n.sign; stands = n.stands }
 
 pub others_local : RefinementOverOthersIsLocal

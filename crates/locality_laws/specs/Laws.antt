@@ -13,7 +13,7 @@ use Rattle.schema_tree.specs.Needs.{HoldNeeds, LeadsToNarrow}
 use Rattle.schema_tree.specs.Removal.{IsRefined}
 use Rattle.schema_tree.specs.Sure.{Known, PairIs}
 use Rattle.schema_tree.specs.Typings.{HoldsEnds, IsTheTyping, top_of}
-use Rattle.removal_laws.specs.Marks.{known_by}
+use Rattle.removal_laws.specs.Marks.{KnowSame, known_by}
 use Rattle.locality_laws.specs.Local.{AreKept, AreRefinedOn, IsOfOthers, IsVerdict}
 
 -- two refinements of pairs that have all that they need say the same of each pair of both
@@ -59,3 +59,16 @@ VerdictIsTrue =
     (s : Schema) (terms : List Term) (g : List Triple) (f : List ℕ) (budget : ℕ) (U : List TermId) (T : List Pair) →
     IsLoaded s → IsTheTyping s terms g f U T → HoldsEnds U g → (p : Pair) → Contains U p.node →
     (IsVerdict s terms g f budget p Yes → Contains T p) × (IsVerdict s terms g f budget p No → ¬ Contains T p)
+
+-- refinement of the same pairs by any two stratifications gives the same verdicts
+abbrev pub RefinementIsIndependent : Type 0
+RefinementIsIndependent =
+    (s : Schema) (terms : List Term) (g : List Triple) (f h : List ℕ) (budget : ℕ) (pairs : List Pair) (known whole : Known) →
+    IsStratified s f → IsStratified s h → IsRefined s terms g f pairs budget known → IsRefined s terms g h pairs budget whole →
+    KnowSame known whole
+
+-- so the verdict on a pair is the same by both
+abbrev pub VerdictIsIndependent : Type 0
+VerdictIsIndependent =
+    (s : Schema) (terms : List Term) (g : List Triple) (f h : List ℕ) (budget : ℕ) → IsLoaded s → IsStratified s f → IsStratified s h →
+    (p : Pair) (v : Verdict) → IsVerdict s terms g f budget p v → IsVerdict s terms g h budget p v

@@ -1,7 +1,9 @@
 //! The laws. Each function claims some of them by its contract, and does nothing when called.
 
 ghost use Rattle.locality_laws.specs.Bounds.{NeedsAreCounted, StrataAreBounded};
-ghost use Rattle.locality_laws.specs.Laws.{RefinementIsLocal, RefinementOverKeptIsLocal, RefinementOverOthersIsLocal, UnknownIsWide, VerdictIsOne, VerdictIsTrue};
+ghost use Rattle.locality_laws.specs.Laws.{RefinementIsIndependent, VerdictIsIndependent};
+ghost use Rattle.locality_laws.specs.Laws.{RefinementIsLocal, RefinementOverKeptIsLocal, RefinementOverOthersIsLocal};
+ghost use Rattle.locality_laws.specs.Laws.{UnknownIsWide, VerdictIsOne, VerdictIsTrue};
 
 use schema_tree::laws::{refinement_is_complete, refinement_is_one, refinement_is_true};
 
@@ -23,6 +25,14 @@ pub fn verdict_is_one()
     refinement_is_one();
     refinement_is_complete();
     refinement_is_true();
+}
+
+/// Claims that refinement gives the same verdicts by any two stratifications, so that those by any are those by the least.
+pub fn strata_are_independent()
+    ensures refinement { RefinementIsIndependent }
+    ensures verdict { VerdictIsIndependent }
+{
+    refinement_is_one();
 }
 
 /// Claims that refinement on all strata costs no more looks than 2 × k + 3 at each narrow pair, where k is the number of
