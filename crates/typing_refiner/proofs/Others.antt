@@ -19,12 +19,12 @@ use Rattle.schema_tree.specs.Typings.{HoldsEnds, IsTheTyping}
 use Rattle.schema_tree.proofs.Decide.{same_pairs}
 use Rattle.removal_laws.specs.Marks.{known_by, marked, outside}
 use Rattle.removal_laws.proofs.Known.{same_alike, to_outside}
-use Rattle.locality_laws.specs.Laws.{RefinementOverKeptIsLocal, UnknownIsWide, VerdictIsTrue}
+use Rattle.locality_laws.specs.Laws.{RefinementOverKeptIsLocal, UnknownIsWide, VerdictIsIndependent, VerdictIsTrue}
 use Rattle.locality_laws.specs.Local.{AreKept, IsVerdict}
 use Rattle.locality_laws.proofs.Alike.{by_members, one_verdict}
 use Rattle.typing_refiner.specs.Refined.{IsRefinedOn, verdicts_of}
 use Rattle.typing_refiner.specs.Refinement.{Refinement, known_by_it}
-use Rattle.typing_refiner.specs.Statements.{AreTrueByAll, AreVerdictsOn, IsUnknownOnlyWide}
+use Rattle.typing_refiner.specs.Statements.{AreTrueByAll, AreVerdictsOn, AreVerdictsOnByAll, IsUnknownOnlyWide}
 use Rattle.typing_refiner.proofs.Verdicts.{told_out}
 
 -- of one of the pairs, the marks know what they know beside what is kept
@@ -50,6 +50,9 @@ module _ (s : Schema) (terms : List Term) (g : List Triple) (f : List ℕ) (budg
     unknown_only : UnknownIsWide → IsUnknownOnlyWide s terms g f budget pairs verdicts
     unknown_only law p held unknown = law s terms g f budget loaded strat p (are.0 p Unknown held unknown)
 
+    by_each : VerdictIsIndependent → AreVerdictsOnByAll s terms g budget pairs verdicts
+    by_each law h by = ((λ p v held is. law s terms g f h budget loaded strat by p v (are.0 p v held is)), are.1)
+
     -- what has Yes or No is of the list
     listed : (p : Pair) (v : Verdict) → PairIs verdicts p v → ¬ (v ≡ Unknown) → Contains pairs p
     listed p v is known = by (decide_member same_pairs pairs p)
@@ -73,6 +76,11 @@ module _ {E : Type 0} (s : Schema) (terms : List Term) (g : List Triple) (f : Li
       subst (λ ps. AreVerdictsOn s terms g f budget pairs (verdicts_of ps r.marks)) (sym b)
       (are_verdicts s terms g f budget pairs elsewhere r.marks law strat kept distinct (subst (λ k. IsRefinedOn s terms g k pairs budget elsewhere (known_by elsewhere pairs r.marks)) is a))
   ok_verdicts elsewhere lent (Err e) is law kept distinct a b = a
+
+  pub ok_by_each : (result : Result Refinement E) → VerdictIsIndependent → IfOk result (λ r. AreVerdictsOn s terms g f budget pairs (known_by_it r)) →
+      IfOk result (λ r. AreVerdictsOnByAll s terms g budget pairs (known_by_it r))
+  ok_by_each (Ok r) law h = by_each s terms g f budget pairs (known_by_it r) h loaded strat law
+  ok_by_each (Err e) law h = h
 
   pub ok_unknown : (result : Result Refinement E) → UnknownIsWide → IfOk result (λ r. AreVerdictsOn s terms g f budget pairs (known_by_it r)) → IfOk result (λ r. IsUnknownOnlyWide s terms g f budget pairs (known_by_it r))
   ok_unknown (Ok r) law h = unknown_only s terms g f budget pairs (known_by_it r) h loaded strat law

@@ -10,6 +10,7 @@ use Rattle.schema_tree.specs.Laws.{NarrowIsKnown, RefinementIsTrue, StrataGiveOn
 use Rattle.schema_tree.specs.Loaded.{IsLoaded}
 use Rattle.schema_tree.specs.Needs.{HoldNeeds}
 use Rattle.removal_laws.specs.Marks.{known_by}
+use Rattle.locality_laws.specs.Laws.{RefinementIsIndependent}
 use Rattle.typing_refiner.specs.Refinement.{Refinement, known_by_it}
 use Rattle.typing_refiner.specs.Evidence.{AreAccepted, AreFine, AreShownBy}
 use Rattle.graph_index.specs.Contents.{max_triples}
@@ -17,9 +18,9 @@ use Rattle.demand.specs.Orders.{max_pairs}
 use Rattle.typing_refiner.proofs.Fine.{fine}
 use Rattle.typing_refiner.proofs.Accepting.{accepted}
 use Rattle.typing_refiner.specs.Refined.{IsRefinedOn, verdicts_of}
-use Rattle.typing_refiner.specs.Statements.{AreTrue, AreTrueByAll, IsRefinementOf, IsUnknownOnlyWide}
+use Rattle.typing_refiner.specs.Statements.{AreTrue, AreTrueByAll, AreVerdictsByAll, IsRefinementOf, IsUnknownOnlyWide}
 use Rattle.typing_refiner.proofs.Strata.{nothing_known, over_nothing}
-use Rattle.typing_refiner.proofs.Verdicts.{are_true, by_all, unknown_only}
+use Rattle.typing_refiner.proofs.Verdicts.{are_true, by_all, by_each, unknown_only}
 
 at_home : (s : Schema) (terms : List Term) (g : List Triple) (f : List ℕ) (budget : ℕ) (pairs lent : List Pair) (strata : List ℕ) (r : Refinement) → lent ≡ pairs → strata ≡ f →
     IsRefinementOf s terms g strata budget lent (known_by_it r) → IsRefinementOf s terms g f budget pairs (known_by_it r)
@@ -43,6 +44,11 @@ module _ {E : Type 0} (s : Schema) (terms : List Term) (g : List Triple) (f : Li
     ok_by_all (Ok r) same is loaded law exists one strat h =
         by_all s terms g f budget pairs (known_by_it r) loaded (at_home s terms g f budget pairs lent strata r same is h) law exists one strat
     ok_by_all (Err e) same is loaded law exists one strat h = h
+
+    pub ok_by_each : (result : Result Refinement E) → lent ≡ pairs → strata ≡ f → IsLoaded s → RefinementIsIndependent → IsStratified s f →
+        IfOk result (λ r. IsRefinementOf s terms g strata budget lent (known_by_it r)) → IfOk result (λ r. AreVerdictsByAll s terms g budget pairs (known_by_it r))
+    ok_by_each (Ok r) same is loaded law strat h = by_each s terms g f budget pairs (known_by_it r) loaded (at_home s terms g f budget pairs lent strata r same is h) law strat
+    ok_by_each (Err e) same is loaded law strat h = h
 
     pub ok_wide : (result : Result Refinement E) → lent ≡ pairs → strata ≡ f → IsLoaded s → NarrowIsKnown → IsStratified s f → HoldNeeds s g pairs →
         IfOk result (λ r. IsRefinementOf s terms g strata budget lent (known_by_it r)) → IfOk result (λ r. IsUnknownOnlyWide s terms g f budget pairs (known_by_it r))

@@ -20,7 +20,8 @@ use Rattle.schema_tree.specs.Typings.{HaveSame}
 use Rattle.removal_laws.specs.Marks.{KnowSame, known_by, marked}
 use Rattle.removal_laws.proofs.Known.{answers_in, answers_none, answers_out, same_alike}
 use Rattle.typing_refiner.specs.Refined.{verdicts_of}
-use Rattle.typing_refiner.specs.Statements.{AreTrue, AreTrueByAll, IsRefinementOf, IsUnknownOnlyWide}
+use Rattle.locality_laws.specs.Laws.{RefinementIsIndependent}
+use Rattle.typing_refiner.specs.Statements.{AreTrue, AreTrueByAll, AreVerdictsByAll, IsRefinementOf, IsUnknownOnlyWide}
 use Rattle.typing_refiner.proofs.Strata.{nothing_known}
 
 same_with_none : (xs : List Pair) → HaveSame (xs ++ []) xs
@@ -81,3 +82,11 @@ module _ (s : Schema) (terms : List Term) (g : List Triple) (f : List ℕ) (budg
       let agrees = are_true law U W is holds in
       let same = one s terms g f h U W T strat by ends is typing in
       ((λ p yes_. same.0 p (agrees.0 p yes_)), (λ p no_ c. agrees.1 p no_ (same.1 p c)))
+
+  pub by_each : RefinementIsIndependent → IsStratified s f → AreVerdictsByAll s terms g budget pairs verdicts
+  by_each law strat h whole by refined =
+      let (known, is, same) = r in
+      let other = law s terms g f h budget pairs known whole strat by is refined in (
+        ((λ p c. other.0.0 p (same.0.0 p c)), (λ p c. same.0.1 p (other.0.1 p c))),
+        ((λ p c. other.1.0 p (same.1.0 p c)), (λ p c. same.1.1 p (other.1.1 p c))),
+      )

@@ -44,6 +44,16 @@ module _ (s : Schema) (terms : List Term) (g : List Triple) (f : List ℕ) (budg
       (h : List ℕ) (U : List TermId) (T : List Pair) → IsStratified s h → HoldsEnds U g → IsTheTyping s terms g h U T →
       ((p : Pair) → Contains pairs p → Contains U p.node) → Agrees T verdicts
 
+module _ (s : Schema) (terms : List Term) (g : List Triple) (budget : ℕ) where
+  -- refine: refinement of the pairs by any stratification comes to these verdicts
+  abbrev pub AreVerdictsByAll : List Pair → Known → Type 0
+  AreVerdictsByAll pairs verdicts =
+      (h : List ℕ) (known : Known) → IsStratified s h → IsRefined s terms g h pairs budget known → KnowSame verdicts known
+
+  -- refine_from: the verdicts on the list are those of refinement over all that it reaches, by any stratification
+  abbrev pub AreVerdictsOnByAll : List Pair → Known → Type 0
+  AreVerdictsOnByAll pairs verdicts = (h : List ℕ) → IsStratified s h → AreVerdictsOn s terms g h budget pairs verdicts
+
 -- how many pairs of the list each of them needs
 abbrev pub CountNeeds : Schema → List Triple → List Pair → (Pair → ℕ) → Type 0
 CountNeeds s g pairs count = (p : Pair) → Contains pairs p → NeedsSoMany s g pairs p (count p)

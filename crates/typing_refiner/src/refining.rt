@@ -1,6 +1,6 @@
 //! Verdicts on pairs by refinement.
 
-ghost use Rattle.std.specs.Prelude.{ℕ, ◌≡◌, ◌≤◌, ◌<◌, ◌+◌, ◌-◌, ◌^◌, IfOk, length, map};
+ghost use Rattle.std.specs.Prelude.{ℕ, [], ◌≡◌, ◌≤◌, ◌<◌, ◌+◌, ◌-◌, ◌^◌, IfOk, length, map};
 ghost use Rattle.std.specs.List.Sorted.{IsStrictlySortedBy};
 ghost use Rattle.graph_index.specs.Contents.{IsSealedWith};
 ghost use Rattle.lists.specs.Distinct.{AreDistinct};
@@ -16,7 +16,8 @@ ghost use Rattle.typing_refiner.specs.Building.{AreNeeds, AreWidths, is_within, 
 ghost use Rattle.typing_refiner.specs.Evidence.{AreAccepted, AreFine, AreShownBy};
 ghost use Rattle.typing_refiner.specs.Refined.{IsRefinedOn, verdicts_of};
 ghost use Rattle.typing_refiner.specs.Refinement.{known_by_it};
-ghost use Rattle.typing_refiner.specs.Statements.{AreTrue, AreTrueByAll, AreVerdictsOn, CountNeeds, IsRefinementOf, IsUnknownOnlyWide, most_of};
+ghost use Rattle.typing_refiner.specs.Statements.{AreTrue, AreTrueByAll, AreVerdictsByAll, AreVerdictsOn, AreVerdictsOnByAll};
+ghost use Rattle.typing_refiner.specs.Statements.{CountNeeds, IsRefinementOf, IsUnknownOnlyWide, most_of};
 
 use crate::building::{needing, table_of, tell_widths};
 use crate::found::{Nothing, Refined};
@@ -27,7 +28,9 @@ use demand::Pairs;
 use demand::links::links;
 use demand::table::PairTable;
 use graph_index::graph::Graph;
-use locality_laws::laws::{refinement_is_local, strata_are_bounded, verdict_is_one};
+use locality_laws::laws::{
+    refinement_is_local, strata_are_bounded, strata_are_independent, verdict_is_one,
+};
 use rdf_terms::table::TermTable;
 use schema_tree::laws::{
     refinement_is_complete, refinement_is_true, strata_are_alike, typing_is_one, width_is_one,
@@ -63,6 +66,8 @@ fn refine_in<K: View, L: Ledger>(
     requires needing { AreNeeds schema.now graph.now.triples table.now (map (λ l. l.items) needing.now) }
     ensures refined { IfOk result (λ v. IsRefinedOn schema.now terms.now graph.now.triples strata.now table.now budget (K.known kept.now) (known_by (K.known kept.now) table.now v.marks.items)) }
     ensures shown { (wanted ≡ Wanteds.Records) → HoldNeeds schema.now graph.now.triples table.now → IfOk result (λ v. AreShownBy schema.now terms.now graph.now.triples strata.now table.now budget (verdicts_of table.now v.marks.items) v.records.nodes.items v.records.sections.items) }
+    ensures unrecorded { (wanted ≡ Wanteds.Verdicts) →
+        IfOk result (λ v. (v.records.nodes.items ≡ []) × (v.records.sections.items ≡ [])) }
     ensures bounded { (width count : Held → ℕ) → AreWidths schema.now terms.now graph.now.triples width → CountNeeds schema.now graph.now.triples table.now count →
         steps.new ≤ steps.old + most_of schema.now terms.now graph.now.triples budget width count table.now }
 {
@@ -106,6 +111,7 @@ fn refine_over<K: View, L: Ledger>(
     ensures table { IfOk result (λ r. r.pairs ≡ pairs.now) }
     ensures wide { IfOk result (λ r. (width : Held → ℕ) → AreWidths schema.now terms.now graph.now.triples width → r.wide ≡ wide_of width budget pairs.now) }
     ensures shown { (wanted ≡ Wanteds.Records) → HoldNeeds schema.now graph.now.triples pairs.now → IfOk result (λ r. AreShownBy schema.now terms.now graph.now.triples strata.now pairs.now budget (known_by_it r) r.nodes r.sections) }
+    ensures unrecorded { (wanted ≡ Wanteds.Verdicts) → IfOk result (λ r. (r.nodes ≡ []) × (r.sections ≡ [])) }
     ensures bounded { (width count : Held → ℕ) → AreWidths schema.now terms.now graph.now.triples width → CountNeeds schema.now graph.now.triples pairs.now count →
         steps.new ≤ steps.old + most_of schema.now terms.now graph.now.triples budget width count pairs.now }
 {
@@ -164,6 +170,9 @@ pub fn refine_from<K: View, L: Ledger>(
     ensures verdicts { IfOk result (λ r. AreVerdictsOn schema.now terms.now graph.now.triples strata.now budget pairs.now (known_by_it r)) }
     ensures true_by_all { IfOk result (λ r. AreTrueByAll schema.now terms.now graph.now.triples strata.now budget pairs.now (known_by_it r)) }
 
+    // They are the same by any strata, so those by the least.
+    ensures by_all { IfOk result (λ r. AreVerdictsOnByAll schema.now terms.now graph.now.triples budget pairs.now (known_by_it r)) }
+
     // A pair of the list is Unknown only where it reaches one whose Width is above the budget.
     ensures only_wide { IfOk result (λ r. IsUnknownOnlyWide schema.now terms.now graph.now.triples strata.now budget pairs.now (known_by_it r)) }
     ensures wide { IfOk result (λ r. (width : Held → ℕ) → AreWidths schema.now terms.now graph.now.triples width → r.wide ≡ wide_of width budget pairs.now) }
@@ -181,6 +190,7 @@ pub fn refine_from<K: View, L: Ledger>(
     verdict_is_one();
     typing_is_one();
     strata_are_alike();
+    strata_are_independent();
     // The length of a graph tells contracts that it is within the limit.
     let _held = graph.len();
     refine_over(
@@ -223,6 +233,7 @@ fn refine_with<L: Ledger>(
     ensures table { IfOk result (λ r. r.pairs ≡ pairs.now) }
     ensures wide { IfOk result (λ r. (width : Held → ℕ) → AreWidths schema.now terms.now graph.now.triples width → r.wide ≡ wide_of width budget pairs.now) }
     ensures shown { (wanted ≡ Wanteds.Records) → IfOk result (λ r. AreShownBy schema.now terms.now graph.now.triples strata.now pairs.now budget (known_by_it r) r.nodes r.sections) }
+    ensures unrecorded { (wanted ≡ Wanteds.Verdicts) → IfOk result (λ r. (r.nodes ≡ []) × (r.sections ≡ [])) }
 {
     let mut steps = Steps::<L>::new(blank);
     refine_over(
@@ -255,6 +266,9 @@ pub fn refine(
     ensures true_verdicts { IfOk result (λ r. AreTrue schema.now terms.now graph.now.triples strata.now budget pairs.now (known_by_it r)) }
     ensures true_by_all { IfOk result (λ r. AreTrueByAll schema.now terms.now graph.now.triples strata.now budget pairs.now (known_by_it r)) }
 
+    // They are the same by any strata, so those by the least.
+    ensures by_all { IfOk result (λ r. AreVerdictsByAll schema.now terms.now graph.now.triples budget pairs.now (known_by_it r)) }
+
     // A pair is Unknown only where it reaches one whose Width is above the budget.
     ensures only_wide { IfOk result (λ r. IsUnknownOnlyWide schema.now terms.now graph.now.triples strata.now budget pairs.now (known_by_it r)) }
     ensures wide { IfOk result (λ r. (width : Held → ℕ) → AreWidths schema.now terms.now graph.now.triples width → r.wide ≡ wide_of width budget pairs.now) }
@@ -263,11 +277,15 @@ pub fn refine(
     ensures records { (wanted ≡ Wanteds.Records) → IfOk result (λ r. AreShownBy schema.now terms.now graph.now.triples strata.now pairs.now budget (known_by_it r) r.nodes r.sections) }
     ensures fine { (wanted ≡ Wanteds.Records) → IfOk result (λ r. AreFine r.sections) }
     ensures accepted { (wanted ≡ Wanteds.Records) → IfOk result (λ r. AreAccepted schema.now terms.now graph.now.triples strata.now pairs.now r.nodes r.sections) }
+
+    // Where the verdicts alone are wanted, nothing is recorded.
+    ensures unrecorded { (wanted ≡ Wanteds.Verdicts) → IfOk result (λ r. (r.nodes ≡ []) × (r.sections ≡ [])) }
 {
     refinement_is_true();
     refinement_is_complete();
     typing_is_one();
     strata_are_alike();
+    strata_are_independent();
     let list = pairs.list();
     // The length of a graph tells contracts that it is within the limit.
     let _held = graph.len();

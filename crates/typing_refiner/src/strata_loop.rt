@@ -257,6 +257,8 @@ impl Ground<'_> {
         ensures spent { (width : Held → ℕ) → GiveWidths self.now width →
             steps.new ≤ steps.old + (total (λ k. 2 * phase_ticks self.now width k) (suc (top_of self.now.strata.now)) + record_ticks self.now width) }
         ensures refined { IfOk result (λ v. IsRefinedOn self.now.schema.now self.now.terms.now self.now.graph.now.triples self.now.strata.now self.now.table.now self.now.budget (K.known kept.now) (known_by (K.known kept.now) self.now.table.now v.marks.items)) }
+        ensures unrecorded { (self.now.wanted ≡ Wanteds.Verdicts) →
+            IfOk result (λ v. (v.records.nodes.items ≡ []) × (v.records.sections.items ≡ [])) }
         ensures shown { (self.now.wanted ≡ Wanteds.Records) → HoldNeeds self.now.schema.now self.now.graph.now.triples self.now.table.now → IfOk result (λ v. AreShownBy self.now.schema.now self.now.terms.now self.now.graph.now.triples self.now.strata.now self.now.table.now self.now.budget (verdicts_of self.now.table.now v.marks.items) v.records.nodes.items v.records.sections.items) }
     {
         let Refining { marks, gone } = self.refine_all(alloc, kept, steps)?;

@@ -1,6 +1,6 @@
 use Rattle.std.proofs.Common.{subst, sym}
 use Rattle.schema_tree.specs.Needs.{HoldNeeds}
-use Rattle.typing_refiner.proofs.Tops.{ok_accepted, ok_by_all, ok_fine, ok_shown, ok_true, ok_wide}
+use Rattle.typing_refiner.proofs.Tops.{ok_accepted, ok_by_all, ok_by_each, ok_fine, ok_shown, ok_true, ok_wide}
 use Rattle.typing_refiner.proofs.refining.refine.Goals as goal
 
 pub returns-clause-true_verdicts : goal.returns-clause-true_verdicts
@@ -17,6 +17,11 @@ pub returns-clause-true_by_all : goal.returns-clause-true_by_all
 returns-clause-true_by_all c =
     ok_by_all c.args.schema.now c.args.terms.now c.args.graph.now.triples c.args.strata.now c.args.budget c.args.pairs.now c.list-list.result.now c.list.result.now c.refine_with.result c.list-list.ensures.list
     c.list.ensures c.requires.loaded c.refinement_is_true.ensures.whole c.typing_is_one.ensures.exists c.strata_are_alike.ensures.typings c.requires.stratified c.refine_with.ensures.refined
+
+pub returns-clause-by_all : goal.returns-clause-by_all
+returns-clause-by_all c =
+    ok_by_each c.args.schema.now c.args.terms.now c.args.graph.now.triples c.args.strata.now c.args.budget c.args.pairs.now c.list-list.result.now c.list.result.now c.refine_with.result c.list-list.ensures.list
+    c.list.ensures c.requires.loaded c.strata_are_independent.ensures.refinement c.requires.stratified c.refine_with.ensures.refined
 
 pub returns-clause-records : goal.returns-clause-records
 returns-clause-records c = λ wanted.

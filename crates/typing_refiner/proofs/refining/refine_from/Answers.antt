@@ -1,5 +1,5 @@
 use Rattle.std.proofs.Common.{refl}
-use Rattle.typing_refiner.proofs.Others.{ok_true_by_all, ok_unknown, ok_verdicts}
+use Rattle.typing_refiner.proofs.Others.{ok_by_each, ok_true_by_all, ok_unknown, ok_verdicts}
 use Rattle.typing_refiner.proofs.Tops.{ok_accepted, ok_fine, ok_shown}
 use Rattle.typing_refiner.proofs.refining.refine_from.Goals as goal
 
@@ -18,6 +18,11 @@ pub returns-clause-true_by_all : goal.returns-clause-true_by_all
 returns-clause-true_by_all g c =
     ok_true_by_all c.args.schema.now c.args.terms.now c.args.graph.now.triples c.args.strata.now c.args.budget c.args.pairs.now c.requires.loaded c.requires.stratified
     c.refine_over.result c.verdict_is_one.ensures.true_verdict c.typing_is_one.ensures.exists c.strata_are_alike.ensures.typings (returns-clause-verdicts g c)
+
+pub returns-clause-by_all : goal.returns-clause-by_all
+returns-clause-by_all g c =
+    ok_by_each c.args.schema.now c.args.terms.now c.args.graph.now.triples c.args.strata.now c.args.budget c.args.pairs.now c.requires.loaded c.requires.stratified
+    c.refine_over.result c.strata_are_independent.ensures.verdict (returns-clause-verdicts g c)
 
 pub returns-clause-records : goal.returns-clause-records
 returns-clause-records g c = λ closed.
