@@ -10,6 +10,7 @@ use Rattle.lists.proofs.Members.{in_rest, is_first, is_later, not_in_none}
 use Rattle.removal_laws.specs.Costs.{bit, is_mark, is_on, needs_count, open_needs, phase_cost, potential, total, whole_cost}
 use Rattle.removal_laws.specs.Marks.{same_verdict}
 use Rattle.removal_laws.proofs.Known.{set_here, set_other}
+use Rattle.removal_laws.proofs.Verdicts.{verdict_apart, verdict_same}
 
 -- ---- sums
 
@@ -65,22 +66,6 @@ same_on i xs ys to from = go (is_on i xs) refl
 
 -- ---- marks
 
-same_mark : (v : Verdict) → same_verdict v v ≡ true
-same_mark Yes = refl
-same_mark No = refl
-same_mark Unknown = refl
-
-other_mark : (v w : Verdict) → v ≢ w → same_verdict v w ≡ false
-other_mark Yes Yes ne = absurd (ne refl)
-other_mark No No ne = absurd (ne refl)
-other_mark Unknown Unknown ne = absurd (ne refl)
-other_mark Yes No ne = refl
-other_mark Yes Unknown ne = refl
-other_mark No Yes ne = refl
-other_mark No Unknown ne = refl
-other_mark Unknown Yes ne = refl
-other_mark Unknown No ne = refl
-
 and_true : (b : Bool) → bit (b && true) ≡ bit b
 and_true true = refl
 and_true false = refl
@@ -121,10 +106,10 @@ module _ (cost : ℕ → ℕ) (need : ℕ → ℕ → Bool) (n : ℕ) (v : Verdi
         other j apart = ap (λ m. bit (need j i && is_mark v m)) (sym (set_other marks at j w apart))
 
         was : bit (need at i && is_mark v (slice_get marks at)) ≡ bit (need at i)
-        was = ap (λ m. bit (need at i && is_mark v m)) is ∙ (ap (λ b. bit (need at i && b)) (same_mark v) ∙ and_true (need at i))
+        was = ap (λ m. bit (need at i && is_mark v m)) is ∙ (ap (λ b. bit (need at i && b)) (verdict_same v) ∙ and_true (need at i))
 
         now : bit (need at i && is_mark v (slice_get marks' at)) ≡ 0
-        now = ap (λ m. bit (need at i && is_mark v m)) (set_here marks at v w is) ∙ (ap (λ b. bit (need at i && b)) (other_mark v w ne) ∙ and_false (need at i))
+        now = ap (λ m. bit (need at i && is_mark v m)) (set_here marks at v w is) ∙ (ap (λ b. bit (need at i && b)) (verdict_apart v w ne) ∙ and_false (need at i))
 
         here : bit (need at i && is_mark v (slice_get marks at)) ≡ bit (need at i && is_mark v (slice_get marks' at)) + bit (need at i)
         here = let a = was in let b = now in omega (arith, a, b)

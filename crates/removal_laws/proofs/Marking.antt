@@ -13,27 +13,12 @@ use Rattle.schema_tree.proofs.Decide.{same_pairs}
 use Rattle.lists.proofs.Members.{got_in, in_rest, is_first, is_later, not_in_none}
 use Rattle.lists.proofs.Filters.{in_filter, filter_has}
 use Rattle.removal_laws.specs.Marks.{known_by, marked, outside, same_verdict}
+use Rattle.removal_laws.proofs.Verdicts.{verdict_is, verdict_same}
 use Rattle.schema_tree.specs.Entries.{same_pair}
 
 -- the pair stands at a place where the mark is v
 abbrev pub HasMark : List Pair → List Verdict → Verdict → Pair → Type 0
 HasMark pairs marks v q = (i : ℕ) × (slice_get pairs i ≡ Some q) × (slice_get marks i ≡ Some v)
-
-verdict_is : (v w : Verdict) → same_verdict v w ≡ true → v ≡ w
-verdict_is Yes Yes e = refl
-verdict_is No No e = refl
-verdict_is Unknown Unknown e = refl
-verdict_is Yes No e = cc
-verdict_is Yes Unknown e = cc
-verdict_is No Yes e = cc
-verdict_is No Unknown e = cc
-verdict_is Unknown Yes e = cc
-verdict_is Unknown No e = cc
-
-verdict_same : (v : Verdict) → same_verdict v v ≡ true
-verdict_same Yes = refl
-verdict_same No = refl
-verdict_same Unknown = refl
 
 pub to_mark : (v : Verdict) (pairs : List Pair) (marks : List Verdict) (q : Pair) → Contains (marked v pairs marks) q → HasMark pairs marks v q
 to_mark v [] marks q c = absurd (not_in_none q c)

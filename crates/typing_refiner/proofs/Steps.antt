@@ -8,32 +8,17 @@ use Rattle.schema_tree.specs.declared.verdicts.Verdict.{Verdict}
 use Rattle.schema_tree.specs.declared.verdicts.Verdict.TheVariants.{Yes, No, Unknown}
 use Rattle.removal_laws.specs.Marks.{same_verdict}
 use Rattle.removal_laws.proofs.Known.{set_other}
+use Rattle.removal_laws.proofs.Verdicts.{verdict_apart, verdict_same}
 use Rattle.typing_refiner.specs.declared.ground.Ground.{Ground}
 use Rattle.typing_refiner.specs.Ready.{AllWait, GoesBack, IsNearer, IsOpen, IsReady, Waits, count_of}
-
-mark_same : (v : Verdict) → same_verdict v v ≡ true
-mark_same Yes = refl
-mark_same No = refl
-mark_same Unknown = refl
-
-mark_apart : (v w : Verdict) → v ≢ w → same_verdict v w ≡ false
-mark_apart Yes Yes ne = absurd (ne refl)
-mark_apart No No ne = absurd (ne refl)
-mark_apart Unknown Unknown ne = absurd (ne refl)
-mark_apart Yes No ne = refl
-mark_apart Yes Unknown ne = refl
-mark_apart No Yes ne = refl
-mark_apart No Unknown ne = refl
-mark_apart Unknown Yes ne = refl
-mark_apart Unknown No ne = refl
 
 -- another mark in the place of one that counts
 pub count_less : (v w : Verdict) → v ≢ w → (marks : List Verdict) (at : ℕ) → slice_get marks at ≡ Some v → count_of v (slice_set marks at w) + 1 ≡ count_of v marks
 count_less v w ne [] at is = cc
 count_less v w ne (m ∷ ms) zero is =
     let same : m ≡ v = (let e : Some m ≡ Some v = is in cc) in
-    let one : same_verdict v m ≡ true = ap (λ u. same_verdict v u) same ∙ mark_same v in
-    let none : same_verdict v w ≡ false = mark_apart v w ne in
+    let one : same_verdict v m ≡ true = ap (λ u. same_verdict v u) same ∙ verdict_same v in
+    let none : same_verdict v w ≡ false = verdict_apart v w ne in
     ap (λ b. cond b 1 0 + count_of v ms + 1) none ∙ ((let e : 0 + count_of v ms + 1 ≡ 1 + count_of v ms = omega arith in e) ∙ ap (λ b. cond b 1 0 + count_of v ms) (sym one))
 count_less v w ne (m ∷ ms) (suc at) is =
     let deeper = count_less v w ne ms at is in
