@@ -47,11 +47,11 @@ abbrev names_of : Asked → List Source → List (List ℕ)
 names_of a ss = map (λ s. name_of a s.file) ss
 
 -- the names that files have
-abbrev all_names : Asked → List (List ℕ)
+abbrev pub all_names : Asked → List (List ℕ)
 all_names a = a.root ∷ map (λ w. w.file) a.words
 
 -- a file that a word names has one of them
-word_named : (a : Asked) (iri : List ℕ) (file : SchemaFile) → file_for a.words iri ≡ Some file → Contains (all_names a) (name_of a file)
+pub word_named : (a : Asked) (iri : List ℕ) (file : SchemaFile) → file_for a.words iri ≡ Some file → Contains (all_names a) (name_of a file)
 word_named a iri file e = by (position (λ w. bytes_eq w.iri iri) a.words) refl e
   where
     there : (n : ℕ) → n < length a.words → Contains (all_names a) (name_of a (Imported n))
@@ -79,15 +79,15 @@ only_one name = (tt, tt)
 module _ (told : Told) (a : Asked) where
   -- the names of the files that were read differ
   differ : (ss : List Source) → AreRead told a ss → IsDistinct same (names_of a ss)
-  differ ss (root r h) = only_one a.root
-  differ ss (next before i file r h is named held) =
-      subst (λ ns. IsDistinct same ns) (sym (map-append (λ s. name_of a s.file) before (record { file = file; base = i.iri; read = r } ∷ [])))
+  differ ss (root r d h) = only_one a.root
+  differ ss (next before i file r d h is named held) =
+      subst (λ ns. IsDistinct same ns) (sym (map-append (λ s. name_of a s.file) before (record { file = file; base = i.iri; read = r; digest = d } ∷ [])))
       (IsDistinct-push (decided_equiv same same_decides) (names_of a before) (name_of a file) (differ before h) (next_is_new a before i file is named))
 
   among : (ss : List Source) → AreRead told a ss → (name : List ℕ) → Contains (names_of a ss) name → Contains (all_names a) name
-  among ss (root r h) name c = subst (λ n. Contains (all_names a) n) (in_one a.root name c) (is_first a.root (map (λ w. w.file) a.words))
-  among ss (next before i file r h is named held) name c =
-      on (Contains-append_cases (names_of a before) (name_of a file ∷ []) name (subst (λ ns. Contains ns name) (map-append (λ s. name_of a s.file) before (record { file = file; base = i.iri; read = r } ∷ [])) c)) (λ earlier. among before h name earlier)
+  among ss (root r d h) name c = subst (λ n. Contains (all_names a) n) (in_one a.root name c) (is_first a.root (map (λ w. w.file) a.words))
+  among ss (next before i file r d h is named held) name c =
+      on (Contains-append_cases (names_of a before) (name_of a file ∷ []) name (subst (λ ns. Contains ns name) (map-append (λ s. name_of a s.file) before (record { file = file; base = i.iri; read = r; digest = d } ∷ [])) c)) (λ earlier. among before h name earlier)
     where
       on : Contains (names_of a before) name ⊎ Contains (name_of a file ∷ []) name → (Contains (names_of a before) name → Contains (all_names a) name) → Contains (all_names a) name
       on (inl earlier) deeper = deeper earlier

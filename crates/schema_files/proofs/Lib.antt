@@ -1,6 +1,7 @@
 mod Words
 mod Fetched
 mod Following
+pub mod Contents
 mod Order
-mod Few
+pub mod Few
 mod Steps

@@ -1,20 +1,23 @@
 -- Documents are read in one order.
-use Rattle.std.proofs.Common.{◌≡◌, ◌≤◌, ◌<◌, ◌∙◌, ◌⊎◌, ap, sym, subst, refl, ℕ, List, [], ◌∷◌, ◌++◌, inl, inr, arith, length, append_assoc, append-nil, length-append}
+use Rattle.std.proofs.Common.{◌≡◌, ◌<◌, ◌∙◌, ◌⊎◌, ap, sym, subst, refl, ℕ, List, [], ◌∷◌, ◌++◌, inl, inr, arith, length, append_assoc, append-nil, length-append}
 use Rattle.std.specs.Prelude.{Option, Some, None}
 use Rattle.shex_io.specs.Files.{Told}
+use Rattle.proof_file.specs.declared.head.Digest256.{Digest256}
 use Rattle.schema_documents.specs.declared.error.SchemaError.{SchemaError}
 use Rattle.schema_reader.specs.Documents.{IsSchema, Read}
 use Rattle.schema_reader.specs.Formats.{format_of}
 use Rattle.schema_reader.specs.Laws.{SchemasAreOne}
+use Rattle.sha2.specs.Sha256.{sha256}
 use Rattle.schema_files.specs.declared.error.FilesRefusal.{FilesRefusal}
 use Rattle.schema_files.specs.declared.error.FilesRefusal.TheVariants as refusals
 use Rattle.schema_files.specs.declared.error.SchemaFile.{SchemaFile}
 use Rattle.schema_files.specs.declared.error.SchemaFile.TheVariants.{Root}
-use Rattle.schema_files.specs.Files.{IsFile, IsTooLong, max_file}
+use Rattle.schema_files.specs.Files.{IsTooLong}
 use Rattle.schema_files.specs.Laws.{ReadIsNotLeft, RefusedIsOne, SourcesAreOne}
 use Rattle.schema_files.specs.Named.{Asked, file_for, file_of, name_of}
 use Rattle.schema_files.specs.Refusals.{IsAbsent, IsNext, IsNoDocument, IsRefused, LacksWord, Reaches, imported, root as next_root}
 use Rattle.schema_files.specs.Sources.{AreRead, AreSources, HoldsSource, Import, Source, next, next_import, root}
+use Rattle.schema_files.proofs.Contents.{held_there, not_too_long, same_bytes}
 
 -- ---- lists
 
@@ -53,31 +56,30 @@ module _ (contents : List ℕ → Option (List ℕ)) (a : Asked) (one : SchemasA
   abbrev told : Told
   told = Some contents
 
-  abbrev source_in : SchemaFile → List ℕ → Read → Source
-  source_in file base r = record { file = file; base = base; read = r }
+  abbrev source_in : SchemaFile → List ℕ → Read → Digest256 → Source
+  source_in file base r d = record { file = file; base = base; read = r; digest = d }
+
+  abbrev Holds : SchemaFile → List ℕ → Type 0
+  Holds file base = (r : Read) × (d : Digest256) × HoldsSource told a (source_in file base r d)
 
   -- ---- a file holds one document
 
-  same_bytes : (name x y : List ℕ) → contents name ≡ Some x → contents name ≡ Some y → x ≡ y
-  same_bytes name x y h k = cc
-
-  held_there : (name x : List ℕ) → contents name ≡ Some x → contents name ≡ None → ⊥
-  held_there name x h k = cc
-
-  one_read : (file : SchemaFile) (base : List ℕ) (r q : Read) → HoldsSource told a (source_in file base r) → HoldsSource told a (source_in file base q) → r ≡ q
-  one_read file base r q h k =
+  one_held : (file : SchemaFile) (base : List ℕ) (r q : Read) (d e : Digest256) → HoldsSource told a (source_in file base r d) → HoldsSource told a (source_in file base q e) → source_in file base r d ≡ source_in file base q e
+  one_held file base r q d e h k =
       let format = format_of (name_of a file) in
-      one format base h.bytes r q h.spelled (subst (λ bs. IsSchema format base q bs) (same_bytes (name_of a file) k.bytes h.bytes k.is_file.held h.is_file.held) k.spelled)
+      let bytes : k.bytes ≡ h.bytes = same_bytes contents (name_of a file) k.bytes h.bytes k.is_file.held h.is_file.held in
+      let reads : r ≡ q = one format base h.bytes r q h.spelled (subst (λ bs. IsSchema format base q bs) bytes k.spelled) in
+      let digests : d.0 ≡ e.0 = h.is_digest ∙ ap sha256 (sym bytes) ∙ sym k.is_digest in
+      λ i. source_in file base (reads i) (record { 0 = digests i })
 
-  moved : (file other : SchemaFile) (base final : List ℕ) (r : Read) → file ≡ other → base ≡ final → HoldsSource told a (source_in file base r) → HoldsSource told a (source_in other final r)
-  moved file other base final r e f h = subst (λ b. HoldsSource told a (source_in other b r)) f (subst (λ n. HoldsSource told a (source_in n base r)) e h)
+  moved : (file other : SchemaFile) (base final : List ℕ) (r : Read) (d : Digest256) → file ≡ other → base ≡ final → HoldsSource told a (source_in file base r d) → HoldsSource told a (source_in other final r d)
+  moved file other base final r d e f h = subst (λ b. HoldsSource told a (source_in other b r d)) f (subst (λ n. HoldsSource told a (source_in n base r d)) e h)
 
   same_source :
-      (file other : SchemaFile) (base final : List ℕ) (r q : Read) → file ≡ other → base ≡ final → HoldsSource told a (source_in file base r) →
-      HoldsSource told a (source_in other final q) → source_in file base r ≡ source_in other final q
-  same_source file other base final r q e f h k =
-      let reads : r ≡ q = one_read other final r q (moved file other base final r e f h) k in
-      λ i. record { file = e i; base = f i; read = reads i }
+      (file other : SchemaFile) (base final : List ℕ) (r q : Read) (d x : Digest256) → file ≡ other → base ≡ final → HoldsSource told a (source_in file base r d) →
+      HoldsSource told a (source_in other final q x) → source_in file base r d ≡ source_in other final q x
+  same_source file other base final r q d x e f h k =
+      (λ i. source_in (e i) (f i) r d) ∙ one_held other final r q d x (moved file other base final r d e f h) k
 
   -- ---- the document that is read behind others
 
@@ -85,10 +87,11 @@ module _ (contents : List ℕ → Option (List ℕ)) (a : Asked) (one : SchemasA
     by : Import
     file : SchemaFile
     read : Read
+    digest : Digest256
     is_next : next_import a ss ≡ Some by
     named : file_for a.words by.iri ≡ Some file
-    held : HoldsSource told a (source_in file by.iri read)
-    same : s ≡ source_in file by.iri read
+    held : HoldsSource told a (source_in file by.iri read digest)
+    same : s ≡ source_in file by.iri read digest
 
   same_import : (ss : List Source) (s : Source) (f : Follows ss s) (i : Import) → next_import a ss ≡ Some i → f.by ≡ i
   same_import ss s f i e = some_one f.by i (sym f.is_next ∙ e)
@@ -98,19 +101,20 @@ module _ (contents : List ℕ → Option (List ℕ)) (a : Asked) (one : SchemasA
 
   follows_one : (ss : List Source) (s t : Source) → Follows ss s → Follows ss t → s ≡ t
   follows_one ss s t f g =
-      f.same ∙ same_source f.file g.file f.by.iri g.by.iri f.read g.read (same_file ss s f g.by g.file g.is_next g.named) (ap (λ (j : Import). j.iri) (same_import ss s f g.by g.is_next)) f.held g.held
+      f.same ∙ same_source f.file g.file f.by.iri g.by.iri f.read g.read f.digest g.digest (same_file ss s f g.by g.file g.is_next g.named) (ap (λ (j : Import). j.iri) (same_import ss s f g.by g.is_next)) f.held g.held
       ∙ sym g.same
 
   behind : (ts : List Source) → AreRead told a ts → (ss : List Source) (s : Source) (more : List Source) → 0 < length ss → ts ≡ ss ++ s ∷ more → Follows ss s
-  behind ts (root r h) ss s more some e = absurd (omega (arith, ap length e, length-append ss (s ∷ more), some))
-  behind ts (next before i file r h is named held) ss s more some e =
-      on (last_of ss before (source_in file i.iri r) s more e) (λ rest same. behind before h ss s rest some same)
+  behind ts (root r d h) ss s more some e = absurd (omega (arith, ap length e, length-append ss (s ∷ more), some))
+  behind ts (next before i file r d h is named held) ss s more some e =
+      on (last_of ss before (source_in file i.iri r d) s more e) (λ rest same. behind before h ss s rest some same)
     where
-      on : IsLast ss before (source_in file i.iri r) s more → ((rest : List Source) → before ≡ ss ++ s ∷ rest → Follows ss s) → Follows ss s
+      on : IsLast ss before (source_in file i.iri r d) s more → ((rest : List Source) → before ≡ ss ++ s ∷ rest → Follows ss s) → Follows ss s
       on (inl (same, last)) deeper = record {
         by = i;
         file = file;
         read = r;
+        digest = d;
         is_next = subst (λ us. next_import a us ≡ Some i) same is;
         named = named;
         held = held;
@@ -121,15 +125,22 @@ module _ (contents : List ℕ → Option (List ℕ)) (a : Asked) (one : SchemasA
   -- the first is that of the schema's file
   record IsLed (ts : List Source) : Type 0 where
     read : Read
+    digest : Digest256
     more : List Source
-    held : HoldsSource told a (source_in Root a.base read)
-    same : ts ≡ source_in Root a.base read ∷ more
+    held : HoldsSource told a (source_in Root a.base read digest)
+    same : ts ≡ source_in Root a.base read digest ∷ more
 
   is_led : (ts : List Source) → AreRead told a ts → IsLed ts
-  is_led ts (root r h) = record { read = r; more = []; held = h; same = refl }
-  is_led ts (next before i file r h is named held) =
+  is_led ts (root r d h) = record { read = r; digest = d; more = []; held = h; same = refl }
+  is_led ts (next before i file r d h is named held) =
       let l = is_led before h in
-      record { read = l.read; more = l.more ++ source_in file i.iri r ∷ []; held = l.held; same = ap (λ us. us ++ source_in file i.iri r ∷ []) l.same }
+      record {
+        read = l.read;
+        digest = l.digest;
+        more = l.more ++ source_in file i.iri r d ∷ [];
+        held = l.held;
+        same = ap (λ us. us ++ source_in file i.iri r d ∷ []) l.same;
+      }
 
   not_none : (ts : List Source) → AreRead told a ts → 0 < length ts
   not_none ts h = omega (arith, ap length (is_led ts h).same)
@@ -137,22 +148,22 @@ module _ (contents : List ℕ → Option (List ℕ)) (a : Asked) (one : SchemasA
   -- ---- of two lists one begins the other
 
   ordered : (ss : List Source) → AreRead told a ss → (ts : List Source) → AreRead told a ts → Begins ss ts ⊎ Begins ts ss
-  ordered ss (root r h) ts k =
+  ordered ss (root r d h) ts k =
       let l = is_led ts k in
-      let same : source_in Root a.base l.read ≡ source_in Root a.base r = same_source Root Root a.base a.base l.read r refl refl l.held h in
+      let same : source_in Root a.base l.read l.digest ≡ source_in Root a.base r d = one_held Root a.base l.read r l.digest d l.held h in
       inl (l.more, l.same ∙ ap (λ s. s ∷ l.more) same)
-  ordered ss (next before i file r h is named held) ts k = on (ordered before h ts k)
+  ordered ss (next before i file r d h is named held) ts k = on (ordered before h ts k)
     where
-      goes_on : (more : List Source) → ts ≡ before ++ more → Begins (before ++ (source_in file i.iri r) ∷ []) ts ⊎ Begins ts (before ++ (source_in file i.iri r) ∷ [])
-      goes_on [] e = inr ((source_in file i.iri r) ∷ [], ap (λ us. us ++ (source_in file i.iri r) ∷ []) (sym (append-nil before) ∙ sym e))
+      goes_on : (more : List Source) → ts ≡ before ++ more → Begins (before ++ (source_in file i.iri r d) ∷ []) ts ⊎ Begins ts (before ++ (source_in file i.iri r d) ∷ [])
+      goes_on [] e = inr ((source_in file i.iri r d) ∷ [], ap (λ us. us ++ (source_in file i.iri r d) ∷ []) (sym (append-nil before) ∙ sym e))
       goes_on (s ∷ more) e =
-          let f : Follows before (source_in file i.iri r) = record { by = i; file = file; read = r; is_next = is; named = named; held = held; same = refl } in
-          let same : s ≡ (source_in file i.iri r) = follows_one before s (source_in file i.iri r) (behind ts k before s more (not_none before h) e) f in
-          inl (more, e ∙ ap (λ x. before ++ x ∷ more) same ∙ sym (append_assoc before ((source_in file i.iri r) ∷ []) more))
+          let f : Follows before (source_in file i.iri r d) = record { by = i; file = file; read = r; digest = d; is_next = is; named = named; held = held; same = refl } in
+          let same : s ≡ (source_in file i.iri r d) = follows_one before s (source_in file i.iri r d) (behind ts k before s more (not_none before h) e) f in
+          inl (more, e ∙ ap (λ x. before ++ x ∷ more) same ∙ sym (append_assoc before ((source_in file i.iri r d) ∷ []) more))
 
-      on : Begins before ts ⊎ Begins ts before → Begins (before ++ (source_in file i.iri r) ∷ []) ts ⊎ Begins ts (before ++ (source_in file i.iri r) ∷ [])
+      on : Begins before ts ⊎ Begins ts before → Begins (before ++ (source_in file i.iri r d) ∷ []) ts ⊎ Begins ts (before ++ (source_in file i.iri r d) ∷ [])
       on (inl (more, e)) = goes_on more e
-      on (inr (more, e)) = inr (more ++ (source_in file i.iri r) ∷ [], ap (λ us. us ++ (source_in file i.iri r) ∷ []) e ∙ append_assoc ts more ((source_in file i.iri r) ∷ []))
+      on (inr (more, e)) = inr (more ++ (source_in file i.iri r d) ∷ [], ap (λ us. us ++ (source_in file i.iri r d) ∷ []) e ∙ append_assoc ts more ((source_in file i.iri r d) ∷ []))
 
   -- nothing is read behind these
   abbrev Ends : List Source → Type 0
@@ -180,20 +191,20 @@ module _ (contents : List ℕ → Option (List ℕ)) (a : Asked) (one : SchemasA
   record Blocks (file : SchemaFile) : Type 0 where
     base : List ℕ
     next_file : IsNext told a file base
-    none : (r : Read) → ¬ HoldsSource told a (source_in file base r)
+    none : ¬ Holds file base
 
   -- nothing is read behind documents whose next import is in such a file, or in none
-  blocked_end : (ss : List Source) (i : Import) (file : SchemaFile) → next_import a ss ≡ Some i → file_for a.words i.iri ≡ Some file → ((r : Read) → ¬ HoldsSource told a (source_in file i.iri r)) → Ends ss
+  blocked_end : (ss : List Source) (i : Import) (file : SchemaFile) → next_import a ss ≡ Some i → file_for a.words i.iri ≡ Some file → ¬ Holds file i.iri → Ends ss
   blocked_end ss i file is named none s f =
-      none f.read (moved f.file file f.by.iri i.iri f.read (same_file ss s f i file is named) (ap (λ (j : Import). j.iri) (same_import ss s f i is)) f.held)
+      none (f.read, f.digest, moved f.file file f.by.iri i.iri f.read f.digest (same_file ss s f i file is named) (ap (λ (j : Import). j.iri) (same_import ss s f i is)) f.held)
 
   lacking_end : (i : Import) (l : LacksWord told a i) → Ends l.sources
   lacking_end i l s f = not_some (file_for a.words i.iri) f.file l.missing (ap (λ (j : Import). file_for a.words j.iri) (sym (same_import l.sources s f i l.next)) ∙ f.named)
 
-  blocks_by : (file other : SchemaFile) (base final : List ℕ) → IsNext told a file base → IsNext told a other final → ((r : Read) → ¬ HoldsSource told a (source_in file base r)) → ((r : Read) → ¬ HoldsSource told a (source_in other final r)) → file ≡ other
+  blocks_by : (file other : SchemaFile) (base final : List ℕ) → IsNext told a file base → IsNext told a other final → ¬ Holds file base → ¬ Holds other final → file ≡ other
   blocks_by file other base final next_root next_root none nothing = refl
-  blocks_by file other base final next_root (imported ts j g k are also) none nothing = let l = is_led ts k in absurd (none l.read l.held)
-  blocks_by file other base final (imported ss i f h is named) next_root none nothing = let l = is_led ss h in absurd (nothing l.read l.held)
+  blocks_by file other base final next_root (imported ts j g k are also) none nothing = let l = is_led ts k in absurd (none (l.read, l.digest, l.held))
+  blocks_by file other base final (imported ss i f h is named) next_root none nothing = let l = is_led ss h in absurd (nothing (l.read, l.digest, l.held))
   blocks_by file other base final (imported ss i f h is named) (imported ts j g k are also) none nothing =
       let same : ss ≡ ts = ends_one ss ts h k (blocked_end ss i f is named none) (blocked_end ts j g are also nothing) in
       let imports : i ≡ j = some_one i j (sym is ∙ ap (next_import a) same ∙ are) in
@@ -206,8 +217,8 @@ module _ (contents : List ℕ → Option (List ℕ)) (a : Asked) (one : SchemasA
   lacks_one i j l m =
       some_one i j (sym l.next ∙ ap (next_import a) (ends_one l.sources m.sources l.are_read m.are_read (lacking_end i l) (lacking_end j m)) ∙ m.next)
 
-  not_both : (file : SchemaFile) (base : List ℕ) (j : Import) → IsNext told a file base → ((r : Read) → ¬ HoldsSource told a (source_in file base r)) → LacksWord told a j → ⊥
-  not_both file base j next_root none l = let led = is_led l.sources l.are_read in none led.read led.held
+  not_both : (file : SchemaFile) (base : List ℕ) (j : Import) → IsNext told a file base → ¬ Holds file base → LacksWord told a j → ⊥
+  not_both file base j next_root none l = let led = is_led l.sources l.are_read in none (led.read, led.digest, led.held)
   not_both file base j (imported ss i f h is named) none l =
       let same : ss ≡ l.sources = ends_one ss l.sources h l.are_read (blocked_end ss i f is named none) (lacking_end j l) in
       let imports : i ≡ j = some_one i j (sym is ∙ ap (next_import a) same ∙ l.next) in
@@ -215,24 +226,17 @@ module _ (contents : List ℕ → Option (List ℕ)) (a : Asked) (one : SchemasA
 
   -- ---- which refusals stop it
 
-  not_too_long : (name bytes : List ℕ) → IsFile told name bytes → IsTooLong told name → ⊥
-  not_too_long name bytes file long =
-      let same : length bytes ≡ length long.bytes = ap length (same_bytes name bytes long.bytes file.held long.held) in
-      let within : length bytes ≤ max_file = file.within in
-      let above : max_file < length long.bytes = long.above in
-      absurd (omega (arith, same, within, above))
-
   long_blocks : (file : SchemaFile) → Reaches told a file → IsTooLong told (name_of a file) → Blocks file
-  long_blocks file (base, n) long = record { base = base; next_file = n; none = λ r h. not_too_long (name_of a file) h.bytes h.is_file long }
+  long_blocks file (base, n) long = record { base = base; next_file = n; none = λ (r, d, h). not_too_long contents (name_of a file) h.bytes h.is_file long }
 
   absent_blocks : (file : SchemaFile) → IsAbsent told a file → Blocks file
-  absent_blocks file ((base, n), lacks) = record { base = base; next_file = n; none = λ r h. held_there (name_of a file) h.bytes h.is_file.held lacks }
+  absent_blocks file ((base, n), lacks) = record { base = base; next_file = n; none = λ (r, d, h). held_there contents (name_of a file) h.bytes h.is_file.held lacks }
 
   unread_blocks : (file : SchemaFile) (e : SchemaError) → IsNoDocument told a file e → Blocks file
   unread_blocks file e u = record {
     base = u.base;
     next_file = u.next;
-    none = λ r h. u.none r (subst (λ bs. IsSchema (format_of (name_of a file)) u.base r bs) (same_bytes (name_of a file) h.bytes u.bytes h.is_file.held u.is_file.held) h.spelled);
+    none = λ (r, d, h). u.none r (subst (λ bs. IsSchema (format_of (name_of a file)) u.base r bs) (same_bytes contents (name_of a file) h.bytes u.bytes h.is_file.held u.is_file.held) h.spelled);
   }
 
   -- why a refusal stops the reading: its file holds no document, or no word names a file
@@ -254,13 +258,13 @@ module _ (contents : List ℕ → Option (List ℕ)) (a : Asked) (one : SchemasA
   not_absent : (refusal : FilesRefusal) → Stop refusal → (file : SchemaFile) → IsAbsent told a file → ⊥
   not_absent refusal (blocking there e b) file absent =
       let same = blocks_one (file_of refusal) file b (absent_blocks file absent) in
-      held_there (name_of a file) there (ap (λ n. contents (name_of a n)) (sym same) ∙ e) absent.1
+      held_there contents (name_of a file) there (ap (λ n. contents (name_of a n)) (sym same) ∙ e) absent.1
   not_absent refusal (lacking i l e) file absent = let b = absent_blocks file absent in not_both file b.base i b.next_file b.none l
 
   -- ---- where all is read, nothing stops it
 
-  not_blocked : (ss : List Source) → AreSources told a ss → (file : SchemaFile) (base : List ℕ) → IsNext told a file base → ((r : Read) → ¬ HoldsSource told a (source_in file base r)) → ⊥
-  not_blocked ss x file base next_root none = let l = is_led ss x.are_read in none l.read l.held
+  not_blocked : (ss : List Source) → AreSources told a ss → (file : SchemaFile) (base : List ℕ) → IsNext told a file base → ¬ Holds file base → ⊥
+  not_blocked ss x file base next_root none = let l = is_led ss x.are_read in none (l.read, l.digest, l.held)
   not_blocked ss x file base (imported ts i f h is named) none =
       not_some (next_import a ts) i (ap (next_import a) (ends_one ts ss h x.are_read (blocked_end ts i f is named none) (all_end ss x)) ∙ x.all_read) is
 

@@ -33,7 +33,7 @@ use Rattle.schema_files.specs.Files.{IsFile}
 use Rattle.schema_files.specs.Held.{AreAll, AreFollowed, AreFollowedTo, ComesTo, WereRead, and_next, asked_of, digests_of, held_document, imports_at, imports_before, source_of, sources_of}
 use Rattle.schema_files.specs.Named.{Asked, base_for, file_for, name_of}
 use Rattle.schema_files.specs.Refusals.{Explains, IsNext, LacksWord, imported}
-use Rattle.schema_files.specs.Sources.{AreDigestsOf, AreHeld, AreRead, HoldsSource, Import, IsDigestOf, Source, documents_of, is_read, next, next_import, root}
+use Rattle.schema_files.specs.Sources.{AreHeld, AreRead, HoldsSource, Import, Source, digest_list, documents_of, is_read, next, next_import, root, source_digests}
 use Rattle.schema_files.specs.Stops.{IsRefusalOf}
 use Rattle.schema_files.proofs.Few.{few_read}
 use Rattle.schema_files.proofs.Following.{all_before, comes_next, comes_to, counted, followed_on, last_read, passed}
@@ -104,20 +104,15 @@ module _ (told : Told) (a : Asked) where
         at_iri : s.base ≡ i.iri
         at_iri = base ∙ ap (base_for a) same ∙ base_is_iri a i.iri file named
 
-        is_source : s ≡ record { file = file; base = i.iri; read = s.read }
-        is_source = λ j. record { file = same j; base = at_iri j; read = s.read }
+        is_source : s ≡ record { file = file; base = i.iri; read = s.read; digest = s.digest }
+        is_source = λ j. record { file = same j; base = at_iri j; read = s.read; digest = s.digest }
 
         pub read_on : HoldsSource told a s → is_read a ss (Some file) ≡ false → AreRead told a (ss ++ s ∷ [])
         read_on held new =
-            subst (λ t. AreRead told a (ss ++ t ∷ [])) (sym is_source) (next ss i file s.read read (is_next new) named (subst (λ t. HoldsSource told a t) is_source held))
+            subst (λ t. AreRead told a (ss ++ t ∷ [])) (sym is_source) (next ss i file s.read s.digest read (is_next new) named (subst (λ t. HoldsSource told a t) is_source held))
 
         pub seen_on : is_read a (ss ++ s ∷ []) (file_for a.words i.iri) ≡ true
         seen_on = ap (is_read a (ss ++ s ∷ [])) (named ∙ ap (λ f. Some f) (sym same)) ∙ last_read a ss s
-
--- the digest of one more document
-pub digests_on : (told : Told) (a : Asked) (held : List Held) (h : Held) → AreDigestsOf told a (sources_of a held) (digests_of held) → IsDigestOf told (name_of a h.file) h.digest → AreDigestsOf told a (sources_of a (held ++ h ∷ [])) (digests_of (held ++ h ∷ []))
-digests_on told a [] h are is = (is, tt)
-digests_on told a (k ∷ held) h are is = (are.0, digests_on told a held h are.1 is)
 
 pub with_last : (a : Asked) (held : List Held) (h : Held) → sources_of a (held ++ h ∷ []) ≡ sources_of a held ++ source_of a h ∷ []
 with_last a held h = map-append (source_of a) held (h ∷ [])
@@ -181,61 +176,60 @@ passed_here a (k ∷ ks) now at number count inside (more, e) counted_is low hig
 
 pub goes_down : (told : Told) (asked : LentAsked) (held : List Held) (at : ℕ) → WereRead told asked held → at < length held → length asked.words.now + 1 - (at + 1) < length asked.words.now + 1 - at
 goes_down told asked held at read inside =
-    let few : length (sources_of (asked_of asked) held) ≤ length (asked_of asked).words + 1 = few_read told (asked_of asked) (sources_of (asked_of asked) held) read.are_read in
+    let few : length (sources_of (asked_of asked) held) ≤ length (asked_of asked).words + 1 = few_read told (asked_of asked) (sources_of (asked_of asked) held) read in
     omega (arith, few, inside, length-map held (source_of (asked_of asked)), length-map asked.words.now import_of)
 
 pub all_here : (told : Told) (asked : LentAsked) (held : List Held) (at : ℕ) → WereRead told asked held → length held ≤ at → AreFollowedTo asked held at 0 → AreAll told asked held
 all_here told asked held at read past followed =
     let a = asked_of asked in
-    record {
-      are_sources = record { are_read = read.are_read; all_read = all_before a (sources_of a held) at (omega (arith, past, length-map held (source_of a))) followed };
-      digests = read.digests;
-    }
+    record { are_read = read; all_read = all_before a (sources_of a held) at (omega (arith, past, length-map held (source_of a))) followed }
 
 -- ---- the first document, and all of them
 
 pub first_read :
-    (told other : Told) (asked : LentAsked) (h : Held) (items : List Held) → h.file ≡ Root → HoldsSource told (asked_of asked) (source_of (asked_of asked) h) → IsDigestOf told (name_of (asked_of asked) h.file) h.digest → items ≡ h ∷ [] → other ≡ told →
+    (told other : Told) (asked : LentAsked) (h : Held) (items : List Held) → h.file ≡ Root → HoldsSource told (asked_of asked) (source_of (asked_of asked) h) → items ≡ h ∷ [] → other ≡ told →
     WereRead other asked items
-first_read told other asked h items is held digest items_are same =
+first_read told other asked h items is held items_are same =
     let a = asked_of asked in
-    let source : source_of a h ≡ record { file = Root; base = a.base; read = read_of h.parsed } = λ i. record { file = is i; base = base_for a (is i); read = read_of h.parsed } in
-    let one : WereRead told asked (h ∷ []) = record { are_read = subst (λ s. AreRead told a (s ∷ [])) (sym source) (root (read_of h.parsed) (subst (λ s. HoldsSource told a s) source held)); digests = (digest, tt) } in
+    let source : source_of a h ≡ record { file = Root; base = a.base; read = read_of h.parsed; digest = h.digest } = λ i. record { file = is i; base = base_for a (is i); read = read_of h.parsed; digest = h.digest } in
+    let one : WereRead told asked (h ∷ []) = subst (λ s. AreRead told a (s ∷ [])) (sym source) (root (read_of h.parsed) h.digest (subst (λ s. HoldsSource told a s) source held)) in
     subst (λ t. WereRead t asked items) (sym same) (subst (λ hs. WereRead told asked hs) (sym items_are) one)
 
 some_source : (told : Told) (a : Asked) (ss : List Source) → AreRead told a ss → 0 < length ss
-some_source told a ss (root r h) = omega arith
-some_source told a ss (next before i file r h is named held) = omega (arith, length-append before (record { file = file; base = i.iri; read = r } ∷ []))
+some_source told a ss (root r d h) = omega arith
+some_source told a ss (next before i file r d h is named held) = omega (arith, length-append before (record { file = file; base = i.iri; read = r; digest = d } ∷ []))
 
 pub some_held : (told : Told) (asked : LentAsked) (held : List Held) → AreAll told asked held → 0 < length held
-some_held told asked held all = omega (arith, some_source told (asked_of asked) (sources_of (asked_of asked) held) all.are_sources.are_read, length-map held (source_of (asked_of asked)))
+some_held told asked held all = omega (arith, some_source told (asked_of asked) (sources_of (asked_of asked) held) all.are_read, length-map held (source_of (asked_of asked)))
 
 held_documents : (a : Asked) (held : List Held) → map held_document held ≡ documents_of (sources_of a held)
 held_documents a [] = refl
 held_documents a (h ∷ held) = ap (λ ds. held_document h ∷ ds) (held_documents a held)
 
+held_digests : (a : Asked) (held : List Held) → digests_of held ≡ source_digests (sources_of a held)
+held_digests a [] = refl
+held_digests a (h ∷ held) = ap (λ ds. h.digest ∷ ds) (held_digests a held)
+
 pub all_held :
     (a : Asked) (items rest : List Held) (h : Held) (first : Parsed) (d : Documents) → 0 < length items → h ≡ get_or items 0 h → rest ≡ remove items 0 → first ≡ h.parsed →
-    map document_of d.docs.items ≡ document_of first.doc ∷ map held_document rest → d.names ≡ first.prefixes → AreHeld d (sources_of a items)
-all_held a [] rest h first d some is left parsed docs names = absurd (omega (arith, some))
-all_held a (k ∷ ks) rest h first d some is left parsed docs names =
+    map document_of d.docs.items ≡ document_of first.doc ∷ map held_document rest → d.names ≡ first.prefixes → digest_list d.digests ≡ h.digest ∷ digests_of rest →
+    AreHeld d (sources_of a items)
+all_held a [] rest h first d some is left parsed docs names digests = absurd (omega (arith, some))
+all_held a (k ∷ ks) rest h first d some is left parsed docs names digests =
     let all : first ≡ k.parsed = parsed ∙ ap (λ (x : Held). x.parsed) is in
     record {
       documents = docs ∙ (λ i. document_of (all i).doc ∷ map held_document (left i)) ∙ held_documents a (k ∷ ks);
       names = ap (λ p. Some (scope_of p)) (names ∙ ap (λ (p : Parsed). p.prefixes) all);
+      digests = digests ∙ (λ i. (is i).digest ∷ digests_of (left i)) ∙ held_digests a (k ∷ ks);
     }
-
-pub all_digests : (items rest : List Held) (h : Held) → 0 < length items → h ≡ get_or items 0 h → rest ≡ remove items 0 → h.digest ∷ digests_of rest ≡ digests_of items
-all_digests [] rest h some is left = absurd (omega (arith, some))
-all_digests (k ∷ ks) rest h some is left = λ i. (is i).digest ∷ digests_of (left i)
 
 module _ (told : Told) (a : Asked) (law : SchemasAreOrdered) where
   source_ordered : (s : Source) → HoldsSource told a s → IsOrderedDocument s.read.document
   source_ordered s h = law (format_of (name_of a s.file)) s.base h.bytes s.read h.spelled
 
   pub all_ordered : (ss : List Source) → AreRead told a ss → All IsOrderedDocument (documents_of ss)
-  all_ordered ss (root r h) = All-push IsOrderedDocument [] r.document (λ k d l. absurd (omega (arith, l))) (source_ordered (record { file = Root; base = a.base; read = r }) h)
-  all_ordered ss (next before i file r h is named held) =
-      let s : Source = record { file = file; base = i.iri; read = r } in
+  all_ordered ss (root r d h) = All-push IsOrderedDocument [] r.document (λ k e l. absurd (omega (arith, l))) (source_ordered (record { file = Root; base = a.base; read = r; digest = d }) h)
+  all_ordered ss (next before i file r d h is named held) =
+      let s : Source = record { file = file; base = i.iri; read = r; digest = d } in
       subst (λ ds. All IsOrderedDocument ds) (sym (map-append (λ (t : Source). t.read.document) before (s ∷ [])))
       (All-push IsOrderedDocument (documents_of before) r.document (all_ordered before h) (source_ordered s held))

@@ -8,15 +8,15 @@ use Rattle.shex_io.specs.Files.{Told}
 use Rattle.schema_files.specs.declared.asked.Asked.{Asked as LentAsked}
 use Rattle.schema_files.specs.declared.held.Held.{Held}
 use Rattle.schema_files.specs.Named.{Asked, base_for, file_for}
-use Rattle.schema_files.specs.Sources.{AreDigestsOf, AreRead, AreSources, Import, Source, imports_of, is_read}
+use Rattle.schema_files.specs.Sources.{AreRead, AreSources, Import, Source, imports_of, is_read}
 
 -- what is asked
 abbrev pub asked_of : LentAsked → Asked
 asked_of a = record { root = a.root.now; base = a.base.now; words = map import_of a.words.now }
 
--- a document that was read under the base of its file
+-- a document that was read under the base of its file, with the digest of its bytes
 abbrev pub source_of : Asked → Held → Source
-source_of a h = record { file = h.file; base = base_for a h.file; read = read_of h.parsed }
+source_of a h = record { file = h.file; base = base_for a h.file; read = read_of h.parsed; digest = h.digest }
 
 abbrev pub sources_of : Asked → List Held → List Source
 sources_of a held = map (source_of a) held
@@ -27,15 +27,13 @@ held_document h = document_of h.parsed.doc
 abbrev pub digests_of : List Held → List Digest256
 digests_of held = map (λ h. h.digest) held
 
--- the documents were read so, and these are the digests of their files
-pub record WereRead (told : Told) (asked : LentAsked) (held : List Held) : Type 0 where
-  pub are_read : AreRead told (asked_of asked) (sources_of (asked_of asked) held)
-  pub digests : AreDigestsOf told (asked_of asked) (sources_of (asked_of asked) held) (digests_of held)
+-- the documents were read so
+abbrev pub WereRead : Told → LentAsked → List Held → Type 0
+WereRead told asked held = AreRead told (asked_of asked) (sources_of (asked_of asked) held)
 
 -- and all that they import was read
-pub record AreAll (told : Told) (asked : LentAsked) (held : List Held) : Type 0 where
-  pub are_sources : AreSources told (asked_of asked) (sources_of (asked_of asked) held)
-  pub digests : AreDigestsOf told (asked_of asked) (sources_of (asked_of asked) held) (digests_of held)
+abbrev pub AreAll : Told → LentAsked → List Held → Type 0
+AreAll told asked held = AreSources told (asked_of asked) (sources_of (asked_of asked) held)
 
 -- the imports of the document at a place
 abbrev pub imports_at : List Source → ℕ → List Import

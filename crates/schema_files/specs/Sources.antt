@@ -1,6 +1,6 @@
 -- The documents of a schema, in the order in which they are read.
 use Rattle.std.specs.Prelude.{ℕ, Bool, false, List, [], ◌∷◌, ◌++◌, ◌≡◌, Option, Some, None, encode_utf8_all, map, not, option_map, slice_get}
-use Rattle.std.specs.List.{AllZip, find, flat_map}
+use Rattle.std.specs.List.{find, flat_map}
 use Rattle.command_words.specs.Checks.{is_among}
 use Rattle.proof_file.specs.declared.head.Digest256.{Digest256}
 use Rattle.schema_documents.specs.Tree.{Document, document_of}
@@ -16,17 +16,21 @@ use Rattle.schema_files.specs.declared.reading.FileDigests.{FileDigests}
 use Rattle.schema_files.specs.Files.{IsFile}
 use Rattle.schema_files.specs.Named.{Asked, file_for, name_of}
 
--- a document that was read: its file, the base under which it was read, and what it is with the base and the prefixes at its end
+-- a document that was read: its file, the base under which it was read, what it is with the base and the prefixes at its end, and the
+-- digest of its bytes
 pub record Source : Type 0 where
   pub file : SchemaFile
   pub base : List ℕ
   pub read : Read
+  pub digest : Digest256
 
--- the file holds it, as far as is told, in the format of the file's name
+-- the file holds bytes, as far as is told, that spell the document in the format of the file's name, and the digest is that of these
+-- very bytes (FIPS 180-4)
 pub record HoldsSource (told : Told) (a : Asked) (s : Source) : Type 0 where
   pub bytes : List ℕ
   pub is_file : IsFile told (name_of a s.file) bytes
   pub spelled : IsSchema (format_of (name_of a s.file)) s.base s.read bytes
+  pub is_digest : s.digest.0 ≡ sha256 bytes
 
 -- an import: the IRI, as bytes, and the file of the document that imports by it
 pub record Import : Type 0 where
@@ -49,25 +53,22 @@ next_import a ss = find (λ i. not (is_read a ss (file_for a.words i.iri))) (imp
 -- The documents were read so: first that of the schema's file under the schema's base, then one by one that of the first import whose
 -- file was not read, under the import's IRI as its base (own)
 pub data AreRead (told : Told) (a : Asked) : List Source → Type 0 where
-  root : (r : Read) → HoldsSource told a (record { file = Root; base = a.base; read = r }) → AreRead told a (record { file = Root; base = a.base; read = r } ∷ [])
+  root :
+      (r : Read) (d : Digest256) → HoldsSource told a (record { file = Root; base = a.base; read = r; digest = d }) →
+      AreRead told a (record { file = Root; base = a.base; read = r; digest = d } ∷ [])
   next :
-      (ss : List Source) (i : Import) (file : SchemaFile) (r : Read) → AreRead told a ss → next_import a ss ≡ Some i → file_for a.words i.iri ≡ Some file →
-      HoldsSource told a (record { file = file; base = i.iri; read = r }) → AreRead told a (ss ++ record { file = file; base = i.iri; read = r } ∷ [])
+      (ss : List Source) (i : Import) (file : SchemaFile) (r : Read) (d : Digest256) → AreRead told a ss → next_import a ss ≡ Some i →
+      file_for a.words i.iri ≡ Some file → HoldsSource told a (record { file = file; base = i.iri; read = r; digest = d }) →
+      AreRead told a (ss ++ record { file = file; base = i.iri; read = r; digest = d } ∷ [])
 
 -- and all that they import was read
 pub record AreSources (told : Told) (a : Asked) (ss : List Source) : Type 0 where
   pub are_read : AreRead told a ss
   pub all_read : next_import a ss ≡ None
 
--- the digest of what the file of this name holds, as far as is told (FIPS 180-4)
-pub record IsDigestOf (told : Told) (name : List ℕ) (d : Digest256) : Type 0 where
-  pub bytes : List ℕ
-  pub is_file : IsFile told name bytes
-  pub is_digest : d.0 ≡ sha256 bytes
-
--- the digests of the files of documents, in their order
-abbrev pub AreDigestsOf : Told → Asked → List Source → List Digest256 → Type 0
-AreDigestsOf told a ss ds = AllZip (λ s d. IsDigestOf told (name_of a s.file) d) ss ds
+-- the digests of the bytes of documents, in their order
+abbrev pub source_digests : List Source → List Digest256
+source_digests ss = map (λ s. s.digest) ss
 
 -- the digests of the files of a schema in the order of reading
 abbrev pub digest_list : FileDigests → List Digest256
@@ -84,3 +85,4 @@ root_names ss = option_map (λ s. s.read.names) (slice_get ss 0)
 pub record AreHeld (d : Documents) (ss : List Source) : Type 0 where
   pub documents : map document_of d.docs.items ≡ documents_of ss
   pub names : Some (scope_of d.names) ≡ root_names ss
+  pub digests : digest_list d.digests ≡ source_digests ss

@@ -28,7 +28,8 @@ fn number_of(words: &[Import<'_>], iri: &str) -> Option<usize>
     words.iter().position(|word| word.iri == iri)
 }
 
-/// The name of a file of a schema, by that of the schema's own file and the import words; the empty text where no word has its number.
+/// The name of a file of a schema, by that of the schema's own file and the import words; the empty text where no word has its
+/// number.
 pub fn file_name<'a>(root: &'a str, words: &[Import<'a>], file: SchemaFile) -> &'a str
     ensures { result.now ≡ file_named root.now (map import_of words.now) file }
 {

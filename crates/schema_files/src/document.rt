@@ -7,7 +7,7 @@ ghost use Rattle.schema_files.specs.Files.{IsFile};
 ghost use Rattle.schema_files.specs.Held.{asked_of, source_of};
 ghost use Rattle.schema_files.specs.Named.{base_for, name_of};
 ghost use Rattle.schema_files.specs.Refusals.{Explains, FaultsAs, IsNext, Reaches};
-ghost use Rattle.schema_files.specs.Sources.{HoldsSource, IsDigestOf};
+ghost use Rattle.schema_files.specs.Sources.{HoldsSource};
 ghost use Rattle.schema_files.specs.Stops.{IsRefusalOf};
 
 use crate::asked::Asked;
@@ -60,7 +60,6 @@ pub fn read_file<F: Files>(
     requires { IsSome (scheme_of (base_for (asked_of asked.now) file)) }
     ensures held { IfOk result (λ h. HoldsSource (F.told files.old) (asked_of asked.now) (source_of (asked_of asked.now) h)) }
     ensures file { IfOk result (λ h. h.file ≡ file) }
-    ensures digest { IfOk result (λ h. IsDigestOf (F.told files.old) (name_of (asked_of asked.now) h.file) h.digest) }
     ensures cause { IfErr result (λ e. IsNext (F.told files.old) (asked_of asked.now) file (base_for (asked_of asked.now) file) → Explains (F.told files.old) (asked_of asked.now) e) }
     ensures faults { IfErr result (FaultsAs (asked_of asked.now) (F.faults files.old) (F.faults files.new) (F.blame files.new) (F.act files.new)) }
     ensures faults_stay { OnOk result (F.faults files.new ≡ F.faults files.old) }

@@ -8,7 +8,7 @@ ghost use Rattle.schema_documents.specs.Ordered.{IsOrderedDocument};
 ghost use Rattle.schema_documents.specs.Tree.{document_of};
 ghost use Rattle.schema_files.specs.Held.{digests_of, held_document};
 ghost use Rattle.schema_files.specs.Refusals.{Explains, FaultsAs};
-ghost use Rattle.schema_files.specs.Sources.{AreDigestsOf, AreHeld, AreSources, Source, digest_list};
+ghost use Rattle.schema_files.specs.Sources.{AreHeld, AreSources, Source, digest_list};
 
 use crate::asked::Asked;
 use crate::document::read_file;
@@ -87,7 +87,7 @@ pub fn read_documents<F: Files>(
     words: &[Import<'_>],
 ) -> Result<Documents, FilesError>
     requires { IsSome (scheme_of base.now) }
-    ensures sources { IfOk result (λ d. (ss : List Source) × AreSources (F.told files.old) (record { root = root.now; base = base.now; words = map import_of words.now }) ss × AreHeld d ss × AreDigestsOf (F.told files.old) (record { root = root.now; base = base.now; words = map import_of words.now }) ss (digest_list d.digests)) }
+    ensures sources { IfOk result (λ d. (ss : List Source) × AreSources (F.told files.old) (record { root = root.now; base = base.now; words = map import_of words.now }) ss × AreHeld d ss) }
     ensures ordered { IfOk result (λ d. All IsOrderedDocument (map document_of d.docs.items)) }
     ensures scheme { IfOk result (λ d. IsSome (scheme_of (base_of d.names))) }
     ensures cause { IfErr result (Explains (F.told files.old) (record { root = root.now; base = base.now; words = map import_of words.now })) }

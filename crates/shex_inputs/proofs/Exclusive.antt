@@ -1,11 +1,10 @@
 -- Where contents are told, a file of the inputs is taken, refused or absent, and not two of these.
-use Rattle.std.proofs.Common.{◌≡◌, ◌≤◌, ◌<◌, ◌∙◌, ◌⊎◌, ap, sym, subst, refl, List, ℕ, [], inl, inr, arith, length, map}
-use Rattle.std.specs.Prelude.{Option, Some, None, ⊤}
+use Rattle.std.proofs.Common.{◌≡◌, ◌∙◌, ap, sym, subst, refl, List, ℕ, [], inl, inr, map}
+use Rattle.std.specs.Prelude.{Option, Some, ⊤}
 use Rattle.shex_io.specs.Files.{Lacks, Told}
 use Rattle.rdf_terms.specs.declared.terms.Term.{Term}
 use Rattle.graph_index.specs.declared.read_error.ReadError.{ReadError}
-use Rattle.schema_documents.specs.Tree.{Document}
-use Rattle.schema_files.specs.Files.{IsFile, IsTooLong, max_file}
+use Rattle.schema_files.specs.Files.{IsTooLong}
 use Rattle.schema_files.specs.Laws.{ReadIsNotLeft, RefusedIsOne, SourcesAreOne}
 use Rattle.schema_files.specs.Named.{file_of}
 use Rattle.schema_files.specs.Refusals.{IsRefused as IsRefusedFile}
@@ -30,11 +29,12 @@ use Rattle.shex_inputs.specs.declared.error.Refusal.TheVariants as Refusals
 use Rattle.shex_inputs.specs.declared.error.Source.{Source}
 use Rattle.shex_inputs.specs.declared.error.Source.TheVariants.{Schema as OfSchema, Data, Map}
 use Rattle.shex_inputs.specs.Asked.{EndsAs, HoldsMap, IsAskedOf, Question, node_names, root_of}
-use Rattle.shex_inputs.specs.Held.{AreFilesOf, Held, HoldsData, IsHolding, IsTaken, predicates_in}
+use Rattle.shex_inputs.specs.Held.{Held, HoldsData, IsHolding, IsTaken, predicates_in}
 use Rattle.shex_inputs.specs.Laws.{AskedIsNotLeft, HeldIsOne, InputsAreOne, LeftIsOne, QuestionIsOne, TakenIsLoaded, TakenIsNotLeft}
 use Rattle.shex_inputs.specs.Named.{Inputs, asked_of, source_name, source_of}
 use Rattle.shex_inputs.specs.Outcomes.{IsAbsent}
 use Rattle.shex_inputs.specs.Refusals.{AreUnread, AsksForMany, HasNegation, IsNoMap, IsRefused, IsSchemaTaken, IsUnresolved, Reaches, StandForNone, Takes}
+use Rattle.schema_files.proofs.Contents.{held_there, not_too_long, same_bytes}
 use Rattle.shex_inputs.proofs.Demanded.{asked_moved, asked_one}
 use Rattle.shex_inputs.proofs.Digested.{files_one}
 use Rattle.shex_inputs.proofs.Holdings.{one_holding, stands_one as one_standing}
@@ -80,20 +80,6 @@ module _ (contents : List ℕ → Option (List ℕ)) (i : Inputs) (laws : AreLaw
   abbrev told : Told
   told = Some contents
 
-  -- a name holds one thing
-  same_bytes : (name a b : List ℕ) → contents name ≡ Some a → contents name ≡ Some b → a ≡ b
-  same_bytes name a b h k = cc
-
-  held_there : (name a : List ℕ) → contents name ≡ Some a → contents name ≡ None → ⊥
-  held_there name a h k = cc
-
-  not_too_long : (name bytes : List ℕ) → IsFile told name bytes → IsTooLong told name → ⊥
-  not_too_long name bytes file long =
-      let same : length bytes ≡ length long.bytes = ap length (same_bytes name bytes long.bytes file.held long.held) in
-      let within : length bytes ≤ max_file = file.within in
-      let above : max_file < length long.bytes = long.above in
-      absurd (omega (arith, same, within, above))
-
   one_schema : (ss others : List SchemaSource) → AreSources told (asked_of i) ss → AreSources told (asked_of i) others → ss ≡ others
   one_schema ss others h k = laws.sources contents (asked_of i) ss others h k
 
@@ -103,7 +89,7 @@ module _ (contents : List ℕ → Option (List ℕ)) (i : Inputs) (laws : AreLaw
   one_source : (v w : Context) (a b : List TermTriple) → HoldsData told i v a → HoldsData told i w b → Path (Context × List TermTriple) (v, a) (w, b)
   one_source v w a b h k =
       laws.data_one (format_of i.data_file) i.data_base h.bytes (v, a) (w, b) h.spelled
-      (subst (λ bs. IsData (format_of i.data_file) i.data_base (w, b) bs) (same_bytes i.data_file k.bytes h.bytes k.file.held h.file.held) k.spelled)
+      (subst (λ bs. IsData (format_of i.data_file) i.data_base (w, b) bs) (same_bytes contents i.data_file k.bytes h.bytes k.file.held h.file.held) k.spelled)
 
   pub held_one : HeldIsOne contents i
   held_one h k x y =
@@ -113,13 +99,13 @@ module _ (contents : List ℕ → Option (List ℕ)) (i : Inputs) (laws : AreLaw
       let names : h.names ≡ k.names = ap (λ (p : Context × List TermTriple). p.0) whole in
       let triples : x.triples ≡ y.triples = ap (λ (p : Context × List TermTriple). p.1) whole in
       let docs : documents_of x.sources ≡ documents_of y.sources = ap documents_of same in
-      let files : h.files ≡ k.files = files_one contents i y.sources h.files k.files (subst (λ ss. AreFilesOf told i ss h.files) same x.digests) y.digests in
+      let files : h.files ≡ k.files = files_one x.sources y.sources x.holds_data.bytes y.holds_data.bytes h.files k.files x.digests y.digests same (same_bytes contents i.data_file x.holds_data.bytes y.holds_data.bytes x.holds_data.file.held y.holds_data.file.held) in
       one_holding laws.one (documents_of y.sources) y.triples h k (subst (λ ts. IsHolding (documents_of y.sources) ts h) triples (subst (λ ds. IsHolding ds x.triples h) docs x.holding)) y.holding labels names files
 
   one_items : (v : Held) (a b : List Item) → HoldsMap told i v a → HoldsMap told i v b → a ≡ b
   one_items v a b h k =
       laws.maps_one (node_names v.names) v.labels h.bytes a b h.spelled
-      (subst (λ bs. IsMap (node_names v.names) v.labels bs b) (same_bytes i.map_file k.bytes h.bytes k.file.held h.file.held) k.spelled)
+      (subst (λ bs. IsMap (node_names v.names) v.labels bs b) (same_bytes contents i.map_file k.bytes h.bytes k.file.held h.file.held) k.spelled)
 
   -- what is asked of what is held
   record Stands (h : Held) (items : List Item) (o : Outcome) : Type 0 where
@@ -161,19 +147,19 @@ module _ (contents : List ℕ → Option (List ℕ)) (i : Inputs) (laws : AreLaw
   -- it is there
   passed_there : (source : Source) → IsPassed source → IsAbsent told i source → ⊥
   passed_there (OfSchema file) (first, s, f, v, x) absent = files_not_absent x.sources x.are_sources file absent
-  passed_there Data (h, x) absent = held_there i.data_file x.holds_data.bytes x.holds_data.file.held absent.1
-  passed_there Map (q, x) absent = held_there i.map_file x.holds_map.bytes x.holds_map.file.held absent.1
+  passed_there Data (h, x) absent = held_there contents i.data_file x.holds_data.bytes x.holds_data.file.held absent.1
+  passed_there Map (q, x) absent = held_there contents i.map_file x.holds_map.bytes x.holds_map.file.held absent.1
 
   -- it is not too long
   passed_short : (source : Source) → IsPassed source → Reaches told i source → IsTooLong told (source_name i source) → ⊥
   passed_short (OfSchema file) (first, s, f, v, x) there long = files_not_refused x.sources x.are_sources (FilesRefusals.Size file) (there, long)
-  passed_short Data (h, x) there long = not_too_long i.data_file x.holds_data.bytes x.holds_data.file long
-  passed_short Map (q, x) there long = not_too_long i.map_file x.holds_map.bytes x.holds_map.file long
+  passed_short Data (h, x) there long = not_too_long contents i.data_file x.holds_data.bytes x.holds_data.file long
+  passed_short Map (q, x) there long = not_too_long contents i.map_file x.holds_map.bytes x.holds_map.file long
 
   data_are_read : (h : Held) → IsTaken told i h → (e : ReadError) → AreUnread told i e → ⊥
   data_are_read h x e u =
       u.none h.names x.triples
-      (subst (λ bs. IsData (format_of i.data_file) i.data_base (h.names, x.triples) bs) (same_bytes i.data_file x.holds_data.bytes u.bytes x.holds_data.file.held u.file.held) x.holds_data.spelled) h
+      (subst (λ bs. IsData (format_of i.data_file) i.data_base (h.names, x.triples) bs) (same_bytes contents i.data_file x.holds_data.bytes u.bytes x.holds_data.file.held u.file.held) x.holds_data.spelled) h
       (subst (λ ss. IsHolding (documents_of ss) x.triples h) (one_schema x.sources u.taken.sources x.are_sources u.taken.are_sources) x.holding)
 
   schema_loads : (first : List Term) (s : Schema) (f : List ℕ) (v : Scope) → Takes told i first s f v → (e : LoadError) → StandForNone told i e → ⊥
@@ -198,7 +184,7 @@ module _ (contents : List ℕ → Option (List ℕ)) (i : Inputs) (laws : AreLaw
   map_is_read : (q : Question) → IsAskedOf told i q → (e : MapError) → IsNoMap told i e → ⊥
   map_is_read q x e u =
       let m : HoldsMap told i u.held x.items = subst (λ v. HoldsMap told i v x.items) (held_one q.held u.held x.taken u.taken) x.holds_map in
-      u.none x.items (subst (λ bs. IsMap (node_names u.held.names) u.held.labels bs x.items) (same_bytes i.map_file m.bytes u.bytes m.file.held u.file.held) m.spelled)
+      u.none x.items (subst (λ bs. IsMap (node_names u.held.names) u.held.labels bs x.items) (same_bytes contents i.map_file m.bytes u.bytes m.file.held u.file.held) m.spelled)
 
   not_both : (xs : List Association) (new : List Term) (e : MapError) → selected xs new ≡ refused e → ⊥
   not_both xs new e h = cc
@@ -270,15 +256,15 @@ module _ (contents : List ℕ → Option (List ℕ)) (i : Inputs) (laws : AreLaw
 
   -- what is refused is there
   refused_there : (refusal : Refusal) → IsBehindSchema (source_of refusal) → IsRefused told i refusal → Lacks told (source_name i (source_of refusal)) → ⊥
-  refused_there (Refusals.Size source) behind (there, long) lacks = held_there (source_name i source) long.bytes long.held lacks
+  refused_there (Refusals.Size source) behind (there, long) lacks = held_there contents (source_name i source) long.bytes long.held lacks
   refused_there (Refusals.Schema file e) behind u lacks = behind
   refused_there (Refusals.Import file iri) behind u lacks = behind
   refused_there (Refusals.Load e) behind u lacks = behind
   refused_there (Refusals.NegatedCycle cycle) behind u lacks = behind
-  refused_there (Refusals.Data e) behind u lacks = held_there i.data_file u.bytes u.file.held lacks
-  refused_there (Refusals.Map e) behind (inl u) lacks = held_there i.map_file u.bytes u.file.held lacks
-  refused_there (Refusals.Map e) behind (inr u) lacks = held_there i.map_file u.holds_map.bytes u.holds_map.file.held lacks
-  refused_there Refusals.Pairs behind u lacks = held_there i.map_file u.holds_map.bytes u.holds_map.file.held lacks
+  refused_there (Refusals.Data e) behind u lacks = held_there contents i.data_file u.bytes u.file.held lacks
+  refused_there (Refusals.Map e) behind (inl u) lacks = held_there contents i.map_file u.bytes u.file.held lacks
+  refused_there (Refusals.Map e) behind (inr u) lacks = held_there contents i.map_file u.holds_map.bytes u.holds_map.file.held lacks
+  refused_there Refusals.Pairs behind u lacks = held_there contents i.map_file u.holds_map.bytes u.holds_map.file.held lacks
 
   -- of two files one comes first, and the steps to the other pass it
   data OneFirst (a b : Source) : Type 0 where

@@ -5,4 +5,5 @@ pub mod Digested
 pub mod Exclusive
 pub mod Holdings
 pub mod Reading
+pub mod Moved
 pub mod Sources

@@ -21,7 +21,7 @@ use Rattle.data_reader.specs.Formats.{format_of}
 use Rattle.schema_documents.specs.Tree.{Document, document_of}
 use Rattle.schema_files.specs.Files.{IsFile}
 use Rattle.schema_files.specs.Refusals.{Explains as FilesExplain, FaultsAs as FilesFaultAs}
-use Rattle.schema_files.specs.Sources.{AreDigestsOf, AreHeld, AreSources, Source as SchemaSource, digest_list, documents_of}
+use Rattle.schema_files.specs.Sources.{AreHeld, AreSources, Source as SchemaSource, digest_list, documents_of, source_digests}
 use Rattle.schema_files.specs.declared.error.FilesError.{FilesError}
 use Rattle.schema_files.specs.declared.error.FilesError.TheVariants as FilesErrors
 use Rattle.schema_files.specs.declared.error.FilesRefusal.TheVariants as FilesRefusals
@@ -185,18 +185,18 @@ is_schema docs old first s f none adds few stands strata = record {
 }
 
 -- what is loaded of the documents of the schema's files is taken, and what is not is explained
-pub loaded_taken : (told : Told) (i : Inputs) (d : Documents) (ss : List SchemaSource) (r : Result Loaded InputError) → AreSources told (asked_of i) ss → AreHeld d ss → AreDigestsOf told (asked_of i) ss (digest_list d.digests) → IfOk r (λ l. IsSchemaOf (map document_of d.docs.items) l.terms l.schema l.strata) → IfOk r (λ l. l.labels ≡ d.names) → IfOk r (λ l. l.digests ≡ d.digests)
-    → IfOk r (λ l. (taken : Takes told i l.terms l.schema l.strata (scope_of l.labels)) × AreDigestsOf told (asked_of i) taken.sources (digest_list l.digests))
-loaded_taken told i d ss (Ok l) are held listed h labels digests = (
+pub loaded_taken : (told : Told) (i : Inputs) (d : Documents) (ss : List SchemaSource) (r : Result Loaded InputError) → AreSources told (asked_of i) ss → AreHeld d ss → IfOk r (λ l. IsSchemaOf (map document_of d.docs.items) l.terms l.schema l.strata) → IfOk r (λ l. l.labels ≡ d.names) → IfOk r (λ l. l.digests ≡ d.digests)
+    → IfOk r (λ l. (taken : Takes told i l.terms l.schema l.strata (scope_of l.labels)) × (digest_list l.digests ≡ source_digests taken.sources))
+loaded_taken told i d ss (Ok l) are held h labels digests = (
   record {
     sources = ss;
     are_sources = are;
     labels = ap (λ p. Some (scope_of p)) labels ∙ held.names;
     is_schema = subst (λ docs. IsSchemaOf docs l.terms l.schema l.strata) held.documents h;
   },
-  subst (λ ds. AreDigestsOf told (asked_of i) ss (digest_list ds)) (sym digests) listed,
+  ap digest_list digests ∙ held.digests,
 )
-loaded_taken told i d ss (Err e) are held listed h labels digests = h
+loaded_taken told i d ss (Err e) are held h labels digests = h
 
 pub unloaded_explains : (told : Told) (i : Inputs) (d : Documents) (ss : List SchemaSource) (r : Result Loaded InputError) → AreSources told (asked_of i) ss → AreHeld d ss → IfErr r (LoadStops (map document_of d.docs.items)) → IfErr r (Explains told i)
 unloaded_explains told i d ss (Ok l) are held h = h
@@ -284,7 +284,7 @@ base_scheme text h = (and_parts _ _ h).0
 
 -- what is read is taken
 pub are_taken : (told : Told) (i : Inputs) (h : Held) (format : Format) (first : List Term) (s : Schema) (f : List ℕ) (v : Scope) (bytes text : List ℕ) (triples : List TermTriple) (taken : Takes told i first s f v) → h.labels ≡ v → IsFile told i.data_file bytes → format ≡ format_of i.data_file → text ≡ bytes
-    → IsData format i.data_base (h.names, triples) text → IsHolding (documents_of taken.sources) triples h → (digests : FileDigests) → AreDigestsOf told (asked_of i) taken.sources (digest_list digests) → h.files.schema ∷ h.files.imports ≡ digest_list digests → h.files.graph.0 ≡ sha256 text → IsTaken told i h
+    → IsData format i.data_base (h.names, triples) text → IsHolding (documents_of taken.sources) triples h → (digests : FileDigests) → digest_list digests ≡ source_digests taken.sources → h.files.schema ∷ h.files.imports ≡ digest_list digests → h.files.graph.0 ≡ sha256 text → IsTaken told i h
 are_taken told i h format first s f v bytes text triples taken labels file is same spelled holding digests listed schemas graph = record {
   sources = taken.sources;
   are_sources = taken.are_sources;
@@ -292,8 +292,5 @@ are_taken told i h format first s f v bytes text triples taken labels file is sa
   triples = triples;
   holds_data = record { bytes = bytes; file = file; spelled = subst (λ bs. IsData (format_of i.data_file) i.data_base (h.names, triples) bs) same (subst (λ m. IsData m i.data_base (h.names, triples) text) is spelled) };
   holding = holding;
-  digests = record {
-    schemas = subst (λ ds. AreDigestsOf told (asked_of i) taken.sources ds) (sym schemas) listed;
-    graph = record { bytes = bytes; is_file = file; is_digest = graph ∙ ap sha256 same };
-  };
+  digests = record { schemas = schemas ∙ listed; graph = graph ∙ ap sha256 same };
 }

@@ -1,5 +1,5 @@
 -- What is known of each document of a schema, and of the base and the prefixes at the end of the first.
-use Rattle.std.proofs.Common.{◌≡◌, ◌<◌, ◌+◌, ◌∙◌, ap, sym, subst, refl, ℕ, List, [], ◌∷◌, ◌++◌, arith, inl, inr, length, map}
+use Rattle.std.proofs.Common.{◌≡◌, ◌<◌, ◌+◌, ◌∙◌, ap, sym, subst, refl, List, [], ◌∷◌, ◌++◌, arith, inl, inr, length, map}
 use Rattle.std.proofs.lemmas.List.{length-append, length-map}
 use Rattle.std.specs.Prelude.{Contains, Some, option_map, slice_get}
 use Rattle.std.specs.List.{AllByRecursion}
@@ -8,6 +8,7 @@ use Rattle.lists.proofs.Members.{from_map, in_one}
 use Rattle.lists.proofs.Quantifiers.{all_of}
 use Rattle.rdf_lex.specs.Prefixes.{AreOneLine}
 use Rattle.rdf_terms.specs.OneLine.{IsOneLine}
+use Rattle.proof_file.specs.declared.head.Digest256.{Digest256}
 use Rattle.schema_documents.specs.Ordered.{IsOrderedDocument}
 use Rattle.schema_reader.specs.Documents.{Read}
 use Rattle.schema_reader.specs.Formats.{format_of}
@@ -23,10 +24,10 @@ use Rattle.schema_files.specs.Sources.{AreHeld, AreRead, AreSources, HoldsSource
 module _ (told : Told) (a : Asked) where
   -- each document is in its file
   all_held : (ss : List Source) → AreRead told a ss → (s : Source) → Contains ss s → HoldsSource told a s
-  all_held ss (root r holds) s h = subst (HoldsSource told a) (in_one (record { file = Root; base = a.base; read = r }) s h) holds
-  all_held ss (next before i file r read found named holds) s h = elim (Contains-append_cases before (record { file = file; base = i.iri; read = r } ∷ []) s h) [
+  all_held ss (root r d holds) s h = subst (HoldsSource told a) (in_one (record { file = Root; base = a.base; read = r; digest = d }) s h) holds
+  all_held ss (next before i file r d read found named holds) s h = elim (Contains-append_cases before (record { file = file; base = i.iri; read = r; digest = d } ∷ []) s h) [
     | inl earlier ↦ all_held before read s earlier
-    | inr last ↦ subst (HoldsSource told a) (in_one (record { file = file; base = i.iri; read = r }) s last) holds
+    | inr last ↦ subst (HoldsSource told a) (in_one (record { file = file; base = i.iri; read = r; digest = d }) s last) holds
   ]
 
   -- no minimum of a document is above its bound
@@ -39,9 +40,9 @@ module _ (told : Told) (a : Asked) where
 
   -- there is one at least
   some_read : (ss : List Source) → AreRead told a ss → 0 < length ss
-  some_read ss (root r holds) = omega arith
-  some_read ss (next before i file r read found named holds) =
-      let last : List Source = record { file = file; base = i.iri; read = r } ∷ [] in
+  some_read ss (root r d holds) = omega arith
+  some_read ss (next before i file r d read found named holds) =
+      let last : List Source = record { file = file; base = i.iri; read = r; digest = d } ∷ [] in
       let more : length (before ++ last) ≡ length before + length last = length-append before last in
       let one : length last ≡ 1 = refl in
       omega (arith, more, one)
@@ -55,13 +56,14 @@ module _ (told : Told) (a : Asked) where
       omega (arith, some, same, own, both)
 
   -- the document of the schema file, under the schema's base
-  abbrev of_root : Read → Source
-  of_root r = record { file = Root; base = a.base; read = r }
+  abbrev of_root : Read → Digest256 → Source
+  of_root r d = record { file = Root; base = a.base; read = r; digest = d }
 
   record IsFirst (ss : List Source) : Type 0 where
     read : Read
-    holds : HoldsSource told a (of_root read)
-    first : slice_get ss 0 ≡ Some (of_root read)
+    digest : Digest256
+    holds : HoldsSource told a (of_root read digest)
+    first : slice_get ss 0 ≡ Some (of_root read digest)
 
   stays_first : (ss more : List Source) (s : Source) → slice_get ss 0 ≡ Some s → slice_get (ss ++ more) 0 ≡ Some s
   stays_first [] more s h = absurd cc
@@ -69,10 +71,10 @@ module _ (told : Told) (a : Asked) where
 
   -- it comes first
   root_first : (ss : List Source) → AreRead told a ss → IsFirst ss
-  root_first ss (root r holds) = record { read = r; holds = holds; first = refl }
-  root_first ss (next before i file r read found named holds) =
+  root_first ss (root r d holds) = record { read = r; digest = d; holds = holds; first = refl }
+  root_first ss (next before i file r d read found named holds) =
       let f = root_first before read in
-      record { read = f.read; holds = f.holds; first = stays_first before (record { file = file; base = i.iri; read = r } ∷ []) (of_root f.read) f.first }
+      record { read = f.read; digest = f.digest; holds = f.holds; first = stays_first before (record { file = file; base = i.iri; read = r; digest = d } ∷ []) (of_root f.read f.digest) f.first }
 
   one_scope : (v w : Scope) → Some v ≡ Some w → v ≡ w
   one_scope v w h = cc

@@ -13,12 +13,13 @@ use Rattle.data_reader.specs.Formats.{format_of}
 use Rattle.proof_file.specs.declared.head.Digests.{Digests}
 use Rattle.schema_documents.specs.Tree.{Document}
 use Rattle.schema_files.specs.Files.{IsFile}
-use Rattle.schema_files.specs.Sources.{AreDigestsOf, AreSources, IsDigestOf, Source, documents_of, root_names}
+use Rattle.schema_files.specs.Sources.{AreSources, Source, documents_of, root_names, source_digests}
 use Rattle.schema_load.specs.Parts.{predicates_of}
 use Rattle.schema_load.specs.Reading.{parts_of}
 use Rattle.schema_load.specs.Stands.{Stands}
 use Rattle.schema_tree.specs.declared.schema.Schema.{Schema}
 use Rattle.schema_tree.specs.Edges.{IsStratum}
+use Rattle.sha2.specs.Sha256.{sha256}
 use Rattle.term_tokens.specs.Scopes.{Scope, scope_of}
 use Rattle.shex_inputs.specs.declared.holding.Holding.{Holding}
 use Rattle.shex_inputs.specs.Named.{Inputs, asked_of}
@@ -66,13 +67,13 @@ pub record IsHolding (docs : List Document) (triples : List TermTriple) (h : Hel
   pub graph : Loads first [] triples h.terms h.graph
   pub within : IsWithin h.terms h.graph
 
--- the digests of the files of the schema, in the order of reading, and of the data file
-pub record AreFilesOf (told : Told) (i : Inputs) (ss : List Source) (files : Digests) : Type 0 where
-  pub schemas : AreDigestsOf told (asked_of i) ss (files.schema ∷ files.imports)
-  pub graph : IsDigestOf told i.data_file files.graph
+-- the digests of the bytes that spell the documents of the schema, in the order of reading, and of those that spell the data (FIPS 180-4)
+pub record AreFilesOf (ss : List Source) (bytes : List ℕ) (files : Digests) : Type 0 where
+  pub schemas : files.schema ∷ files.imports ≡ source_digests ss
+  pub graph : files.graph.0 ≡ sha256 bytes
 
--- the files of the schema and the data file hold these schema and graph, and have these digests: the documents are that of the schema
--- file and those which it imports, directly or through others
+-- the files of the schema and the data file hold these schema and graph, and the digests are of the very bytes that spell them: the
+-- documents are that of the schema file and those which it imports, directly or through others
 pub record IsTaken (told : Told) (i : Inputs) (h : Held) : Type 0 where
   pub sources : List Source
   pub are_sources : AreSources told (asked_of i) sources
@@ -80,4 +81,4 @@ pub record IsTaken (told : Told) (i : Inputs) (h : Held) : Type 0 where
   pub triples : List TermTriple
   pub holds_data : HoldsData told i h.names triples
   pub holding : IsHolding (documents_of sources) triples h
-  pub digests : AreFilesOf told i sources h.files
+  pub digests : AreFilesOf sources holds_data.bytes h.files

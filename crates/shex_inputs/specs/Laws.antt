@@ -1,5 +1,6 @@
 -- What files that are told hold is one thing. Each law is claimed by a function of `src/laws.rt`.
-use Rattle.std.specs.Prelude.{ℕ, List, ◌≡◌, ◌≢◌, Option, Some}
+use Rattle.std.specs.Prelude.{ℕ, List, ◌∷◌, ◌≡◌, ◌≢◌, Contains, Option, Some, map}
+use Rattle.clap.specs.Words.{Text}
 use Rattle.rdf_lex.specs.Prefixes.{AreOneLine}
 use Rattle.rdf_terms.specs.OneLine.{IsOneLine}
 use Rattle.shex_io.specs.Files.{Told}
@@ -39,6 +40,31 @@ module _ (contents : List ℕ → Option (List ℕ)) (i : Inputs) where
   LeftIsOne =
       (refusal : Refusal) → IsRefused (Some contents) i refusal →
       ((other : Refusal) → IsRefused (Some contents) i other → source_of refusal ≡ source_of other) × ((source : Source) → ¬ IsAbsent (Some contents) i source)
+
+-- the names of the files that the schema and the data are read from, as far as they are read
+abbrev pub file_names : Inputs → List (List ℕ)
+file_names i = i.data_file ∷ i.schema ∷ map (λ w. w.file) i.imports
+
+-- the two hold the same under each of these names
+abbrev pub HoldSame : (contents other : List ℕ → Option (List ℕ)) → Inputs → Type 0
+HoldSame contents other i = (name : List ℕ) → Contains (file_names i) name → contents name ≡ other name
+
+-- the same inputs, with a map of this name
+abbrev pub with_map : Inputs → Text → Inputs
+with_map i name = record {
+  schema = i.schema;
+  data_file = i.data_file;
+  map_file = name;
+  schema_base = i.schema_base;
+  data_base = i.data_base;
+  imports = i.imports;
+}
+
+-- what is taken stays so where these files hold the same bytes, whatever other files hold and whichever map is named
+abbrev pub TakenByBytes : Type 0
+TakenByBytes =
+    (contents other : List ℕ → Option (List ℕ)) (i : Inputs) (map_name : Text) (h : Held) → HoldSame contents other i → IsTaken (Some contents) i h →
+    IsTaken (Some other) (with_map i map_name) h
 
 -- the schema that is held is loaded
 abbrev pub TakenIsLoaded : Type 0

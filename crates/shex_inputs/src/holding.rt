@@ -7,7 +7,7 @@ ghost use Rattle.rdf_lex.specs.Prefixes.{base_of};
 ghost use Rattle.graph_index.specs.Laws.{IsOfTable};
 ghost use Rattle.lists.specs.Distinct.{AreDistinct};
 ghost use Rattle.schema_documents.specs.Tree.{document_of};
-ghost use Rattle.schema_files.specs.Sources.{AreDigestsOf, AreHeld, AreSources, Source as SchemaSource, digest_list};
+ghost use Rattle.schema_files.specs.Sources.{AreHeld, AreSources, Source as SchemaSource, digest_list, source_digests};
 ghost use Rattle.schema_load.specs.Parts.{AreOrdered};
 ghost use Rattle.schema_load.specs.Reading.{parts_of};
 ghost use Rattle.command_words.specs.Checks.{is_base};
@@ -62,7 +62,7 @@ fn schema_documents<F: Files>(
     inputs: &Inputs<'_>,
 ) -> Result<Documents, InputError>
     requires { is_base inputs.now.schema_base.now ≡ true }
-    ensures taken { (map_name : Text) → IfOk result (λ d. (ss : List SchemaSource) × AreSources (F.told files.old) (asked_of (inputs_with inputs.now map_name)) ss × AreHeld d ss × AreDigestsOf (F.told files.old) (asked_of (inputs_with inputs.now map_name)) ss (digest_list d.digests)) }
+    ensures taken { (map_name : Text) → IfOk result (λ d. (ss : List SchemaSource) × AreSources (F.told files.old) (asked_of (inputs_with inputs.now map_name)) ss × AreHeld d ss) }
     ensures root { IfOk result (λ d. 0 < length d.docs.items) }
     ensures ordered { IfOk result (λ d. AreOrdered (parts_of (map document_of d.docs.items))) }
     ensures scheme { IfOk result (λ d. IsSome (scheme_of (base_of d.names))) }
@@ -86,7 +86,7 @@ fn read_schema<F: Files>(
     inputs: &Inputs<'_>,
 ) -> Result<Loaded, InputError>
     requires { is_base inputs.now.schema_base.now ≡ true }
-    ensures taken { (map_name : Text) → IfOk result (λ l. (taken : Takes (F.told files.old) (inputs_with inputs.now map_name) l.terms l.schema l.strata (scope_of l.labels)) × AreDigestsOf (F.told files.old) (asked_of (inputs_with inputs.now map_name)) taken.sources (digest_list l.digests)) }
+    ensures taken { (map_name : Text) → IfOk result (λ l. (taken : Takes (F.told files.old) (inputs_with inputs.now map_name) l.terms l.schema l.strata (scope_of l.labels)) × (digest_list l.digests ≡ source_digests taken.sources)) }
     ensures loaded { IfOk result (λ l. IsLoaded l.schema) }
     ensures labels { IfOk result (λ l. IsSome (scheme_of (base_of l.labels))) }
     ensures before_map { IfErr result IsBeforeMap }
@@ -99,10 +99,10 @@ fn read_schema<F: Files>(
     load_schema(alloc, documents)
 }
 
-/// What the files of the schema and the data file hold, whose bases have a scheme. Each is fetched and read in turn, the schema file
-/// first, then those of the documents that are imported, then the data; the first that is not taken is named. The table has the
-/// predicates of the schema first, and then the terms of the data in their order. The digest of each file is taken of the bytes that
-/// were read.
+/// What the files of the schema and the data file hold, whose bases have a scheme. Each is fetched and read in turn, the schema
+/// file first, then those of the documents that are imported, then the data; the first that is not taken is named. The table has
+/// the predicates of the schema first, and then the terms of the data in their order. The digest of each file is taken of the
+/// bytes that were read.
 pub fn read_holding<F: Files>(
     alloc: Global,
     files: &mut F,

@@ -1,6 +1,6 @@
 //! The laws of inputs, for callers' proofs: the contract of each function is the law, and it does nothing when called.
 
-ghost use Rattle.shex_inputs.specs.Laws.{InputsAreOne, LabelsHaveLines, TakenIsLoaded};
+ghost use Rattle.shex_inputs.specs.Laws.{InputsAreOne, LabelsHaveLines, TakenByBytes, TakenIsLoaded};
 
 /// What files that are told hold is one thing: it is taken, or one file is refused or absent.
 pub fn inputs_are_one()
@@ -22,6 +22,12 @@ pub fn taken_is_loaded()
 {
     schema_reader::schemas_are_ordered();
     schema_load::laws::standing_is_loaded();
+}
+
+/// The schema and the data are taken by the bytes of their files alone, whatever other files hold and whichever map is named.
+pub fn taken_by_bytes()
+    ensures { TakenByBytes }
+{
 }
 
 /// The base and the prefixes of the labels are on one line each, where the schema's base is.

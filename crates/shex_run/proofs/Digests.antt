@@ -4,6 +4,7 @@ use Rattle.std.specs.Prelude.{Contains, Some, is_some, slice_index}
 use Rattle.std.specs.Int.{byte_at, bytes_high_first, to_be_bytes, w32}
 use Rattle.std.specs.List.{AllByRecursion}
 use Rattle.std.proofs.Math.Nat.{mod-lt}
+use Rattle.std.proofs.lemmas.List.{map-append}
 use Rattle.std.proofs.lemmas.Grind.{get_or_default_zero}
 use Rattle.lists.proofs.Quantifiers.{all_append, all_map, all_of}
 use Rattle.sha2.specs.Sha256.{digest_bytes, final_hash, initial_hash_256, sha256}
@@ -19,7 +20,7 @@ use Rattle.proof_file.specs.declared.line.Line.TheVariants as Lines
 use Rattle.proof_file.specs.Text.{IsDigest, IsLine, IsNumber, head_lines}
 use Rattle.shex_io.specs.Files.{Told}
 use Rattle.schema_files.specs.Named.{Asked}
-use Rattle.schema_files.specs.Sources.{AreDigestsOf, Source}
+use Rattle.schema_files.specs.Sources.{AreRead, Source, next, root, source_digests}
 use Rattle.shex_inputs.specs.Held.{Held, IsTaken}
 use Rattle.shex_inputs.specs.Named.{Inputs, asked_of}
 use Rattle.shex_run.specs.Ready.{head_if, head_of}
@@ -46,11 +47,11 @@ small m = digest_small (final_hash initial_hash_256 m) 8
 digest_fits : (d : Digest256) (bytes : List ℕ) → d.0 ≡ sha256 bytes → IsDigest d
 digest_fits d bytes is = (ap length is ∙ length-sha256 bytes, subst (AllByRecursion (λ byte. byte < 256)) (sym is) (small bytes))
 
-all_fit : (told : Told) (a : Asked) (ss : List Source) (ds : List Digest256) → AreDigestsOf told a ss ds → AllByRecursion IsDigest ds
-all_fit told a [] [] h = tt
-all_fit told a [] (d ∷ ds) h = absurd h
-all_fit told a (s ∷ ss) [] h = absurd h
-all_fit told a (s ∷ ss) (d ∷ ds) h = (digest_fits d h.0.bytes h.0.is_digest, all_fit told a ss ds h.1)
+all_fit : (told : Told) (a : Asked) (ss : List Source) → AreRead told a ss → AllByRecursion IsDigest (source_digests ss)
+all_fit told a ss (root r d h) = (digest_fits d h.bytes h.is_digest, tt)
+all_fit told a ss (next before i file r d h is named held) =
+    subst (AllByRecursion IsDigest) (sym (map-append (λ (s : Source). s.digest) before (record { file = file; base = i.iri; read = r; digest = d } ∷ [])))
+    (all_append IsDigest (source_digests before) (d ∷ []) (all_fit told a before h) (digest_fits d held.bytes held.is_digest, tt))
 
 -- ---- a stratum is a small number
 
@@ -68,11 +69,11 @@ stratum_fits s f loaded least n (i, inside, is) =
 pub head_fits : (told : Told) (i : Inputs) (h : Held) → IsTaken told i h → IsLoaded h.schema → (wanted : Bool) → AllByRecursion IsLine (head_lines (head_if wanted h))
 head_fits told i h taken loaded false = tt
 head_fits told i h taken loaded true =
-    let (schema, imports) = all_fit told (asked_of i) taken.sources (h.files.schema ∷ h.files.imports) taken.digests.schemas in (
+    let (schema, imports) = subst (AllByRecursion IsDigest) (sym taken.digests.schemas) (all_fit told (asked_of i) taken.sources taken.are_sources.are_read) in (
       schema,
       all_append IsLine (map (λ d. Lines.Digest Parts.Import d) h.files.imports) (Lines.Digest Parts.Data h.files.graph ∷ Lines.Strata h.strata ∷ [])
           (all_map IsDigest IsLine (λ d. Lines.Digest Parts.Import d) (λ d fits. fits) h.files.imports imports)
-          (digest_fits h.files.graph taken.digests.graph.bytes taken.digests.graph.is_digest, (all_of IsNumber h.strata (stratum_fits h.schema h.strata loaded taken.holding.is_schema.strata), tt)),
+          (digest_fits h.files.graph taken.holds_data.bytes taken.digests.graph, (all_of IsNumber h.strata (stratum_fits h.schema h.strata loaded taken.holding.is_schema.strata), tt)),
     )
 
 -- a head that is there was wanted

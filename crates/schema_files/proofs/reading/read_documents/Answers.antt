@@ -1,12 +1,11 @@
-use Rattle.std.proofs.Common.{◌≡◌, ◌<◌, ◌∙◌, All, arith, length, rules, subst, sym}
+use Rattle.std.proofs.Common.{◌≡◌, ◌<◌, All, arith, length, rules, subst, sym}
 use Rattle.std.specs.Vec.{vec_len}
 use Rattle.std.proofs.lemmas.Result.{err_from_is_err_and}
 use Rattle.schema_documents.specs.Ordered.{IsOrderedDocument}
 use Rattle.schema_files.specs.declared.asked.Asked.{Asked as LentAsked}
-use Rattle.schema_files.specs.Held.{AreAll, asked_of, digests_of, sources_of}
+use Rattle.schema_files.specs.Held.{AreAll, asked_of, sources_of}
 use Rattle.schema_files.specs.Refusals.{root}
-use Rattle.schema_files.specs.Sources.{AreDigestsOf, digest_list}
-use Rattle.schema_files.proofs.Steps.{all_digests, all_held, all_ordered, first_read, some_held}
+use Rattle.schema_files.proofs.Steps.{all_held, all_ordered, first_read, some_held}
 use Rattle.schema_files.proofs.reading.read_documents.Goals as goal
 
 pub returns-in_err-first-clause-cause : goal.returns-in_err-first-clause-cause
@@ -18,7 +17,7 @@ pub follow_all-requires : goal.follow_all-requires
 follow_all-requires g c =
     record {
       read = first_read (g.F.Files.told c.args.files.now) (g.F.Files.told c.read_file.new.files) (record { root = c.args.root; base = c.args.base; words = c.args.words }) c.in_ok-first.first c.in_ok-held.held.items
-          c.in_ok-first.ensures.file c.in_ok-first.ensures.held c.in_ok-first.ensures.digest c.in_ok-held.ensures.items c.in_ok-first.ensures.told_stays;
+          c.in_ok-first.ensures.file c.in_ok-first.ensures.held c.in_ok-held.ensures.items c.in_ok-first.ensures.told_stays;
     }
 
 pub remove-first-requires : goal.remove-first-requires
@@ -34,14 +33,11 @@ returns-clause-sources g c =
     let told = g.F.Files.told c.read_file.new.files in
     let items = c.follow_all.new.held.items in
     let some = some_held told asked items c.in_ok-follow_all.ensures.sources in
-    let all = subst (λ t. AreAll t asked items) c.in_ok-first.ensures.told_stays c.in_ok-follow_all.ensures.sources in
-    let digests : digest_list c.in_ok-documents_of.field-0.digests ≡ digests_of items =
-    c.in_ok-documents_of.ensures.digests ∙ all_digests items c.remove-first.new.self.items c.remove-first.result some c.remove-first.ensures.value c.remove-first.ensures.items in (
+    (
       sources_of (asked_of asked) items,
-      all.are_sources,
+      subst (λ t. AreAll t asked items) c.in_ok-first.ensures.told_stays c.in_ok-follow_all.ensures.sources,
       all_held (asked_of asked) items c.remove-first.new.self.items c.remove-first.result c.into_parsed.result c.in_ok-documents_of.field-0 some
-          c.remove-first.ensures.value c.remove-first.ensures.items c.into_parsed.ensures.parsed c.in_ok-documents_of.ensures.docs c.in_ok-documents_of.ensures.names,
-      subst (λ ds. AreDigestsOf (g.F.Files.told c.args.files.now) (asked_of asked) (sources_of (asked_of asked) items) ds) (sym digests) all.digests,
+          c.remove-first.ensures.value c.remove-first.ensures.items c.into_parsed.ensures.parsed c.in_ok-documents_of.ensures.docs c.in_ok-documents_of.ensures.names c.in_ok-documents_of.ensures.digests,
     )
 
 pub returns-clause-ordered : goal.returns-clause-ordered
@@ -50,6 +46,6 @@ returns-clause-ordered g c =
     let told = g.F.Files.told c.read_file.new.files in
     let items = c.follow_all.new.held.items in
     let held = all_held (asked_of asked) items c.remove-first.new.self.items c.remove-first.result c.into_parsed.result c.in_ok-documents_of.field-0 (some_held told asked items c.in_ok-follow_all.ensures.sources)
-    c.remove-first.ensures.value c.remove-first.ensures.items c.into_parsed.ensures.parsed c.in_ok-documents_of.ensures.docs c.in_ok-documents_of.ensures.names in
+    c.remove-first.ensures.value c.remove-first.ensures.items c.into_parsed.ensures.parsed c.in_ok-documents_of.ensures.docs c.in_ok-documents_of.ensures.names c.in_ok-documents_of.ensures.digests in
     subst (λ ds. All IsOrderedDocument ds) (sym held.documents)
-    (all_ordered told (asked_of asked) c.schemas_are_ordered.ensures (sources_of (asked_of asked) items) c.in_ok-follow_all.ensures.sources.are_sources.are_read)
+    (all_ordered told (asked_of asked) c.schemas_are_ordered.ensures (sources_of (asked_of asked) items) c.in_ok-follow_all.ensures.sources.are_read)

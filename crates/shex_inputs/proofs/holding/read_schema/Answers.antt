@@ -1,4 +1,4 @@
-use Rattle.std.proofs.Common.{codes, map}
+use Rattle.std.proofs.Common.{map}
 use Rattle.std.proofs.lemmas.Result.{err_from_is_err_and}
 use Rattle.schema_documents.specs.Tree.{document_of}
 use Rattle.shex_inputs.specs.Named.{inputs_with}
@@ -17,15 +17,15 @@ returns-in_err-documents-clause-faults g c = λ map_name.
 
 pub returns-clause-taken : goal.returns-clause-taken
 returns-clause-taken g c = λ map_name.
-    let (ss, are, held, digests) = c.in_ok-documents.ensures.taken map_name in
-    loaded_taken (g.F.Files.told c.args.files.now) (inputs_with c.args.inputs.now map_name) c.in_ok-documents.documents ss c.load_schema.result are held digests c.load_schema.ensures.schema c.load_schema.ensures.labels c.load_schema.ensures.digests
+    let (ss, are, held) = c.in_ok-documents.ensures.taken map_name in
+    loaded_taken (g.F.Files.told c.args.files.now) (inputs_with c.args.inputs.now map_name) c.in_ok-documents.documents ss c.load_schema.result are held c.load_schema.ensures.schema c.load_schema.ensures.labels c.load_schema.ensures.digests
 
 pub returns-clause-before_map : goal.returns-clause-before_map
 returns-clause-before_map g c = unloaded_before_map (map document_of c.in_ok-documents.documents.docs.items) c.load_schema.result c.load_schema.ensures.stops
 
 pub returns-clause-cause : goal.returns-clause-cause
 returns-clause-cause g c = λ map_name.
-    let (ss, are, held, digests) = c.in_ok-documents.ensures.taken map_name in
+    let (ss, are, held) = c.in_ok-documents.ensures.taken map_name in
     unloaded_explains (g.F.Files.told c.args.files.now) (inputs_with c.args.inputs.now map_name) c.in_ok-documents.documents ss c.load_schema.result are held c.load_schema.ensures.stops
 
 pub returns-clause-faults : goal.returns-clause-faults

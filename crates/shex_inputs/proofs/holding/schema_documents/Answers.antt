@@ -7,7 +7,7 @@ use Rattle.schema_documents.specs.Ordered.{IsOrderedDocument}
 use Rattle.schema_documents.specs.Tree.{document_of}
 use Rattle.schema_files.specs.Named.{Asked}
 use Rattle.schema_files.specs.Refusals.{Explains, FaultsAs}
-use Rattle.schema_files.specs.Sources.{AreDigestsOf, AreSources, digest_list}
+use Rattle.schema_files.specs.Sources.{AreSources}
 use Rattle.schema_load.proofs.OrderedParts.{ordered_parts}
 use Rattle.shex_inputs.specs.Named.{inputs_with}
 use Rattle.shex_inputs.proofs.Sources.{some_documents}
@@ -23,17 +23,16 @@ read_documents-requires g c = base_scheme c.args.inputs.now.schema_base.now c.re
 
 pub returns-in-Ok-clause-taken : goal.returns-in-Ok-clause-taken
 returns-in-Ok-clause-taken g c = λ map_name.
-    let (ss, are, held, digests) = c.in-Ok.ensures.sources in
+    let (ss, are, held) = c.in-Ok.ensures.sources in
     let told = g.F.Files.told c.args.files.now in (
       ss,
       subst (λ ws. AreSources told (asked_with c.args.inputs.now ws) ss) c.as_slice-words.ensures.value are,
       held,
-      subst (λ ws. AreDigestsOf told (asked_with c.args.inputs.now ws) ss (digest_list c.in-Ok.documents.digests)) c.as_slice-words.ensures.value digests,
     )
 
 pub returns-in-Ok-clause-root : goal.returns-in-Ok-clause-root
 returns-in-Ok-clause-root g c =
-    let (ss, are, held, digests) = c.in-Ok.ensures.sources in
+    let (ss, are, held) = c.in-Ok.ensures.sources in
     some_documents (g.F.Files.told c.args.files.now) (asked_with c.args.inputs.now c.as_slice-words.result.now) c.in-Ok.documents ss are held
 
 pub returns-in-Ok-clause-ordered : goal.returns-in-Ok-clause-ordered
