@@ -40,10 +40,10 @@ pub enum CheckError {
     Stale(Part),
     /// They are the text of a proof that is made for these files, and the strata that it brings are no stratification.
     Strata,
-    /// They are the text of a proof with an item that is not accepted: its number, from 0 over records and claims, and
-    /// the first check that it fails.
+    /// They are the text of a current proof with an item that is not accepted: its number, from 0 over records and claims,
+    /// and the first check that it fails. A proof is current where its head, if it has one, passes the two checks above.
     Rejected(u64, Why),
-    /// They are the text of a proof, and the table cannot take up all terms of its node lines.
+    /// They are the text of a current proof, and the table cannot take up all terms of its node lines.
     Full,
     /// Memory ran out.
     Memory,

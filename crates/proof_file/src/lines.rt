@@ -32,7 +32,7 @@ pub(crate) enum Stage {
     Imports,
     /// Behind the digests of all files.
     Files,
-    /// Behind this many node lines and nothing else.
+    /// Behind the head, if there is one, and this many node lines.
     Nodes(u32),
     /// Behind the line of a section of this stratum.
     Section(u32),

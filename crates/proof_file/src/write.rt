@@ -72,14 +72,14 @@ fn push_digest(part: Part, digest: Digest256, out: &mut Vec<u8>) -> Result<(), A
     ensures { OnOk result (out.new.items ≡ out.old.items ++ ended (line_text (Lines.Digest part digest))) }
 {
     out.extend_from_slice(b"f ")?;
-    out.extend_from_slice(letter(part))?;
+    out.extend_from_slice(part_mark(part))?;
     push_bytes(&digest.0, out)?;
     out.push(b'\n')?;
     Ok(())
 }
 
 /// What stands before a digest of this part.
-fn letter(part: Part) -> &'static [u8]
+fn part_mark(part: Part) -> &'static [u8]
     ensures { result.now ≡ part_mark part }
 {
     match part {
