@@ -39,40 +39,47 @@ because P Q (Error.Base iri) h p = h _ p
 because P Q (Error.Same name) h p = h _ p
 because P Q Error.Memory h p = p
 
-pub completely : (words : List Text) (r : Result LentCommand WordsError) → IfOk r (λ c. IsAsked words (command_of c)) → IfErr r (Because (IsFirstFault words))
-    → (c : Command) → IsAsked words c → MatchResult r (λ d. command_of d ≡ c) (Because (λ f. ⊥))
-completely words (Ok d) asked refused c a = one_command words (command_of d) c asked a
-completely words (Err e) asked refused c a = because (IsFirstFault words) (λ f. ⊥) e (λ f h. no_fault words c f a h) refused
+-- what an answer says of a kind of things, where words ask for one or have one first fault: that is known of its parts
+module _ (L C : Type 0) (of : L → C) (Is : C → Type 0) (Bad : Fault → Type 0) where
+  pub record IsExact (r : Result L WordsError) : Type 0 where
+    pub asked : IfOk r (λ c. Is (of c))
+    pub complete : (c : C) → Is c → MatchResult r (λ d. of d ≡ c) (Because (λ f. ⊥))
+    pub refused : IfErr r (Because Bad)
+    pub refuses : (f : Fault) → Bad f → IsErrAnd r (Because (λ g. g ≡ f))
 
-pub refusing : (words : List Text) (r : Result LentCommand WordsError) → IfOk r (λ c. IsAsked words (command_of c)) → IfErr r (Because (IsFirstFault words))
-    → (f : Fault) → IsFirstFault words f → IsErrAnd r (Because (λ g. g ≡ f))
-refusing words (Ok d) asked refused f h = no_fault words (command_of d) f asked h
-refusing words (Err e) asked refused f h = because (IsFirstFault words) (λ g. g ≡ f) e (λ g k. one_fault words g f k h) refused
+  module _ (one : (c d : C) → Is c → Is d → c ≡ d) (never : (c : C) (f : Fault) → Is c → Bad f → ⊥) (first : (f g : Fault) → Bad f → Bad g → f ≡ g) where
+    completely : (r : Result L WordsError) → IfOk r (λ c. Is (of c)) → IfErr r (Because Bad) → (c : C) → Is c → MatchResult r (λ d. of d ≡ c) (Because (λ f. ⊥))
+    completely (Ok d) asked refused c a = one (of d) c asked a
+    completely (Err e) asked refused c a = because Bad (λ f. ⊥) e (λ f h. never c f a h) refused
 
--- what an answer says, by what is known of its parts
-pub record IsExact (words : List Text) (r : Result LentCommand WordsError) : Type 0 where
-  pub asked : IfOk r (λ c. IsAsked words (command_of c))
-  pub complete : (c : Command) → IsAsked words c → MatchResult r (λ d. command_of d ≡ c) (Because (λ f. ⊥))
-  pub refused : IfErr r (Because (IsFirstFault words))
-  pub refuses : (f : Fault) → IsFirstFault words f → IsErrAnd r (Because (λ g. g ≡ f))
+    refusing : (r : Result L WordsError) → IfOk r (λ c. Is (of c)) → IfErr r (Because Bad) → (f : Fault) → Bad f → IsErrAnd r (Because (λ g. g ≡ f))
+    refusing (Ok d) asked refused f h = never (of d) f asked h
+    refusing (Err e) asked refused f h = because Bad (λ g. g ≡ f) e (λ g k. first g f k h) refused
 
-exact_by : (words : List Text) (r : Result LentCommand WordsError) → IfOk r (λ c. IsAsked words (command_of c)) → IfErr r (Because (IsFirstFault words)) → IsExact words r
-exact_by words r asked refused = record { asked = asked; complete = completely words r asked refused; refused = refused; refuses = refusing words r asked refused }
+    pub exact_by : (r : Result L WordsError) → IfOk r (λ c. Is (of c)) → IfErr r (Because Bad) → IsExact r
+    exact_by r asked refused = record { asked = asked; complete = completely r asked refused; refused = refused; refuses = refusing r asked refused }
+
+-- what an answer says of what is asked of files
+abbrev pub IsExactly : List Text → Result LentCommand WordsError → Type 0
+IsExactly words r = IsExact LentCommand Command command_of (IsAsked words) (IsFirstFault words) r
+
+exactly : (words : List Text) (r : Result LentCommand WordsError) → IfOk r (λ c. IsAsked words (command_of c)) → IfErr r (Because (IsFirstFault words)) → IsExactly words r
+exactly words = exact_by LentCommand Command command_of (IsAsked words) (IsFirstFault words) (one_command words) (no_fault words) (one_fault words)
 
 -- where the words ask for no request
 pub exact_unasked : (words : List Text) (r : Result LentCommand WordsError) (e : WordsError) → IsErrAnd r (λ x. x ≡ e)
-    → Because (λ f. (f ≡ arguments) × ((q : Request) → ¬ Asks words q)) e → IsExact words r
+    → Because (λ f. (f ≡ arguments) × ((q : Request) → ¬ Asks words q)) e → IsExactly words r
 exact_unasked words (Ok c) e h because_of = absurd h
 exact_unasked words (Err x) e h because_of =
-    exact_by words (Err x) tt
+    exactly words (Err x) tt
     (because (λ f. (f ≡ arguments) × ((q : Request) → ¬ Asks words q)) (IsFirstFault words) x (λ f (is, none). subst (IsFirstFault words) (sym is) (unasked none))
     (subst (Because (λ f. (f ≡ arguments) × ((q : Request) → ¬ Asks words q))) (sym h) because_of))
 
 -- where they ask for one
 pub exact_asked : (words : List Text) (q : Request) (r : Result LentCommand WordsError) → Asks words q
-    → IfOk r (λ c. command_of c ≡ command_by q (command_of c).imports) → IfOk r (λ c. Passes q (command_of c).imports) → IfErr r (Because (IsRequestFault q)) → IsExact words r
-exact_asked words q (Ok c) asks leads passes fault = exact_by words (Ok c) (record { request = q; asks = asks; passes = passes; leads = leads }) tt
-exact_asked words q (Err e) asks leads passes fault = exact_by words (Err e) tt (because (IsRequestFault q) (IsFirstFault words) e (λ f h. failing q asks f h) fault)
+    → IfOk r (λ c. command_of c ≡ command_by q (command_of c).imports) → IfOk r (λ c. Passes q (command_of c).imports) → IfErr r (Because (IsRequestFault q)) → IsExactly words r
+exact_asked words q (Ok c) asks leads passes fault = exactly words (Ok c) (record { request = q; asks = asks; passes = passes; leads = leads }) tt
+exact_asked words q (Err e) asks leads passes fault = exactly words (Err e) tt (because (IsRequestFault q) (IsFirstFault words) e (λ f h. failing q asks f h) fault)
 
 -- the import words of a request are at fault
 pub imports_failed : (q : Request) (ws : List Text) (r : Result LentCommand WordsError) (e : WordsError) → IsErrAnd r (λ x. x ≡ e) → HasEndings q → ws ≡ q.import_words → Because (IsImportFault [] ws) e

@@ -7,6 +7,7 @@ use Rattle.clap.specs.declared.error.kind.ErrorKind.TheVariants as kind
 use Rattle.clap.specs.declared.parser.matches.ArgMatches.{ArgMatches}
 use Rattle.clap.proofs.OnLiterals.{clap_on_literals}
 use Rattle.command_words.specs.Commands.{IsCovered, check, faults, rows, upgrade, validate}
+use Rattle.command_words.specs.Drills.{drill}
 
 pub validate_covered : IsCovered validate
 unfolding clap_on_literals
@@ -19,6 +20,10 @@ check_covered = record { simple = refl; free = refl }
 pub upgrade_covered : IsCovered upgrade
 unfolding clap_on_literals
 upgrade_covered = record { simple = refl; free = refl }
+
+pub drill_covered : IsCovered drill
+unfolding clap_on_literals
+drill_covered = record { simple = refl; free = refl }
 
 pub taken : (a : App) (ws : List Text) → IsCovered a → (is_simple_and_free a ≡ true → fault_of a ws ≡ []) → faults a ws ≡ []
 unfolding faults

@@ -8,3 +8,4 @@ pub mod Once
 pub mod Requested
 pub mod Seen
 pub mod BaseLines
+pub mod Drilled

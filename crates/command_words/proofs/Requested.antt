@@ -12,7 +12,7 @@ pub own : IsNumeralModel (AllDigits 10) (digits_value 10)
 own = numerals_by_value (AllDigits 10) tells_digits
 
 -- texts of other lengths are other texts
-longer : (x y : Text) (m n : ℕ) → length x ≡ m → length y ≡ n → n < m → x ≡ y → ⊥
+pub longer : (x y : Text) (m n : ℕ) → length x ≡ m → length y ≡ n → n < m → x ≡ y → ⊥
 longer x y m n p q l e = let same : length x ≡ length y = ap length e in omega (arith, p, q)
 
 pub no_check : codes "validate" ≡ codes "check" → ⊥
@@ -24,7 +24,7 @@ no_upgrade = longer (codes "validate") (codes "upgrade") 8 7 refl refl (lit< tt)
 pub upgrade_no_check : codes "upgrade" ≡ codes "check" → ⊥
 upgrade_no_check = longer (codes "upgrade") (codes "check") 7 5 refl refl (lit< tt)
 
-one_value : {X : Type 0} (o : Option X) (x y : X) → o ≡ Some x → o ≡ Some y → x ≡ y
+pub one_value : {X : Type 0} (o : Option X) (x y : X) → o ≡ Some x → o ≡ Some y → x ≡ y
 one_value o x y p q = let e : Some x ≡ Some y = sym p ∙ q in cc
 
 one_budget : (o : Option Text) (m n : ℕ) → IsBudget o m → IsBudget o n → m ≡ n

@@ -5,12 +5,15 @@ use Rattle.clap.specs.Words.{Text}
 use Rattle.rdf_terms.specs.OneLine.{IsOneLine}
 use Rattle.command_words.specs.Asked.{Command, IsAsked, IsFirstFault}
 use Rattle.command_words.specs.Checks.{Fault, is_base}
+use Rattle.command_words.specs.Drills.{Drill, IsDrill}
 
--- words ask for one command at most, or have one first fault at most, and never both
+-- words ask for one command at most, or for one drill at most, or have one first fault at most, and never for two of these
 pub record AnswersAreOne : Type 0 where
   pub commands : (words : List Text) (c d : Command) → IsAsked words c → IsAsked words d → c ≡ d
   pub faults : (words : List Text) (f g : Fault) → IsFirstFault words f → IsFirstFault words g → f ≡ g
   pub apart : (words : List Text) (c : Command) (f : Fault) → IsAsked words c → ¬ IsFirstFault words f
+  pub drills : (words : List Text) (d e : Drill) → IsDrill words d → IsDrill words e → d ≡ e
+  pub drill_apart : (words : List Text) (c : Command) (d : Drill) → IsAsked words c → ¬ IsDrill words d
 
 -- a text of UTF-8 that passes the check of a base is on one line
 abbrev pub BasesAreLines : Type 0

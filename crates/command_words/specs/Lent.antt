@@ -1,8 +1,11 @@
 -- The commands and the errors as they are lent from the words.
 use Rattle.std.specs.Prelude.{codes, map, option_map, ⊤}
 use Rattle.clap.specs.Words.{Text}
+use Rattle.command_words.specs.declared.command.Call.{Call as LentCall}
+use Rattle.command_words.specs.declared.command.Call.TheVariants as Calls
 use Rattle.command_words.specs.declared.command.Command.{Command as LentCommand}
 use Rattle.command_words.specs.declared.command.Command.TheVariants as Lent
+use Rattle.command_words.specs.declared.command.Drilling.{Drilling}
 use Rattle.command_words.specs.declared.command.Import.{Import as LentImport}
 use Rattle.command_words.specs.declared.command.Inputs.{Inputs}
 use Rattle.command_words.specs.declared.error.WordsError.{WordsError}
@@ -13,6 +16,7 @@ use Rattle.command_words.specs.declared.requests.Task.TheVariants as Tasks
 use Rattle.command_words.specs.Requests.{Request, Task, checking, upgrading, validation}
 use Rattle.command_words.specs.Checks.{Fault, Import, arguments, base, ending, import_word, same}
 use Rattle.command_words.specs.Asked.{Command, fault_text}
+use Rattle.command_words.specs.Drills.{Call, Drill, of_files, of_items}
 
 abbrev pub import_of : LentImport → Import
 import_of i = record { iri = i.iri.now; file = i.file.now }
@@ -47,6 +51,13 @@ abbrev pub command_of : LentCommand → Command
 command_of (Lent.Validate v) = command_with v.inputs (validation v.map.now (option_map (λ s. s.now) v.proof) v.budget)
 command_of (Lent.Check c) = command_with c.inputs (checking c.proof.now)
 command_of (Lent.Upgrade u) = command_with u.inputs (upgrading u.proof.now u.to.now)
+
+abbrev pub drill_of : Drilling → Drill
+drill_of d = record { items = d.items; proof = option_map (λ s. s.now) d.proof }
+
+abbrev pub call_of : LentCall → Call
+call_of (Calls.Files c) = of_files (command_of c)
+call_of (Calls.Drill d) = of_items (drill_of d)
 
 -- the fault that an error names has a property; of want of memory nothing is said
 abbrev pub Because : (Fault → Type 0) → WordsError → Type 0

@@ -57,7 +57,7 @@ pub struct Upgrading<'a> {
     pub to: &'a str,
 }
 
-/// What words ask for.
+/// What words ask of the files that they name.
 #[derive(Debug, Drop, PartialEq, Eq)]
 pub enum Command<'a> {
     /// To validate the associations of a map.
@@ -66,6 +66,24 @@ pub enum Command<'a> {
     Check(Checking<'a>),
     /// To check a proof and to store it in the newest format.
     Upgrade(Upgrading<'a>),
+}
+
+/// What `drill` asks for.
+#[derive(Debug, Drop, PartialEq, Eq)]
+pub struct Drilling<'a> {
+    /// How many items the data are to have, from 1 to 100,000.
+    pub items: u32,
+    /// The name under which the proof of the answers is to be stored, if it is.
+    pub proof: Option<&'a str>,
+}
+
+/// What words ask for.
+#[derive(Debug, Drop, PartialEq, Eq)]
+pub enum Call<'a> {
+    /// Something of the files that they name.
+    Files(Command<'a>),
+    /// To validate made inputs.
+    Drill(Drilling<'a>),
 }
 
 impl<'a> Command<'a> {

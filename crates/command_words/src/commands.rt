@@ -3,6 +3,7 @@
 ghost use Rattle.std.specs.Prelude.{◌≡◌, IfOk, [], false};
 ghost use Rattle.clap.specs.Words.{app_of, rule_of, with_rule};
 ghost use Rattle.command_words.specs.Commands.{check, command, needed, option, rest, upgrade, validate};
+ghost use Rattle.command_words.specs.Drills.{drill, word};
 
 use clap::{Arg, ArgAction, Command};
 use std::alloc::{AllocError, Global};
@@ -22,6 +23,14 @@ fn needed<'a>(arg: Arg<'a>) -> Arg<'a>
     ensures local { result.global ≡ false }
 {
     arg.required(true)
+}
+
+/// An argument with one value, which stands alone.
+fn word<'a>(alloc: Global, name: &'a str) -> Arg<'a>
+    ensures rule { rule_of result ≡ word name.entry.now }
+    ensures local { result.global ≡ false }
+{
+    Arg::new(alloc, name).action(ArgAction::Set)
 }
 
 /// The last argument, which takes any number of words.
@@ -93,5 +102,15 @@ pub fn upgrade<'a>(alloc: Global) -> Result<Command<'a>, AllocError>
     command = with(command, option(alloc, "schema-base"))?;
     command = with(command, option(alloc, "data-base"))?;
     let whole = with(command, rest(alloc, "imports"))?;
+    Ok(whole)
+}
+
+/// The command `drill`.
+pub fn drill<'a>(alloc: Global) -> Result<Command<'a>, AllocError>
+    ensures { IfOk result (λ c. app_of c ≡ drill) }
+{
+    let mut command = bare(alloc, "drill");
+    command = with(command, needed(word(alloc, "items")))?;
+    let whole = with(command, option(alloc, "proof"))?;
     Ok(whole)
 }

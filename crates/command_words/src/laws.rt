@@ -2,7 +2,7 @@
 
 ghost use Rattle.command_words.specs.Laws.{AnswersAreOne, BasesAreLines};
 
-/// Words ask for one command at most, or have one first fault at most, and never both.
+/// Words ask for one command at most, or for one drill at most, or have one first fault at most, and never for two of these.
 pub fn answers_are_one()
     ensures { AnswersAreOne }
 {}

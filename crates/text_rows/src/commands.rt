@@ -1,6 +1,8 @@
 //! What words ask for.
 
-use command_words::{Checking, Command, Import, Inputs, Upgrading, Validation, read};
+use command_words::{
+    Call, Checking, Command, Drilling, Import, Inputs, Upgrading, Validation, read,
+};
 use row_format::words_of;
 use std::alloc::{AllocError, Global};
 
@@ -44,13 +46,27 @@ fn shown_upgrading(alloc: Global, asked: &Upgrading<'_>) -> Result<String, Alloc
     with_imports(line, &asked.inputs.imports)
 }
 
+/// What a command asks of files.
+fn shown_command(alloc: Global, command: &Command<'_>) -> Result<String, AllocError> {
+    match command {
+        Command::Validate(validation) => shown_validation(alloc, validation),
+        Command::Check(checking) => shown_checking(alloc, checking),
+        Command::Upgrade(upgrading) => shown_upgrading(alloc, upgrading),
+    }
+}
+
+/// What `drill` asks for.
+fn shown_drilling(alloc: Global, asked: &Drilling<'_>) -> Result<String, AllocError> {
+    let (items, proof) = (asked.items, asked.proof);
+    format!(in alloc; "drill {items} {proof:?}")
+}
+
 /// What the words of a line ask for, or why they are refused.
 pub fn asked(alloc: Global, line: &str) -> Result<String, AllocError> {
     let words = words_of(alloc, line)?;
     match read(alloc, &words) {
-        Ok(Command::Validate(validation)) => shown_validation(alloc, &validation),
-        Ok(Command::Check(checking)) => shown_checking(alloc, &checking),
-        Ok(Command::Upgrade(upgrading)) => shown_upgrading(alloc, &upgrading),
+        Ok(Call::Files(command)) => shown_command(alloc, &command),
+        Ok(Call::Drill(drilling)) => shown_drilling(alloc, &drilling),
         Err(error) => format!(in alloc; "{error}"),
     }
 }
