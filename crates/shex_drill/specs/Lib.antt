@@ -3,3 +3,4 @@ pub mod Terms
 pub mod Graph
 pub mod Schema
 pub mod Map
+pub mod Files

@@ -1,0 +1,9 @@
+pub mod Parts
+pub mod Standing
+pub mod Strata
+pub mod Loaded
+pub mod Sizes
+pub mod Taken
+pub mod Selected
+pub mod Reached
+pub mod Answered
