@@ -13,16 +13,18 @@ use Rattle.shape_map.specs.declared.resolve.Association.{Association}
 use Rattle.typing_refiner.specs.declared.building.WidePair.{WidePair}
 use Rattle.proof_checker.specs.declared.checking.CheckError.{CheckError}
 use Rattle.proof_checker.specs.Checks.{IsFullFor}
-use Rattle.command_words.specs.Asked.{Command, IsAsked, IsFirstFault}
+use Rattle.command_words.specs.Asked.{Command, IsAsked}
 use Rattle.command_words.specs.Checks.{Fault}
+use Rattle.command_words.specs.Drills.{Drill, IsDrill, IsFault}
 use Rattle.command_words.specs.Laws.{AnswersAreOne}
-use Rattle.command_words.specs.Requests.{Task, checking, proof_of, upgrading, validation}
+use Rattle.command_words.specs.Requests.{default_budget, Task, checking, proof_of, upgrading, validation}
 use Rattle.shex_inputs.specs.declared.error.Refusal.{Refusal}
 use Rattle.shex_inputs.specs.Asked.{IsAskedOf, Question}
 use Rattle.shex_inputs.specs.Held.{Held}
 use Rattle.shex_run.specs.declared.stop.File.{File}
 use Rattle.shex_run.specs.Checking.{IsFull, IsGiven, IsRejected, Rejects}
-use Rattle.shex_run.specs.Endings.{Ends, FilesSeen, IsAnswered, IsConfirmed, IsPartlyStored, IsPrintedInPart, IsRefusalLine, IsRefusedBy, IsRejectedBy, IsRespondedTo, IsResponse, IsUnprinted, IsWhollyStored, IsWhollyUpgraded, IsWordsLine, KeepsTold, MayPrintInPart, PrintsBoth, PrintsTo, SinkSeen, answer_in_part, answered, failed, faulty, line_in_part, notes_in_part, refused, rejected, wanting}
+use Rattle.shex_run.specs.Drills.{AreDrillAnswers, IsDrilled}
+use Rattle.shex_run.specs.Endings.{Ends, FilesSeen, IsAnswered, IsConfirmed, IsDrillWhollyStored, IsFailedDrill, IsFailedFile, IsPartlyStored, IsPrintedInPart, IsRefusalLine, IsRefusedBy, IsRejectedBy, IsRespondedTo, IsResponse, IsUnprinted, IsWhollyStored, IsWhollyUpgraded, IsWordsLine, KeepsTold, MayPrintInPart, PrintsBoth, PrintsTo, SinkSeen, answer_in_part, answered, failed, faulty, line_in_part, notes_in_part, refused, rejected, wanting}
 use Rattle.shex_run.specs.Outcomes.{AreTaken, IsAbsent, IsRefused, TakesFor}
 use Rattle.shex_run.specs.Proofs.{Accepted, IsStoredProofOf, Stores}
 use Rattle.shex_run.specs.Printing.{IsCut}
@@ -65,7 +67,8 @@ answering status wanted low h = subst IsAnswering (sym h) low
 module _ (words : List Text) (c : Command) (is_asked : IsAsked words c) (law : AnswersAreOne) where
   -- what is said of the words is said of what they ask
   responded : (told after : Told) (status : ℕ) (text notes : List ℕ) → IsRespondedTo told after words status text notes → IsResponse told after c status text notes
-  responded told after status text notes r = subst (λ a. IsResponse told after a status text notes) (law.commands words r.command c r.is_asked is_asked) r.response
+  responded told after status text notes (inl r) = subst (λ a. IsResponse told after a status text notes) (law.commands words r.command c r.is_asked is_asked) r.response
+  responded told after status text notes (inr (d, is_drill, drilled)) = absurd (law.drill_apart words c d is_asked is_drill)
 
   -- a file of the inputs is refused, or the table is full
   abbrev IsLeft : Told → Type 0
@@ -81,7 +84,7 @@ module _ (words : List Text) (c : Command) (is_asked : IsAsked words c) (law : A
   rejection_of told line by = subst (λ a. IsRejected told a by.rejection) (law.commands words by.command c by.is_asked is_asked) by.rejected
 
   not_faulty : (line : List ℕ) → IsWordsLine words line → ⊥
-  not_faulty line (f, is, e) = law.apart words c f is_asked is
+  not_faulty line (f, is, e) = law.apart words c f is_asked is.first
 
   module _ (files : FilesSeen) (out err : SinkSeen) (status : ℕ) (contents : List ℕ → Option (List ℕ)) (told : files.told ≡ Some contents) (one : AreOne files.told c) where
     -- where the inputs are taken, the command concludes unless the call is interrupted
@@ -396,7 +399,7 @@ held_part (Some old) (Some new) name bytes held others = inr (bytes, ([], sym (a
 module _ (told after : Told) (words : List Text) where
   stored_partly : (status : ℕ) (text notes : List ℕ) (c : Command) → IsAsked words c → (a : IsAnswered told after c status text notes) → (name : Option Text) → a.proof_name ≡ name → Stores told after name (IsStoredProofOf a.question a.budget a.answers) → IsPartlyStored told after words
   stored_partly status text notes c is_asked a None is same = inl same
-  stored_partly status text notes c is_asked a (Some name) is (bytes, proof, held, others) = inr (
+  stored_partly status text notes c is_asked a (Some name) is (bytes, proof, held, others) = inr (inl (
     c,
     is_asked,
     record {
@@ -414,12 +417,12 @@ module _ (told after : Told) (words : List Text) where
       part = held_part told after name bytes held others;
       others = others;
     },
-  )
+  ))
 
   upgraded_partly : (status : ℕ) (text notes : List ℕ) (c : Command) → IsAsked words c → (k : IsConfirmed told after c status text notes) → (name : Option Text) → stored_of c.task ≡ name →
       Stores told after name (IsUpgradeOf k.checked.held k.checked.confirmed.accepted.found.found.proof k.checked.bytes) → IsPartlyStored told after words
   upgraded_partly status text notes c is_asked k None is same = inl same
-  upgraded_partly status text notes c is_asked k (Some name) is (new, upgrade, held, others) = inr (
+  upgraded_partly status text notes c is_asked k (Some name) is (new, upgrade, held, others) = inr (inl (
     c,
     is_asked,
     record {
@@ -429,10 +432,26 @@ module _ (told after : Told) (words : List Text) where
       part = held_part told after name new held others;
       others = others;
     },
-  )
+  ))
+
+  drilled_partly : (d : Drill) → IsDrill words d → (q : Question) (answers : List Answer) → AreDrillAnswers d.items q answers → (name : Option Text) → d.proof ≡ name → Stores told after name (IsStoredProofOf q default_budget answers) → IsPartlyStored told after words
+  drilled_partly d is_drill q answers are None is same = inl same
+  drilled_partly d is_drill q answers are (Some name) is (bytes, proof, held, others) = inr (inr (
+    d,
+    is_drill,
+    record {
+      name = name;
+      named = is;
+      bytes = bytes;
+      due = record { question = q; answers = answers; are_answers = are; proof = proof };
+      part = held_part told after name bytes held others;
+      others = others;
+    },
+  ))
 
   responded_partly : (status : ℕ) (text notes : List ℕ) → IsRespondedTo told after words status text notes → IsPartlyStored told after words
-  responded_partly status text notes r = go r.response
+  responded_partly status text notes (inr (d, is_drill, x)) = drilled_partly d is_drill x.question x.answers x.are_answers d.proof refl x.stored
+  responded_partly status text notes (inl r) = go r.response
     where
       go : IsResponse told after r.command status text notes → IsPartlyStored told after words
       go (inl a) = stored_partly status text notes r.command r.is_asked a a.proof_name refl a.stored
@@ -445,7 +464,8 @@ module _ (told after : Told) (words : List Text) where
 
   partly_kept : IsPartlyStored told after words → KeepsTold told after words
   partly_kept (inl same) = inl same
-  partly_kept (inr (c, is_asked, cut)) = inr (c, is_asked, (cut.name, to_store c cut.name cut.bytes cut.due, cut.others))
+  partly_kept (inr (inl (c, is_asked, cut))) = inr (inl (c, is_asked, (cut.name, to_store c cut.name cut.bytes cut.due, cut.others)))
+  partly_kept (inr (inr (d, is_drill, cut))) = inr (inr (d, is_drill, (cut.name, cut.named, cut.others)))
 
 -- however a call ends, no more than the proof is stored
 pub ends_partly : (words : List Text) (files : FilesSeen) (out err : SinkSeen) (status : ℕ) → Ends words files out err status → IsPartlyStored files.told files.told_after words
@@ -467,13 +487,55 @@ two_or sink text status (inr (inl h)) = inr (inl h.0)
 two_or sink text status (inr (inr h)) = inr (inr h.0)
 
 -- where the words are at fault, they are refused
-pub faulty_ends : (words : List Text) (files : FilesSeen) (out err : SinkSeen) (status : ℕ) → AnswersAreOne → (f : Fault) → IsFirstFault words f → Ends words files out err status → (status ≡ 2) ⊎ ((status ≡ 7) ⊎ (status ≡ 8))
+pub faulty_ends : (words : List Text) (files : FilesSeen) (out err : SinkSeen) (status : ℕ) → AnswersAreOne → (f : Fault) → IsFault words f → Ends words files out err status → (status ≡ 2) ⊎ ((status ≡ 7) ⊎ (status ≡ 8))
 faulty_ends words files out err status law f is (faulty line by left quiet prints) = two_or err line status prints
-faulty_ends words files out err status law f is (answered text notes wanted low r same prints) = absurd (law.apart words r.command f r.is_asked is)
-faulty_ends words files out err status law f is (refused line by left quiet prints) = absurd (law.apart words by.command f by.is_asked is)
-faulty_ends words files out err status law f is (rejected line by left quiet prints) = absurd (law.apart words by.command f by.is_asked is)
-faulty_ends words files out err status law f is (failed line by have quiet prints) = absurd (law.apart words by.command f by.is_asked is)
+faulty_ends words files out err status law f is (answered text notes wanted low (inl r) same prints) = absurd (law.apart words r.command f r.is_asked is.first)
+faulty_ends words files out err status law f is (answered text notes wanted low (inr (d, is_drill, x)) same prints) = absurd (is.no_drill d is_drill)
+faulty_ends words files out err status law f is (refused line by left quiet prints) = absurd (law.apart words by.command f by.is_asked is.first)
+faulty_ends words files out err status law f is (rejected line by left quiet prints) = absurd (law.apart words by.command f by.is_asked is.first)
+faulty_ends words files out err status law f is (failed line by have quiet prints) = go by.failed
+  where
+    go : IsFailedFile files words ⊎ IsFailedDrill files words → (status ≡ 2) ⊎ ((status ≡ 7) ⊎ (status ≡ 8))
+    go (inl x) = absurd (law.apart words x.command f x.is_asked is.first)
+    go (inr x) = absurd (is.no_drill x.drill x.is_drill)
 faulty_ends words files out err status law f is (wanting stored same quiet also h) = inr (inr h)
+
+-- ---- drills
+
+module _ (words : List Text) (d : Drill) (is_drill : IsDrill words d) (law : AnswersAreOne) (files : FilesSeen) (out err : SinkSeen) (status : ℕ) where
+  -- a drill is answered, unless the call is interrupted
+  pub drill_ends : Ends words files out err status → (status ≡ 0) ⊎ IsInterrupted status
+  drill_ends (faulty line (f, is, e) left quiet prints) = absurd (is.no_drill d is_drill)
+  drill_ends (answered text notes wanted low (inl r) same prints) = absurd (law.drill_apart words r.command d r.is_asked is_drill)
+  drill_ends (answered text notes wanted low (inr (e, is, x)) same prints) = or_interrupted (status ≡ 0) wanted status (λ h. h ∙ x.status_is) (wanted_both out err text notes wanted status prints)
+  drill_ends (refused line by left quiet prints) = absurd (law.drill_apart words by.command d by.is_asked is_drill)
+  drill_ends (rejected line by left quiet prints) = absurd (law.drill_apart words by.command d by.is_asked is_drill)
+  drill_ends (failed line by have quiet prints) = inr (five_interrupts status (wanted_or err line 5 status prints))
+  drill_ends (wanting stored same quiet also h) = inr (inr (inr h))
+
+  drill_whole : (name : Text) → d.proof ≡ Some name → (e : Drill) → e ≡ d → (text notes : List ℕ) (wanted : ℕ) → IsDrilled files.told files.told_after e wanted text notes → IsDrillWhollyStored files.told files.told_after d name
+  drill_whole name named e same text notes wanted x =
+      let (bytes, proof, held, others) = subst (λ o. Stores files.told files.told_after o (IsStoredProofOf x.question default_budget x.answers)) (ap (λ (z : Drill). z.proof) same ∙ named) x.stored in (
+        bytes,
+        record {
+          question = x.question;
+          answers = x.answers;
+          are_answers = subst (λ n. AreDrillAnswers n x.question x.answers) (ap (λ (z : Drill). z.items) same) x.are_answers;
+          proof = proof;
+        },
+        held,
+        others,
+      )
+
+  -- and where a sink alone failed, its proof is stored whole
+  pub drill_stored : (name : Text) → d.proof ≡ Some name → Ends words files out err status → status ≡ 7 → ¬ Rose files.faults files.faults_after → IsDrillWhollyStored files.told files.told_after d name
+  drill_stored name named (faulty line (f, is, e) left quiet prints) at still = absurd (is.no_drill d is_drill)
+  drill_stored name named (answered text notes wanted low (inl r) same prints) at still = absurd (law.drill_apart words r.command d r.is_asked is_drill)
+  drill_stored name named (answered text notes wanted low (inr (e, is, x)) same prints) at still = drill_whole name named e (law.drills words e d is is_drill) text notes wanted x
+  drill_stored name named (refused line by left quiet prints) at still = absurd (law.drill_apart words by.command d by.is_asked is_drill)
+  drill_stored name named (rejected line by left quiet prints) at still = absurd (law.drill_apart words by.command d by.is_asked is_drill)
+  drill_stored name named (failed line by have quiet prints) at still = absurd (still by.rose)
+  drill_stored name named (wanting stored same quiet also e) at still = absurd (omega (arith, e, at))
 
 -- ---- nothing is noted
 
@@ -496,7 +558,8 @@ low_status status (inr e) h = absurd (omega (arith, e, h))
 
 -- with 0 and 1 nothing is noted
 unnoted : (told after : Told) (words : List Text) (wanted : ℕ) (text notes : List ℕ) → (wanted ≡ 0) ⊎ (wanted ≡ 1) → IsRespondedTo told after words wanted text notes → notes ≡ []
-unnoted told after words wanted text notes low r = go r.response
+unnoted told after words wanted text notes low (inr (d, is_drill, x)) = x.notes_are
+unnoted told after words wanted text notes low (inl r) = go r.response
   where
     go : IsResponse told after r.command wanted text notes → notes ≡ []
     go (inr k) = k.notes_are

@@ -2,8 +2,9 @@
 use Rattle.std.proofs.Common.{◌≡◌, ap, subst, sym, refl, List, ℕ, inl, inr}
 use Rattle.std.specs.Prelude.{IfOk, Option, Result}
 use Rattle.clap.specs.Words.{Text}
-use Rattle.command_words.specs.Asked.{Command, IsAsked, IsFirstFault}
+use Rattle.command_words.specs.Asked.{Command, IsAsked}
 use Rattle.command_words.specs.Checks.{Fault, arguments, base, ending, import_word, same as same_name}
+use Rattle.command_words.specs.Drills.{IsFault}
 use Rattle.command_words.specs.Lent.{Because}
 use Rattle.command_words.specs.declared.error.WordsError.{WordsError}
 use Rattle.command_words.specs.declared.error.WordsError.TheVariants as Errors
@@ -26,10 +27,10 @@ module _ (words : List Text) (c : Command) (is_asked : IsAsked words c) (files :
   -- what a call may have stored, in the words
   partly : MayStore files.told files.told_after c → IsPartlyStored files.told files.told_after words
   partly (inl still) = inl still
-  partly (inr cut) = inr (c, is_asked, cut)
+  partly (inr cut) = inr (inl (c, is_asked, cut))
 
   pub with_response : (text notes : List ℕ) (wanted : ℕ) → IsAnswering wanted → IsResponse files.told files.told_after c wanted text notes → files.faults_after ≡ files.faults → PrintsBoth out err text notes wanted status → Ends words files out err status
-  with_response text notes wanted low response still prints = answered text notes wanted low (record { command = c; is_asked = is_asked; response = response }) still prints
+  with_response text notes wanted low response still prints = answered text notes wanted low (inl (record { command = c; is_asked = is_asked; response = response })) still prints
 
   -- what is printed where a call stops
   abbrev pub StopPrints : Stop → Type 0
@@ -54,12 +55,7 @@ module _ (words : List Text) (c : Command) (is_asked : IsAsked words c) (files :
   with_stop (Stops.Refused (Refusals.Proof (CheckErrors.Rejected i w))) cause still left quiet prints = with_rejection (CheckErrors.Rejected i w) cause still left quiet prints
   with_stop (Stops.Failed file) cause (rose, later, named, act) left quiet prints = failed (failed_line (name_of c file)) (record {
     rose = rose;
-    command = c;
-    is_asked = is_asked;
-    file = file;
-    reached = cause;
-    name_is = named;
-    act_is = act;
+    failed = inl (record { command = c; is_asked = is_asked; file = file; reached = cause; name_is = named; act_is = act });
     line_is = ap failed_line (sym named);
   }) (record { later = later; stored = partly left }) quiet prints
   with_stop Stops.Memory cause still left quiet (silent, at) = wanting (partly left) still quiet silent at
@@ -80,10 +76,10 @@ printed bytes made (Errors.Same name) other line before after faults faults_afte
 printed bytes made Errors.Memory other line before after faults faults_after status prints = absurd (other refl)
 
 module _ (words : List Text) (files : FilesSeen) (out err : SinkSeen) (status : ℕ) (left : AreLeft files) (quiet : IsQuiet out) where
-  with_fault : (f : Fault) → IsFirstFault words f → PrintsTo err (words_line f) 2 status → Ends words files out err status
+  with_fault : (f : Fault) → IsFault words f → PrintsTo err (words_line f) 2 status → Ends words files out err status
   with_fault f is prints = faulty (words_line f) (f, is, refl) left quiet prints
 
-  pub with_words : (e : WordsError) → Because (IsFirstFault words) e → RefusesWords e err.got err.got_after err.faults err.faults_after status → Ends words files out err status
+  pub with_words : (e : WordsError) → Because (IsFault words) e → RefusesWords e err.got err.got_after err.faults err.faults_after status → Ends words files out err status
   with_words Errors.Arguments is prints = with_fault arguments is prints
   with_words (Errors.Ending name) is prints = with_fault (ending name.now) is prints
   with_words (Errors.Import word) is prints = with_fault (import_word word.now) is prints

@@ -14,3 +14,4 @@ pub mod Replies
 pub mod Risen
 pub mod Selected
 pub mod Settled
+pub mod Drilled

@@ -128,6 +128,7 @@ module _ (told : Told) (c : Command) (q : Question) (of : IsAskedOf told (inputs
     reply within of_held law = record {
       question = q;
       answers = decided.answers;
+      given = decided.given;
       are_answers = record {
         asked = of;
         verdicts = decided.verdicts;

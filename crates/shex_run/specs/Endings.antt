@@ -5,17 +5,20 @@ use Rattle.shex_io.specs.Faults.{Rose}
 use Rattle.shex_io.specs.Files.{Told, KeepsOthers}
 use Rattle.shex_io.specs.Sinks.{Gains, GainsPrefix}
 use Rattle.shex_io.specs.declared.files.Act.{Act}
+use Rattle.shex_io.specs.declared.files.Act.TheVariants.{Store}
 use Rattle.schema_tree.specs.declared.schema.Answer.{Answer}
 use Rattle.shape_map.specs.Results.{result_text}
 use Rattle.proof_checker.specs.declared.checking.CheckError.{CheckError}
 use Rattle.proof_checker.specs.declared.checking.CheckError.TheVariants as CheckErrors
-use Rattle.command_words.specs.Asked.{Command, IsAsked, IsFirstFault}
+use Rattle.command_words.specs.Asked.{Command, IsAsked}
 use Rattle.command_words.specs.Checks.{Fault}
+use Rattle.command_words.specs.Drills.{Drill, IsDrill, IsFault}
 use Rattle.shex_inputs.specs.declared.error.Refusal.{Refusal as InputRefusal}
 use Rattle.shex_inputs.specs.Asked.{Question}
 use Rattle.shex_run.specs.declared.stop.File.{File}
 use Rattle.shex_run.specs.declared.stop.Refusal.TheVariants as Refusals
 use Rattle.shex_run.specs.Checking.{IsCheckedAs, IsFull, IsRejected}
+use Rattle.shex_run.specs.Drills.{IsCutDrill, IsDrillProof, IsDrilled}
 use Rattle.shex_run.specs.Outcomes.{IsRefused, Reaches}
 use Rattle.shex_run.specs.Printing.{IsCut, Prints}
 use Rattle.shex_run.specs.Proofs.{AreAnswers, IsDueProof, IsStoredProofOf, Stores}
@@ -56,15 +59,20 @@ pub record IsConfirmed (told after : Told) (c : Command) (status : ℕ) (text no
 abbrev pub IsResponse : Told → Told → Command → ℕ → List ℕ → List ℕ → Type 0
 IsResponse told after c status text notes = IsAnswered told after c status text notes ⊎ IsConfirmed told after c status text notes
 
--- the text answers what the words ask, and the notes say what is left out
-pub record IsRespondedTo (told after : Told) (words : List Text) (status : ℕ) (text notes : List ℕ) : Type 0 where
+-- the text answers what the words ask of files, and the notes say what is left out
+pub record Responds (told after : Told) (words : List Text) (status : ℕ) (text notes : List ℕ) : Type 0 where
   pub command : Command
   pub is_asked : IsAsked words command
   pub response : IsResponse told after command status text notes
 
+-- the text answers what the words ask, or it is the line of the drill for which they ask
+abbrev pub IsRespondedTo : Told → Told → List Text → ℕ → List ℕ → List ℕ → Type 0
+IsRespondedTo told after words status text notes =
+    Responds told after words status text notes ⊎ ((d : Drill) × IsDrill words d × IsDrilled told after d status text notes)
+
 -- the line is that of the first fault of the words
 abbrev pub IsWordsLine : List Text → List ℕ → Type 0
-IsWordsLine words line = (f : Fault) × IsFirstFault words f × (line ≡ words_line f)
+IsWordsLine words line = (f : Fault) × IsFault words f × (line ≡ words_line f)
 
 -- the line is that of the refusal of a file of the inputs, or of a current proof whose node lines the table cannot take up
 abbrev pub IsRefusalLine : Told → Command → List ℕ → Type 0
@@ -102,26 +110,41 @@ pub record SinkSeen : Type 0 where
   pub faults : ℕ
   pub faults_after : ℕ
 
--- in this call a fault of the files came, and the line is that of a file of the words to which the steps came, and which could not be
--- fetched or stored
-pub record IsFailedBy (files : FilesSeen) (words : List Text) (line : List ℕ) : Type 0 where
-  pub rose : Rose files.faults files.faults_after
+-- the last fault is that of a file of the words to which the steps came, and which could not be fetched or stored
+pub record IsFailedFile (files : FilesSeen) (words : List Text) : Type 0 where
   pub command : Command
   pub is_asked : IsAsked words command
   pub file : File
   pub reached : Reaches files.told command file
   pub name_is : files.blame ≡ name_of command file
   pub act_is : files.act ≡ act_of command.task file
+
+-- the last fault is that of the file in which the proof of a drill was to be stored, once it was made
+pub record IsFailedDrill (files : FilesSeen) (words : List Text) : Type 0 where
+  pub drill : Drill
+  pub is_drill : IsDrill words drill
+  pub bytes : List ℕ
+  pub due : IsDrillProof drill.items bytes
+  pub name_is : drill.proof ≡ Some files.blame
+  pub act_is : files.act ≡ Store
+
+-- in this call a fault of the files came, and the line names its file
+pub record IsFailedBy (files : FilesSeen) (words : List Text) (line : List ℕ) : Type 0 where
+  pub rose : Rose files.faults files.faults_after
+  pub failed : IsFailedFile files words ⊎ IsFailedDrill files words
   pub line_is : line ≡ failed_line files.blame
 
 -- nothing is stored, or the proof for which the words ask in part
 abbrev pub IsPartlyStored : Told → Told → List Text → Type 0
-IsPartlyStored told after words = (after ≡ told) ⊎ ((c : Command) × IsAsked words c × IsCutStore told after c)
+IsPartlyStored told after words =
+    (after ≡ told) ⊎ (((c : Command) × IsAsked words c × IsCutStore told after c) ⊎ ((d : Drill) × IsDrill words d × IsCutDrill told after d))
 
 -- each name holds what it held, but for the one under which the words ask for a proof to be stored
 abbrev pub KeepsTold : Told → Told → List Text → Type 0
 KeepsTold told after words =
-    (after ≡ told) ⊎ ((c : Command) × IsAsked words c × ((name : Text) × IsToStore c name × KeepsOthers told after name))
+    (after ≡ told)
+    ⊎ (((c : Command) × IsAsked words c × ((name : Text) × IsToStore c name × KeepsOthers told after name))
+    ⊎ ((d : Drill) × IsDrill words d × ((name : Text) × (d.proof ≡ Some name) × KeepsOthers told after name)))
 
 -- nothing was printed, and no fault came
 pub record IsQuiet (sink : SinkSeen) : Type 0 where
@@ -191,3 +214,7 @@ IsWhollyStored told after c name = Stores told after (Some name) (IsDueProof tol
 -- the same of the proof that is checked and stored in format 2
 abbrev pub IsWhollyUpgraded : Told → Told → Command → Text → Type 0
 IsWhollyUpgraded told after c name = Stores told after (Some name) (IsDueUpgrade told c name)
+
+-- the same of the proof of a drill
+abbrev pub IsDrillWhollyStored : Told → Told → Drill → Text → Type 0
+IsDrillWhollyStored told after d name = Stores told after (Some name) (IsDrillProof d.items)

@@ -8,5 +8,6 @@ pub mod Stopping
 pub mod Ready
 pub mod Texts
 pub mod Printing
+pub mod Drills
 pub mod Endings
 pub mod Wide

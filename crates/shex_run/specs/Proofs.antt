@@ -33,9 +33,9 @@ pub record AreAnswers (told : Told) (c : Command) (q : Question) (budget : ℕ) 
   pub refined : IsRefined q.held.schema q.terms q.held.graph q.held.strata q.pairs budget verdicts
   pub replies : AreReplies q.held.schema q.terms verdicts q.held.graph budget q.associations answers
 
--- the bytes are a proof whose claims are the answers, so that a check of them with the same files accepts them, which names these
--- files and brings the strata of the schema, whose records are those of refinement over the pairs that are asked for, and which has no
--- other node lines than those of its records and claims
+-- the bytes are a proof whose claims are the answers, so that a check of them with the same files accepts them. It names these files
+-- and brings the strata of the schema, its records are those of refinement over the pairs that are asked for, and it has no other
+-- node lines than those of its records and claims
 pub record IsStoredProofOf (q : Question) (budget : ℕ) (answers : List Answer) (bytes : List ℕ) : Type 0 where
   pub accepted : Accepted q.held bytes q.terms answers
   pub head : Head

@@ -77,6 +77,7 @@ pub record IsDecided (h : Holding) (associations : List Association) (pairs : Li
   pub verdicts : Known
   pub refined : IsRefined h.schema h.terms h.graph.triples h.strata pairs budget verdicts
   pub answers : List Answer
+  pub given : d.answers.items ≡ answers
   pub replies : AreReplies h.schema h.terms verdicts h.graph.triples budget associations answers
   pub proof : IfSome d.proof (Proves h.strata h.schema h.terms h.graph.triples pairs budget answers)
   pub headed : IfSome d.proof (λ p. p.head ≡ head)
@@ -99,6 +100,7 @@ pub record IsReplyProof (q : Question) (budget : ℕ) (answers : List Answer) (p
 pub record IsReply (told : Told) (c : Command) (budget : ℕ) (with_proof : Bool) (d : Decided) : Type 0 where
   pub question : Question
   pub answers : List Answer
+  pub given : d.answers.items ≡ answers
   pub are_answers : AreAnswers told c question budget answers
   pub low : IsAnswering d.status
   pub status_is : d.status ≡ status_of question.associations answers

@@ -59,7 +59,7 @@ fn fetch_proof<F: Files>(alloc: Global, files: &mut F, name: &str) -> Result<Vec
 }
 
 /// Stores the text of a proof in this file, which has this name.
-fn store<F: Files>(files: &mut F, file: File, name: &str, bytes: &[u8]) -> Result<(), Stop>
+pub fn store<F: Files>(files: &mut F, file: File, name: &str, bytes: &[u8]) -> Result<(), Stop>
     ensures holds { OnOk result (Holds (F.told files.new) name.now (Some bytes.now)) }
     ensures part { OnErr result (HoldsPart (F.told files.old) (F.told files.new) name.now bytes.now) }
     ensures others { KeepsOthers (F.told files.old) (F.told files.new) name.now }
@@ -80,7 +80,7 @@ fn are_texts(schema_base: &str, data_base: &str)
 {}
 
 /// The answers to the map of `validate`, with their proof where it is to be stored.
-fn decide_map<F: Files>(
+pub fn decide_map<F: Files>(
     alloc: Global,
     files: &mut F,
     holding: &mut Holding,
@@ -137,6 +137,7 @@ fn keep<F: Files>(
 {
     let Decided {
         status,
+        answers: _,
         text,
         notes,
         proof,

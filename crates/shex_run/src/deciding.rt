@@ -37,6 +37,8 @@ use typing_refiner::{Refined, Wanted, refine};
 pub struct Decided {
     /// 4 where an association has no answer, 0 where each is answered as it wants, and else 1.
     pub status: u8,
+    /// The answers.
+    pub answers: Vec<Answer>,
     /// The result map of the answers.
     pub text: Vec<u8>,
     /// A line for each wide pair, where an association has no answer.
@@ -240,6 +242,7 @@ pub fn decide(
     let proof = proof_if(alloc, head, terms, refined, answers)?;
     Ok(Decided {
         status,
+        answers: given,
         text,
         notes,
         proof,

@@ -4,6 +4,7 @@
 mod answers;
 mod checking;
 mod deciding;
+mod drilling;
 mod head;
 mod report;
 mod stop;

@@ -1,7 +1,7 @@
 //! What a call prints.
 
-ghost use Rattle.std.specs.Prelude.{◌≡◌, ◌<◌, IfOk, string_bytes};
-ghost use Rattle.command_words.specs.Lent.{Because, command_of};
+ghost use Rattle.std.specs.Prelude.{◌≡◌, ◌<◌, IfOk, List, Some, string_bytes, ℕ};
+ghost use Rattle.command_words.specs.Lent.{Because, command_of, drill_of};
 ghost use Rattle.schema_files.specs.Named.{name_of as schema_name_of};
 ghost use Rattle.shex_inputs.specs.Named.{asked_of, source_name};
 ghost use Rattle.shex_run.specs.Printing.{Prints};
@@ -10,7 +10,7 @@ ghost use Rattle.shex_run.specs.Texts.{cause_text, failed_line, refusal_line, re
 ghost use Rattle.shex_run.specs.declared.stop.File.TheVariants as Files;
 
 use crate::stop::{File, Refusal};
-use command_words::{Command, WordsError};
+use command_words::{Command, Drilling, WordsError};
 use schema_files::{SchemaFile, file_name};
 use shex_inputs::{Source, error_line, refusal_text};
 use shex_io::{Sink, SinkError, put_all};
@@ -96,6 +96,17 @@ pub fn failed(alloc: Global, command: &Command<'_>, file: File) -> Result<String
     ensures { IfOk result (λ s. string_bytes s ≡ failed_line (name_of (command_of command.now) file)) }
 {
     error_line(alloc, PROGRAM, name(command, file), "Failed")
+}
+
+/// The line for the proof of a drill, where it has a name and was not stored.
+pub fn unstored(alloc: Global, drilling: &Drilling<'_>) -> Result<String, AllocError>
+    ensures { (name : List ℕ) → (drill_of drilling.now).proof ≡ Some name → IfOk result (λ s. string_bytes s ≡ failed_line name) }
+{
+    let name = match drilling.proof {
+        Some(name) => name,
+        None => "",
+    };
+    error_line(alloc, PROGRAM, name, "Failed")
 }
 
 /// The place of a file that is refused, by its name in the words.

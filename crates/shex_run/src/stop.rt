@@ -29,7 +29,8 @@ pub enum Refusal {
 }
 
 impl Refusal {
-    /// The status of a call that ends with the refusal: 6 where the proof is rejected, and else 3.
+    /// The status of a call that ends with the refusal: 6 where the proof is none, or not current, or not accepted, and
+    /// else 3.
     pub fn status(&self) -> u8
         ensures status { result ≡ refusal_status self.now }
         ensures low { result < 7 }

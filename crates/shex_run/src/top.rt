@@ -1,26 +1,30 @@
 //! The top call.
 
-ghost use Rattle.std.specs.Prelude.{◌≡◌, ◌<◌, ◌⊎◌, ℕ, List, Option, Some, IfOk, map, string_bytes};
+ghost use Rattle.std.specs.Prelude.{◌≡◌, ◌<◌, ◌≤◌, ◌⊎◌, ℕ, List, Option, Some, IfOk, map, string_bytes};
 ghost use Rattle.rdf_terms.specs.declared.terms.Term.{Term};
 ghost use Rattle.schema_tree.specs.declared.schema.Answer.{Answer};
 ghost use Rattle.clap.specs.Words.{Text};
 ghost use Rattle.shex_io.specs.Faults.{Rose};
 ghost use Rattle.shex_io.specs.Sinks.{Gains};
-ghost use Rattle.command_words.specs.Asked.{Command as Asking, IsAsked, IsFirstFault};
+ghost use Rattle.command_words.specs.Asked.{Command as Asking, IsAsked};
 ghost use Rattle.command_words.specs.Checks.{Fault};
+ghost use Rattle.command_words.specs.Drills.{Drill, IsDrill, IsFault, max_items};
+ghost use Rattle.command_words.specs.Lent.{command_of, drill_of};
 ghost use Rattle.shex_inputs.specs.Held.{Held};
 ghost use Rattle.shex_run.specs.Checking.{IsFull, IsGiven, IsRejected};
-ghost use Rattle.shex_run.specs.Endings.{Ends, IsFailedBy, IsPartlyStored, IsPrintedInPart, IsRefusedBy, IsRejectedBy, IsRespondedTo, IsWhollyStored, IsWhollyUpgraded, IsWordsLine, KeepsTold, MayPrintInPart, PrintsBoth};
+ghost use Rattle.shex_run.specs.Endings.{Ends, IsDrillWhollyStored, IsFailedBy, IsPartlyStored, IsPrintedInPart, IsRefusedBy, IsRejectedBy, IsRespondedTo, IsWhollyStored, IsWhollyUpgraded, IsWordsLine, KeepsTold, MayPrintInPart, PrintsBoth};
 ghost use Rattle.shex_run.specs.Outcomes.{AreTaken, IsAbsent, IsRefused};
 ghost use Rattle.shex_run.specs.Printing.{Prints, RefusesWords};
 ghost use Rattle.shex_run.specs.Proofs.{Accepted};
 ghost use Rattle.shex_run.specs.Statuses.{Concludes, IsAnswering, IsInterrupted, IsStatus};
+ghost use Rattle.shex_run.specs.Stopping.{IsFit};
 ghost use Rattle.shex_run.specs.Tasks.{IsToStore, IsToValidate};
 
 use crate::answers::{Response, respond};
+use crate::drilling::drill;
 use crate::report;
 use crate::stop::{File, Stop};
-use command_words::{WordsError, answers_are_one, read};
+use command_words::{Call, Command, Drilling, WordsError, answers_are_one, read};
 use proof_checker::CheckError;
 use shex_inputs::{Refusal, inputs_are_one};
 use shex_io::{Files, Sink, SinkError, put_all};
@@ -62,6 +66,60 @@ fn refuse<S: Sink>(alloc: Global, error: WordsError<'_>, sink: &mut S) -> u8
     }
 }
 
+/// Answers a command, or says why there is no answer, and gives the status.
+fn end_command<F: Files, O: Sink, E: Sink>(
+    alloc: Global,
+    command: &Command<'_>,
+    files: &mut F,
+    out: &mut O,
+    err: &mut E,
+) -> u8
+    requires { IsFit (command_of command.now) }
+    ensures { (words : List Text) → IsAsked words (command_of command.now) → Ends
+        words
+        (record { told = F.told files.old; told_after = F.told files.new; faults = F.faults files.old; faults_after = F.faults files.new; blame = F.blame files.new; act = F.act files.new })
+        (record { got = O.got out.old; got_after = O.got out.new; faults = O.faults out.old; faults_after = O.faults out.new })
+        (record { got = E.got err.old; got_after = E.got err.new; faults = E.faults err.old; faults_after = E.faults err.new })
+        result }
+{
+    match respond(alloc, files, command) {
+        Ok(response) => print_both(&response, out, err),
+        Err(Stop::Refused(refusal)) => {
+            say(
+                report::refusal(alloc, command, &refusal),
+                refusal.status(),
+                err,
+            )
+        }
+        Err(Stop::Failed(file)) => say(report::failed(alloc, command, file), 5, err),
+        Err(Stop::Memory) => 8,
+    }
+}
+
+/// Answers a drill, or says that its proof is not stored, and gives the status.
+fn end_drill<F: Files, O: Sink, E: Sink>(
+    alloc: Global,
+    drilling: &Drilling<'_>,
+    files: &mut F,
+    out: &mut O,
+    err: &mut E,
+) -> u8
+    requires { (1 ≤ drilling.now.items) × (drilling.now.items ≤ max_items) }
+    ensures { (words : List Text) → IsDrill words (drill_of drilling.now) → Ends
+        words
+        (record { told = F.told files.old; told_after = F.told files.new; faults = F.faults files.old; faults_after = F.faults files.new; blame = F.blame files.new; act = F.act files.new })
+        (record { got = O.got out.old; got_after = O.got out.new; faults = O.faults out.old; faults_after = O.faults out.new })
+        (record { got = E.got err.old; got_after = E.got err.new; faults = E.faults err.old; faults_after = E.faults err.new })
+        result }
+{
+    match drill(alloc, files, drilling) {
+        Ok(response) => print_both(&response, out, err),
+        Err(Stop::Refused(_)) => unreachable!(),
+        Err(Stop::Failed(_)) => say(report::unstored(alloc, drilling), 5, err),
+        Err(Stop::Memory) => 8,
+    }
+}
+
 /// Answers what the words ask, or says why there is no answer, and gives the status.
 fn end<F: Files, O: Sink, E: Sink>(
     alloc: Global,
@@ -77,21 +135,10 @@ fn end<F: Files, O: Sink, E: Sink>(
         (record { got = E.got err.old; got_after = E.got err.new; faults = E.faults err.old; faults_after = E.faults err.new })
         result }
 {
-    let command = match read(alloc, words) {
-        Ok(command) => command,
-        Err(error) => return refuse(alloc, error, err),
-    };
-    match respond(alloc, files, &command) {
-        Ok(response) => print_both(&response, out, err),
-        Err(Stop::Refused(refusal)) => {
-            say(
-                report::refusal(alloc, &command, &refusal),
-                refusal.status(),
-                err,
-            )
-        }
-        Err(Stop::Failed(file)) => say(report::failed(alloc, &command, file), 5, err),
-        Err(Stop::Memory) => 8,
+    match read(alloc, words) {
+        Ok(Call::Files(command)) => end_command(alloc, &command, files, out, err),
+        Ok(Call::Drill(drilling)) => end_drill(alloc, &drilling, files, out, err),
+        Err(error) => refuse(alloc, error, err),
     }
 }
 
@@ -183,10 +230,14 @@ pub fn run<F: Files, O: Sink, E: Sink>(
         IsGiven (F.told files.old) c h bytes → Accepted h bytes terms answers →
         result ≡ 7 → ¬ Rose (F.faults files.old) (F.faults files.new) →
         IsWhollyUpgraded (F.told files.old) (F.told files.new) c name }
+    ensures drilled_whole { (d : Drill) (name : Text) →
+        IsDrill (map string_bytes words.now) d → d.proof ≡ Some name →
+        result ≡ 7 → ¬ Rose (F.faults files.old) (F.faults files.new) →
+        IsDrillWhollyStored (F.told files.old) (F.told files.new) d name }
     ensures told { KeepsTold (F.told files.old) (F.told files.new) (map string_bytes words.now) }
 
     // Where contents are told, words and files decide how the call ends, but for faults and want of memory.
-    ensures unasked { (f : Fault) → IsFirstFault (map string_bytes words.now) f →
+    ensures unasked { (f : Fault) → IsFault (map string_bytes words.now) f →
         (result ≡ 2) ⊎ ((result ≡ 7) ⊎ (result ≡ 8)) }
     ensures takes { (contents : List ℕ → Option (List ℕ)) (c : Asking) →
         F.told files.old ≡ Some contents → IsAsked (map string_bytes words.now) c →
@@ -211,6 +262,9 @@ pub fn run<F: Files, O: Sink, E: Sink>(
         AreTaken (F.told files.old) c → ¬ Rose (F.faults files.old) (F.faults files.new) →
         ¬ Rose (O.faults out.old) (O.faults out.new) → ¬ Rose (E.faults err.old) (E.faults err.new) →
         Concludes c.task result ⊎ (result ≡ 8) }
+
+    // A drill depends on nothing but its words, and is answered, but for a fault and want of memory.
+    ensures drills { (d : Drill) → IsDrill (map string_bytes words.now) d → (result ≡ 0) ⊎ IsInterrupted result }
 
     // Faults that came are said.
     ensures files_fault { F.faults files.old < F.faults files.new → IsInterrupted result }

@@ -44,6 +44,7 @@ returns c =
       verdicts = known;
       refined = refined;
       answers = answers;
+      given = sym c.as_slice-answers.ensures.value;
       replies = answered h xs c.args.asked.pairs c.args.budget c.args.head c.requires c.sure_answers_are_true.ensures (known_by_it r) known refined same answers sure;
       proof = c.in_ok-proof.ensures.proof h.schema h.graph.triples h.strata c.args.asked.pairs c.args.budget (known_by_it r) (λ on. (
           shown h xs c.args.asked.pairs c.args.budget c.args.head c.requires (known_by_it r) r.nodes r.sections answers

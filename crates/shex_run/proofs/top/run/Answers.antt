@@ -1,4 +1,4 @@
-use Rattle.shex_run.proofs.Closing.{absent_ends, accepted_ends, ends_kept, ends_partly, ends_quietly, faulty_ends, filled_ends, five_rose, in_part, refused_ends, rejected_ends, seven_rose, taken_ends, unfaulted, unprinted, upgraded_ends, whole_ends}
+use Rattle.shex_run.proofs.Closing.{absent_ends, accepted_ends, drill_ends, drill_stored, ends_kept, ends_partly, ends_quietly, faulty_ends, filled_ends, five_rose, in_part, refused_ends, rejected_ends, seven_rose, taken_ends, unfaulted, unprinted, upgraded_ends, whole_ends}
 use Rattle.shex_run.proofs.Exclusive.{are_one}
 use Rattle.shex_run.proofs.top.run.Goals as goal
 
@@ -51,3 +51,9 @@ returns-clause-ends g c = λ contents k told is_asked taken files out err.
 
 pub returns-clause-answered_quietly : goal.returns-clause-answered_quietly
 returns-clause-answered_quietly g c = λ low. ends_quietly _ _ _ _ _ c.end.ensures low
+
+pub returns-clause-drills : goal.returns-clause-drills
+returns-clause-drills g c = λ d is. drill_ends _ d is c.answers_are_one.ensures _ _ _ _ c.end.ensures
+
+pub returns-clause-drilled_whole : goal.returns-clause-drilled_whole
+returns-clause-drilled_whole g c = λ d name is named at still. drill_stored _ d is c.answers_are_one.ensures _ _ _ _ name named c.end.ensures at still
