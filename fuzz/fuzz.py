@@ -43,7 +43,7 @@ PIECES = {
     ".ttl": '@prefix @base PREFIX a [ ] ( ) ; , . <> <a> x: x:y _:b "x"@en """y""" 1 -1.5 1e3 true ^^ # \\u0041 :%20 :\\~'.split(" "),
     "map": '{ } FOCUS _ @ @! START , <> <a> x:y "x"@en 1 a SPARQL'.split(" "),
     "proof": ["shex-proof 1\n", "shex-proof 2\n", "end\n", "n ", "s 0\n", "s 1\n", "k 0\n", "k\n", "+ 0 0 ", "- 0 0 1 ", "c + 0 ", "0:0,0 ", "f s ", "f d ", "r", "4294967296", " ", "\n"],
-    "words": "validate check --schema --data --map --proof --budget --schema-base --data-base -- = x=y http://a=b.shex 0 1 99999999999999 -h --help --version --schema=x".split(" "),
+    "words": "validate check upgrade drill --schema --data --map --proof --to --budget --schema-base --data-base -- = x=y http://a=b.shex 0 1 99999999999999 -h --help --version --schema=x".split(" "),
 }
 
 
@@ -93,9 +93,13 @@ class Runner:
 
     def words(self, example, command, proof=None):
         """The words of a command on an example."""
+        if command == "drill":
+            return [command, "10"]
         words = [command, "--schema", example.schema, "--data", example.data]
         if command == "validate":
             words += ["--map", example.map]
+        if command == "upgrade":
+            words += ["--to", "newest"]
         if proof:
             words += ["--proof", proof]
         return words + [f"{iri}={name}" for iri, name in example.imports.items()]
@@ -138,7 +142,7 @@ class Runner:
         where = os.path.join(self.folder, example.folder)
         target = chance.choice([example.schema, example.data, example.map, "proof", "words", *example.imports.values()])
         if target == "words":
-            words = self.words(example, chance.choice(("validate", "check")), chance.choice((None, "proof2")))
+            words = self.words(example, chance.choice(("validate", "check", "upgrade", "drill")), chance.choice((None, "proof2")))
             at = chance.randrange(len(words) + 1)
             words[at:at + chance.randint(0, 2)] = [chance.choice(PIECES["words"]) for _ in range(chance.randint(0, 2))]
             status, out, err = self.run(example, words)
