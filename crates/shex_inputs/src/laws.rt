@@ -27,8 +27,7 @@ pub fn taken_is_loaded()
 /// The schema and the data are taken by the bytes of their files alone, whatever other files hold and whichever map is named.
 pub fn taken_by_bytes()
     ensures { TakenByBytes }
-{
-}
+{}
 
 /// The base and the prefixes of the labels are on one line each, where the schema's base is.
 pub fn labels_have_lines()

@@ -32,8 +32,7 @@ returns-clause-sources g c =
     let asked : LentAsked = record { root = c.args.root; base = c.args.base; words = c.args.words } in
     let told = g.F.Files.told c.read_file.new.files in
     let items = c.follow_all.new.held.items in
-    let some = some_held told asked items c.in_ok-follow_all.ensures.sources in
-    (
+    let some = some_held told asked items c.in_ok-follow_all.ensures.sources in (
       sources_of (asked_of asked) items,
       subst (λ t. AreAll t asked items) c.in_ok-first.ensures.told_stays c.in_ok-follow_all.ensures.sources,
       all_held (asked_of asked) items c.remove-first.new.self.items c.remove-first.result c.into_parsed.result c.in_ok-documents_of.field-0 some
