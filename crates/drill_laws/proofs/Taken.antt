@@ -1,6 +1,6 @@
 -- The schema and the data of a drill are taken.
-use Rattle.std.proofs.Common.{◌≡◌, ◌∙◌, ℕ, ◌<◌, ◌≤◌, List, [], ◌∷◌, ◌++◌, Bool, true, false, Some, codes, length, refl, sym, ap, arith, inl, inr}
-use Rattle.std.specs.Prelude.{Contains, Option}
+use Rattle.std.proofs.Common.{◌≡◌, ◌∙◌, ℕ, ◌≤◌, List, [], ◌∷◌, ◌++◌, true, false, codes, length, refl, sym, arith, inr}
+use Rattle.std.specs.Prelude.{Contains}
 use Rattle.std.specs.Str.{bytes_eq}
 use Rattle.std.proofs.lemmas.List.Elements.{All-contains}
 use Rattle.std.proofs.lemmas.Slice.Eq.{bytes_eq-Decides}
@@ -19,9 +19,8 @@ use Rattle.lists.proofs.Additions.{all_distinct}
 use Rattle.data_reader.specs.Documents.{context_in}
 use Rattle.schema_documents.specs.Tree.{Document}
 use Rattle.schema_files.specs.declared.error.SchemaFile.TheVariants.{Root}
-use Rattle.schema_files.specs.Sources.{AreSources, HoldsSource, IsDigestOf, Source, root}
+use Rattle.schema_files.specs.Sources.{AreSources, HoldsSource, Source, root}
 use Rattle.schema_files.specs.Files.{IsFile}
-use Rattle.schema_reader.specs.Documents.{Read}
 use Rattle.shex_inputs.specs.Held.{AreFilesOf, Held, HoldsData, IsHolding, IsSchemaOf, IsTaken, predicates_in}
 use Rattle.shex_inputs.specs.Named.{asked_of}
 use Rattle.shex_inputs.proofs.Counted.{of_table}
@@ -63,13 +62,13 @@ map_file n = record { held = refl; within = map_short }
 -- ---- the schema
 
 abbrev drill_source : Source
-drill_source = record { file = Root; base = default_base; read = record { document = drill_document; names = (schema_state default_base).scope } }
+drill_source = record { file = Root; base = default_base; read = record { document = drill_document; names = (schema_state default_base).scope }; digest = record { 0 = sha256 schema_text } }
 
 holds_source : SchemaIsDocument → (n : ℕ) → HoldsSource (drill_told n) (asked_of drill_inputs) drill_source
-holds_source law n = record { bytes = schema_text; is_file = schema_file n; spelled = (schema_state default_base, law default_base, refl, refl) }
+holds_source law n = record { bytes = schema_text; is_file = schema_file n; spelled = (schema_state default_base, law default_base, refl, refl); is_digest = refl }
 
 are_sources : SchemaIsDocument → (n : ℕ) → AreSources (drill_told n) (asked_of drill_inputs) (drill_source ∷ [])
-are_sources law n = record { are_read = root drill_source.read (holds_source law n); all_read = refl }
+are_sources law n = record { are_read = root drill_source.read drill_source.digest (holds_source law n); all_read = refl }
 
 differ : (xs ys : List ℕ) → bytes_eq xs ys ≡ false → Iri xs ≡ Iri ys → ⊥
 differ xs ys apart e =
@@ -132,13 +131,11 @@ holding n terms graph d = record {
 holds_data : GraphIsDocument → (n : ℕ) → n ≤ 100000 → HoldsData (drill_told n) drill_inputs (context_in (graph_scope default_base)) (graph_triples n)
 holds_data law n le = record { bytes = graph_text n; file = data_file n le; spelled = (graph_scope default_base, refl, law n le default_base) }
 
-digests : (n : ℕ) → n ≤ 100000 → (terms : List Term) (graph : List Triple) → AreFilesOf (drill_told n) drill_inputs (drill_source ∷ []) (held_with n terms graph).files
-digests n le terms graph = record {
-  schemas = (record { bytes = schema_text; is_file = schema_file n; is_digest = refl }, tt);
-  graph = record { bytes = graph_text n; is_file = data_file n le; is_digest = refl };
-}
+digests : (n : ℕ) (terms : List Term) (graph : List Triple) → AreFilesOf (drill_source ∷ []) (graph_text n) (held_with n terms graph).files
+digests n terms graph = record { schemas = refl; graph = refl }
 
 pub taken : SchemaIsDocument → GraphIsDocument → (n : ℕ) → n ≤ 100000 → (terms : List Term) (graph : List Triple) → IsDrill n terms graph → IsTaken (drill_told n) drill_inputs (held_with n terms graph)
+unfolding holds_data
 taken schema data_law n le terms graph d = record {
   sources = drill_source ∷ [];
   are_sources = are_sources schema n;
@@ -146,7 +143,7 @@ taken schema data_law n le terms graph d = record {
   triples = graph_triples n;
   holds_data = holds_data data_law n le;
   holding = holding n terms graph d;
-  digests = digests n le terms graph;
+  digests = digests n terms graph;
 }
 
 -- the numbers of each triple are below that of the terms
