@@ -69,12 +69,14 @@ pub record IsDrillReply (n : ℕ) (text bytes : List ℕ) : Type 0 where
   pub text_is : text ≡ drill_line n answers
   pub proof : IsStoredProofOf question default_budget answers bytes
 
--- the text is the line that counts the answers, and nothing is noted; where a name is given, it holds a proof of them, and no other
--- name changed
+-- the text is the line that counts the answers, and nothing is noted; bytes are a proof of them that a check accepts; where a name is
+-- given, it holds such a proof, and no other name changed
 pub record IsDrilled (told after : Told) (d : Drill) (status : ℕ) (text notes : List ℕ) : Type 0 where
   pub question : Question
   pub answers : List Answer
   pub are_answers : AreDrillAnswers d.items question answers
+  pub bytes : List ℕ
+  pub proof : IsStoredProofOf question default_budget answers bytes
   pub stored : Stores told after d.proof (IsStoredProofOf question default_budget answers)
   pub status_is : status ≡ 0
   pub text_is : text ≡ drill_line d.items answers

@@ -151,13 +151,16 @@ fn end<F: Files, O: Sink, E: Sink>(
 /// of that name is current for these files and accepted, and prints its claims as a result shape map.
 /// `upgrade --schema F --data F --proof F --to F [--schema-base I] [--data-base I] [IRI=FILE ..]` does the same, and where the
 /// proof is accepted it first stores it in format 2 under the name of `--to`: its own bytes where they are of that format, and
-/// else the same nodes, sections and claims behind a head that names these files and brings the strata of the schema. Where
+/// else the same nodes, sections and claims behind a head that names these files and brings the strata of the schema.
+/// `drill N [--proof F]` answers the map of made inputs with N items, from 1 to 100,000, checks the proof of the answers, and
+/// prints how many items are conformant and how many are not. With `--proof` it first stores the proof under that name. Where
 /// there is no answer, one line on `err` says why, unless memory ran out.
 ///
-/// The status is 0 where each association is answered as it wants or the proof is accepted, 1 where some association is
-/// not, 4 where some association has no answer, since it depends on a pair that is wider than the budget, 2 where the words
-/// are refused, 3 where the inputs are refused, 5 where a file was not fetched or stored, 6 where the proof is rejected, 7
-/// where a sink failed, 8 where memory ran out.
+/// The status is 0 where each association of `validate` is answered as it wants, or the proof is accepted, or the drill is
+/// answered; 1 where some association of `validate` is not answered as it wants; 4 where some association of it has no
+/// answer, since it depends on a pair that is wider than the budget; 2 where the words are refused, 3 where the inputs are
+/// refused, 5 where a file was not fetched or stored, 6 where the proof is rejected, 7 where a sink failed, 8 where memory
+/// ran out.
 pub fn run<F: Files, O: Sink, E: Sink>(
     alloc: Global,
     words: &[String],
@@ -172,7 +175,8 @@ pub fn run<F: Files, O: Sink, E: Sink>(
     // they depend on a pair whose Width is above the budget, and then each such pair that the associations reach is noted.
     // The proof that is stored is accepted, its claims are the answers, and its records those of refinement; it names the
     // files by their digests, and brings the strata of the schema. The claims of a proof that is current and accepted are true,
-    // and where it is to be upgraded, it is stored in format 2.
+    // and where it is to be upgraded, it is stored in format 2. The line of a drill counts the true answers to all that its texts
+    // ask, as if they were files, of which there is a proof that is accepted, and which is stored where a name is given for it.
     ensures answered { IsAnswering result →
         (text notes : List ℕ)
         × IsRespondedTo (F.told files.old) (F.told files.new) (map string_bytes words.now) result text notes
@@ -263,7 +267,7 @@ pub fn run<F: Files, O: Sink, E: Sink>(
         ¬ Rose (O.faults out.old) (O.faults out.new) → ¬ Rose (E.faults err.old) (E.faults err.new) →
         Concludes c.task result ⊎ (result ≡ 8) }
 
-    // A drill depends on nothing but its words, and is answered, but for a fault and want of memory.
+    // A drill is answered, but for a fault and want of memory.
     ensures drills { (d : Drill) → IsDrill (map string_bytes words.now) d → (result ≡ 0) ⊎ IsInterrupted result }
 
     // Faults that came are said.
