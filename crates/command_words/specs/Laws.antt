@@ -7,7 +7,7 @@ use Rattle.command_words.specs.Asked.{Command, IsAsked, IsFirstFault}
 use Rattle.command_words.specs.Checks.{Fault, is_base}
 use Rattle.command_words.specs.Drills.{Drill, IsDrill}
 
--- words ask for one command at most, or for one drill at most, or have one first fault at most, and never for two of these
+-- words ask for one command at most and for one drill at most, and have one first fault at most; words that ask for a command ask for no drill and have no first fault
 pub record AnswersAreOne : Type 0 where
   pub commands : (words : List Text) (c d : Command) → IsAsked words c → IsAsked words d → c ≡ d
   pub faults : (words : List Text) (f g : Fault) → IsFirstFault words f → IsFirstFault words g → f ≡ g

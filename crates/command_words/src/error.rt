@@ -10,7 +10,8 @@ use std::fmt;
 /// The first thing that is wrong with words, or that memory ran out. It shows the text that a program prints for it.
 #[derive(Clone, Copy, Debug, PartialEq, Eq)]
 pub enum WordsError<'a> {
-    /// The words are not those of a command, or the budget is no number within its limits.
+    /// The words are not those of a command, or the budget or the number of items of a drill is no number within its
+    /// limits.
     Arguments,
     /// The name of a schema file ends in none of `.shex`, `.json` and `.shexj`, or that of the data file in neither `.nt`
     /// nor `.ttl`.

@@ -2,7 +2,8 @@
 
 ghost use Rattle.command_words.specs.Laws.{AnswersAreOne, BasesAreLines};
 
-/// Words ask for one command at most, or for one drill at most, or have one first fault at most, and never for two of these.
+/// Words ask for one command at most and for one drill at most, and have one first fault at most; words that ask for a
+/// command ask for no drill and have no first fault.
 pub fn answers_are_one()
     ensures { AnswersAreOne }
 {}

@@ -1,6 +1,6 @@
 -- A pair that cannot match still cannot once more is known: more No of what it needs, and more Yes of what it needs by a
 -- negative edge.
-use Rattle.std.proofs.Common.{◌≡◌, inl, inr, List, Bool, true, false, suc, refl, sym, subst, ap}
+use Rattle.std.proofs.Common.{◌≡◌, inl, inr, List, true, suc, refl}
 use Rattle.std.specs.Prelude.{Contains, Option, Some, None}
 use Rattle.rdf_terms.specs.declared.terms.Term.{Term}
 use Rattle.rdf_terms.specs.declared.terms.Triple.{Triple}
@@ -9,11 +9,10 @@ use Rattle.schema_tree.specs.declared.schema.Occurrence.{Occurrence}
 use Rattle.schema_tree.specs.declared.schema.Pair.{Pair}
 use Rattle.schema_tree.specs.declared.schema.Schema.{Schema}
 use Rattle.schema_tree.specs.declared.schema.Shape.{Shape}
-use Rattle.schema_tree.specs.declared.schema.ShapeId.{ShapeId}
 use Rattle.schema_tree.specs.declared.verdicts.Lean.TheVariants.{Possible}
 use Rattle.schema_tree.specs.declared.verdicts.Verdict.TheVariants.{Yes, No}
-use Rattle.schema_tree.specs.Edges.{IsExtra, StandsIn, StandsInValue}
-use Rattle.schema_tree.specs.Entries.{pair_of, shape_at}
+use Rattle.schema_tree.specs.Edges.{IsExtra}
+use Rattle.schema_tree.specs.Entries.{shape_at}
 use Rattle.schema_tree.specs.Matches.{fits, other_end}
 use Rattle.schema_tree.specs.Needs.{Needs}
 use Rattle.schema_tree.specs.Places.{CanMatch, MayFail, MayHold, PairCanMatch}
@@ -21,35 +20,12 @@ use Rattle.schema_tree.specs.Relevant.{is_forward}
 use Rattle.schema_tree.specs.Sure.{Known, PairIs}
 use Rattle.schema_tree.proofs.Leans.{places_weaker}
 use Rattle.removal_laws.proofs.Carried.{sure_carries}
-use Rattle.schema_tree.proofs.Needed.{in_graph, need_of, under_extra}
+use Rattle.schema_tree.proofs.Needed.{in_graph, need_of, need_out, under_extra}
 use Rattle.locality_laws.specs.Local.{IsNegativeNeed}
 
 module _ (s : Schema) (terms : List Term) (g : List Triple) (a b : Known) (p : Pair)
     (up : (q : Pair) (n : Needs s g p q) → IsNegativeNeed n → PairIs a q Yes → PairIs b q Yes) (down : (q : Pair) → Needs s g p q → PairIs a q No → PairIs b q No) where
   module _ (sh : Shape) (is : shape_at s p.shape ≡ Some sh) where
-    -- the end of a triple with a Shape that stands in the value of an occurrence that fits it is needed
-    abbrev need_at :
-        (t : Triple) (o : Occurrence) → Contains g t → Contains sh.occs o → fits o p.node t ≡ true → (e : ExprId) → o.value ≡ Some e →
-        (i : ShapeId) (sign : Bool) → StandsIn s i e sign → Needs s g p (pair_of (other_end o.inverse t) i)
-    need_at t o held of fit e value i sign st = need_of s g p sh is t held o of fit e value i sign st
-
-    -- the same where the occurrence is not inverse, so that the end is the object
-    abbrev need_out :
-        (t : Triple) (o : Occurrence) → Contains g t → Contains sh.occs o → o.inverse ≡ false → fits o p.node t ≡ true → (e : ExprId) → o.value ≡ Some e →
-        (i : ShapeId) (sign : Bool) → StandsIn s i e sign → Needs s g p (pair_of t.o i)
-    need_out t o held of forward fit e value i sign st = record {
-      shape = sh;
-      is = is;
-      occ = o;
-      of = of;
-      triple = t;
-      held = held;
-      fit = fit;
-      end = ap (λ c. other_end c t) (sym forward);
-      sign = sign;
-      stands = subst (λ v. StandsInValue s i v sign) (sym value) st;
-    }
-
     hold_less :
         (t : Triple) (o : Occurrence) → Contains g t → Contains sh.occs o → fits o p.node t ≡ true →
         MayHold s terms b Possible (other_end o.inverse t) o.value → MayHold s terms a Possible (other_end o.inverse t) o.value
@@ -59,7 +35,7 @@ module _ (s : Schema) (terms : List Term) (g : List Triple) (a b : Known) (p : P
         go None e h = h
         go (Some d) e h = λ v. h
             ((sure_carries s terms a b (other_end o.inverse t) (suc d.0) d).1
-            ((λ i sign st. down _ (need_at t o held of fit d e i sign st)), (λ i st. up _ (need_at t o held of fit d e i true st) (inl refl))) v)
+            ((λ i sign st. down _ (need_of s g p sh is t held o of fit d e i sign st)), (λ i st. up _ (need_of s g p sh is t held o of fit d e i true st) (inl refl))) v)
 
     fail_less :
         (t : Triple) (o : Occurrence) → Contains g t → Contains sh.extra t.p → Contains sh.occs o → is_forward p.node t o ≡ true →
@@ -73,7 +49,7 @@ module _ (s : Schema) (terms : List Term) (g : List Triple) (a b : Known) (p : P
         go None e h = h
         go (Some d) e h = λ v. h
             ((sure_carries s terms a b t.o (suc d.0) d).0
-            ((λ i sign st. up _ (need_out t o held of here.0.0 here.1 d e i sign st) (inr here.0)), (λ i st. down _ (need_out t o held of here.0.0 here.1 d e i true st))) v)
+            ((λ i sign st. up _ (need_out s g p sh is t held o of here.0.0 here.1 d e i sign st) (inr here.0)), (λ i st. down _ (need_out s g p sh is t held o of here.0.0 here.1 d e i true st))) v)
 
   pub match_falls : PairCanMatch s terms g b Possible p → PairCanMatch s terms g a Possible p
   match_falls = go (shape_at s p.shape) refl

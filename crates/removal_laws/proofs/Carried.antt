@@ -27,7 +27,7 @@ use Rattle.schema_tree.specs.Relevant.{is_forward, is_relevant, relevant_in_orde
 use Rattle.schema_tree.specs.Satisfies.{Sat}
 use Rattle.schema_tree.specs.Sure.{IsSure, Known, PairIs, SureEntry, SureWithin}
 use Rattle.schema_tree.proofs.Leans.{places_weaker}
-use Rattle.schema_tree.proofs.Needed.{in_graph, need_of}
+use Rattle.schema_tree.proofs.Needed.{in_graph, need_of, need_out}
 use Rattle.lists.proofs.Quantifiers.{all_weaker, some_weaker}
 use Rattle.lists.proofs.Filters.{in_filter}
 use Rattle.schema_tree.proofs.Ordered.{ordered_same}
@@ -159,7 +159,7 @@ module _ (s : Schema) (terms : List Term) (g : List Triple) (a b : Known) (p : P
         parts = forward_parts (Sat s terms []) g sh p.node t o forward
 
         need : (d : ExprId) → o.value ≡ Some d → (i : ShapeId) (sign : Bool) → StandsIn s i d sign → Needs s g p (pair_of t.o i)
-        need d e i sign st = subst (λ c. Needs s g p (pair_of (other_end c t) i)) parts.0 (need_of s g p sh is t held o of parts.1 d e i sign st)
+        need = need_out s g p sh is t held o of parts.0 parts.1
 
         go : (x : Option ExprId) → o.value ≡ x → MayFail s terms a Impossible t.o x → MayFail s terms b Impossible t.o x
         go None e h = h

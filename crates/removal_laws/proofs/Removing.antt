@@ -1,10 +1,9 @@
 -- Removal by an agenda: the pairs go in their turns.
-use Rattle.std.proofs.Common.{◌≡◌, ◌≢◌, ℕ, zero, suc, ◌<◌, ◌≤◌, ◌⊎◌, inl, inr, List, [], ◌∷◌, ◌++◌, refl, arith, sym, subst, ap, ◌∙◌, length, take, get_or}
-use Rattle.std.proofs.Math.Seq.{get_or-append_seam, take-append_seam}
+use Rattle.std.proofs.Common.{◌≡◌, ◌≢◌, ℕ, zero, suc, ◌<◌, ◌≤◌, ◌⊎◌, inl, inr, List, [], ◌∷◌, ◌++◌, refl, arith, sym, subst, ap, ◌∙◌}
 use Rattle.std.proofs.lemmas.Bool.{cases_eq, cases_lt}
-use Rattle.std.proofs.lemmas.List.{append-nil, get_or_append_left, length-append, take-append-le}
+use Rattle.std.proofs.lemmas.List.{append-nil}
 use Rattle.std.proofs.lemmas.List.Elements.{Contains-append_cases, Contains-append_left, Contains-append_right}
-use Rattle.std.proofs.lemmas.Option.{get_or_from_slice_get, slice_get-get_or, slice_get_within}
+use Rattle.std.proofs.lemmas.Option.{slice_get_within}
 use Rattle.std.specs.Prelude.{◌↔◌, Contains, Option, Some, None, slice_get, slice_set}
 use Rattle.lists.specs.Distinct.{AreDistinct}
 use Rattle.rdf_terms.specs.declared.terms.Term.{Term}
@@ -20,6 +19,7 @@ use Rattle.schema_tree.specs.Places.{PairCanMatch}
 use Rattle.schema_tree.specs.Removal.{CanGo, ComesBefore, GoesNext, IsNarrow}
 use Rattle.schema_tree.specs.Sure.{Known}
 use Rattle.schema_tree.specs.Typings.{HaveSame}
+use Rattle.schema_tree.proofs.Turns.{in_turn_more}
 use Rattle.lists.proofs.Members.{got_in, in_one, is_first, not_in_none}
 use Rattle.removal_laws.specs.Marks.{KnowSame, known_by, marked, outside}
 use Rattle.removal_laws.specs.Stages.{IsBefore, IsOpen, IsRemoving, without}
@@ -37,29 +37,6 @@ module _ (s : Schema) (terms : List Term) (g : List Triple) (f : List ℕ) (pair
 
   abbrev Open : ℕ → Type 0
   Open i = IsOpen s terms g f pairs budget elsewhere k i
-
-  -- one more went in its turn
-  one_more :
-      (gone : List Pair) (p : Pair) → ((r : ℕ) (q : Pair) → slice_get gone r ≡ Some q → Goes (take r gone) q) → Goes gone p →
-      (r : ℕ) (q : Pair) → slice_get (gone ++ p ∷ []) r ≡ Some q → Goes (take r (gone ++ p ∷ [])) q
-  one_more gone p turns next r q is = elim (cases_lt r (length gone)) [
-    | inl lt ↦ earlier lt
-    | inr ge ↦ last (let w = slice_get_within (gone ++ p ∷ []) r q is in let l = length-append gone (p ∷ []) in omega arith)
-  ]
-    where
-      item : get_or (gone ++ p ∷ []) r q ≡ q
-      item = get_or_from_slice_get (gone ++ p ∷ []) r q q is
-
-      earlier : r < length gone → Goes (take r (gone ++ p ∷ [])) q
-      earlier lt =
-          subst (λ ps. Goes ps q) (sym (take-append-le r gone (p ∷ []) (omega arith)))
-          (turns r q (slice_get-get_or gone r q lt ∙ ap (λ u. Some u) (sym (get_or_append_left gone (p ∷ []) q r lt) ∙ item)))
-
-      last : r ≡ length gone → Goes (take r (gone ++ p ∷ [])) q
-      last e =
-          let same : p ≡ q = sym (get_or-append_seam gone p [] q) ∙ (ap (λ i. get_or (gone ++ p ∷ []) i q) (sym e) ∙ item) in
-          let before : take r (gone ++ p ∷ []) ≡ gone = ap (λ i. take i (gone ++ p ∷ [])) e ∙ take-append_seam gone (p ∷ []) in
-          subst (λ ps. Goes ps q) (sym before) (subst (λ u. Goes gone u) same next)
 
   -- an Unknown pair did not go
   not_gone : (marks : List Verdict) (gone : List Pair) (Todo : ℕ → Type 0) → Removing marks gone Todo → (i : ℕ) (p : Pair) → slice_get pairs i ≡ Some p →
@@ -213,7 +190,7 @@ module _ (s : Schema) (terms : List Term) (g : List Triple) (f : List ℕ) (pair
 
       pub went : Removing marks' gone' New
       went = record {
-        in_turn = one_more gone p r.in_turn goes;
+        in_turn = in_turn_more Goes gone p r.in_turn goes;
         knows = knows';
         fresh = fresh;
         new = λ i q there lt. other_mark i (λ e. (let l = narrow.1 in let w : q ≡ p = same_at q (subst (λ j. slice_get pairs j ≡ Some q) e there) in

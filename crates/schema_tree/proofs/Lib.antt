@@ -35,6 +35,7 @@ pub mod PlainWidth
 pub mod Widths
 pub mod OneRefinement
 pub mod DecideMatch
+pub mod Turns
 pub mod RefinementExists
 pub mod CompleteRefinement
 pub mod Truth

@@ -1,5 +1,5 @@
 -- What a pair needs, by the triples and the occurrences that it has.
-use Rattle.std.proofs.Common.{◌≡◌, List, [], refl, sym, subst, true, Bool}
+use Rattle.std.proofs.Common.{◌≡◌, List, [], refl, sym, subst, ap, true, false, Bool}
 use Rattle.std.proofs.lemmas.Bool.{and_parts}
 use Rattle.std.proofs.lemmas.List.Sorted.{Contains-permutation, IsPermutation-sym}
 use Rattle.std.specs.Prelude.{Contains, Some}
@@ -32,12 +32,12 @@ in_graph terms g sh n t c =
     let near = (in_filter (is_relevant sh.occs n) (neighbourhood terms g n) t c).0 in
     (in_filter _ g t (Contains-permutation _ _ t (IsPermutation-sym _ _ (ordered_same terms g n)) near)).0
 
--- what stands in the value of an occurrence that fits a triple is needed
-abbrev pub need_of :
+-- what stands in the value of an occurrence that fits a triple is needed, at the triple's other end
+abbrev need_at :
     (s : Schema) (g : List Triple) (p : Pair) (sh : Shape) → shape_at s p.shape ≡ Some sh → (t : Triple) → Contains g t → (o : Occurrence) →
-    Contains sh.occs o → fits o p.node t ≡ true → (e : ExprId) → o.value ≡ Some e → (i : ShapeId) (sign : Bool) → StandsIn s i e sign →
-    Needs s g p (pair_of (other_end o.inverse t) i)
-need_of s g p sh is t held o of fit e value i sign st = record {
+    Contains sh.occs o → fits o p.node t ≡ true → (n : TermId) → n ≡ other_end o.inverse t → (e : ExprId) → o.value ≡ Some e →
+    (i : ShapeId) (sign : Bool) → StandsIn s i e sign → Needs s g p (pair_of n i)
+need_at s g p sh is t held o of fit n end e value i sign st = record {
   shape = sh;
   is = is;
   occ = o;
@@ -45,10 +45,23 @@ need_of s g p sh is t held o of fit e value i sign st = record {
   triple = t;
   held = held;
   fit = fit;
-  end = refl;
+  end = end;
   sign = sign;
   stands = subst (λ v. StandsInValue s i v sign) (sym value) st;
 }
+
+abbrev pub need_of :
+    (s : Schema) (g : List Triple) (p : Pair) (sh : Shape) → shape_at s p.shape ≡ Some sh → (t : Triple) → Contains g t → (o : Occurrence) →
+    Contains sh.occs o → fits o p.node t ≡ true → (e : ExprId) → o.value ≡ Some e → (i : ShapeId) (sign : Bool) → StandsIn s i e sign →
+    Needs s g p (pair_of (other_end o.inverse t) i)
+need_of s g p sh is t held o of fit = need_at s g p sh is t held o of fit (other_end o.inverse t) refl
+
+-- that end is the object, where the occurrence is not inverse
+abbrev pub need_out :
+    (s : Schema) (g : List Triple) (p : Pair) (sh : Shape) → shape_at s p.shape ≡ Some sh → (t : Triple) → Contains g t → (o : Occurrence) →
+    Contains sh.occs o → o.inverse ≡ false → fits o p.node t ≡ true → (e : ExprId) → o.value ≡ Some e → (i : ShapeId) (sign : Bool) → StandsIn s i e sign →
+    Needs s g p (pair_of t.o i)
+need_out s g p sh is t held o of forward fit = need_at s g p sh is t held o of fit t.o (ap (λ c. other_end c t) (sym forward))
 
 -- an occurrence that fits an arc out whose predicate is under EXTRA
 pub under_extra :

@@ -1,8 +1,6 @@
 -- A refinement of any distinct pairs exists.
-use Rattle.std.proofs.Common.{◌≡◌, ℕ, zero, suc, ◌<◌, ◌≤◌, ◌⊎◌, inl, inr, List, [], ◌∷◌, ◌++◌, refl, arith, sym, subst, ap, ◌∙◌, length, take, remove, get_or}
-use Rattle.std.proofs.Math.Seq.{get_or-append_seam, take-append_seam}
-use Rattle.std.proofs.lemmas.Bool.{cases_eq, cases_lt}
-use Rattle.std.proofs.lemmas.List.{get_or_append_left, length-append, take-append-le}
+use Rattle.std.proofs.Common.{◌≡◌, ℕ, zero, suc, ◌<◌, ◌≤◌, ◌⊎◌, inl, inr, List, [], ◌∷◌, ◌++◌, refl, arith, sym, subst, ap, ◌∙◌, length, remove}
+use Rattle.std.proofs.lemmas.Bool.{cases_eq}
 use Rattle.std.proofs.lemmas.List.Edits.{length-remove}
 use Rattle.std.proofs.lemmas.List.Elements.{Contains-append_cases, Contains-append_left, Contains-append_right}
 use Rattle.std.proofs.lemmas.List.Sorted.{Contains-permutation, IsPermutation-remove, IsPermutation-sym}
@@ -30,6 +28,7 @@ use Rattle.schema_tree.specs.Places.{CanMatch, MayFail, MayHold, PairCanMatch}
 use Rattle.schema_tree.specs.Removal.{AreRefinedBelow, CanGo, GoesNext, IsConfirmed, IsNarrow}
 use Rattle.schema_tree.specs.Sure.{Known, PairIs, SureEntry, SureWithin}
 use Rattle.schema_tree.specs.Typings.{IsPartOf}
+use Rattle.schema_tree.proofs.Turns.{InTurn, in_turn_more}
 use Rattle.schema_tree.proofs.Widths.{decide_within}
 use Rattle.schema_tree.proofs.Decide.{same_pairs}
 use Rattle.lists.proofs.Decided.{Decided, decide_member, decide_not}
@@ -188,40 +187,18 @@ module _ (s : Schema) (terms : List Term) (nodes : NodesAreDecided) (g : List Tr
       | inr none ↦ inr (λ p can. none p can.0.0 can)
     ]
 
-    -- each went in its turn
-    abbrev InTurn : List Pair → Type 0
-    InTurn gone = (r : ℕ) (p : Pair) → slice_get gone r ≡ Some p → GoesNext s terms g f pairs budget lower k (take r gone) p
-
-    -- and so did one more that goes next
-    pub in_turn_more : (gone : List Pair) (p : Pair) → InTurn gone → GoesNext s terms g f pairs budget lower k gone p → InTurn (gone ++ p ∷ [])
-    in_turn_more gone p turns next r q is = elim (cases_lt r (length gone)) [
-      | inl lt ↦ earlier lt
-      | inr ge ↦ last (let w = slice_get_within (gone ++ p ∷ []) r q is in let l = length-append gone (p ∷ []) in omega arith)
-    ]
-      where
-        item : get_or (gone ++ p ∷ []) r q ≡ q
-        item = get_or_from_slice_get (gone ++ p ∷ []) r q q is
-
-        earlier : r < length gone → GoesNext s terms g f pairs budget lower k (take r (gone ++ p ∷ [])) q
-        earlier lt =
-            subst (λ ps. GoesNext s terms g f pairs budget lower k ps q) (sym (take-append-le r gone (p ∷ []) (omega arith)))
-            (turns r q (slice_get-get_or gone r q lt ∙ ap (λ u. Some u) (sym (get_or_append_left gone (p ∷ []) q r lt) ∙ item)))
-
-        last : r ≡ length gone → GoesNext s terms g f pairs budget lower k (take r (gone ++ p ∷ [])) q
-        last e =
-            let same : p ≡ q = sym (get_or-append_seam gone p [] q) ∙ (ap (λ i. get_or (gone ++ p ∷ []) i q) (sym e) ∙ item) in
-            let before : take r (gone ++ p ∷ []) ≡ gone = ap (λ i. take i (gone ++ p ∷ [])) e ∙ take-append_seam gone (p ∷ []) in
-            subst (λ ps. GoesNext s terms g f pairs budget lower k ps q) (sym before) (subst (λ u. GoesNext s terms g f pairs budget lower k gone u) same next)
+    abbrev Next : List Pair → Pair → Type 0
+    Next gone p = GoesNext s terms g f pairs budget lower k gone p
 
     record Gone : Type 0 where
       pub gone : List Pair
-      pub in_turn : InTurn gone
+      pub in_turn : InTurn Next gone
       pub finished : (p : Pair) → ¬ Goes gone p
 
     -- pairs go as long as one can; left has those that did not go
     go_on :
         (fuel : ℕ) (left gone : List Pair) → length left ≤ fuel → ((p : Pair) → Contains pairs p → ¬ Contains gone p → Contains left p) →
-        InTurn gone → Gone
+        InTurn Next gone → Gone
     go_on zero left gone short rest turns =
         record { gone = gone; in_turn = turns; finished = λ p can. (let held = rest p can.0.0 can.1 in let i : held.0 < length left = held.1 in absurd (omega arith)) }
     go_on (suc fuel) left gone short rest turns = step (next_of gone) (λ left' gone'. go_on fuel left' gone')
@@ -237,12 +214,12 @@ module _ (s : Schema) (terms : List Term) (nodes : NodesAreDecided) (g : List Tr
 
         step :
             ((p : Pair) × GoesNext s terms g f pairs budget lower k gone p) ⊎ ((p : Pair) → ¬ Goes gone p) →
-            ((left' gone' : List Pair) → length left' ≤ fuel → ((p : Pair) → Contains pairs p → ¬ Contains gone' p → Contains left' p) → InTurn gone' → Gone) → Gone
+            ((left' gone' : List Pair) → length left' ≤ fuel → ((p : Pair) → Contains pairs p → ¬ Contains gone' p → Contains left' p) → InTurn Next gone' → Gone) → Gone
         step (inr none) deeper = record { gone = gone; in_turn = turns; finished = none }
         step (inl (p, next)) deeper =
             let (i, within, at) = rest p next.0.0.0 next.0.1 in
             let is : slice_get left i ≡ Some p = slice_get-get_or left i p within ∙ ap (λ u. Some u) at in
-            deeper (remove left i) (gone ++ p ∷ []) (omega (arith, length-remove left i within)) (further p next i is) (in_turn_more gone p turns next)
+            deeper (remove left i) (gone ++ p ∷ []) (omega (arith, length-remove left i within)) (further p next i is) (in_turn_more Next gone p turns next)
 
     all_gone : Gone
     all_gone = go_on (length pairs) pairs [] (omega arith) (λ p c new. c) (λ r p is. absurd (let w = slice_get_within [] r p is in omega arith))

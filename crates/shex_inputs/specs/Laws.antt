@@ -41,7 +41,7 @@ module _ (contents : List ℕ → Option (List ℕ)) (i : Inputs) where
       (refusal : Refusal) → IsRefused (Some contents) i refusal →
       ((other : Refusal) → IsRefused (Some contents) i other → source_of refusal ≡ source_of other) × ((source : Source) → ¬ IsAbsent (Some contents) i source)
 
--- the names of the files that the schema and the data are read from, as far as they are read
+-- the names of the files that the schema and the data may be read from: those of all import words are among them, read or not
 abbrev pub file_names : Inputs → List (List ℕ)
 file_names i = i.data_file ∷ i.schema ∷ map (λ w. w.file) i.imports
 
