@@ -15,9 +15,11 @@
 mod differences;
 mod document;
 mod files;
+mod report;
 mod words;
 
-pub use differences::{compare, note, push_row};
-pub use document::{Document, Entry, Row, read};
+pub use differences::{compare, note};
+pub use document::Entry;
 pub use files::{NamedFile, file_of};
+pub use report::{Rows, print_reports};
 pub use words::{bytes_of, cut, first_word, numbers_of, words_of};

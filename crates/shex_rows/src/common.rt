@@ -1,7 +1,8 @@
 //! What all rows of a document have.
 
+use crate::bench::tried;
 use anyhow::bail;
-use row_format::{Entry, NamedFile, file_of};
+use row_format::{Entry, NamedFile, Rows, file_of};
 use std::alloc::Global;
 
 /// What stands before the first row: files, and the words of each row that calls with no others.
@@ -28,14 +29,19 @@ impl Common {
     }
 }
 
-/// What the entries before the first row say.
-pub fn shared(alloc: Global, entries: &[Entry]) -> anyhow::Result<Common> {
-    let mut common = Common {
-        files: Vec::new(alloc),
-        words: None,
-    };
-    for entry in entries {
-        common.take_up(alloc, entry)?;
+impl Rows for Common {
+    fn shared(alloc: Global, entries: &[Entry]) -> anyhow::Result<Common> {
+        let mut common = Common {
+            files: Vec::new(alloc),
+            words: None,
+        };
+        for entry in entries {
+            common.take_up(alloc, entry)?;
+        }
+        Ok(common)
     }
-    Ok(common)
+
+    fn tried(&self, alloc: Global, entries: &[Entry]) -> anyhow::Result<String> {
+        tried(alloc, self, entries)
+    }
 }

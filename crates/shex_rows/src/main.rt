@@ -21,30 +21,9 @@ mod common;
 mod trial;
 mod verdict;
 
-use bench::tried;
-use common::shared;
-use row_format::{push_row, read};
-use std::alloc::Global;
-use std::{env, fs};
-
-/// The lines for the rows of a document.
-fn report(alloc: Global, text: &str) -> anyhow::Result<String> {
-    let document = read(alloc, text)?;
-    let common = shared(alloc, document.common.as_slice())?;
-    let mut report = String::new(alloc);
-    for row in document.rows.as_slice() {
-        let differences = tried(alloc, &common, row.entries.as_slice())?;
-        push_row(&mut report, row.title.as_str(), differences.as_str())?;
-    }
-    Ok(report)
-}
+use common::Common;
+use row_format::print_reports;
 
 fn main(rt: HostRuntime) -> anyhow::Result<()> {
-    for name in env::args(&rt)?.skip(1) {
-        let text = fs::read_to_string(&rt, name.as_str())?;
-        let lines = report(rt.alloc(), text.as_str())?;
-        println!(rt; "{name}")?;
-        rt.print(lines)?;
-    }
-    Ok(())
+    print_reports::<Common>(&rt)
 }

@@ -34,6 +34,7 @@
 mod arcs;
 mod asking;
 mod commands;
+mod common;
 mod compact;
 mod constraints;
 mod graphs;
@@ -47,41 +48,9 @@ mod references;
 mod terms;
 mod tokens;
 
-use anyhow::bail;
-use row_format::{Entry, NamedFile, file_of, push_row, read};
-use std::alloc::Global;
-use std::{env, fs};
-
-/// The files that stand before the first row.
-fn shared(alloc: Global, entries: &[Entry]) -> anyhow::Result<Vec<NamedFile>> {
-    let mut files = Vec::new(alloc);
-    for entry in entries {
-        let Some(file) = file_of(alloc, entry)? else {
-            bail!("only files stand before the first row");
-        };
-        files.push(file)?;
-    }
-    Ok(files)
-}
-
-/// The lines for the rows of a document.
-fn report(alloc: Global, text: &str) -> anyhow::Result<String> {
-    let document = read(alloc, text)?;
-    let common = shared(alloc, document.common.as_slice())?;
-    let mut report = String::new(alloc);
-    for row in document.rows.as_slice() {
-        let differences = asking::tried(alloc, common.as_slice(), row.entries.as_slice())?;
-        push_row(&mut report, row.title.as_str(), differences.as_str())?;
-    }
-    Ok(report)
-}
+use common::Common;
+use row_format::print_reports;
 
 fn main(rt: HostRuntime) -> anyhow::Result<()> {
-    for name in env::args(&rt)?.skip(1) {
-        let text = fs::read_to_string(&rt, name.as_str())?;
-        let lines = report(rt.alloc(), text.as_str())?;
-        println!(rt; "{name}")?;
-        rt.print(lines)?;
-    }
-    Ok(())
+    print_reports::<Common>(&rt)
 }
