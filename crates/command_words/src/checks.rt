@@ -35,7 +35,7 @@ pub fn is_schema_name(name: &str) -> bool
 
 /// Whether the name of a data file says how it is read.
 #[tactic(auto, unfolding(crate::specs::Checks::is_data_name))]
-fn is_data_name(name: &str) -> bool
+pub fn is_data_name(name: &str) -> bool
     ensures { result ≡ is_data_name name.now }
 {
     ends_in(name, ".nt") || ends_in(name, ".ttl")
@@ -50,7 +50,7 @@ fn has_iri_chars(text: &str) -> bool
 
 /// Whether references can be resolved against the text.
 #[tactic(auto, unfolding(crate::specs::Checks::is_base))]
-fn is_base(text: &str) -> bool
+pub fn is_base(text: &str) -> bool
     ensures { result ≡ is_base text.now }
 {
     split(text).scheme.is_some() && has_iri_chars(text)
@@ -171,7 +171,10 @@ fn command_for<'a>(request: Request<'a>, imports: Vec<Import<'a>>) -> Command<'a
 }
 
 /// What a request asks for that passes the checks.
-pub fn checked<'a>(alloc: Global, request: Request<'a>) -> Result<Command<'a>, WordsError<'a>>
+pub(crate) fn checked<'a>(
+    alloc: Global,
+    request: Request<'a>,
+) -> Result<Command<'a>, WordsError<'a>>
     ensures command { IfOk result (λ c. command_of c ≡ command_by (request_of request.entry) (command_of c).imports) }
     ensures passes { IfOk result (λ c. Passes (request_of request.entry) (command_of c).imports) }
     ensures fault { IfErr result (Because (IsRequestFault (request_of request.entry))) }

@@ -9,7 +9,7 @@ use clap::{Arg, ArgAction, Command};
 use std::alloc::{AllocError, Global};
 
 /// An option with one value.
-fn option<'a>(alloc: Global, name: &'a str) -> Arg<'a>
+pub fn option<'a>(alloc: Global, name: &'a str) -> Arg<'a>
     ensures rule { rule_of result ≡ option name.entry.now }
     ensures local { result.global ≡ false }
 {
@@ -17,7 +17,7 @@ fn option<'a>(alloc: Global, name: &'a str) -> Arg<'a>
 }
 
 /// An argument that has to be given.
-fn needed<'a>(arg: Arg<'a>) -> Arg<'a>
+pub fn needed<'a>(arg: Arg<'a>) -> Arg<'a>
     requires { arg.global ≡ false }
     ensures rule { rule_of result ≡ needed (rule_of arg.entry) }
     ensures local { result.global ≡ false }
@@ -26,7 +26,7 @@ fn needed<'a>(arg: Arg<'a>) -> Arg<'a>
 }
 
 /// An argument with one value, which stands alone.
-fn word<'a>(alloc: Global, name: &'a str) -> Arg<'a>
+pub fn word<'a>(alloc: Global, name: &'a str) -> Arg<'a>
     ensures rule { rule_of result ≡ word name.entry.now }
     ensures local { result.global ≡ false }
 {
@@ -34,7 +34,7 @@ fn word<'a>(alloc: Global, name: &'a str) -> Arg<'a>
 }
 
 /// The last argument, which takes any number of words.
-fn rest<'a>(alloc: Global, name: &'a str) -> Arg<'a>
+pub fn rest<'a>(alloc: Global, name: &'a str) -> Arg<'a>
     ensures rule { rule_of result ≡ rest name.entry.now }
     ensures local { result.global ≡ false }
 {
@@ -42,7 +42,7 @@ fn rest<'a>(alloc: Global, name: &'a str) -> Arg<'a>
 }
 
 /// A command without arguments, and without help and version flags.
-fn bare<'a>(alloc: Global, name: &'a str) -> Command<'a>
+pub fn bare<'a>(alloc: Global, name: &'a str) -> Command<'a>
     ensures { app_of result ≡ command name.entry.now [] }
 {
     Command::new(alloc, name)
@@ -52,7 +52,7 @@ fn bare<'a>(alloc: Global, name: &'a str) -> Command<'a>
 }
 
 /// The command with one more argument.
-fn with<'a>(command: Command<'a>, arg: Arg<'a>) -> Result<Command<'a>, AllocError>
+pub fn with<'a>(command: Command<'a>, arg: Arg<'a>) -> Result<Command<'a>, AllocError>
     requires { arg.global ≡ false }
     ensures { IfOk result (λ c. app_of c ≡ with_rule (app_of command.entry) (rule_of arg.entry)) }
 {
@@ -61,7 +61,7 @@ fn with<'a>(command: Command<'a>, arg: Arg<'a>) -> Result<Command<'a>, AllocErro
 }
 
 /// The command `validate`.
-pub fn validate<'a>(alloc: Global) -> Result<Command<'a>, AllocError>
+pub(crate) fn validate<'a>(alloc: Global) -> Result<Command<'a>, AllocError>
     ensures { IfOk result (λ c. app_of c ≡ validate) }
 {
     let mut command = bare(alloc, "validate");
@@ -77,7 +77,7 @@ pub fn validate<'a>(alloc: Global) -> Result<Command<'a>, AllocError>
 }
 
 /// The command `check`.
-pub fn check<'a>(alloc: Global) -> Result<Command<'a>, AllocError>
+pub(crate) fn check<'a>(alloc: Global) -> Result<Command<'a>, AllocError>
     ensures { IfOk result (λ c. app_of c ≡ check) }
 {
     let mut command = bare(alloc, "check");
@@ -91,7 +91,7 @@ pub fn check<'a>(alloc: Global) -> Result<Command<'a>, AllocError>
 }
 
 /// The command `upgrade`.
-pub fn upgrade<'a>(alloc: Global) -> Result<Command<'a>, AllocError>
+pub(crate) fn upgrade<'a>(alloc: Global) -> Result<Command<'a>, AllocError>
     ensures { IfOk result (λ c. app_of c ≡ upgrade) }
 {
     let mut command = bare(alloc, "upgrade");
@@ -106,7 +106,7 @@ pub fn upgrade<'a>(alloc: Global) -> Result<Command<'a>, AllocError>
 }
 
 /// The command `drill`.
-pub fn drill<'a>(alloc: Global) -> Result<Command<'a>, AllocError>
+pub(crate) fn drill<'a>(alloc: Global) -> Result<Command<'a>, AllocError>
     ensures { IfOk result (λ c. app_of c ≡ drill) }
 {
     let mut command = bare(alloc, "drill");

@@ -1,19 +1,21 @@
 //! The words of the commands `validate`, `check`, `upgrade` and `drill`, read with `clap` and checked.
 #![tactic(auto)]
 
-mod checks;
+pub mod checks;
 mod command;
-mod commands;
+pub mod commands;
 mod drilling;
 mod error;
-mod imports;
+pub mod imports;
 mod laws;
-mod matches;
-mod numbers;
+pub mod matches;
+pub mod numbers;
 mod requests;
 mod words;
 
 pub use command::{Call, Checking, Command, Drilling, Import, Inputs, Upgrading, Validation};
 pub use error::WordsError;
 pub use laws::{answers_are_one, bases_are_lines};
+pub use numbers::DEFAULT_BUDGET;
+pub use requests::DEFAULT_BASE;
 pub use words::read;

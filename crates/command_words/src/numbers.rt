@@ -6,8 +6,8 @@ ghost use Rattle.command_words.specs.Requests.{IsBudget};
 
 use xs_text::unsigned_long;
 
-/// The budget where none is given.
-const DEFAULT_BUDGET: u64 = 1_048_576;
+/// The greatest width of a pair that is looked into where no budget is given.
+pub const DEFAULT_BUDGET: u64 = 1_048_576;
 
 /// The greatest budget.
 const MAX_BUDGET: u64 = 1_099_511_627_776;
@@ -30,7 +30,7 @@ pub fn budget(value: Option<&str>) -> Option<u64>
 }
 
 /// The number of items that a word gives, if that is a number within the limits.
-pub fn items(text: &str) -> Option<u32>
+pub(crate) fn items(text: &str) -> Option<u32>
     ensures found { IfSome result (IsItems text.now) }
     ensures missed { IsNone result → (n : ℕ) → ¬ IsItems text.now n }
 {

@@ -14,7 +14,7 @@ use clap::ArgMatches;
 use std::alloc::Global;
 
 /// The base of schema and data where none is given.
-const DEFAULT_BASE: &str = "http://localhost/";
+pub const DEFAULT_BASE: &str = "http://localhost/";
 
 /// What is asked of the schema and the data.
 #[derive(Clone, Copy)]

@@ -21,13 +21,13 @@ use Rattle.command_words.specs.Requests.{default_budget, Task, checking, proof_o
 use Rattle.shex_inputs.specs.declared.error.Refusal.{Refusal}
 use Rattle.shex_inputs.specs.Asked.{IsAskedOf, Question}
 use Rattle.shex_inputs.specs.Held.{Held}
+use Rattle.program_ends.specs.Printing.{IsCut, PrintsBoth, PrintsTo, SinkSeen}
 use Rattle.shex_run.specs.declared.stop.File.{File}
 use Rattle.shex_run.specs.Checking.{IsFull, IsGiven, IsRejected, Rejects}
 use Rattle.shex_run.specs.Drills.{AreDrillAnswers, IsDrilled}
-use Rattle.shex_run.specs.Endings.{Ends, FilesSeen, IsAnswered, IsConfirmed, IsDrillWhollyStored, IsFailedDrill, IsFailedFile, IsPartlyStored, IsPrintedInPart, IsRefusalLine, IsRefusedBy, IsRejectedBy, IsRespondedTo, IsResponse, IsUnprinted, IsWhollyStored, IsWhollyUpgraded, IsWordsLine, KeepsTold, MayPrintInPart, PrintsBoth, PrintsTo, SinkSeen, answer_in_part, answered, failed, faulty, line_in_part, notes_in_part, refused, rejected, wanting}
+use Rattle.shex_run.specs.Endings.{Ends, FilesSeen, IsAnswered, IsConfirmed, IsDrillWhollyStored, IsFailedDrill, IsFailedFile, IsPartlyStored, IsPrintedInPart, IsRefusalLine, IsRefusedBy, IsRejectedBy, IsRespondedTo, IsResponse, IsUnprinted, IsWhollyStored, IsWhollyUpgraded, IsWordsLine, KeepsTold, MayPrintInPart, answer_in_part, answered, failed, faulty, line_in_part, notes_in_part, refused, rejected, wanting}
 use Rattle.shex_run.specs.Outcomes.{AreTaken, IsAbsent, IsRefused, TakesFor}
 use Rattle.shex_run.specs.Proofs.{Accepted, IsStoredProofOf, Stores}
-use Rattle.shex_run.specs.Printing.{IsCut}
 use Rattle.shex_run.specs.Statuses.{Concludes, IsAnswering, IsInterrupted, are_wanted, status_by}
 use Rattle.shex_run.specs.Storing.{IsDueStore, IsUpgradeOf}
 use Rattle.shex_run.specs.Texts.{notes_by, wide_lines}

@@ -16,7 +16,7 @@ use Rattle.proof_checker.specs.declared.checking.CheckError.TheVariants as Check
 use Rattle.command_words.specs.Checks.{is_base}
 use Rattle.command_words.specs.Drills.{Drill, IsDrill, max_items}
 use Rattle.command_words.specs.Lent.{command_of}
-use Rattle.command_words.specs.Requests.{Task, checking, default_base, default_budget, max_budget, proof_of, upgrading, validation}
+use Rattle.command_words.specs.Requests.{Task, checking, default_base, default_budget, max_budget, upgrading, validation}
 use Rattle.command_words.specs.declared.command.Command.TheVariants as Lent
 use Rattle.command_words.specs.declared.command.Validation.{Validation}
 use Rattle.shex_drill.specs.Files.{contents_by, drill_contents, drill_told}
@@ -30,6 +30,7 @@ use Rattle.shex_inputs.specs.Refusals.{IsRefused as IsInputRefused}
 use Rattle.shex_inputs.specs.declared.error.InputError.{InputError}
 use Rattle.shex_inputs.specs.declared.error.InputError.TheVariants as InputErrors
 use Rattle.shex_inputs.specs.declared.error.Refusal.{Refusal as InputRefusal}
+use Rattle.program_ends.specs.Printing.{IsQuiet, PrintsBoth, PrintsTo, SinkSeen}
 use Rattle.shex_run.specs.declared.deciding.Decided.{Decided}
 use Rattle.shex_run.specs.declared.stop.File.{File}
 use Rattle.shex_run.specs.declared.stop.File.TheVariants as Files
@@ -37,11 +38,11 @@ use Rattle.shex_run.specs.declared.stop.Refusal.TheVariants as Refusals
 use Rattle.shex_run.specs.declared.stop.Stop.{Stop}
 use Rattle.shex_run.specs.declared.stop.Stop.TheVariants as Stops
 use Rattle.shex_run.specs.Checking.{ConfirmStops}
-use Rattle.shex_run.specs.Drills.{AreDrillAnswers, AreTexts, DrillStops, IsCutDrill, IsDrillProof, IsDrilled, drill_command}
-use Rattle.shex_run.specs.Endings.{Ends, FilesSeen, IsQuiet, PrintsBoth, PrintsTo, SinkSeen, answered, failed, wanting}
+use Rattle.shex_run.specs.Drills.{AreDrillAnswers, IsCutDrill, IsDrillProof, IsDrilled, drill_command}
+use Rattle.shex_run.specs.Endings.{Ends, FilesSeen, answered, failed, wanting}
 use Rattle.shex_run.specs.Proofs.{Accepted, AreAnswers, IsStoredProofOf}
-use Rattle.shex_run.specs.Ready.{IsReply}
-use Rattle.shex_run.specs.Stopping.{Explains, FaultsAs, IsFit, ProofStops}
+use Rattle.shex_run.specs.Ready.{AreTexts, IsReply}
+use Rattle.shex_run.specs.Stopping.{DrillStops, Explains, FaultsAs, IsFit, ProofStops}
 use Rattle.shex_run.specs.Tasks.{IsToCheck, inputs_of}
 use Rattle.shex_run.specs.Texts.{failed_line}
 use Rattle.shex_run.proofs.Settled.{accepted_not_full, accepted_not_rejected}

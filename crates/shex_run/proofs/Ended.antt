@@ -10,13 +10,14 @@ use Rattle.command_words.specs.declared.error.WordsError.{WordsError}
 use Rattle.command_words.specs.declared.error.WordsError.TheVariants as Errors
 use Rattle.proof_checker.specs.declared.checking.CheckError.{CheckError}
 use Rattle.proof_checker.specs.declared.checking.CheckError.TheVariants as CheckErrors
+use Rattle.program_ends.specs.Printing.{IsQuiet, Prints, PrintsBoth, PrintsTo, SinkSeen}
 use Rattle.shex_run.specs.declared.stop.Refusal.{Refusal}
 use Rattle.shex_run.specs.declared.stop.Refusal.TheVariants as Refusals
 use Rattle.shex_run.specs.declared.stop.Stop.{Stop}
 use Rattle.shex_run.specs.declared.stop.Stop.TheVariants as Stops
 use Rattle.shex_run.specs.Checking.{IsRejected}
-use Rattle.shex_run.specs.Endings.{AreLeft, Ends, FilesSeen, IsPartlyStored, IsQuiet, IsResponse, PrintsBoth, PrintsTo, SinkSeen, answered, failed, faulty, refused, rejected, wanting}
-use Rattle.shex_run.specs.Printing.{Prints, RefusesWords}
+use Rattle.shex_run.specs.Endings.{AreLeft, Ends, FilesSeen, IsPartlyStored, IsResponse, answered, failed, faulty, refused, rejected, wanting}
+use Rattle.shex_run.specs.Printing.{RefusesWords}
 use Rattle.shex_run.specs.Statuses.{IsAnswering, refusal_status}
 use Rattle.shex_run.specs.Stopping.{Explains, FaultsAs, LeavesStored}
 use Rattle.shex_run.specs.Storing.{MayStore}

@@ -18,9 +18,9 @@ use Rattle.shex_inputs.specs.Asked.{Question}
 use Rattle.shex_run.specs.declared.stop.File.{File}
 use Rattle.shex_run.specs.declared.stop.Refusal.TheVariants as Refusals
 use Rattle.shex_run.specs.Checking.{IsCheckedAs, IsFull, IsRejected}
+use Rattle.program_ends.specs.Printing.{IsQuiet, PrintsBoth, PrintsTo, SinkSeen}
 use Rattle.shex_run.specs.Drills.{IsCutDrill, IsDrillProof, IsDrilled}
 use Rattle.shex_run.specs.Outcomes.{IsRefused, Reaches}
-use Rattle.shex_run.specs.Printing.{IsCut, Prints}
 use Rattle.shex_run.specs.Proofs.{AreAnswers, IsDueProof, IsStoredProofOf, Stores}
 use Rattle.shex_run.specs.Statuses.{IsAnswering, status_of}
 use Rattle.shex_run.specs.Storing.{IsCutStore, IsDueUpgrade, IsUpgradeOf}
@@ -103,13 +103,6 @@ pub record FilesSeen : Type 0 where
   pub blame : List ℕ
   pub act : Act
 
--- a sink before and after a call: what it got, if that is told, and the count of faults
-pub record SinkSeen : Type 0 where
-  pub got : Option (List ℕ)
-  pub got_after : Option (List ℕ)
-  pub faults : ℕ
-  pub faults_after : ℕ
-
 -- the last fault is that of a file of the words to which the steps came, and which could not be fetched or stored
 pub record IsFailedFile (files : FilesSeen) (words : List Text) : Type 0 where
   pub command : Command
@@ -146,21 +139,6 @@ KeepsTold told after words =
     ⊎ (((c : Command) × IsAsked words c × ((name : Text) × IsToStore c name × KeepsOthers told after name))
     ⊎ ((d : Drill) × IsDrill words d × ((name : Text) × (d.proof ≡ Some name) × KeepsOthers told after name)))
 
--- nothing was printed, and no fault came
-pub record IsQuiet (sink : SinkSeen) : Type 0 where
-  pub got_same : sink.got_after ≡ sink.got
-  pub faults_same : sink.faults_after ≡ sink.faults
-
--- the text was printed, or a prefix of it where printing stopped
-abbrev pub PrintsTo : SinkSeen → List ℕ → ℕ → ℕ → Type 0
-PrintsTo sink text wanted status = Prints sink.got sink.got_after sink.faults sink.faults_after text wanted status
-
--- the text was printed to the output, and then the notes to the error stream, or a prefix where printing stopped
-abbrev pub PrintsBoth : SinkSeen → SinkSeen → List ℕ → List ℕ → ℕ → ℕ → Type 0
-PrintsBoth out err text notes wanted status =
-    (Gains out.got out.got_after text × (out.faults_after ≡ out.faults) × PrintsTo err notes wanted status)
-    ⊎ (IsCut out.got out.got_after out.faults out.faults_after text status × IsQuiet err)
-
 -- nothing is stored, and no fault of the files came
 pub record AreLeft (files : FilesSeen) : Type 0 where
   pub told_same : files.told_after ≡ files.told
@@ -188,9 +166,9 @@ IsDue files words line =
     ((IsWordsLine words line ⊎ (IsRefusedBy files.told words line ⊎ IsRejectedBy files.told words line)) × AreLeft files)
     ⊎ (IsFailedBy files words line × HaveFailed files words)
 
--- printing stopped: the output got a prefix of the text that answers, whose proof is stored whole if one is asked for; or it got that
--- text, and the error stream a prefix of the notes; or the error stream got a prefix of the line that is due to it. The other sink got
--- nothing
+-- printing stopped: the output got a prefix of the text that answers, and the error stream nothing; or the output got that text whole,
+-- and the error stream a prefix of the notes; and the proof is stored whole if one is asked for. Or the error stream got a prefix of the
+-- line that is due to it, and the output nothing
 pub data IsPrintedInPart (words : List Text) (files : FilesSeen) (out err : SinkSeen) : Type 0 where
   answer_in_part : (text notes : List ℕ) (status : ℕ) → IsRespondedTo files.told files.told_after words status text notes → files.faults_after ≡ files.faults → GainsPrefix out.got out.got_after text → IsQuiet err → IsPrintedInPart words files out err
   notes_in_part : (text notes : List ℕ) (status : ℕ) → IsRespondedTo files.told files.told_after words status text notes → files.faults_after ≡ files.faults → Gains out.got out.got_after text → GainsPrefix err.got err.got_after notes → IsPrintedInPart words files out err

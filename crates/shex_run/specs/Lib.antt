@@ -4,10 +4,10 @@ pub mod Proofs
 pub mod Checking
 pub mod Storing
 pub mod Outcomes
+pub mod Drills
 pub mod Stopping
 pub mod Ready
 pub mod Texts
 pub mod Printing
-pub mod Drills
 pub mod Endings
 pub mod Wide

@@ -1,22 +1,10 @@
--- How printing ends.
-use Rattle.std.specs.Prelude.{ℕ, List, ◌≡◌, ◌≤◌, ◌⊎◌, Option}
-use Rattle.shex_io.specs.Faults.{Rose}
-use Rattle.shex_io.specs.Sinks.{Gains, GainsPrefix}
+-- How the line for words that are at fault is printed.
+use Rattle.std.specs.Prelude.{ℕ, List, ◌≡◌, Option}
 use Rattle.command_words.specs.Checks.{arguments, base, ending, import_word, same}
 use Rattle.command_words.specs.declared.error.WordsError.{WordsError}
 use Rattle.command_words.specs.declared.error.WordsError.TheVariants as Errors
+use Rattle.program_ends.specs.Printing.{Prints}
 use Rattle.shex_run.specs.Texts.{words_line}
-
--- a prefix of the text is printed, and the status is 7, where the sink failed, or 8, where memory ran out
-abbrev pub IsCut : Option (List ℕ) → Option (List ℕ) → ℕ → ℕ → List ℕ → ℕ → Type 0
-IsCut before after faults faults_after text status =
-    ((status ≡ 7) × GainsPrefix before after text × Rose faults faults_after × (faults ≤ faults_after))
-    ⊎ ((status ≡ 8) × GainsPrefix before after text × (faults_after ≡ faults))
-
--- the text is printed whole and the status is the one that is wanted; or printing stopped
-abbrev pub Prints : Option (List ℕ) → Option (List ℕ) → ℕ → ℕ → List ℕ → ℕ → ℕ → Type 0
-Prints before after faults faults_after text wanted status =
-    ((status ≡ wanted) × Gains before after text × (faults_after ≡ faults)) ⊎ IsCut before after faults faults_after text status
 
 -- the line of the words' fault is printed; or memory ran out before, and nothing is
 abbrev pub RefusesWords : WordsError → Option (List ℕ) → Option (List ℕ) → ℕ → ℕ → ℕ → Type 0

@@ -18,7 +18,8 @@ use Rattle.shape_map.specs.Results.{result_text}
 use Rattle.shape_map.specs.Selection.{max_associations}
 use Rattle.command_words.specs.Asked.{Command}
 use Rattle.shex_inputs.specs.declared.holding.Holding.{Holding}
-use Rattle.shex_inputs.specs.Asked.{Question, root_of}
+use Rattle.shex_drill.specs.Files.{drill_contents}
+use Rattle.shex_inputs.specs.Asked.{IsAskedOf, Question, root_of}
 use Rattle.shex_inputs.specs.Held.{Held}
 use Rattle.shape_map.specs.Answers.{IsAsked}
 use Rattle.typing_answers.specs.Proofs.{HasLines, IsProofOf as Proves}
@@ -26,15 +27,18 @@ use Rattle.typing_answers.specs.Replies.{AreReplies}
 use Rattle.typing_refiner.specs.declared.building.WidePair.{WidePair}
 use Rattle.demand.specs.Demand.{AreAsked}
 use Rattle.demand.specs.Orders.{max_pairs}
-use Rattle.command_words.specs.Requests.{max_budget}
+use Rattle.command_words.specs.Drills.{max_items}
+use Rattle.command_words.specs.Requests.{default_budget, max_budget}
 use Rattle.schema_tree.specs.declared.schema.Pair.{Pair}
 use Rattle.schema_tree.specs.Edges.{IsStratum}
 use Rattle.schema_tree.specs.Needs.{HoldNeeds}
 use Rattle.schema_tree.specs.Removal.{IsRefined}
 use Rattle.schema_tree.specs.Sure.{Known}
 use Rattle.shex_run.specs.declared.deciding.Decided.{Decided}
+use Rattle.shex_run.specs.Drills.{AreDrillAnswers, drill_command, drill_line}
 use Rattle.shex_run.specs.Proofs.{AreAnswers, IsStoredProofOf}
 use Rattle.shex_run.specs.Statuses.{IsAnswering, status_of}
+use Rattle.shex_run.specs.Tasks.{inputs_of}
 use Rattle.shex_run.specs.Texts.{notes_by, notes_of}
 use Rattle.shex_run.specs.Wide.{AreWide}
 
@@ -110,3 +114,22 @@ pub record IsReply (told : Told) (c : Command) (budget : ℕ) (with_proof : Bool
   pub notes_are : d.notes.items ≡ notes_of question budget answers wide
   pub proof : IfSome d.proof (IsReplyProof question budget answers)
   pub wanted : is_some d.proof ≡ with_proof
+
+-- the files hold the texts of a drill
+abbrev pub AreTexts : (List ℕ → Option (List ℕ)) → Type 0
+AreTexts contents = (n : ℕ) × (1 ≤ n) × (n ≤ max_items) × (contents ≡ drill_contents n)
+
+-- the bytes are a proof of the answers to what the texts of these files ask
+pub record IsProofOfTexts (contents : List ℕ → Option (List ℕ)) (bytes : List ℕ) : Type 0 where
+  pub question : Question
+  pub answers : List Answer
+  pub asked : IsAskedOf (Some contents) (inputs_of drill_command) question
+  pub proof : IsStoredProofOf question default_budget answers bytes
+
+-- the text is the line that counts the answers of a drill with n items, and the bytes are a proof of them
+pub record IsDrillReply (n : ℕ) (text bytes : List ℕ) : Type 0 where
+  pub question : Question
+  pub answers : List Answer
+  pub are_answers : AreDrillAnswers n question answers
+  pub text_is : text ≡ drill_line n answers
+  pub proof : IsStoredProofOf question default_budget answers bytes

@@ -1,14 +1,16 @@
 -- How the functions of a call stop.
-use Rattle.std.specs.Prelude.{ℕ, List, Option, ◌≡◌, ◌≤◌, true, ⊤}
+use Rattle.std.specs.Prelude.{ℕ, List, Option, ◌≡◌, ◌≤◌, ◌⊎◌, Some, true, ⊤}
 use Rattle.clap.specs.Words.{Text}
 use Rattle.command_words.specs.Requests.{max_budget}
 use Rattle.shex_io.specs.Faults.{Rose}
 use Rattle.shex_io.specs.Files.{Told}
 use Rattle.shex_io.specs.declared.files.Act.{Act}
+use Rattle.shex_io.specs.declared.files.Act.TheVariants as Acts
 use Rattle.proof_checker.specs.declared.checking.CheckError.{CheckError}
 use Rattle.proof_checker.specs.declared.checking.CheckError.TheVariants as CheckErrors
 use Rattle.command_words.specs.Asked.{Command}
 use Rattle.command_words.specs.Checks.{is_base}
+use Rattle.command_words.specs.Drills.{Drill}
 use Rattle.shex_inputs.specs.declared.error.InputError.{InputError}
 use Rattle.shex_inputs.specs.declared.error.InputError.TheVariants as Errors
 use Rattle.shex_run.specs.declared.stop.File.{File}
@@ -17,6 +19,7 @@ use Rattle.shex_run.specs.declared.stop.Refusal.TheVariants as Refusals
 use Rattle.shex_run.specs.declared.stop.Stop.{Stop}
 use Rattle.shex_run.specs.declared.stop.Stop.TheVariants as Stops
 use Rattle.shex_run.specs.Checking.{IsFull, IsRejected}
+use Rattle.shex_run.specs.Drills.{IsCutDrill}
 use Rattle.shex_run.specs.Outcomes.{IsRefused, Reaches}
 use Rattle.shex_run.specs.Storing.{MayStore}
 use Rattle.shex_run.specs.Tasks.{IsToValidate, act_of, name_of}
@@ -67,3 +70,10 @@ abbrev pub ProofStops : File → List ℕ → Act → ℕ → ℕ → List ℕ �
 ProofStops asked name wanted before after blame act (Stops.Failed file) = (file ≡ asked) × (Rose before after × (before ≤ after) × (blame ≡ name) × (act ≡ wanted))
 ProofStops asked name wanted before after blame act Stops.Memory = after ≡ before
 ProofStops asked name wanted before after blame act stop = ⊥
+
+-- why there is no line: the proof was made, and a call on its file failed; or memory ran out
+abbrev pub DrillStops : Told → Told → Drill → ℕ → ℕ → List ℕ → Act → Stop → Type 0
+DrillStops told after d before later blame act (Stops.Refused refusal) = ⊥
+DrillStops told after d before later blame act (Stops.Failed file) =
+    Rose before later × (before ≤ later) × (d.proof ≡ Some blame) × (act ≡ Acts.Store) × IsCutDrill told after d
+DrillStops told after d before later blame act Stops.Memory = (later ≡ before) × ((after ≡ told) ⊎ IsCutDrill told after d)

@@ -13,8 +13,9 @@ ghost use Rattle.schema_tree.specs.Edges.{IsStratum};
 ghost use Rattle.schema_tree.specs.Loaded.{IsLoaded};
 ghost use Rattle.shex_drill.specs.Files.{contents_of};
 ghost use Rattle.shex_inputs.specs.Held.{IsTaken, held_by};
-ghost use Rattle.shex_run.specs.Drills.{AreTexts, DrillStops, IsDrillReply, IsDrilled, IsProofOfTexts, drill_command, drill_line, saying};
-ghost use Rattle.shex_run.specs.Ready.{IsReply};
+ghost use Rattle.shex_run.specs.Drills.{IsDrilled, drill_command, drill_line, saying};
+ghost use Rattle.shex_run.specs.Ready.{AreTexts, IsDrillReply, IsProofOfTexts, IsReply};
+ghost use Rattle.shex_run.specs.Stopping.{DrillStops};
 ghost use Rattle.shex_run.specs.Tasks.{inputs_of};
 ghost use Rattle.shex_run.specs.declared.stop.Stop.TheVariants as Stops;
 
@@ -22,7 +23,7 @@ use crate::answers::{Response, decide_map, store};
 use crate::checking::confirm;
 use crate::deciding::Decided;
 use crate::stop::{File, Stop};
-use command_words::{Drilling, Inputs, Validation};
+use command_words::{DEFAULT_BASE, DEFAULT_BUDGET, Drilling, Inputs, Validation};
 use drill_laws::{drill_is_decided, drill_is_taken};
 use proof_file::write::write;
 use schema_tree::schema::Answer;
@@ -30,12 +31,6 @@ use shex_drill::{DATA_FILE, DrillFiles, MAP_FILE, SCHEMA_FILE, make};
 use shex_inputs::{Holding, InputError, inputs_are_one, read_holding};
 use shex_io::Files;
 use std::alloc::{AllocError, Global};
-
-/// The base of the texts.
-const BASE: &str = "http://localhost/";
-
-/// The greatest width of a pair that is looked into.
-const BUDGET: u64 = 1_048_576;
 
 /// What is asked of the texts of a drill.
 fn drill_validation<'a>(alloc: Global) -> Validation<'a>
@@ -45,13 +40,13 @@ fn drill_validation<'a>(alloc: Global) -> Validation<'a>
         inputs: Inputs {
             schema: SCHEMA_FILE,
             data: DATA_FILE,
-            schema_base: BASE,
-            data_base: BASE,
+            schema_base: DEFAULT_BASE,
+            data_base: DEFAULT_BASE,
             imports: Vec::new(alloc),
         },
         map: MAP_FILE,
         proof: Some("proof"),
-        budget: BUDGET,
+        budget: DEFAULT_BUDGET,
     }
 }
 

@@ -1,10 +1,9 @@
-//! What a call prints.
+//! The lines that a call prints where it has no answer.
 
-ghost use Rattle.std.specs.Prelude.{◌≡◌, ◌<◌, IfOk, List, Some, string_bytes, ℕ};
+ghost use Rattle.std.specs.Prelude.{◌≡◌, IfOk, IsSome, List, Some, string_bytes, ℕ};
 ghost use Rattle.command_words.specs.Lent.{Because, command_of, drill_of};
 ghost use Rattle.schema_files.specs.Named.{name_of as schema_name_of};
 ghost use Rattle.shex_inputs.specs.Named.{asked_of, source_name};
-ghost use Rattle.shex_run.specs.Printing.{Prints};
 ghost use Rattle.shex_run.specs.Tasks.{inputs_of, map_name, name_of};
 ghost use Rattle.shex_run.specs.Texts.{cause_text, failed_line, refusal_line, refused_name, words_line};
 ghost use Rattle.shex_run.specs.declared.stop.File.TheVariants as Files;
@@ -13,7 +12,6 @@ use crate::stop::{File, Refusal};
 use command_words::{Command, Drilling, WordsError};
 use schema_files::{SchemaFile, file_name};
 use shex_inputs::{Source, error_line, refusal_text};
-use shex_io::{Sink, SinkError, put_all};
 use std::alloc::{AllocError, Global};
 
 /// The name of the program, with which its lines begin.
@@ -98,13 +96,13 @@ pub fn failed(alloc: Global, command: &Command<'_>, file: File) -> Result<String
     error_line(alloc, PROGRAM, name(command, file), "Failed")
 }
 
-/// The line for the proof of a drill, where it has a name and was not stored.
+/// The line for the proof of a drill, which was not stored under the name that is given for it.
 pub fn unstored(alloc: Global, drilling: &Drilling<'_>) -> Result<String, AllocError>
+    requires { IsSome (drill_of drilling.now).proof }
     ensures { (name : List ℕ) → (drill_of drilling.now).proof ≡ Some name → IfOk result (λ s. string_bytes s ≡ failed_line name) }
 {
-    let name = match drilling.proof {
-        Some(name) => name,
-        None => "",
+    let Some(name) = drilling.proof else {
+        unreachable!();
     };
     error_line(alloc, PROGRAM, name, "Failed")
 }
@@ -139,16 +137,4 @@ pub fn refusal(
 {
     let what = cause(alloc, refusal)?;
     error_line(alloc, PROGRAM, place(command, refusal), what.as_str())
-}
-
-/// Prints a text, and gives the status, or 7 or 8 where it is not printed whole.
-pub fn print<S: Sink>(sink: &mut S, text: &[u8], status: u8) -> u8
-    requires { status < 7 }
-    ensures { Prints (S.got sink.old) (S.got sink.new) (S.faults sink.old) (S.faults sink.new) text.now status result }
-{
-    match put_all(sink, text) {
-        Ok(()) => status,
-        Err(SinkError::Failed) => 7,
-        Err(SinkError::Memory) => 8,
-    }
 }

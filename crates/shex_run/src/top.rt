@@ -12,49 +12,24 @@ ghost use Rattle.command_words.specs.Drills.{Drill, IsDrill, IsFault, max_items}
 ghost use Rattle.command_words.specs.Lent.{command_of, drill_of};
 ghost use Rattle.shex_inputs.specs.Held.{Held};
 ghost use Rattle.shex_run.specs.Checking.{IsFull, IsGiven, IsRejected};
-ghost use Rattle.shex_run.specs.Endings.{Ends, IsDrillWhollyStored, IsFailedBy, IsPartlyStored, IsPrintedInPart, IsRefusedBy, IsRejectedBy, IsRespondedTo, IsWhollyStored, IsWhollyUpgraded, IsWordsLine, KeepsTold, MayPrintInPart, PrintsBoth};
+ghost use Rattle.shex_run.specs.Endings.{Ends, IsDrillWhollyStored, IsFailedBy, IsPartlyStored, IsPrintedInPart, IsRefusedBy, IsRejectedBy, IsRespondedTo, IsWhollyStored, IsWhollyUpgraded, IsWordsLine, KeepsTold, MayPrintInPart};
 ghost use Rattle.shex_run.specs.Outcomes.{AreTaken, IsAbsent, IsRefused};
-ghost use Rattle.shex_run.specs.Printing.{Prints, RefusesWords};
+ghost use Rattle.shex_run.specs.Printing.{RefusesWords};
 ghost use Rattle.shex_run.specs.Proofs.{Accepted};
 ghost use Rattle.shex_run.specs.Statuses.{Concludes, IsAnswering, IsInterrupted, IsStatus};
 ghost use Rattle.shex_run.specs.Stopping.{IsFit};
 ghost use Rattle.shex_run.specs.Tasks.{IsToStore, IsToValidate};
 
-use crate::answers::{Response, respond};
+use crate::answers::respond;
 use crate::drilling::drill;
 use crate::report;
 use crate::stop::{File, Stop};
 use command_words::{Call, Command, Drilling, WordsError, answers_are_one, read};
+use program_ends::say;
 use proof_checker::CheckError;
 use shex_inputs::{Refusal, inputs_are_one};
-use shex_io::{Files, Sink, SinkError, put_all};
-use std::alloc::{AllocError, Global};
-
-/// Prints a text that was made, and gives the status, or 7 or 8 where it is not printed whole.
-fn say<S: Sink>(text: Result<String, AllocError>, status: u8, sink: &mut S) -> u8
-    requires { status < 7 }
-    ensures { (line : List ℕ) → IfOk text (λ s. string_bytes s ≡ line) → Prints (S.got sink.old) (S.got sink.new) (S.faults sink.old) (S.faults sink.new) line status result }
-{
-    match text {
-        Ok(text) => report::print(sink, text.as_str().as_bytes(), status),
-        Err(_) => 8,
-    }
-}
-
-/// Prints the text of a response and then its notes, and gives the status.
-fn print_both<O: Sink, E: Sink>(response: &Response, out: &mut O, err: &mut E) -> u8
-    requires { IsAnswering response.now.status }
-    ensures { PrintsBoth
-        (record { got = O.got out.old; got_after = O.got out.new; faults = O.faults out.old; faults_after = O.faults out.new })
-        (record { got = E.got err.old; got_after = E.got err.new; faults = E.faults err.old; faults_after = E.faults err.new })
-        response.now.text.items response.now.notes.items response.now.status result }
-{
-    match put_all(out, response.text.as_slice()) {
-        Ok(()) => report::print(err, response.notes.as_slice(), response.status),
-        Err(SinkError::Failed) => 7,
-        Err(SinkError::Memory) => 8,
-    }
-}
+use shex_io::{Files, Sink};
+use std::alloc::Global;
 
 /// Says what is wrong with the words, unless memory ran out, and gives the status.
 fn refuse<S: Sink>(alloc: Global, error: WordsError<'_>, sink: &mut S) -> u8
@@ -83,7 +58,7 @@ fn end_command<F: Files, O: Sink, E: Sink>(
         result }
 {
     match respond(alloc, files, command) {
-        Ok(response) => print_both(&response, out, err),
+        Ok(response) => response.print(out, err),
         Err(Stop::Refused(refusal)) => {
             say(
                 report::refusal(alloc, command, &refusal),
@@ -113,7 +88,7 @@ fn end_drill<F: Files, O: Sink, E: Sink>(
         result }
 {
     match drill(alloc, files, drilling) {
-        Ok(response) => print_both(&response, out, err),
+        Ok(response) => response.print(out, err),
         Err(Stop::Refused(_)) => unreachable!(),
         Err(Stop::Failed(_)) => say(report::unstored(alloc, drilling), 5, err),
         Err(Stop::Memory) => 8,

@@ -1,6 +1,6 @@
 use Rattle.std.proofs.Common.{subst, sym}
 use Rattle.shex_drill.specs.Files.{contents_of}
-use Rattle.shex_run.specs.Drills.{AreTexts}
+use Rattle.shex_run.specs.Ready.{AreTexts}
 use Rattle.shex_run.specs.Stopping.{IsFit}
 use Rattle.shex_run.proofs.Drilled.{are_decided, drill_fits}
 use Rattle.shex_run.proofs.drilling.decide_texts.Goals as goal

@@ -9,7 +9,7 @@ use Rattle.shex_run.proofs.top.end_command.Goals as goal
 pub returns-in-Ok : goal.returns-in-Ok
 returns-in-Ok g c = λ words asked.
     with_response words (command_of c.args.command.now) asked _ _ _ _ c.in-Ok.response.text.items c.in-Ok.response.notes.items c.in-Ok.response.status c.in-Ok.ensures.low c.in-Ok.ensures.response
-    c.in-Ok.ensures.faults_stay c.print_both.ensures
+    c.in-Ok.ensures.faults_stay c.print.ensures
 
 pub returns-in-Err-Refused : goal.returns-in-Err-Refused
 returns-in-Err-Refused g c = λ words asked.

@@ -1,6 +1,6 @@
 use Rattle.std.proofs.Common.{refl, subst}
 use Rattle.command_words.specs.Lent.{drill_of}
-use Rattle.shex_run.specs.Drills.{DrillStops}
+use Rattle.shex_run.specs.Stopping.{DrillStops}
 use Rattle.shex_run.specs.declared.stop.Stop.{Stop}
 use Rattle.shex_run.specs.declared.stop.Stop.TheVariants as Stops
 use Rattle.shex_run.proofs.Drilled.{with_failure, with_line, with_want}
@@ -8,7 +8,7 @@ use Rattle.shex_run.proofs.top.end_drill.Goals as goal
 
 pub returns-in-Ok : goal.returns-in-Ok
 returns-in-Ok g c = λ words is_drill.
-    with_line words (drill_of c.args.drilling.now) is_drill _ _ _ _ c.in-Ok.response.text.items c.in-Ok.response.notes.items c.in-Ok.response.status c.in-Ok.ensures.response c.in-Ok.ensures.faults_stay c.print_both.ensures
+    with_line words (drill_of c.args.drilling.now) is_drill _ _ _ _ c.in-Ok.response.text.items c.in-Ok.response.notes.items c.in-Ok.response.status c.in-Ok.ensures.response c.in-Ok.ensures.faults_stay c.print.ensures
 
 pub returns-in-Err-Failed : goal.returns-in-Err-Failed
 returns-in-Err-Failed g c = λ words is_drill.
