@@ -1,8 +1,8 @@
 #!/usr/bin/env python3
 """A second checker of the proofs of `shex`, written from docs/PROOF_FORMAT.md with Python's standard library alone.
 
-It reads a schema in ShExJ with the documents that it imports, data in N-Triples, and a proof of format 1 or 2, and prints
-`accepted` and the claims, or the first refusal. What it cannot decide it calls `unsupported`. See extras/README.md.
+It reads a schema in ShExJ or ShExC with the documents that it imports, data in N-Triples or Turtle, and a proof of format 1 or
+2, and prints `accepted` and the claims, or the first refusal. What it cannot decide it calls `unsupported`. See extras/README.md.
 """
 
 import argparse
@@ -11,7 +11,9 @@ import re
 import sys
 from collections import namedtuple
 
-from schema_and_data import LANG_STRING, MOST, STRING, Graph, Term, Unsupported, expect, need, read_schema
+from data import read_graph
+from schema import read_schema
+from terms import LANG_STRING, MOST, STRING, Term, Unsupported, expect, is_base, need
 
 YES, NO, UNKNOWN, REST = "Yes", "No", "Unknown", "r"
 
@@ -323,61 +325,80 @@ class Checker:
                 raise Refused(f"Rejected({place},{why})")
 
 
-def check(words):
-    """Checks a proof as the words ask, and gives the claims as a result shape map."""
+Files = namedtuple("Files", "schema strata graph digests")  # what a proof is held against
+
+
+def read_files(words):
+    """Reads schema and data as the words ask."""
     imports = {}
     for word in words.imports:
         iri, _, file = word.rpartition("=")
         need(iri and file and iri not in imports, f"the word {word}")
         imports[iri] = file
-    schema, digests = read_schema(words.schema, imports)
+    schema, digests = read_schema(words.schema, imports, words.schema_base)
     strata = schema.strata()
-    need(words.data.endswith(".nt"), f"{words.data}: data that are not N-Triples, in a file that ends in .nt")
     with open(words.data, "rb") as stream:
         data = stream.read()
-    try:
-        graph = Graph(data)
-    except ValueError:
-        raise Unsupported(f"{words.data}: no N-Triples") from None
-    with open(words.proof, "rb") as stream:
-        proof = Proof(stream.read())
+    graph = read_graph(words.data, data, words.data_base)
+    digests = {"schema": digests[:1], "import": digests[1:], "data": [hashlib.sha256(data).hexdigest()]}
+    return Files(schema, strata, graph, digests)
+
+
+def check(source, files):
+    """Holds the text of a proof against files, and gives its claims as a result shape map."""
+    proof, strata = Proof(source), files.strata
     if proof.files is not None:
-        found = {"schema": digests[:1], "import": digests[1:], "data": [hashlib.sha256(data).hexdigest()]}
-        for part, digest in found.items():
-            if proof.files[part[0]] != digest:
+        for part, digests in files.digests.items():
+            if proof.files[part[0]] != digests:
                 raise Refused(f"Stale({part})")
-        if not schema.is_stratified(proof.strata):
+        if not files.schema.is_stratified(proof.strata):
             raise Refused("Strata")
         strata = proof.strata
-    Checker(schema, graph, strata, proof).check()
+    Checker(files.schema, files.graph, strata, proof).check()
     lines = [f"{proof.nodes[node].text()}@{'' if holds else '!'}{target}" for holds, node, target in proof.claims]
     return ",\n".join(lines) + ("\n" if lines else "")
 
 
-def main():
-    """Prints what comes of the words, and ends with 0, 2, 3, 5 or 6."""
+def base_of(word):
+    """A base of the words."""
+    expect(is_base(word))
+    return word
+
+
+def words_of(arguments):
+    """The words of a call."""
     parser = argparse.ArgumentParser(description="A second checker of the proofs of shex.", allow_abbrev=False)
     for name in ("--schema", "--data", "--proof"):
         parser.add_argument(name, required=True, metavar="F")
+    for name in ("--schema-base", "--data-base"):
+        parser.add_argument(name, default="http://localhost/", type=base_of, metavar="I")
     parser.add_argument("imports", nargs="*", metavar="IRI=FILE")
-    words = parser.parse_args()
+    return parser.parse_args(arguments)
+
+
+def answer(words, read=read_files):
+    """What comes of the words: the status, and the text for standard output or, where it is not 0, for standard error."""
     sys.setrecursionlimit(20000)
     try:
-        claims = check(words)
+        files = read(words)
+        with open(words.proof, "rb") as stream:
+            return 0, f"accepted\n{check(stream.read(), files)}"
     except Unsupported as error:
-        print(f"unsupported: {error}", file=sys.stderr)
-        return 3
+        return 3, f"unsupported: {error}\n"
     except RecursionError:
-        print("unsupported: expressions that are too deep", file=sys.stderr)
-        return 3
+        return 3, "unsupported: expressions that are too deep\n"
     except OSError as error:
-        print(f"check_proof: {error.filename}: Failed", file=sys.stderr)
-        return 5
+        return 5, f"check_proof: {error.filename}: Failed\n"
     except Refused as error:
-        print(f"check_proof: {words.proof}: {error}", file=sys.stderr)
-        return 6
-    sys.stdout.buffer.write(f"accepted\n{claims}".encode())
-    return 0
+        return 6, f"check_proof: {words.proof}: {error}\n"
+
+
+def main():
+    """Prints what comes of the words, and ends with 0, 2, 3, 5 or 6."""
+    status, text = answer(words_of(None))
+    stream = sys.stderr if status else sys.stdout
+    stream.buffer.write(text.encode("utf-8", "surrogateescape"))
+    return status
 
 
 if __name__ == "__main__":
