@@ -33,7 +33,7 @@ fn push_times(text: &mut String, part: &str, times: u32) -> Result<(), AllocErro
 }
 
 /// A text, and a part of it so many times between.
-fn repeated(
+pub fn repeated(
     alloc: Global,
     front: &str,
     part: &str,

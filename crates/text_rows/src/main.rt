@@ -29,6 +29,7 @@
 //! - `items FILE` reads a map over this file's data, and `select FILE` gives what it selects.
 //! - `words` says what words ask for.
 //! - `proof` writes the proof that is read of a text, and `proof-line` that of a line with `¶` for line feeds.
+//! - `script` gives the commands of an edit script, one a line.
 #![tactic(auto)]
 
 mod arcs;
@@ -45,6 +46,7 @@ mod patterns;
 mod proof_texts;
 mod questions;
 mod references;
+mod scripts;
 mod terms;
 mod tokens;
 

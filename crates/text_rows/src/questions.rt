@@ -2,7 +2,7 @@
 
 use crate::{
     arcs, commands, compact, constraints, graphs, maps, numbers, patterns, proof_texts, references,
-    terms, tokens,
+    scripts, terms, tokens,
 };
 use anyhow::bail;
 use row_format::{NamedFile, first_word};
@@ -80,6 +80,7 @@ pub fn answer(
         "triples" | "count" | "table" | "names" => Ok(graphs::asked(alloc, kind, with, question)?),
         "items" | "select" => maps::asked(alloc, kind, with, files.bytes_of(with)?, question),
         "proof" => Ok(proof_texts::rewritten(alloc, question)?),
+        "script" => Ok(scripts::outcome(alloc, question)?),
         _ => match str::from_utf8(question) {
             Ok(text) => of_text(alloc, files, kind, with, text),
             Err(_) => bail!("a question is no text"),

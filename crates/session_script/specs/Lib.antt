@@ -1,0 +1,5 @@
+pub mod Grammar
+pub mod Scripts
+pub mod Reading
+pub mod Steps
+pub mod Messages
