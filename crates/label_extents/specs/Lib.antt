@@ -1,0 +1,6 @@
+pub mod Messages
+pub mod Extents
+pub mod Demanded
+pub mod Members
+pub mod Found
+pub mod Laws
