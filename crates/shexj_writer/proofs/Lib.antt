@@ -1,0 +1,16 @@
+mod Digits
+mod Exact
+mod ExpressionsBack
+mod FacetsBack
+mod Fields
+mod JsonStrings
+mod JsonValues
+mod Lists
+mod ReadBack
+mod Readable
+mod SameTerms
+mod Sound
+mod Strings
+mod TextsBack
+mod Told
+mod ValuesBack

@@ -1,0 +1,15 @@
+pub mod Numbers
+pub mod Built
+pub mod Objects
+pub mod Texts
+pub mod Values
+pub mod Constraints
+pub mod Expressions
+pub mod Documents
+pub mod Whole
+pub mod Plain
+pub mod Trees
+pub mod Held
+pub mod Expressible
+pub mod Laws
+pub mod Messages
