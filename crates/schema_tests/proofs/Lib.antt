@@ -1,1 +1,2 @@
+mod AskedTwice
 mod SampledRefinements

@@ -11,3 +11,5 @@ mod loading;
 mod refinements;
 #[cfg(test)]
 mod samples;
+#[cfg(test)]
+mod sessions;

@@ -34,7 +34,7 @@ use typing_refiner::{Refined, Wanted, refine, refine_from};
 const ROW: u32 = 1000;
 
 /// Strata of the schema, which are seen to be a stratification.
-fn levels_of(alloc: Global, schema: &Schema) -> Result<Strata, Fail>
+pub fn levels_of(alloc: Global, schema: &Schema) -> Result<Strata, Fail>
     requires { IsLoaded schema.now }
     ensures { IfOk result (IsStratified schema.now) }
 {

@@ -46,6 +46,12 @@ pub const SUCCESSORS: &str = r#"{"type":"Schema","shapes":[
   {"type":"TripleConstraint","predicate":"http://d/out","valueExpr":"S1"}]}},
  {"type":"Shape","id":"S1"}]}"#;
 
+/// S0 = `{ <name> . ; <knows> @<S0> }`.
+pub const KNOWN: &str = r#"{"type":"Schema","shapes":[
+ {"type":"Shape","id":"S0","expression":{"type":"EachOf","expressions":[
+  {"type":"TripleConstraint","predicate":"http://d/name"},
+  {"type":"TripleConstraint","predicate":"http://d/knows","valueExpr":"S0"}]}}]}"#;
+
 /// The arcs c to a, a to b, b to a, and d to c.
 pub const CIRCLE: [(u32, u32); 4] = [(1, 2), (2, 3), (3, 2), (4, 1)];
 

@@ -1,0 +1,14 @@
+pub mod Alike
+pub mod Asked
+pub mod Around
+pub mod Copying
+pub mod Edited
+pub mod Everywhere
+pub mod Grown
+pub mod Keeping
+pub mod Lists
+pub mod Losing
+pub mod Products
+pub mod Spreading
+pub mod Terms
+pub mod Using

@@ -1,0 +1,9 @@
+use Rattle.std.proofs.Common.{subst}
+use Rattle.demand.proofs.Same.{pair_decides, same_pair}
+use Rattle.lists.specs.Distinct.{AreDistinct}
+use Rattle.lists.proofs.Distinct.{distinct_items}
+use Rattle.typing_session.specs.Kept.{pairs_of}
+use Rattle.typing_session.proofs.kept.Kept.len.Goals as goal
+
+pub returns-clause-distinct : goal.returns-clause-distinct
+returns-clause-distinct c = subst (λ es. AreDistinct (pairs_of es)) c.self.view_is (distinct_items same_pair pair_decides _ c.len.ensures.unique)

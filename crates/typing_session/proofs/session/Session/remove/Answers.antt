@@ -1,0 +1,37 @@
+use Rattle.std.proofs.Common.{Contains, refl, subst, sym}
+use Rattle.std.specs.Prelude.{◌↔◌}
+use Rattle.typing_session.specs.Edits.{Loses, ReachesEnd}
+use Rattle.typing_session.specs.Kept.{pairs_of}
+use Rattle.typing_session.specs.Seen.{Seen}
+use Rattle.typing_session.proofs.Losing.{held_removed, loses, loses_by, sound_removed}
+use Rattle.typing_session.proofs.session.Session.remove.Goals as goal
+
+pub reaching-requires-clause-shapes : goal.reaching-requires-clause-shapes
+reaching-requires-clause-shapes c = λ q h. (c.self.invariant.2.of_both q h).shape
+
+pub invariant_of-self-2 : goal.invariant_of-self-2
+invariant_of-self-2 c = (
+  c.self.invariant.0,
+  held_removed c.self.inside.terms c.self.inside.graph c.take_out.new.graph c.args.triple c.self.invariant.1 c.in_ok-take_out.ensures.sealed c.in_ok-take_out.ensures.removed,
+  sound_removed c.self.inside.schema c.self.inside.terms c.self.inside.strata c.self.inside.budget c.args.triple c.self.inside.kept c.forget_all.new.self c.as_slice.result.now c.forget_all.ensures.gone c.forget_all.ensures.others c.self.inside.graph c.take_out.new.graph
+      (λ q. subst (λ xs. Contains xs q ↔ (Contains (pairs_of c.self.inside.kept) q × ReachesEnd c.self.inside.schema c.self.inside.graph.triples c.args.triple q)) (sym c.as_slice.ensures) (c.in_ok-lost.ensures q))
+      c.edits_are_local.ensures.verdicts c.self.invariant.0.loaded c.forget_all.ensures.distinct c.len-held.ensures.distinct c.in_ok-take_out.ensures.distinct c.self.invariant.2
+      c.in_ok-take_out.ensures.removed,
+)
+
+pub returns-clause-held : goal.returns-clause-held
+returns-clause-held c = ((λ h. subst (λ (x : Seen). Contains x.graph c.args.triple) c.self.view_is (c.if-not-holds.ensures.0 refl)), (λ h. refl))
+
+pub returns-clause-loses : goal.returns-clause-loses
+returns-clause-loses c =
+    subst (λ (x : Seen). Loses x.schema x.graph c.args.triple x.kept (pairs_of c.forget_all.new.self)) c.self.view_is
+    (loses c.self.inside.schema c.args.triple c.self.inside.kept c.forget_all.new.self c.as_slice.result.now c.forget_all.ensures.gone c.forget_all.ensures.others c.self.inside.graph.triples
+    (λ q. subst (λ xs. Contains xs q ↔ (Contains (pairs_of c.self.inside.kept) q × ReachesEnd c.self.inside.schema c.self.inside.graph.triples c.args.triple q)) (sym c.as_slice.ensures) (c.in_ok-lost.ensures q)))
+
+pub returns-clause-loses_after : goal.returns-clause-loses_after
+returns-clause-loses_after c =
+    subst (λ (x : Seen). Loses x.schema c.take_out.new.graph.triples c.args.triple x.kept (pairs_of c.forget_all.new.self)) c.self.view_is
+    (loses_by c.self.inside.schema c.args.triple c.self.inside.kept c.forget_all.new.self c.as_slice.result.now c.forget_all.ensures.gone c.forget_all.ensures.others c.self.inside.graph.triples
+    (λ q. subst (λ xs. Contains xs q ↔ (Contains (pairs_of c.self.inside.kept) q × ReachesEnd c.self.inside.schema c.self.inside.graph.triples c.args.triple q)) (sym c.as_slice.ensures) (c.in_ok-lost.ensures q))
+    c.take_out.new.graph.triples
+    (λ p. let e = c.edits_are_local.ensures.reach c.self.inside.schema c.self.inside.graph.triples c.take_out.new.graph.triples c.args.triple c.in_ok-take_out.ensures.removed p in (e.1, e.0)))

@@ -1,0 +1,155 @@
+//! The answer to a question, by the verdicts that are kept and those that are found.
+
+ghost use Rattle.std.specs.Prelude.{ℕ, ◌≡◌, ◌≤◌, ◌<◌, ◌+◌, ◌-◌, ◌^◌, IfOk, OnErr, OnOk, length};
+ghost use Rattle.std.specs.List.Sorted.{IsStrictlySortedBy};
+ghost use Rattle.demand.specs.Demand.{AreAsked};
+ghost use Rattle.demand.specs.Orders.{compare_pairs, max_pairs};
+ghost use Rattle.graph_index.specs.Contents.{IsSealedWith};
+ghost use Rattle.schema_tree.specs.declared.schema.Pair.{Pair as Held};
+ghost use Rattle.schema_tree.specs.declared.verdicts.Verdict.{Verdict as Found};
+ghost use Rattle.schema_tree.specs.Edges.{IsStratified};
+ghost use Rattle.schema_tree.specs.Loaded.{IsLoaded};
+ghost use Rattle.schema_tree.specs.Needs.{HoldNeeds};
+ghost use Rattle.typing_refiner.specs.Building.{AreWidths};
+ghost use Rattle.typing_refiner.specs.Statements.{CountNeeds, most_of};
+ghost use Rattle.typing_session.specs.Kept.{fresh_of};
+ghost use Rattle.typing_session.specs.Questions.{IsAnswer, IsAnswerByAll, IsTrueAnswer, IsUnknownOnlyWide, ReachesTooMany, root_of};
+ghost use Rattle.typing_session.specs.Sound.{AreKeptFor, HaveVerdicts};
+
+use crate::error::AskError;
+use crate::kept::Kept;
+use demand::{DemandError, Pairs, Root, close};
+use graph_index::graph::Graph;
+use locality_laws::laws::strata_are_independent;
+use rdf_terms::table::TermTable;
+use rdf_terms::terms::TermId;
+use schema_tree::laws::{
+    layers_are_meanings, refinement_is_complete, refinement_is_one, refinement_is_true,
+    sure_is_true, verdict_is_one,
+};
+use schema_tree::schema::{ExprId, Pair, Schema};
+use schema_tree::sure::sure;
+use schema_tree::verdicts::Verdict;
+use std::alloc::{AllocError, Global};
+use std::sync::ledger::Ledger;
+use strata::list::Strata;
+use tally::Steps;
+use typing_refiner::refine_from;
+
+/// The pairs that a node with an expression reaches. It is refused as `Pairs` exactly where these are more than 4,194,304.
+pub(crate) fn reached(
+    alloc: Global,
+    schema: &Schema,
+    graph: &Graph,
+    terms: &TermTable,
+    node: TermId,
+    expr: ExprId,
+) -> Result<Pairs, AskError>
+    requires loaded { IsLoaded schema.now }
+    requires sealed { IsSealedWith terms.now graph.now }
+    ensures asked { IfOk result (AreAsked schema.now terms.now graph.now.triples (root_of node expr)) }
+    ensures closed { IfOk result (HoldNeeds schema.now graph.now.triples) }
+    ensures many { (result ≡ Err AskError.Pairs) → ReachesTooMany schema.now graph.now.triples node expr }
+    ensures few { IfOk result (λ p. ¬ ReachesTooMany schema.now graph.now.triples node expr) }
+{
+    let root = Root { node, expr };
+    match close(alloc, schema, graph, terms, [root].as_slice()) {
+        Ok(pairs) => Ok(pairs),
+        Err(DemandError::Pairs) => Err(AskError::Pairs),
+        Err(DemandError::Memory) => Err(AskError::Memory),
+    }
+}
+
+/// Finds and keeps the verdicts on those of the pairs on which none is kept. A refusal changes nothing.
+fn keep_fresh<L: Ledger>(
+    alloc: Global,
+    schema: &Schema,
+    graph: &Graph,
+    terms: &TermTable,
+    strata: &Strata,
+    pairs: &[Pair],
+    kept: &mut Kept,
+    budget: u64,
+    steps: &mut Steps<L>,
+) -> Result<(), AllocError>
+    requires loaded { IsLoaded schema.now }
+    requires sealed { IsSealedWith terms.now graph.now }
+    requires stratified { IsStratified schema.now strata.now }
+    requires budget { budget < 2 ^ 64 - 1 }
+    requires closed { HoldNeeds schema.now graph.now.triples pairs.now }
+    requires sorted { IsStrictlySortedBy (compare_pairs terms.now) pairs.now }
+    requires few { length pairs.now ≤ max_pairs }
+    requires verdicts { HaveVerdicts schema.now terms.now graph.now.triples strata.now budget kept.old }
+    ensures kept { OnOk result (AreKeptFor schema.now terms.now graph.now.triples strata.now budget pairs.now kept.old kept.new) }
+    ensures err { OnErr result (kept.new ≡ kept.old) }
+    ensures bounded { (width count : Held → ℕ) → AreWidths schema.now terms.now graph.now.triples width → CountNeeds schema.now graph.now.triples (fresh_of kept.old pairs.now) count →
+        steps.new ≤ steps.old + most_of schema.now terms.now graph.now.triples budget width count (fresh_of kept.old pairs.now) }
+{
+    let missing = kept.missing(alloc, pairs)?;
+    let fresh = missing.as_slice();
+    let found = refine_from(
+        alloc, schema, graph, terms, strata, fresh, &*kept, budget, steps,
+    )?;
+    kept.keep_all(fresh, &found)?;
+    Ok(())
+}
+
+/// The verdict on a node with an expression that reaches these pairs, on which verdicts are kept then. A refusal changes
+/// nothing.
+pub(crate) fn answer<L: Ledger>(
+    alloc: Global,
+    schema: &Schema,
+    graph: &Graph,
+    terms: &TermTable,
+    strata: &Strata,
+    pairs: &Pairs,
+    node: TermId,
+    expr: ExprId,
+    kept: &mut Kept,
+    budget: u64,
+    steps: &mut Steps<L>,
+) -> Result<Verdict, AllocError>
+    requires loaded { IsLoaded schema.now }
+    requires sealed { IsSealedWith terms.now graph.now }
+    requires stratified { IsStratified schema.now strata.now }
+    requires budget { budget < 2 ^ 64 - 1 }
+    requires closed { HoldNeeds schema.now graph.now.triples pairs.now }
+    requires asked { AreAsked schema.now terms.now graph.now.triples (root_of node expr) pairs.now }
+    requires verdicts { HaveVerdicts schema.now terms.now graph.now.triples strata.now budget kept.old }
+    ensures answer { IfOk result (IsAnswer schema.now terms.now graph.now.triples strata.now budget node expr) }
+    ensures no_other { IfOk result (λ v. (w : Found) → IsAnswer schema.now terms.now graph.now.triples strata.now budget node expr w → w ≡ v) }
+    ensures by_all { IfOk result (IsAnswerByAll schema.now terms.now graph.now.triples budget node expr) }
+    ensures true_answer { IfOk result (IsTrueAnswer schema.now terms.now graph.now.triples strata.now node expr) }
+    ensures only_wide { IfOk result (IsUnknownOnlyWide schema.now terms.now graph.now.triples budget node expr) }
+    ensures kept { OnOk result (AreKeptFor schema.now terms.now graph.now.triples strata.now budget pairs.now kept.old kept.new) }
+    ensures err { OnErr result (kept.new ≡ kept.old) }
+    ensures bounded { (width count : Held → ℕ) → AreWidths schema.now terms.now graph.now.triples width → CountNeeds schema.now graph.now.triples (fresh_of kept.old pairs.now) count →
+        steps.new ≤ steps.old + most_of schema.now terms.now graph.now.triples budget width count (fresh_of kept.old pairs.now) }
+{
+    layers_are_meanings();
+    refinement_is_one();
+    refinement_is_true();
+    refinement_is_complete();
+    strata_are_independent();
+    sure_is_true();
+    verdict_is_one();
+    let before = kept.len();
+    keep_fresh(
+        alloc,
+        schema,
+        graph,
+        terms,
+        strata,
+        pairs.list(),
+        kept,
+        budget,
+        steps,
+    )?;
+    match sure(alloc, schema, terms, node, expr, &*kept) {
+        Ok(verdict) => Ok(verdict),
+        Err(error) => {
+            kept.truncate(before);
+            Err(error)
+        }
+    }
+}

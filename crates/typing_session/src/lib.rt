@@ -1,0 +1,16 @@
+//! Verdicts on nodes of a graph that is edited and asked again and again. Of what was found before, an edit loses what
+//! depends on the nodes that it touches, and a question finds what is not kept.
+#![tactic(auto)]
+
+mod answering;
+mod editing;
+pub mod error;
+pub mod kept;
+pub mod laws;
+mod reaching;
+pub mod session;
+mod users;
+mod uses;
+
+pub use error::AskError;
+pub use session::Session;
