@@ -1,20 +1,19 @@
 -- Words ask for one drill, or for one command, or have one first fault.
-use Rattle.std.proofs.Common.{◌≡◌, ◌≢◌, ◌∙◌, ◌<◌, ◌≤◌, ◌^◌, ℕ, List, [], ◌∷◌, arith, codes, get_or, length, lit<, refl, sym, ap, subst}
-use Rattle.std.specs.Prelude.{Result, Ok, Err, IfErr, IfOk, IsErrAnd, Option, Some, None}
+use Rattle.std.proofs.Common.{◌≡◌, ◌∙◌, ◌<◌, ◌≤◌, ◌^◌, ℕ, List, ◌∷◌, arith, codes, get_or, lit<, refl, sym, ap, subst}
+use Rattle.std.specs.Prelude.{Result, Ok, Err, IfErr, IfOk, IsErrAnd}
 use Rattle.std.proofs.lemmas.Fmt.{decimal_injective, digits_value-decimal}
 use Rattle.std.specs.Fmt.{decimal}
 use Rattle.std.specs.Str.Parse.{digits_value}
 use Rattle.clap.specs.Words.{Row, Text}
 use Rattle.command_words.specs.declared.command.Call.{Call as LentCall}
 use Rattle.command_words.specs.declared.command.Call.TheVariants as Calls
-use Rattle.command_words.specs.declared.command.Command.{Command as LentCommand}
 use Rattle.command_words.specs.declared.command.Drilling.{Drilling}
 use Rattle.command_words.specs.declared.error.WordsError.{WordsError}
 use Rattle.command_words.specs.Asked.{Command, IsAsked, IsFirstFault, unasked}
 use Rattle.command_words.specs.Checks.{Fault, arguments}
 use Rattle.command_words.specs.Commands.{rows}
 use Rattle.command_words.specs.Drills.{Call, Drill, IsCall, IsDrill, IsFault, IsFoundDrill, IsGivenDrill, IsItems, drill, max_items, of_files, of_items}
-use Rattle.command_words.specs.Lent.{Because, call_of, command_of, drill_of}
+use Rattle.command_words.specs.Lent.{Because, call_of, drill_of}
 use Rattle.command_words.specs.Requests.{Asks, Request, Task, checking, name_of, upgrading, validation}
 use Rattle.command_words.proofs.Exact.{IsExact, because, exact_by, no_fault, one_command, one_fault}
 use Rattle.command_words.proofs.Requested.{longer, one_value, own}

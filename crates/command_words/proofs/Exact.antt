@@ -3,12 +3,13 @@ use Rattle.std.proofs.Common.{◌≡◌, ◌∙◌, List, [], true, refl, sym, a
 use Rattle.std.specs.Prelude.{IfErr, IfOk, IsErrAnd, MatchResult, Result, Ok, Err}
 use Rattle.clap.specs.Words.{Text}
 use Rattle.command_words.specs.declared.command.Command.{Command as LentCommand}
+use Rattle.command_words.specs.declared.command.Inputs.{Inputs as LentInputs}
 use Rattle.command_words.specs.declared.error.WordsError.{WordsError}
 use Rattle.command_words.specs.declared.error.WordsError.TheVariants as Error
 use Rattle.command_words.specs.Asked.{Command, IsAsked, IsFirstFault, command_by, failing, unasked}
-use Rattle.command_words.specs.Checks.{Fault, Import, IsRequestFault, AreImports, HasEndings, HasImports, IsImportFault, Passes, PassesBases, arguments, import_words, is_base, is_data_name, is_schema_name}
-use Rattle.command_words.specs.Requests.{Asks, Request}
-use Rattle.command_words.specs.Lent.{Because, command_of}
+use Rattle.command_words.specs.Checks.{AreImports, Fault, HasEndings, HasImports, Import, Inputs, IsGivenFault, IsImportFault, IsRequestFault, Passes, arguments, import_words, inputs_by, is_data_name, is_schema_name, of_given}
+use Rattle.command_words.specs.Requests.{Asks, Given, Request}
+use Rattle.command_words.specs.Lent.{Because, command_of, command_with, inputs_of}
 use Rattle.command_words.proofs.Once.{no_request_fault, one_list, one_request_fault}
 use Rattle.command_words.proofs.Requested.{one_request}
 
@@ -16,7 +17,7 @@ pub one_command : (words : List Text) (c d : Command) → IsAsked words c → Is
 one_command words c d a b =
     let requests : a.request ≡ b.request = one_request words a.request b.request a.asks b.asks in
     let passes : Passes a.request d.imports = subst (λ (r : Request). Passes r d.imports) (sym requests) b.passes in
-    let imports : c.imports ≡ d.imports = one_list _ a.request.import_words c.imports d.imports a.passes.bases.inputs.imports_given passes.bases.inputs.imports_given in
+    let imports : c.imports ≡ d.imports = one_list _ a.request.given.import_words c.imports d.imports a.passes.bases.inputs.imports_given passes.bases.inputs.imports_given in
     a.leads ∙ ap (λ (r : Request). command_by r c.imports) requests ∙ ap (command_by b.request) imports ∙ sym b.leads
 
 pub no_fault : (words : List Text) (c : Command) (f : Fault) → IsAsked words c → IsFirstFault words f → ⊥
@@ -38,6 +39,11 @@ because P Q (Error.Import word) h p = h _ p
 because P Q (Error.Base iri) h p = h _ p
 because P Q (Error.Same name) h p = h _ p
 because P Q Error.Memory h p = p
+
+-- an error that is handed on
+pub handed_on : {L : Type 0} (P Q : Fault → Type 0) (r : Result L WordsError) (e : WordsError) → IsErrAnd r (λ x. x ≡ e) → ((f : Fault) → P f → Q f) → Because P e → IfErr r (Because Q)
+handed_on P Q (Ok c) e h leads fault = tt
+handed_on P Q (Err x) e h leads fault = because P Q x leads (subst (Because P) (sym h) fault)
 
 -- what an answer says of a kind of things, where words ask for one or have one first fault: that is known of its parts
 module _ (L C : Type 0) (of : L → C) (Is : C → Type 0) (Bad : Fault → Type 0) where
@@ -81,17 +87,25 @@ pub exact_asked : (words : List Text) (q : Request) (r : Result LentCommand Word
 exact_asked words q (Ok c) asks leads passes fault = exactly words (Ok c) (record { request = q; asks = asks; passes = passes; leads = leads }) tt
 exact_asked words q (Err e) asks leads passes fault = exactly words (Err e) tt (because (IsRequestFault q) (IsFirstFault words) e (λ f h. failing q asks f h) fault)
 
--- the import words of a request are at fault
-pub imports_failed : (q : Request) (ws : List Text) (r : Result LentCommand WordsError) (e : WordsError) → IsErrAnd r (λ x. x ≡ e) → HasEndings q → ws ≡ q.import_words → Because (IsImportFault [] ws) e
-    → IfErr r (Because (IsRequestFault q))
-imports_failed q ws (Ok c) e h endings same fault = tt
-imports_failed q ws (Err x) e h endings same fault =
-    because (IsImportFault [] ws) (IsRequestFault q) x (λ f bad. import_words f endings (subst (λ (all : List Text). IsImportFault [] all f) same bad))
-    (subst (Because (IsImportFault [] ws)) (sym h) fault)
+-- the import words that are given are at fault
+pub imports_failed : (g : Given) (ws : List Text) (r : Result LentInputs WordsError) (e : WordsError) → IsErrAnd r (λ x. x ≡ e) → HasEndings g → ws ≡ g.import_words → Because (IsImportFault [] ws) e
+    → IfErr r (Because (IsGivenFault g))
+imports_failed g ws r e h endings same = handed_on (IsImportFault [] ws) (IsGivenFault g) r e h (λ f bad. import_words f endings (subst (λ (all : List Text). IsImportFault [] all f) same bad))
 
-pub with_imports : (q : Request) (ws : List Text) (imports : List Import) → is_schema_name q.schema ≡ true → is_data_name q.data_file ≡ true → ws ≡ q.import_words → AreImports [] ws imports → HasImports q imports
-with_imports q ws imports s d same given = record { endings = record { schema = s; data_file = d }; imports_given = subst (λ (all : List Text). AreImports [] all imports) same given }
+pub with_imports : (g : Given) (ws : List Text) (imports : List Import) → is_schema_name g.schema ≡ true → is_data_name g.data_file ≡ true → ws ≡ g.import_words → AreImports [] ws imports → HasImports g imports
+with_imports g ws imports s d same given = record { endings = record { schema = s; data_file = d }; imports_given = subst (λ (all : List Text). AreImports [] all imports) same given }
 
-pub with_bases : (q : Request) (ws : List Text) (imports : List Import) → is_schema_name q.schema ≡ true → is_data_name q.data_file ≡ true → ws ≡ q.import_words → AreImports [] ws imports
-    → is_base q.schema_base ≡ true → is_base q.data_base ≡ true → PassesBases q imports
-with_bases q ws imports s d same given a b = record { inputs = with_imports q ws imports s d same given; schema = a; data_file = b }
+-- what is given is at fault
+pub given_failed : (q : Request) (r : Result LentCommand WordsError) (e : WordsError) → IsErrAnd r (λ x. x ≡ e) → Because (IsGivenFault q.given) e → IfErr r (Because (IsRequestFault q))
+given_failed q r e h = handed_on (IsGivenFault q.given) (IsRequestFault q) r e h of_given
+
+-- where the inputs are those of a request, a command of them with its task is the one to which it leads
+pub leads_to : (i : LentInputs) (q : Request) → inputs_of i ≡ inputs_by q.given (inputs_of i).imports → command_with i q.task ≡ command_by q (inputs_of i).imports
+leads_to i q is = ap (λ (x : Inputs). record {
+  schema = x.schema;
+  data_file = x.data_file;
+  schema_base = x.schema_base;
+  data_base = x.data_base;
+  imports = x.imports;
+  task = q.task;
+}) is

@@ -5,8 +5,8 @@ use Rattle.std.proofs.lemmas.List.{append_cancel_left}
 use Rattle.clap.specs.Words.{Text}
 use Rattle.iri_resolve.specs.Text.{Lacks, until_last}
 use Rattle.iri_resolve.proofs.Places.{until_last-append}
-use Rattle.command_words.specs.Requests.{Request, proof_of, to_of}
-use Rattle.command_words.specs.Checks.{AreImports, Divides, Fault, HasImports, Import, IsApart, IsImport, IsImportFault, IsRequestFault, IsWordFault, Passes, again, data_base, data_ending, file, form, import_words, is_among, is_schema_name, names_with_proof, other_names, same, same_name, same_to, schema_base, schema_ending}
+use Rattle.command_words.specs.Requests.{Given, Request, proof_of, to_of}
+use Rattle.command_words.specs.Checks.{AreImports, Divides, Fault, HasImports, Import, IsApart, IsGivenFault, IsImport, IsImportFault, IsRequestFault, IsWordFault, Passes, PassesBases, again, data_base, data_ending, file, form, import_words, inputs_by, is_among, is_schema_name, names_with_proof, of_given, other_names, same, same_name, same_to, schema_base, schema_ending}
 
 pub apart : {b : Bool} → b ≡ true → b ≡ false → ⊥
 apart yes_it no_it = true≢false (sym yes_it ∙ no_it)
@@ -81,69 +81,67 @@ one_list earlier (w ∷ ws) (i ∷ imports) (j ∷ others) (one, more) (other, r
     λ k. same_one k ∷ same_more k
 
 -- a name that is none of some names is none of them by whichever imports are given
-still_apart : (r : Request) (imports others : List Import) → HasImports r imports → HasImports r others
-    → (names : List Import → List Text) (given : Option Text) → IsApart given (names imports) → (name : Text) → given ≡ Some name → is_among name (names others) ≡ true → ⊥
-still_apart r imports others a b names given none name e among =
-    apart among (subst (λ (is : List Import). is_among name (names is) ≡ false) (one_list [] r.import_words imports others a.imports_given b.imports_given) (none name e))
+still_apart : (g : Given) (imports others : List Import) → HasImports g imports → HasImports g others
+    → (names : List Import → List Text) (o : Option Text) → IsApart o (names imports) → (name : Text) → o ≡ Some name → is_among name (names others) ≡ true → ⊥
+still_apart g imports others a b names o none name e among =
+    apart among (subst (λ (is : List Import). is_among name (names is) ≡ false) (one_list [] g.import_words imports others a.imports_given b.imports_given) (none name e))
+
+-- what is given fails one check first
+pub one_given_fault : (g : Given) (f h : Fault) → IsGivenFault g f → IsGivenFault g h → f ≡ h
+one_given_fault g _ _ (schema_ending x1) (schema_ending y1) = refl
+one_given_fault g _ _ (schema_ending x1) (data_ending y1 y2) = absurd (apart (y1) (x1))
+one_given_fault g _ _ (schema_ending x1) (import_words _ y1 y2) = absurd (apart (y1.schema) (x1))
+one_given_fault g _ _ (schema_ending x1) (schema_base yi y1 y2) = absurd (apart (y1.endings.schema) (x1))
+one_given_fault g _ _ (schema_ending x1) (data_base yi y1 y2 y3) = absurd (apart (y1.endings.schema) (x1))
+one_given_fault g _ _ (data_ending x1 x2) (schema_ending y1) = absurd (apart (x1) (y1))
+one_given_fault g _ _ (data_ending x1 x2) (data_ending y1 y2) = refl
+one_given_fault g _ _ (data_ending x1 x2) (import_words _ y1 y2) = absurd (apart (y1.data_file) (x2))
+one_given_fault g _ _ (data_ending x1 x2) (schema_base yi y1 y2) = absurd (apart (y1.endings.data_file) (x2))
+one_given_fault g _ _ (data_ending x1 x2) (data_base yi y1 y2 y3) = absurd (apart (y1.endings.data_file) (x2))
+one_given_fault g _ _ (import_words _ x1 x2) (schema_ending y1) = absurd (apart (x1.schema) (y1))
+one_given_fault g _ _ (import_words _ x1 x2) (data_ending y1 y2) = absurd (apart (x1.data_file) (y2))
+one_given_fault g _ _ (import_words _ x1 x2) (import_words _ y1 y2) = one_import_fault [] g.import_words _ _ x2 y2
+one_given_fault g _ _ (import_words _ x1 x2) (schema_base yi y1 y2) = absurd (no_import_fault [] g.import_words _ _ (y1.imports_given) (x2))
+one_given_fault g _ _ (import_words _ x1 x2) (data_base yi y1 y2 y3) = absurd (no_import_fault [] g.import_words _ _ (y1.imports_given) (x2))
+one_given_fault g _ _ (schema_base xi x1 x2) (schema_ending y1) = absurd (apart (x1.endings.schema) (y1))
+one_given_fault g _ _ (schema_base xi x1 x2) (data_ending y1 y2) = absurd (apart (x1.endings.data_file) (y2))
+one_given_fault g _ _ (schema_base xi x1 x2) (import_words _ y1 y2) = absurd (no_import_fault [] g.import_words _ _ (x1.imports_given) (y2))
+one_given_fault g _ _ (schema_base xi x1 x2) (schema_base yi y1 y2) = refl
+one_given_fault g _ _ (schema_base xi x1 x2) (data_base yi y1 y2 y3) = absurd (apart (y2) (x2))
+one_given_fault g _ _ (data_base xi x1 x2 x3) (schema_ending y1) = absurd (apart (x1.endings.schema) (y1))
+one_given_fault g _ _ (data_base xi x1 x2 x3) (data_ending y1 y2) = absurd (apart (x1.endings.data_file) (y2))
+one_given_fault g _ _ (data_base xi x1 x2 x3) (import_words _ y1 y2) = absurd (no_import_fault [] g.import_words _ _ (x1.imports_given) (y2))
+one_given_fault g _ _ (data_base xi x1 x2 x3) (schema_base yi y1 y2) = absurd (apart (x2) (y2))
+one_given_fault g _ _ (data_base xi x1 x2 x3) (data_base yi y1 y2 y3) = refl
+
+-- and none where it passes
+pub no_given_fault : (g : Given) (imports : List Import) (f : Fault) → PassesBases g imports → IsGivenFault g f → ⊥
+no_given_fault g imports _ p (schema_ending x1) = apart (p.inputs.endings.schema) (x1)
+no_given_fault g imports _ p (data_ending x1 x2) = apart (p.inputs.endings.data_file) (x2)
+no_given_fault g imports _ p (import_words _ x1 x2) = no_import_fault [] g.import_words imports _ (p.inputs.imports_given) x2
+no_given_fault g imports _ p (schema_base xi x1 x2) = apart (p.schema) (x2)
+no_given_fault g imports _ p (data_base xi x1 x2 x3) = apart (p.data_file) (x3)
+
+abbrev others_of : Request → List Import → List Text
+others_of r imports = other_names (inputs_by r.given imports) r.task
+
+abbrev with_proof : Request → List Import → List Text
+with_proof r imports = names_with_proof (inputs_by r.given imports) r.task
 
 -- a request has one first fault
 pub one_request_fault : (r : Request) (f g : Fault) → IsRequestFault r f → IsRequestFault r g → f ≡ g
-one_request_fault r _ _ (schema_ending x1) (schema_ending y1) = refl
-one_request_fault r _ _ (schema_ending x1) (data_ending y1 y2) = absurd (apart (y1) (x1))
-one_request_fault r _ _ (schema_ending x1) (import_words _ y1 y2) = absurd (apart (y1.schema) (x1))
-one_request_fault r _ _ (schema_ending x1) (schema_base yi y1 y2) = absurd (apart (y1.endings.schema) (x1))
-one_request_fault r _ _ (schema_ending x1) (data_base yi y1 y2 y3) = absurd (apart (y1.endings.schema) (x1))
-one_request_fault r _ _ (schema_ending x1) (same_name yi y1 yn y2 y3) = absurd (apart (y1.inputs.endings.schema) (x1))
-one_request_fault r _ _ (schema_ending x1) (same_to yi y1 y2 yn y3 y4) = absurd (apart (y1.inputs.endings.schema) (x1))
-one_request_fault r _ _ (data_ending x1 x2) (schema_ending y1) = absurd (apart (x1) (y1))
-one_request_fault r _ _ (data_ending x1 x2) (data_ending y1 y2) = refl
-one_request_fault r _ _ (data_ending x1 x2) (import_words _ y1 y2) = absurd (apart (y1.data_file) (x2))
-one_request_fault r _ _ (data_ending x1 x2) (schema_base yi y1 y2) = absurd (apart (y1.endings.data_file) (x2))
-one_request_fault r _ _ (data_ending x1 x2) (data_base yi y1 y2 y3) = absurd (apart (y1.endings.data_file) (x2))
-one_request_fault r _ _ (data_ending x1 x2) (same_name yi y1 yn y2 y3) = absurd (apart (y1.inputs.endings.data_file) (x2))
-one_request_fault r _ _ (data_ending x1 x2) (same_to yi y1 y2 yn y3 y4) = absurd (apart (y1.inputs.endings.data_file) (x2))
-one_request_fault r _ _ (import_words _ x1 x2) (schema_ending y1) = absurd (apart (x1.schema) (y1))
-one_request_fault r _ _ (import_words _ x1 x2) (data_ending y1 y2) = absurd (apart (x1.data_file) (y2))
-one_request_fault r _ _ (import_words _ x1 x2) (import_words _ y1 y2) = one_import_fault [] r.import_words _ _ x2 y2
-one_request_fault r _ _ (import_words _ x1 x2) (schema_base yi y1 y2) = absurd (no_import_fault [] r.import_words _ _ (y1.imports_given) (x2))
-one_request_fault r _ _ (import_words _ x1 x2) (data_base yi y1 y2 y3) = absurd (no_import_fault [] r.import_words _ _ (y1.imports_given) (x2))
-one_request_fault r _ _ (import_words _ x1 x2) (same_name yi y1 yn y2 y3) = absurd (no_import_fault [] r.import_words _ _ (y1.inputs.imports_given) (x2))
-one_request_fault r _ _ (import_words _ x1 x2) (same_to yi y1 y2 yn y3 y4) = absurd (no_import_fault [] r.import_words _ _ (y1.inputs.imports_given) (x2))
-one_request_fault r _ _ (schema_base xi x1 x2) (schema_ending y1) = absurd (apart (x1.endings.schema) (y1))
-one_request_fault r _ _ (schema_base xi x1 x2) (data_ending y1 y2) = absurd (apart (x1.endings.data_file) (y2))
-one_request_fault r _ _ (schema_base xi x1 x2) (import_words _ y1 y2) = absurd (no_import_fault [] r.import_words _ _ (x1.imports_given) (y2))
-one_request_fault r _ _ (schema_base xi x1 x2) (schema_base yi y1 y2) = refl
-one_request_fault r _ _ (schema_base xi x1 x2) (data_base yi y1 y2 y3) = absurd (apart (y2) (x2))
-one_request_fault r _ _ (schema_base xi x1 x2) (same_name yi y1 yn y2 y3) = absurd (apart (y1.schema) (x2))
-one_request_fault r _ _ (schema_base xi x1 x2) (same_to yi y1 y2 yn y3 y4) = absurd (apart (y1.schema) (x2))
-one_request_fault r _ _ (data_base xi x1 x2 x3) (schema_ending y1) = absurd (apart (x1.endings.schema) (y1))
-one_request_fault r _ _ (data_base xi x1 x2 x3) (data_ending y1 y2) = absurd (apart (x1.endings.data_file) (y2))
-one_request_fault r _ _ (data_base xi x1 x2 x3) (import_words _ y1 y2) = absurd (no_import_fault [] r.import_words _ _ (x1.imports_given) (y2))
-one_request_fault r _ _ (data_base xi x1 x2 x3) (schema_base yi y1 y2) = absurd (apart (x2) (y2))
-one_request_fault r _ _ (data_base xi x1 x2 x3) (data_base yi y1 y2 y3) = refl
-one_request_fault r _ _ (data_base xi x1 x2 x3) (same_name yi y1 yn y2 y3) = absurd (apart (y1.data_file) (x3))
-one_request_fault r _ _ (data_base xi x1 x2 x3) (same_to yi y1 y2 yn y3 y4) = absurd (apart (y1.data_file) (x3))
-one_request_fault r _ _ (same_name xi x1 xn x2 x3) (schema_ending y1) = absurd (apart (x1.inputs.endings.schema) (y1))
-one_request_fault r _ _ (same_name xi x1 xn x2 x3) (data_ending y1 y2) = absurd (apart (x1.inputs.endings.data_file) (y2))
-one_request_fault r _ _ (same_name xi x1 xn x2 x3) (import_words _ y1 y2) = absurd (no_import_fault [] r.import_words _ _ (x1.inputs.imports_given) (y2))
-one_request_fault r _ _ (same_name xi x1 xn x2 x3) (schema_base yi y1 y2) = absurd (apart (x1.schema) (y2))
-one_request_fault r _ _ (same_name xi x1 xn x2 x3) (data_base yi y1 y2 y3) = absurd (apart (x1.data_file) (y3))
+one_request_fault r f g (of_given _ h) (of_given _ k) = one_given_fault r.given f g h k
+one_request_fault r f _ (of_given _ h) (same_name yi y1 yn y2 y3) = absurd (no_given_fault r.given yi f y1 h)
+one_request_fault r f _ (of_given _ h) (same_to yi y1 y2 yn y3 y4) = absurd (no_given_fault r.given yi f y1 h)
+one_request_fault r _ g (same_name xi x1 xn x2 x3) (of_given _ k) = absurd (no_given_fault r.given xi g x1 k)
 one_request_fault r _ _ (same_name xi x1 xn x2 x3) (same_name yi y1 yn y2 y3) = ap same (some_once xn yn (x2) (y2))
-one_request_fault r _ _ (same_name xi x1 xn x2 x3) (same_to yi y1 y2 yn y3 y4) = absurd (still_apart r yi xi y1.inputs x1.inputs (other_names r) (proof_of r.task) y2 xn x2 x3)
-one_request_fault r _ _ (same_to xi x1 x2 xn x3 x4) (schema_ending y1) = absurd (apart (x1.inputs.endings.schema) (y1))
-one_request_fault r _ _ (same_to xi x1 x2 xn x3 x4) (data_ending y1 y2) = absurd (apart (x1.inputs.endings.data_file) (y2))
-one_request_fault r _ _ (same_to xi x1 x2 xn x3 x4) (import_words _ y1 y2) = absurd (no_import_fault [] r.import_words _ _ (x1.inputs.imports_given) (y2))
-one_request_fault r _ _ (same_to xi x1 x2 xn x3 x4) (schema_base yi y1 y2) = absurd (apart (x1.schema) (y2))
-one_request_fault r _ _ (same_to xi x1 x2 xn x3 x4) (data_base yi y1 y2 y3) = absurd (apart (x1.data_file) (y3))
-one_request_fault r _ _ (same_to xi x1 x2 xn x3 x4) (same_name yi y1 yn y2 y3) = absurd (still_apart r xi yi x1.inputs y1.inputs (other_names r) (proof_of r.task) x2 yn y2 y3)
+one_request_fault r _ _ (same_name xi x1 xn x2 x3) (same_to yi y1 y2 yn y3 y4) = absurd (still_apart r.given yi xi y1.inputs x1.inputs (others_of r) (proof_of r.task) y2 xn x2 x3)
+one_request_fault r _ g (same_to xi x1 x2 xn x3 x4) (of_given _ k) = absurd (no_given_fault r.given xi g x1 k)
+one_request_fault r _ _ (same_to xi x1 x2 xn x3 x4) (same_name yi y1 yn y2 y3) = absurd (still_apart r.given xi yi x1.inputs y1.inputs (others_of r) (proof_of r.task) x2 yn y2 y3)
 one_request_fault r _ _ (same_to xi x1 x2 xn x3 x4) (same_to yi y1 y2 yn y3 y4) = ap same (some_once xn yn (x3) (y3))
 
 -- and none where it passes
 pub no_request_fault : (r : Request) (imports : List Import) (f : Fault) → Passes r imports → IsRequestFault r f → ⊥
-no_request_fault r imports _ p (schema_ending x1) = apart (p.bases.inputs.endings.schema) (x1)
-no_request_fault r imports _ p (data_ending x1 x2) = apart (p.bases.inputs.endings.data_file) (x2)
-no_request_fault r imports _ p (import_words _ x1 x2) = no_import_fault [] r.import_words imports _ (p.bases.inputs.imports_given) x2
-no_request_fault r imports _ p (schema_base xi x1 x2) = apart (p.bases.schema) (x2)
-no_request_fault r imports _ p (data_base xi x1 x2 x3) = apart (p.bases.data_file) (x3)
-no_request_fault r imports _ p (same_name xi x1 xn x2 x3) = still_apart r imports xi p.bases.inputs x1.inputs (other_names r) (proof_of r.task) p.apart xn x2 x3
-no_request_fault r imports _ p (same_to xi x1 x2 xn x3 x4) = still_apart r imports xi p.bases.inputs x1.inputs (names_with_proof r) (to_of r.task) p.to_apart xn x3 x4
+no_request_fault r imports f p (of_given _ h) = no_given_fault r.given imports f p.bases h
+no_request_fault r imports _ p (same_name xi x1 xn x2 x3) = still_apart r.given imports xi p.bases.inputs x1.inputs (others_of r) (proof_of r.task) p.apart xn x2 x3
+no_request_fault r imports _ p (same_to xi x1 x2 xn x3 x4) = still_apart r.given imports xi p.bases.inputs x1.inputs (with_proof r) (to_of r.task) p.to_apart xn x3 x4

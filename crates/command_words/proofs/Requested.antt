@@ -6,7 +6,7 @@ use Rattle.std.proofs.lemmas.Str.Parse.{IsNumeralModel, numerals_by_value, tells
 use Rattle.std.specs.Str.Parse.{AllDigits, digits_value}
 use Rattle.clap.specs.Words.{App, Row, Text}
 use Rattle.command_words.specs.Commands.{rows}
-use Rattle.command_words.specs.Requests.{Asks, IsBudget, IsGiven, IsTask, Request, Task, checking, command_for, name_of, upgrading, validation}
+use Rattle.command_words.specs.Requests.{Asks, Given, IsBudget, IsGiven, IsTask, Request, Task, checking, command_for, name_of, upgrading, validation}
 
 pub own : IsNumeralModel (AllDigits 10) (digits_value 10)
 own = numerals_by_value (AllDigits 10) tells_digits
@@ -27,7 +27,7 @@ upgrade_no_check = longer (codes "upgrade") (codes "check") 7 5 refl refl (lit< 
 pub one_value : {X : Type 0} (o : Option X) (x y : X) → o ≡ Some x → o ≡ Some y → x ≡ y
 one_value o x y p q = let e : Some x ≡ Some y = sym p ∙ q in cc
 
-one_budget : (o : Option Text) (m n : ℕ) → IsBudget o m → IsBudget o n → m ≡ n
+pub one_budget : (o : Option Text) (m n : ℕ) → IsBudget o m → IsBudget o n → m ≡ n
 one_budget None m n p q = p ∙ sym q
 one_budget (Some text) m n (p, a, b) (q, c, d) =
     sym (digits_value-decimal own m (omega arith)) ∙ ap (digits_value 10) (sym p ∙ q) ∙ digits_value-decimal own n (omega arith)
@@ -61,14 +61,13 @@ same_command (upgrading p s) (validation k q o) e = absurd (no_upgrade (sym e))
 same_command (upgrading p s) (checking q) e = absurd (upgrade_no_check e)
 same_command (upgrading p s) (upgrading q t) e = refl
 
-one_given : (found : List Row) (r s : Request) → IsGiven found r → IsGiven found s → r.task ≡ s.task → r ≡ s
-one_given found r s a b tasks = λ k. record {
-  schema = one_value _ r.schema s.schema a.schema b.schema k;
-  data_file = one_value _ r.data_file s.data_file a.data_file b.data_file k;
+pub one_given : (found : List Row) (g h : Given) → IsGiven found g → IsGiven found h → g ≡ h
+one_given found g h a b = λ k. record {
+  schema = one_value _ g.schema h.schema a.schema b.schema k;
+  data_file = one_value _ g.data_file h.data_file a.data_file b.data_file k;
   schema_base = (sym a.schema_base ∙ b.schema_base) k;
   data_base = (sym a.data_base ∙ b.data_base) k;
   import_words = (sym a.import_words ∙ b.import_words) k;
-  task = tasks k;
 }
 
 heads : {x y : Text} {xs ys : List Text} → x ∷ xs ≡ y ∷ ys → x ≡ y
@@ -78,7 +77,9 @@ tails : {x y : Text} {xs ys : List Text} → x ∷ xs ≡ y ∷ ys → xs ≡ ys
 tails e = cc
 
 pub one_request : (words : List Text) (r s : Request) → Asks words r → Asks words s → r ≡ s
-one_request words r s a b = one_given (rows (command_for r.task) a.behind) r s a.found.given given tasks
+one_request words r s a b =
+    let values : r.given ≡ s.given = one_given (rows (command_for r.task) a.behind) r.given s.given a.found.given same_values in
+    λ k. record { given = values k; task = tasks k }
   where
     whole : name_of r.task ∷ a.behind ≡ name_of s.task ∷ b.behind
     whole = sym a.named ∙ b.named
@@ -86,8 +87,8 @@ one_request words r s a b = one_given (rows (command_for r.task) a.behind) r s a
     kinds : rows (command_for s.task) b.behind ≡ rows (command_for r.task) a.behind
     kinds = ap (λ (app : App). rows app b.behind) (same_command s.task r.task (sym (heads whole))) ∙ ap (rows (command_for r.task)) (sym (tails whole))
 
-    given : IsGiven (rows (command_for r.task) a.behind) s
-    given = subst (λ (found : List Row). IsGiven found s) kinds b.found.given
+    same_values : IsGiven (rows (command_for r.task) a.behind) s.given
+    same_values = subst (λ (found : List Row). IsGiven found s.given) kinds b.found.given
 
     tasks : r.task ≡ s.task
     tasks = one_task (rows (command_for r.task) a.behind) r.task s.task (heads whole) a.found.asked (subst (λ (found : List Row). IsTask found s.task) kinds b.found.asked)

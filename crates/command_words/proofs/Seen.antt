@@ -6,9 +6,9 @@ use Rattle.command_words.specs.declared.error.WordsError.{WordsError}
 use Rattle.command_words.specs.declared.requests.Request.{Request as LentRequest}
 use Rattle.command_words.specs.Checks.{arguments}
 use Rattle.command_words.specs.Lent.{Because, request_of, task_of}
-use Rattle.command_words.proofs.Exact.{because}
+use Rattle.command_words.proofs.Exact.{because, handed_on}
 use Rattle.command_words.specs.Commands.{check, faults, rows, upgrade, validate}
-use Rattle.command_words.specs.Requests.{Asks, IsFound, IsGiven, IsTask, Request, Task, checking, command_for, name_of, upgrading, validation}
+use Rattle.command_words.specs.Requests.{Asks, Given, IsFound, IsGiven, IsTask, Request, Task, checking, command_for, name_of, upgrading, validation}
 use Rattle.command_words.proofs.Requested.{no_check, no_upgrade, upgrade_no_check}
 
 pub to_validate : (t : Task) → name_of t ≡ codes "validate" → command_for t ≡ validate
@@ -31,14 +31,14 @@ module _ (n : Text) (a b : App) (owns : (t : Task) → name_of t ≡ n → comma
   command_is : (t : Task) → name_of t ≡ n → b ≡ command_for t
   command_is t named = e ∙ sym (owns t named)
 
-  pub found_for : (seen : List Row) (r : Request) (t : Task) → faults b words ≡ [] → seen ≡ rows b words → IsGiven seen r → r.task ≡ t → IsTask seen t → name_of t ≡ n → IsFound words r
-  found_for seen r t taken same given is asked named =
-      let app : b ≡ command_for r.task = command_is r.task (ap name_of is ∙ named) in
-      let all : seen ≡ rows (command_for r.task) words = same ∙ ap (λ (x : App). rows x words) app in
+  pub found_for : (seen : List Row) (g : Given) (t : Task) → faults b words ≡ [] → seen ≡ rows b words → IsGiven seen g → IsTask seen t → name_of t ≡ n → IsFound words (record { given = g; task = t })
+  found_for seen g t taken same given asked named =
+      let app : b ≡ command_for t = command_is t named in
+      let all : seen ≡ rows (command_for t) words = same ∙ ap (λ (x : App). rows x words) app in
       record {
         taken = sym (ap (λ (x : App). faults x words) app) ∙ taken;
-        given = subst (λ (s : List Row). IsGiven s r) all given;
-        asked = subst (λ (s : List Row). IsTask s r.task) all (subst (IsTask seen) (sym is) asked);
+        given = subst (λ (s : List Row). IsGiven s g) all given;
+        asked = subst (λ (s : List Row). IsTask s t) all asked;
       }
 
   pub not_taken : faults b words ≢ [] → (r : Request) → name_of r.task ≡ n → ¬ IsFound words r
@@ -50,17 +50,15 @@ module _ (n : Text) (a b : App) (owns : (t : Task) → name_of t ≡ n → comma
   pub no_task : (seen : List Row) → seen ≡ rows b words → ((t : Task) → name_of t ≡ n → ¬ IsTask seen t) → (r : Request) → name_of r.task ≡ n → ¬ IsFound words r
   no_task seen same none r named h = none r.task named (subst (λ (s : List Row). IsTask s r.task) (same_seen seen r same named) h.asked)
 
-  pub not_given : (seen : List Row) → seen ≡ rows b words → ((r : Request) → ¬ IsGiven seen r) → (r : Request) → name_of r.task ≡ n → ¬ IsFound words r
-  not_given seen same none r named h = none r (subst (λ (s : List Row). IsGiven s r) (same_seen seen r same named) h.given)
+  not_given : (seen : List Row) → seen ≡ rows b words → ((g : Given) → ¬ IsGiven seen g) → (r : Request) → name_of r.task ≡ n → ¬ IsFound words r
+  not_given seen same none r named h = none r.given (subst (λ (s : List Row). IsGiven s r.given) (same_seen seen r same named) h.given)
 
   -- an error that is handed on
   pub not_requested : (seen : List Row) (r : Result LentRequest WordsError) (x : WordsError) → IsErrAnd r (λ y. y ≡ x) → seen ≡ rows b words
-      → Because (λ f. (f ≡ arguments) × ((q : Request) → ¬ IsGiven seen q)) x → IfErr r (Because (λ f. (f ≡ arguments) × ((q : Request) → name_of q.task ≡ n → ¬ IsFound words q)))
-  not_requested seen (Ok q) x h same fault = tt
-  not_requested seen (Err y) x h same fault =
-      because (λ f. (f ≡ arguments) × ((q : Request) → ¬ IsGiven seen q)) (λ f. (f ≡ arguments) × ((q : Request) → name_of q.task ≡ n → ¬ IsFound words q)) y
+      → Because (λ f. (f ≡ arguments) × ((g : Given) → ¬ IsGiven seen g)) x → IfErr r (Because (λ f. (f ≡ arguments) × ((q : Request) → name_of q.task ≡ n → ¬ IsFound words q)))
+  not_requested seen r x h same =
+      handed_on (λ f. (f ≡ arguments) × ((g : Given) → ¬ IsGiven seen g)) (λ f. (f ≡ arguments) × ((q : Request) → name_of q.task ≡ n → ¬ IsFound words q)) r x h
       (λ f (is, none). (is, not_given seen same none))
-      (subst (Because (λ f. (f ≡ arguments) × ((q : Request) → ¬ IsGiven seen q))) (sym h) fault)
 
 -- no words, or a first word that is no command's name
 pub no_words : (r : Request) → ¬ Asks [] r

@@ -16,10 +16,10 @@ pub record Command : Type 0 where
 -- the command that a request with these imports leads to
 abbrev pub command_by : Request → List Import → Command
 command_by r imports = record {
-  schema = r.schema;
-  data_file = r.data_file;
-  schema_base = r.schema_base;
-  data_base = r.data_base;
+  schema = r.given.schema;
+  data_file = r.given.data_file;
+  schema_base = r.given.schema_base;
+  data_base = r.given.data_base;
   imports = imports;
   task = r.task;
 }

@@ -7,7 +7,7 @@ use Rattle.clap.specs.Words.{Text}
 use Rattle.iri_resolve.specs.Reference.{scheme_of}
 use Rattle.iri_resolve.specs.Text.{Lacks}
 use Rattle.rdf_lex.specs.Characters.{has, iri_char}
-use Rattle.command_words.specs.Requests.{Request, map_names, proof_of, to_of}
+use Rattle.command_words.specs.Requests.{Given, Request, Task, map_names, proof_of, to_of}
 
 -- why words are refused, with the name, the word or the IRI that is at fault
 pub data Fault : Type 0 where
@@ -74,41 +74,69 @@ IsImportFault earlier [] f = ⊥
 IsImportFault earlier (w ∷ ws) f = IsWordFault earlier w f ⊎ ((i : Import) × IsImport earlier w i × IsImportFault (earlier ++ i.iri ∷ []) ws f)
 
 -- both files have an ending that says how they are read
-pub record HasEndings (r : Request) : Type 0 where
-  pub schema : is_schema_name r.schema ≡ true
-  pub data_file : is_data_name r.data_file ≡ true
+pub record HasEndings (g : Given) : Type 0 where
+  pub schema : is_schema_name g.schema ≡ true
+  pub data_file : is_data_name g.data_file ≡ true
 
 -- and the import words give these imports
-pub record HasImports (r : Request) (imports : List Import) : Type 0 where
-  pub endings : HasEndings r
-  pub imports_given : AreImports [] r.import_words imports
+pub record HasImports (g : Given) (imports : List Import) : Type 0 where
+  pub endings : HasEndings g
+  pub imports_given : AreImports [] g.import_words imports
 
 -- and both bases are bases
-pub record PassesBases (r : Request) (imports : List Import) : Type 0 where
-  pub inputs : HasImports r imports
-  pub schema : is_base r.schema_base ≡ true
-  pub data_file : is_base r.data_base ≡ true
+pub record PassesBases (g : Given) (imports : List Import) : Type 0 where
+  pub inputs : HasImports g imports
+  pub schema : is_base g.schema_base ≡ true
+  pub data_file : is_base g.data_base ≡ true
+
+-- the first of these checks that is failed
+pub data IsGivenFault (g : Given) : Fault → Type 0 where
+  schema_ending : is_schema_name g.schema ≡ false → IsGivenFault g (ending g.schema)
+  data_ending : is_schema_name g.schema ≡ true → is_data_name g.data_file ≡ false → IsGivenFault g (ending g.data_file)
+  import_words : (f : Fault) → HasEndings g → IsImportFault [] g.import_words f → IsGivenFault g f
+  schema_base : (imports : List Import) → HasImports g imports → is_base g.schema_base ≡ false → IsGivenFault g (base g.schema_base)
+  data_base : (imports : List Import) → HasImports g imports → is_base g.schema_base ≡ true → is_base g.data_base ≡ false → IsGivenFault g (base g.data_base)
+
+-- what every command of files is given, with the imports in place of their words
+pub record Inputs : Type 0 where
+  pub schema : Text
+  pub data_file : Text
+  pub schema_base : Text
+  pub data_base : Text
+  pub imports : List Import
+
+-- what is given, where its words give these imports
+abbrev pub inputs_by : Given → List Import → Inputs
+inputs_by g imports = record {
+  schema = g.schema;
+  data_file = g.data_file;
+  schema_base = g.schema_base;
+  data_base = g.data_base;
+  imports = imports;
+}
+
+-- what is given passes these checks, and its words give the imports of the inputs
+pub record AreInputs (g : Given) (i : Inputs) : Type 0 where
+  pub passes : PassesBases g i.imports
+  pub leads : i ≡ inputs_by g i.imports
 
 -- the names of the files of the schema, the data, the map and the imports
-abbrev pub other_names : Request → List Import → List Text
-other_names r imports = r.schema ∷ r.data_file ∷ map_names r.task ++ map (λ i. i.file) imports
+abbrev pub other_names : Inputs → Task → List Text
+other_names i t = i.schema ∷ i.data_file ∷ map_names t ++ map (λ w. w.file) i.imports
 
 -- and that of the proof, if there is one
-abbrev pub names_with_proof : Request → List Import → List Text
-names_with_proof r imports = option_to_list (proof_of r.task) ++ other_names r imports
+abbrev pub names_with_proof : Inputs → Task → List Text
+names_with_proof i t = option_to_list (proof_of t) ++ other_names i t
 
--- and the proof has a name of its own, and so has the file in which a checked proof is to be stored: the request passes all checks
+-- the name of the proof is none of the others, and neither is that of the file in which a checked proof is to be stored: the request passes all checks
 pub record Passes (r : Request) (imports : List Import) : Type 0 where
-  pub bases : PassesBases r imports
-  pub apart : IsApart (proof_of r.task) (other_names r imports)
-  pub to_apart : IsApart (to_of r.task) (names_with_proof r imports)
+  pub bases : PassesBases r.given imports
+  pub apart : IsApart (proof_of r.task) (other_names (inputs_by r.given imports) r.task)
+  pub to_apart : IsApart (to_of r.task) (names_with_proof (inputs_by r.given imports) r.task)
 
 -- the first check that a request fails
 pub data IsRequestFault (r : Request) : Fault → Type 0 where
-  schema_ending : is_schema_name r.schema ≡ false → IsRequestFault r (ending r.schema)
-  data_ending : is_schema_name r.schema ≡ true → is_data_name r.data_file ≡ false → IsRequestFault r (ending r.data_file)
-  import_words : (f : Fault) → HasEndings r → IsImportFault [] r.import_words f → IsRequestFault r f
-  schema_base : (imports : List Import) → HasImports r imports → is_base r.schema_base ≡ false → IsRequestFault r (base r.schema_base)
-  data_base : (imports : List Import) → HasImports r imports → is_base r.schema_base ≡ true → is_base r.data_base ≡ false → IsRequestFault r (base r.data_base)
-  same_name : (imports : List Import) → PassesBases r imports → (name : Text) → proof_of r.task ≡ Some name → is_among name (other_names r imports) ≡ true → IsRequestFault r (same name)
-  same_to : (imports : List Import) → PassesBases r imports → IsApart (proof_of r.task) (other_names r imports) → (name : Text) → to_of r.task ≡ Some name → is_among name (names_with_proof r imports) ≡ true → IsRequestFault r (same name)
+  of_given : (f : Fault) → IsGivenFault r.given f → IsRequestFault r f
+  same_name : (imports : List Import) → PassesBases r.given imports → (name : Text) → proof_of r.task ≡ Some name → is_among name (other_names (inputs_by r.given imports) r.task) ≡ true → IsRequestFault r (same name)
+  same_to : (imports : List Import) → PassesBases r.given imports → IsApart (proof_of r.task) (other_names (inputs_by r.given imports) r.task) → (name : Text) → to_of r.task ≡ Some name
+      → is_among name (names_with_proof (inputs_by r.given imports) r.task) ≡ true → IsRequestFault r (same name)

@@ -7,14 +7,15 @@ use Rattle.command_words.specs.declared.command.Command.{Command as LentCommand}
 use Rattle.command_words.specs.declared.command.Command.TheVariants as Lent
 use Rattle.command_words.specs.declared.command.Drilling.{Drilling}
 use Rattle.command_words.specs.declared.command.Import.{Import as LentImport}
-use Rattle.command_words.specs.declared.command.Inputs.{Inputs}
+use Rattle.command_words.specs.declared.command.Inputs.{Inputs as LentInputs}
 use Rattle.command_words.specs.declared.error.WordsError.{WordsError}
 use Rattle.command_words.specs.declared.error.WordsError.TheVariants as Error
+use Rattle.command_words.specs.declared.requests.Given.{Given as LentGiven}
 use Rattle.command_words.specs.declared.requests.Request.{Request as LentRequest}
 use Rattle.command_words.specs.declared.requests.Task.{Task as LentTask}
 use Rattle.command_words.specs.declared.requests.Task.TheVariants as Tasks
-use Rattle.command_words.specs.Requests.{Request, Task, checking, upgrading, validation}
-use Rattle.command_words.specs.Checks.{Fault, Import, arguments, base, ending, import_word, same}
+use Rattle.command_words.specs.Requests.{Given, Request, Task, checking, upgrading, validation}
+use Rattle.command_words.specs.Checks.{Fault, Import, Inputs, arguments, base, ending, import_word, same}
 use Rattle.command_words.specs.Asked.{Command, fault_text}
 use Rattle.command_words.specs.Drills.{Call, Drill, of_files, of_items}
 
@@ -26,18 +27,29 @@ task_of (Tasks.Validate map_file proof budget) = validation map_file.now (option
 task_of (Tasks.Check proof) = checking proof.now
 task_of (Tasks.Upgrade proof to_file) = upgrading proof.now to_file.now
 
+abbrev pub given_of : LentGiven → Given
+given_of g = record {
+  schema = g.schema.now;
+  data_file = g.data.now;
+  schema_base = g.schema_base.now;
+  data_base = g.data_base.now;
+  import_words = map (λ s. s.now) g.import_words.items;
+}
+
 abbrev pub request_of : LentRequest → Request
-request_of r = record {
-  schema = r.schema.now;
-  data_file = r.data.now;
-  schema_base = r.schema_base.now;
-  data_base = r.data_base.now;
-  import_words = map (λ s. s.now) r.import_words.items;
-  task = task_of r.task;
+request_of r = record { given = given_of r.given; task = task_of r.task }
+
+abbrev pub inputs_of : LentInputs → Inputs
+inputs_of i = record {
+  schema = i.schema.now;
+  data_file = i.data.now;
+  schema_base = i.schema_base.now;
+  data_base = i.data_base.now;
+  imports = map import_of i.imports.items;
 }
 
 -- a command of these inputs and this task
-abbrev pub command_with : Inputs → Task → Command
+abbrev pub command_with : LentInputs → Task → Command
 command_with inputs task = record {
   schema = inputs.schema.now;
   data_file = inputs.data.now;

@@ -10,13 +10,17 @@ pub data Task : Type 0 where
   checking : Text → Task
   upgrading : Text → Text → Task
 
--- the values of the options, and the import words
-pub record Request : Type 0 where
+-- what every command of files is given: the values of the options for schema and data, and the import words
+pub record Given : Type 0 where
   pub schema : Text
   pub data_file : Text
   pub schema_base : Text
   pub data_base : Text
   pub import_words : List Text
+
+-- what is given, and what is asked of it
+pub record Request : Type 0 where
+  pub given : Given
   pub task : Task
 
 -- the base of schema and data where none is given (own)
@@ -35,13 +39,13 @@ abbrev pub IsBudget : Option Text → ℕ → Type 0
 IsBudget None n = n ≡ default_budget
 IsBudget (Some text) n = (text ≡ decimal n) × (1 ≤ n) × (n ≤ max_budget)
 
--- the values, among those that `clap` finds, of what every command is given
-pub record IsGiven (found : List Row) (r : Request) : Type 0 where
-  pub schema : first_of (codes "schema") found ≡ Some r.schema
-  pub data_file : first_of (codes "data") found ≡ Some r.data_file
-  pub schema_base : unwrap_or (first_of (codes "schema-base") found) default_base ≡ r.schema_base
-  pub data_base : unwrap_or (first_of (codes "data-base") found) default_base ≡ r.data_base
-  pub import_words : unwrap_or (all_of (codes "imports") found) [] ≡ r.import_words
+-- the values, among those that `clap` finds, of what every command of files is given
+pub record IsGiven (found : List Row) (g : Given) : Type 0 where
+  pub schema : first_of (codes "schema") found ≡ Some g.schema
+  pub data_file : first_of (codes "data") found ≡ Some g.data_file
+  pub schema_base : unwrap_or (first_of (codes "schema-base") found) default_base ≡ g.schema_base
+  pub data_base : unwrap_or (first_of (codes "data-base") found) default_base ≡ g.data_base
+  pub import_words : unwrap_or (all_of (codes "imports") found) [] ≡ g.import_words
 
 -- of what only `validate` is given
 pub record IsValidation (found : List Row) (map_name : Text) (proof_name : Option Text) (budget : ℕ) : Type 0 where
@@ -74,7 +78,7 @@ name_of (upgrading proof_name to_name) = codes "upgrade"
 -- `clap` takes the words behind the command's name, and finds these values
 pub record IsFound (words : List Text) (r : Request) : Type 0 where
   pub taken : faults (command_for r.task) words ≡ []
-  pub given : IsGiven (rows (command_for r.task) words) r
+  pub given : IsGiven (rows (command_for r.task) words) r.given
   pub asked : IsTask (rows (command_for r.task) words) r.task
 
 -- the words are a command's name, and behind it words by which `clap` finds these values

@@ -1,19 +1,19 @@
 //! The checks of names and bases, and of a whole request.
 
-ghost use Rattle.std.specs.Prelude.{◌≡◌, List, ℕ, IfErr, IfOk, IfSome, IsNone, Some, false, map, nat_eq, option_map, true};
+ghost use Rattle.std.specs.Prelude.{◌≡◌, List, ℕ, IfErr, IfOk, IfSome, IsNone, Some, false, nat_eq, option_map, true};
 ghost use Rattle.std.specs.List.{ends_with, list_all, list_any};
 ghost use Rattle.std.specs.Option.{option_to_list};
 ghost use Rattle.std.specs.Str.{bytes_eq, chars};
 ghost use Rattle.rdf_lex.specs.Characters.{has, iri_char};
 ghost use Rattle.command_words.specs.Asked.{command_by};
-ghost use Rattle.command_words.specs.Checks.{IsApart, IsRequestFault, Passes, is_among, is_base, is_data_name, is_schema_name, names_with_proof, other_names};
-ghost use Rattle.command_words.specs.Lent.{Because, command_of, import_of, request_of, task_of};
+ghost use Rattle.command_words.specs.Checks.{AreInputs, IsApart, IsGivenFault, IsRequestFault, Passes, is_among, is_base, is_data_name, is_schema_name, names_with_proof, other_names};
+ghost use Rattle.command_words.specs.Lent.{Because, command_of, command_with, given_of, inputs_of, request_of, task_of};
 ghost use Rattle.command_words.specs.Requests.{map_names, proof_of, to_of};
 
 use crate::command::{Checking, Command, Import, Inputs, Upgrading, Validation};
 use crate::error::WordsError;
 use crate::imports::read_imports;
-use crate::requests::{Request, Task};
+use crate::requests::{Given, Request, Task};
 use iri_resolve::split;
 use rdf_lex::is_iri_char;
 use std::alloc::Global;
@@ -105,29 +105,29 @@ fn is_imported(name: &str, imports: &[Import<'_>]) -> bool
 }
 
 /// Whether a name is that of the schema, the data, the map or an import.
-fn is_named(name: &str, request: &Request<'_>, imports: &[Import<'_>]) -> bool
-    ensures { result ≡ is_among name.now (other_names (request_of request.now) (map import_of imports.now)) }
+fn is_named(name: &str, inputs: &Inputs<'_>, task: Task<'_>) -> bool
+    ensures { result ≡ is_among name.now (other_names (inputs_of inputs.now) (task_of task.entry)) }
 {
-    if request.schema == name || request.data == name {
+    if inputs.schema == name || inputs.data == name {
         return true;
     }
-    is_map(name, request.task) || is_imported(name, imports)
+    is_map(name, task) || is_imported(name, &inputs.imports)
 }
 
 /// Whether a name is that of the schema, the data, the map, an import or the proof.
-fn is_taken(name: &str, request: &Request<'_>, imports: &[Import<'_>]) -> bool
-    ensures { result ≡ is_among name.now (names_with_proof (request_of request.now) (map import_of imports.now)) }
+fn is_taken(name: &str, inputs: &Inputs<'_>, task: Task<'_>) -> bool
+    ensures { result ≡ is_among name.now (names_with_proof (inputs_of inputs.now) (task_of task.entry)) }
 {
-    is_proof(name, request.task) || is_named(name, request, imports)
+    is_proof(name, task) || is_named(name, inputs, task)
 }
 
 /// The name of the proof where it is that of another file too.
-fn same_name<'a>(request: &Request<'a>, imports: &[Import<'_>]) -> Option<&'a str>
-    ensures found { IfSome result (λ name. (proof_of (task_of request.now.task) ≡ Some name.now) × (is_among name.now (other_names (request_of request.now) (map import_of imports.now)) ≡ true)) }
-    ensures missed { IsNone result → IsApart (proof_of (task_of request.now.task)) (other_names (request_of request.now) (map import_of imports.now)) }
+fn same_name<'a>(inputs: &Inputs<'a>, task: Task<'a>) -> Option<&'a str>
+    ensures found { IfSome result (λ name. (proof_of (task_of task.entry) ≡ Some name.now) × (is_among name.now (other_names (inputs_of inputs.now) (task_of task.entry)) ≡ true)) }
+    ensures missed { IsNone result → IsApart (proof_of (task_of task.entry)) (other_names (inputs_of inputs.now) (task_of task.entry)) }
 {
-    let name = proof_name(request.task)?;
-    if is_named(name, request, imports) {
+    let name = proof_name(task)?;
+    if is_named(name, inputs, task) {
         Some(name)
     } else {
         None
@@ -135,30 +135,23 @@ fn same_name<'a>(request: &Request<'a>, imports: &[Import<'_>]) -> Option<&'a st
 }
 
 /// The name under which a checked proof is to be stored, where it is that of another file too.
-fn same_to<'a>(request: &Request<'a>, imports: &[Import<'_>]) -> Option<&'a str>
-    ensures found { IfSome result (λ name. (to_of (task_of request.now.task) ≡ Some name.now) × (is_among name.now (names_with_proof (request_of request.now) (map import_of imports.now)) ≡ true)) }
-    ensures missed { IsNone result → IsApart (to_of (task_of request.now.task)) (names_with_proof (request_of request.now) (map import_of imports.now)) }
+fn same_to<'a>(inputs: &Inputs<'a>, task: Task<'a>) -> Option<&'a str>
+    ensures found { IfSome result (λ name. (to_of (task_of task.entry) ≡ Some name.now) × (is_among name.now (names_with_proof (inputs_of inputs.now) (task_of task.entry)) ≡ true)) }
+    ensures missed { IsNone result → IsApart (to_of (task_of task.entry)) (names_with_proof (inputs_of inputs.now) (task_of task.entry)) }
 {
-    let name = to_name(request.task)?;
-    if is_taken(name, request, imports) {
+    let name = to_name(task)?;
+    if is_taken(name, inputs, task) {
         Some(name)
     } else {
         None
     }
 }
 
-/// What a request asks for, whose import words give these imports.
-fn command_for<'a>(request: Request<'a>, imports: Vec<Import<'a>>) -> Command<'a>
-    ensures command { command_of result ≡ command_by (request_of request.entry) (map import_of imports.entry.items) }
+/// The command for a task.
+fn command_for<'a>(inputs: Inputs<'a>, task: Task<'a>) -> Command<'a>
+    ensures command { command_of result ≡ command_with inputs.entry (task_of task.entry) }
 {
-    let inputs = Inputs {
-        schema: request.schema,
-        data: request.data,
-        schema_base: request.schema_base,
-        data_base: request.data_base,
-        imports,
-    };
-    match request.task {
+    match task {
         Task::Validate { map, proof, budget } => Command::Validate(Validation {
             inputs,
             map,
@@ -170,6 +163,35 @@ fn command_for<'a>(request: Request<'a>, imports: Vec<Import<'a>>) -> Command<'a
     }
 }
 
+/// What every command of files is given, where it passes the checks. It fails with the first one that is failed, in this order:
+/// `Ending` of the schema's name, then of the data's; for each import word in turn `Import` and then `Ending` of its file's
+/// name; `Base` of the schema, then of the data.
+pub fn checked_inputs<'a>(alloc: Global, given: Given<'a>) -> Result<Inputs<'a>, WordsError<'a>>
+    ensures ok { IfOk result (λ i. AreInputs (given_of given.entry) (inputs_of i)) }
+    ensures fault { IfErr result (Because (IsGivenFault (given_of given.entry))) }
+{
+    if !is_schema_name(given.schema) {
+        return Err(WordsError::Ending(given.schema));
+    }
+    if !is_data_name(given.data) {
+        return Err(WordsError::Ending(given.data));
+    }
+    let imports = read_imports(alloc, &given.import_words)?;
+    if !is_base(given.schema_base) {
+        return Err(WordsError::Base(given.schema_base));
+    }
+    if !is_base(given.data_base) {
+        return Err(WordsError::Base(given.data_base));
+    }
+    Ok(Inputs {
+        schema: given.schema,
+        data: given.data,
+        schema_base: given.schema_base,
+        data_base: given.data_base,
+        imports,
+    })
+}
+
 /// What a request asks for that passes the checks.
 pub(crate) fn checked<'a>(
     alloc: Global,
@@ -179,24 +201,13 @@ pub(crate) fn checked<'a>(
     ensures passes { IfOk result (λ c. Passes (request_of request.entry) (command_of c).imports) }
     ensures fault { IfErr result (Because (IsRequestFault (request_of request.entry))) }
 {
-    if !is_schema_name(request.schema) {
-        return Err(WordsError::Ending(request.schema));
-    }
-    if !is_data_name(request.data) {
-        return Err(WordsError::Ending(request.data));
-    }
-    let imports = read_imports(alloc, &request.import_words)?;
-    if !is_base(request.schema_base) {
-        return Err(WordsError::Base(request.schema_base));
-    }
-    if !is_base(request.data_base) {
-        return Err(WordsError::Base(request.data_base));
-    }
-    if let Some(name) = same_name(&request, &imports) {
+    let Request { given, task } = request;
+    let inputs = checked_inputs(alloc, given)?;
+    if let Some(name) = same_name(&inputs, task) {
         return Err(WordsError::Same(name));
     }
-    if let Some(name) = same_to(&request, &imports) {
+    if let Some(name) = same_to(&inputs, task) {
         return Err(WordsError::Same(name));
     }
-    Ok(command_for(request, imports))
+    Ok(command_for(inputs, task))
 }

@@ -1,7 +1,7 @@
 //! The words of a drill.
 
-ghost use Rattle.std.specs.Prelude.{◌≡◌, ◌∷◌, ◌≢◌, IfErr, IfOk, IfSome, IsNone, List, codes, map, string_bytes};
-ghost use Rattle.clap.specs.Words.{Text, found_of, rows_of};
+ghost use Rattle.std.specs.Prelude.{◌≡◌, IfErr, IfOk, IfSome, IsNone, map, string_bytes};
+ghost use Rattle.clap.specs.Words.{found_of, rows_of};
 ghost use Rattle.command_words.specs.Checks.{arguments};
 ghost use Rattle.command_words.specs.Drills.{Drill, IsFoundDrill, IsGivenDrill};
 ghost use Rattle.command_words.specs.Lent.{Because, drill_of};
@@ -13,21 +13,6 @@ use crate::matches::{matches_of, value_of};
 use crate::numbers::items;
 use clap::ArgMatches;
 use std::alloc::Global;
-
-/// The words behind the name `drill`, if the first one is that.
-pub fn behind_drill<'a>(words: &'a [String]) -> Option<&'a [String]>
-    ensures found { IfSome result (λ b. map string_bytes words.entry.now ≡ codes "drill" ∷ map string_bytes b.now) }
-    ensures missed { IsNone result → (behind : List Text) → map string_bytes words.entry.now ≢ codes "drill" ∷ behind }
-{
-    let [name, behind @ ..] = words else {
-        return None;
-    };
-    if name.as_str() == "drill" {
-        Some(behind)
-    } else {
-        None
-    }
-}
 
 /// The drill that is asked for, by what `clap` finds, and `None` where that is none.
 fn drilling<'a>(matches: &ArgMatches<'a>) -> Option<Drilling<'a>>

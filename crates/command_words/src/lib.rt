@@ -17,5 +17,5 @@ pub use command::{Call, Checking, Command, Drilling, Import, Inputs, Upgrading, 
 pub use error::WordsError;
 pub use laws::{answers_are_one, bases_are_lines};
 pub use numbers::DEFAULT_BUDGET;
-pub use requests::DEFAULT_BASE;
+pub use requests::{DEFAULT_BASE, Given, read_given};
 pub use words::read;

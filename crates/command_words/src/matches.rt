@@ -1,13 +1,28 @@
 //! What `clap` finds in words.
 
-ghost use Rattle.std.specs.Prelude.{◌≡◌, ◌≢◌, IfErr, IfOk, IfSome, IsNone, [], map, option_map, string_bytes, unwrap_or};
-ghost use Rattle.clap.specs.Words.{all_of, app_of, first_of, found_of, rows_of};
+ghost use Rattle.std.specs.Prelude.{◌≡◌, ◌≢◌, ◌∷◌, IfErr, IfOk, IfSome, IsNone, List, [], map, option_map, string_bytes, unwrap_or};
+ghost use Rattle.clap.specs.Words.{Text, all_of, app_of, first_of, found_of, rows_of};
 ghost use Rattle.command_words.specs.Commands.{IsCovered, faults, rows};
 
 use crate::error::WordsError;
 use clap::error::ErrorKind;
 use clap::{ArgMatches, Command};
 use std::alloc::{AllocError, Global};
+
+/// The words behind a command's name, if the first one is that.
+pub fn words_behind<'a>(words: &'a [String], name: &str) -> Option<&'a [String]>
+    ensures found { IfSome result (λ b. map string_bytes words.entry.now ≡ name.now ∷ map string_bytes b.now) }
+    ensures missed { IsNone result → (behind : List Text) → map string_bytes words.entry.now ≢ name.now ∷ behind }
+{
+    let [first, behind @ ..] = words else {
+        return None;
+    };
+    if first.as_str() == name {
+        Some(behind)
+    } else {
+        None
+    }
+}
 
 /// What the command finds in the words, or `None` where `clap` refuses them.
 pub fn matches_of<'a>(

@@ -3,8 +3,8 @@
 ghost use Rattle.std.specs.Prelude.{◌≡◌, IfErr, IfOk, IfSome, IsNone, codes, map, string_bytes};
 ghost use Rattle.clap.specs.Words.{found_of, rows_of};
 ghost use Rattle.command_words.specs.Checks.{arguments};
-ghost use Rattle.command_words.specs.Lent.{Because, request_of, task_of};
-ghost use Rattle.command_words.specs.Requests.{Asks, IsFound, IsGiven, IsTask, Request as Requested, Task as Asked, name_of};
+ghost use Rattle.command_words.specs.Lent.{Because, given_of, request_of, task_of};
+ghost use Rattle.command_words.specs.Requests.{Asks, Given as Giving, IsFound, IsGiven, IsTask, Request as Requested, Task as Asked, name_of};
 
 use crate::commands::{check, upgrade, validate};
 use crate::error::WordsError;
@@ -36,9 +36,9 @@ pub enum Task<'a> {
     },
 }
 
-/// The values of the options, and the import words.
+/// What every command of files is given: the values of the options for schema and data, and the import words.
 #[derive(Drop)]
-pub struct Request<'a> {
+pub struct Given<'a> {
     /// The name of the schema's file.
     pub schema: &'a str,
     /// The name of the data's file.
@@ -49,19 +49,22 @@ pub struct Request<'a> {
     pub data_base: &'a str,
     /// Words `IRI=FILE`, as they were given.
     pub import_words: Vec<&'a str>,
+}
+
+/// What is given, and what is asked of it.
+#[derive(Drop)]
+pub struct Request<'a> {
+    /// What every command of files is given.
+    pub given: Given<'a>,
     /// What is to be done.
     pub task: Task<'a>,
 }
 
-/// What is asked with this task, by what `clap` finds of the values that every command is given.
-fn request_for<'a>(
-    alloc: Global,
-    matches: &ArgMatches<'a>,
-    task: Task<'a>,
-) -> Result<Request<'a>, WordsError<'a>>
-    ensures ok { IfOk result (λ r. IsGiven (rows_of (found_of matches.now)) (request_of r)) }
-    ensures task { IfOk result (λ r. task_of r.task ≡ task_of task.entry) }
-    ensures fault { IfErr result (Because (λ f. (f ≡ arguments) × ((r : Requested) → ¬ IsGiven (rows_of (found_of matches.now)) r))) }
+/// What every command of files is given, by what `clap` finds. It fails with `Arguments` where the schema or the data have no
+/// file.
+pub fn read_given<'a>(alloc: Global, matches: &ArgMatches<'a>) -> Result<Given<'a>, WordsError<'a>>
+    ensures ok { IfOk result (λ g. IsGiven (rows_of (found_of matches.now)) (given_of g)) }
+    ensures fault { IfErr result (Because (λ f. (f ≡ arguments) × ((g : Giving) → ¬ IsGiven (rows_of (found_of matches.now)) g))) }
 {
     let Some(schema) = value_of(matches, "schema") else {
         return Err(WordsError::Arguments);
@@ -70,13 +73,12 @@ fn request_for<'a>(
         return Err(WordsError::Arguments);
     };
     let import_words = values_of(alloc, matches, "imports")?;
-    Ok(Request {
+    Ok(Given {
         schema,
         data,
         schema_base: value_or(matches, "schema-base", DEFAULT_BASE),
         data_base: value_or(matches, "data-base", DEFAULT_BASE),
         import_words,
-        task,
     })
 }
 
@@ -129,8 +131,8 @@ fn read_to_validate<'a>(alloc: Global, words: &'a [String]) -> Result<Request<'a
     let Some(task) = validation(&matches) else {
         return Err(WordsError::Arguments);
     };
-    let request = request_for(alloc, &matches, task)?;
-    Ok(request)
+    let given = read_given(alloc, &matches)?;
+    Ok(Request { given, task })
 }
 
 /// What the words behind `check` ask for.
@@ -146,8 +148,8 @@ fn read_to_check<'a>(alloc: Global, words: &'a [String]) -> Result<Request<'a>, 
     let Some(task) = checking(&matches) else {
         return Err(WordsError::Arguments);
     };
-    let request = request_for(alloc, &matches, task)?;
-    Ok(request)
+    let given = read_given(alloc, &matches)?;
+    Ok(Request { given, task })
 }
 
 /// What the words behind `upgrade` ask for.
@@ -163,8 +165,8 @@ fn read_to_upgrade<'a>(alloc: Global, words: &'a [String]) -> Result<Request<'a>
     let Some(task) = upgrading(&matches) else {
         return Err(WordsError::Arguments);
     };
-    let request = request_for(alloc, &matches, task)?;
-    Ok(request)
+    let given = read_given(alloc, &matches)?;
+    Ok(Request { given, task })
 }
 
 /// What the words ask for.

@@ -8,8 +8,9 @@ ghost use Rattle.command_words.specs.Lent.{Because, call_of, command_of};
 
 use crate::checks::checked;
 use crate::command::{Call, Command};
-use crate::drilling::{behind_drill, read_drill};
+use crate::drilling::read_drill;
 use crate::error::WordsError;
+use crate::matches::words_behind;
 use crate::requests::read_request;
 use std::alloc::Global;
 
@@ -34,7 +35,7 @@ pub fn read<'a>(alloc: Global, words: &'a [String]) -> Result<Call<'a>, WordsErr
     ensures refused { IfErr result (Because (IsFault (map string_bytes words.entry.now))) }
     ensures refuses { (f : Fault) → IsFault (map string_bytes words.entry.now) f → IsErrAnd result (Because (λ g. g ≡ f)) }
 {
-    if let Some(behind) = behind_drill(words) {
+    if let Some(behind) = words_behind(words, "drill") {
         let drilling = read_drill(alloc, behind)?;
         return Ok(Call::Drill(drilling));
     }

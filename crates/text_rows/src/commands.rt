@@ -5,6 +5,7 @@ use command_words::{
 };
 use row_format::words_of;
 use std::alloc::{AllocError, Global};
+use tool_words::{Converting, Editing, Listing, ToolCall, read_session, read_tool};
 
 /// The files and the bases of a command.
 fn shown_inputs(alloc: Global, inputs: &Inputs<'_>) -> Result<String, AllocError> {
@@ -59,6 +60,47 @@ fn shown_command(alloc: Global, command: &Command<'_>) -> Result<String, AllocEr
 fn shown_drilling(alloc: Global, asked: &Drilling<'_>) -> Result<String, AllocError> {
     let (items, proof) = (asked.items, asked.proof);
     format!(in alloc; "drill {items} {proof:?}")
+}
+
+/// What `convert` asks for.
+fn shown_converting(alloc: Global, asked: Converting<'_>) -> Result<String, AllocError> {
+    let (schema, base) = (asked.schema, asked.schema_base);
+    format!(in alloc; "convert {schema} {base}")
+}
+
+/// What `extents` asks for.
+fn shown_listing(alloc: Global, asked: &Listing<'_>) -> Result<String, AllocError> {
+    let inputs = shown_inputs(alloc, &asked.inputs)?;
+    let budget = asked.budget;
+    let line = format!(in alloc; "extents {inputs} {budget}")?;
+    with_imports(line, &asked.inputs.imports)
+}
+
+/// What words ask of a session.
+fn shown_editing(alloc: Global, asked: &Editing<'_>) -> Result<String, AllocError> {
+    let inputs = shown_inputs(alloc, &asked.inputs)?;
+    let (script, budget) = (asked.script, asked.budget);
+    let line = format!(in alloc; "{inputs} {script} {budget}")?;
+    with_imports(line, &asked.inputs.imports)
+}
+
+/// What the words of a line ask of the tool, or why they are refused.
+pub fn asked_of_tool(alloc: Global, line: &str) -> Result<String, AllocError> {
+    let words = words_of(alloc, line)?;
+    match read_tool(alloc, &words) {
+        Ok(ToolCall::Convert(converting)) => shown_converting(alloc, converting),
+        Ok(ToolCall::Extents(listing)) => shown_listing(alloc, &listing),
+        Err(error) => format!(in alloc; "{error}"),
+    }
+}
+
+/// What the words of a line ask of a session, or why they are refused.
+pub fn asked_of_session(alloc: Global, line: &str) -> Result<String, AllocError> {
+    let words = words_of(alloc, line)?;
+    match read_session(alloc, &words) {
+        Ok(editing) => shown_editing(alloc, &editing),
+        Err(error) => format!(in alloc; "{error}"),
+    }
 }
 
 /// What the words of a line ask for, or why they are refused.

@@ -27,7 +27,7 @@
 //!   or `neigh NODE`.
 //! - `shexc` reads a schema in ShExC, and gives `read` or why it is refused.
 //! - `items FILE` reads a map over this file's data, and `select FILE` gives what it selects.
-//! - `words` says what words ask for.
+//! - `words` says what words ask for, `tool-words` what they ask of `shextool`, and `session-words` of `typing_session`.
 //! - `proof` writes the proof that is read of a text, and `proof-line` that of a line with `¶` for line feeds.
 //! - `script` gives the commands of an edit script, one a line.
 #![tactic(auto)]

@@ -55,6 +55,8 @@ fn of_text(
         "compare" => Ok(numbers::compared(alloc, text, with)?),
         "digits" => Ok(numbers::digits(alloc, text)?),
         "words" => Ok(commands::asked(alloc, text)?),
+        "tool-words" => Ok(commands::asked_of_tool(alloc, text)?),
+        "session-words" => Ok(commands::asked_of_session(alloc, text)?),
         "shexc" => Ok(compact::outcome(alloc, text)?),
         "term" => Ok(terms::parts(alloc, text)?),
         "numbers" => terms::numbers(alloc, text),

@@ -5,9 +5,9 @@ use Rattle.command_words.specs.Commands.{check, rows}
 use Rattle.command_words.proofs.Seen.{not_requested, to_check}
 use Rattle.command_words.proofs.requests.read_to_check.Goals as goal
 
-pub returns-in_err-request-clause-fault : goal.returns-in_err-request-clause-fault
-returns-in_err-request-clause-fault c =
+pub returns-in_err-given-clause-fault : goal.returns-in_err-given-clause-fault
+returns-in_err-given-clause-fault c =
     let words = map string_bytes c.args.words.now in
     let same : rows_of (found_of c.in-Some.matches) ≡ rows (app_of c.in_ok-command.command) words = search rules in
     not_requested (codes "check") check (app_of c.in_ok-command.command) to_check c.in_ok-command.ensures words (rows_of (found_of c.in-Some.matches))
-    c.from_residual-in_err-request.result c.in_err-request.field-0.0 c.from_residual-in_err-request.ensures.1 same c.in_err-request.ensures.fault
+    c.from_residual-in_err-given.result c.in_err-given.field-0.0 c.from_residual-in_err-given.ensures.1 same c.in_err-given.ensures.fault

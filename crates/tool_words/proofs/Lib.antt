@@ -1,0 +1,4 @@
+pub mod Covered
+pub mod Handed
+pub mod Once
+pub mod Exactly

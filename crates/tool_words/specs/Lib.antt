@@ -1,0 +1,5 @@
+pub mod Commands
+pub mod Requests
+pub mod Asked
+pub mod Lent
+pub mod Laws

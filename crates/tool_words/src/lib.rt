@@ -1,0 +1,14 @@
+//! The words of the programs `shextool` and `typing_session`, read with `clap` and checked as those of `shex` are.
+#![tactic(auto)]
+
+mod call;
+mod commands;
+mod laws;
+mod requests;
+mod session;
+mod tool;
+
+pub use call::{Converting, Editing, Listing, ToolCall};
+pub use laws::answers_are_one;
+pub use session::read_session;
+pub use tool::read_tool;

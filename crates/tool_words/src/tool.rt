@@ -1,0 +1,79 @@
+//! The words of `shextool`.
+
+ghost use Rattle.std.specs.Prelude.{◌≡◌, IfErr, IfOk, IsErrAnd, MatchResult, map, string_bytes};
+ghost use Rattle.command_words.specs.Checks.{Fault};
+ghost use Rattle.command_words.specs.Lent.{Because};
+ghost use Rattle.tool_words.specs.Asked.{IsConverting, IsConvertingFault, IsListing, IsListingFault, IsToolCall, IsToolFault, ToolCall as Calling};
+ghost use Rattle.tool_words.specs.Lent.{converting_of, listing_of, tool_call_of};
+
+use crate::call::{Converting, Listing, ToolCall};
+use crate::commands::{convert, extents};
+use crate::requests::{Budgeted, read_budgeted, read_named};
+use command_words::WordsError;
+use command_words::checks::{checked_inputs, is_base, is_schema_name};
+use command_words::matches::{matches_of, words_behind};
+use std::alloc::Global;
+
+/// What the words behind `convert` ask for, or the first thing that is wrong with them.
+fn read_converting<'a>(alloc: Global, words: &'a [String]) -> Result<Converting<'a>, WordsError<'a>>
+    ensures ok { IfOk result (λ c. IsConverting (map string_bytes words.entry.now) (converting_of c)) }
+    ensures fault { IfErr result (Because (IsConvertingFault (map string_bytes words.entry.now))) }
+{
+    let command = convert(alloc)?;
+    let Some(matches) = matches_of(command, words)? else {
+        return Err(WordsError::Arguments);
+    };
+    let Some(converting) = read_named(&matches) else {
+        return Err(WordsError::Arguments);
+    };
+    if !is_schema_name(converting.schema) {
+        return Err(WordsError::Ending(converting.schema));
+    }
+    if !is_base(converting.schema_base) {
+        return Err(WordsError::Base(converting.schema_base));
+    }
+    Ok(converting)
+}
+
+/// What the words behind `extents` ask for, or the first thing that is wrong with them.
+fn read_listing<'a>(alloc: Global, words: &'a [String]) -> Result<Listing<'a>, WordsError<'a>>
+    ensures ok { IfOk result (λ l. IsListing (map string_bytes words.entry.now) (listing_of l)) }
+    ensures fault { IfErr result (Because (IsListingFault (map string_bytes words.entry.now))) }
+{
+    let command = extents(alloc)?;
+    let Some(matches) = matches_of(command, words)? else {
+        return Err(WordsError::Arguments);
+    };
+    let Budgeted { given, budget } = read_budgeted(alloc, &matches)?;
+    let inputs = checked_inputs(alloc, given)?;
+    Ok(Listing { inputs, budget })
+}
+
+/// What the words ask for, or the first thing that is wrong with them.
+fn read_call<'a>(alloc: Global, words: &'a [String]) -> Result<ToolCall<'a>, WordsError<'a>>
+    ensures ok { IfOk result (λ c. IsToolCall (map string_bytes words.entry.now) (tool_call_of c)) }
+    ensures fault { IfErr result (Because (IsToolFault (map string_bytes words.entry.now))) }
+{
+    if let Some(behind) = words_behind(words, "convert") {
+        let converting = read_converting(alloc, behind)?;
+        return Ok(ToolCall::Convert(converting));
+    }
+    if let Some(behind) = words_behind(words, "extents") {
+        let listing = read_listing(alloc, behind)?;
+        return Ok(ToolCall::Extents(listing));
+    }
+    Err(WordsError::Arguments)
+}
+
+/// What the words behind the program's name ask of `shextool`: `convert --schema F [--schema-base I]`, or
+/// `extents --schema F --data F [--budget N] [--schema-base I] [--data-base I] [IRI=FILE ..]`. It fails with the first thing that
+/// is wrong with them, in this order: `Arguments`; `Ending` of the schema's name, then of the data's; for each import word in
+/// turn `Import` and then `Ending` of its file's name; `Base` of the schema, then of the data.
+pub fn read_tool<'a>(alloc: Global, words: &'a [String]) -> Result<ToolCall<'a>, WordsError<'a>>
+    ensures asked { IfOk result (λ c. IsToolCall (map string_bytes words.entry.now) (tool_call_of c)) }
+    ensures complete { (c : Calling) → IsToolCall (map string_bytes words.entry.now) c → MatchResult result (λ d. tool_call_of d ≡ c) (Because (λ f. ⊥)) }
+    ensures refused { IfErr result (Because (IsToolFault (map string_bytes words.entry.now))) }
+    ensures refuses { (f : Fault) → IsToolFault (map string_bytes words.entry.now) f → IsErrAnd result (Because (λ g. g ≡ f)) }
+{
+    read_call(alloc, words)
+}
