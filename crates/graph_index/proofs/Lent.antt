@@ -70,7 +70,7 @@ of_others rows others n is = ap (λ (ts : List Triple). ins ts n) is ∙ filter_
 
 pub two_lists :
     (one other : End) (out_rows in_rows others outward inward : List Triple) (n : TermId) → one ≡ Subject → other ≡ Object → outward ≡ arcs_at one out_rows n → inward ≡ arcs_at other others n →
-    others ≡ filter (λ t. not (is_loop t)) in_rows → outward ++ inward ≡ outs out_rows n ++ filter (λ t. not (is_loop t)) (ins in_rows n)
+    arcs_at Object others n ≡ filter (λ t. not (is_loop t)) (arcs_at Object in_rows n) → outward ++ inward ≡ outs out_rows n ++ filter (λ t. not (is_loop t)) (ins in_rows n)
 two_lists one other out_rows in_rows others outward inward n e f g h is =
     ap (λ (ts : List Triple). ts ++ inward) (g ∙ ap (λ end. arcs_at end out_rows n) e)
-    ∙ ap (λ (ts : List Triple). outs out_rows n ++ ts) (h ∙ ap (λ end. arcs_at end others n) f ∙ of_others in_rows others n is)
+    ∙ ap (λ (ts : List Triple). outs out_rows n ++ ts) (h ∙ ap (λ end. arcs_at end others n) f ∙ is)

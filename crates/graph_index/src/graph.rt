@@ -1,6 +1,6 @@
 //! Graphs of triples.
 
-ghost use Rattle.std.specs.Prelude.{List, ◌≡◌, ◌≤◌, ◌<◌, ◌↔◌, [], ◌∷◌, length, take, IsTrue, IfOk, OnOk, OnErr, None, Some, Contains};
+ghost use Rattle.std.specs.Prelude.{List, ◌≡◌, ◌++◌, ◌≤◌, ◌<◌, ◌↔◌, [], ◌∷◌, length, take, IsTrue, IfOk, OnOk, OnErr, None, Some, Contains};
 ghost use Rattle.std.specs.Bool.{OnTrue, OnFalse};
 ghost use Rattle.std.specs.List.Sorted.{IsPermutation};
 ghost use Rattle.rdf_terms.specs.declared.terms.Term.{Term};
@@ -12,7 +12,7 @@ ghost use Rattle.lists.specs.Sorting.{sorted_by};
 ghost use Rattle.graph_index.specs.Contents.{max_triples, outs_by, ins_by, IsSealed, IsSealedWith};
 
 use crate::neighbours::Neigh;
-use crate::rows::Rows;
+use crate::rows::{Rows, insert_row, remove_row};
 use indexmap::IndexSet;
 use rdf_terms::table::TermTable;
 use rdf_terms::terms::{TermId, Triple};
@@ -35,7 +35,8 @@ pub enum AddError {
 pub const MAX_TRIPLES: usize = 4_000_000;
 
 /// A set of triples, at most 4,000,000 of them (RDF 1.1 Concepts, section 3). Once it is sealed with a table of terms, it
-/// lends the triples of a node in the order of the texts of that table, until a triple is added or removed.
+/// lends the triples of a node in the order of the texts of that table, until a triple is added or removed; edits that
+/// keep it sealed are `insert_sealed` and `remove_sealed`.
 #[derive(Drop)]
 pub struct Graph {
     alloc: Global,
@@ -167,6 +168,84 @@ impl Graph {
     {
         let rows = Rows::arranged(self.alloc, self.held.as_slice(), terms)?;
         self.rows = Some(rows);
+        Ok(())
+    }
+
+    /// Adds a triple to a graph that is sealed with the table, answers whether it is new, and keeps the graph sealed; the
+    /// triple's numbers are to be of the table. It takes as long as the triples of the subject and those of the object,
+    /// however many the graph has. It fails as `Full` where the triple is new and the graph holds 4,000,000; a refusal
+    /// changes nothing.
+    pub fn insert_sealed(&mut self, t: Triple, terms: &TermTable) -> Result<bool, AddError>
+        requires { IsSealedWith terms.now self.old }
+        ensures new { IfOk result (λ new. IsTrue new ↔ (¬ Contains self.old.triples t)) }
+        ensures added { OnOk result (Adds self.old.triples t self.new.triples) }
+        ensures sealed { IsSealedWith terms.now self.new }
+        ensures kept { IfOk result (λ new. OnFalse new (self.new ≡ self.old)) }
+        ensures full { (result ≡ Err AddError.Full) ↔ ((¬ Contains self.old.triples t) × (length self.old.triples ≡ max_triples)) }
+        ensures err { OnErr result (self.new ≡ self.old) }
+        ensures distinct { AreDistinct self.new.triples }
+    {
+        let count = self.len();
+        if self.holds(t) {
+            return Ok(false);
+        }
+        if count >= MAX_TRIPLES as u64 {
+            return Err(AddError::Full);
+        }
+        match self.take_up(t, terms) {
+            Ok(()) => Ok(true),
+            Err(_) => Err(AddError::Memory),
+        }
+    }
+
+    /// Removes a triple from a graph that is sealed with the table, answers whether it was held, and keeps the graph
+    /// sealed. It takes as long as the triples of the subject and those of the object, however many the graph has. A
+    /// refusal changes nothing.
+    pub fn remove_sealed(&mut self, t: Triple, terms: &TermTable) -> Result<bool, AllocError>
+        requires { IsSealedWith terms.now self.old }
+        ensures held { IfOk result (λ held. IsTrue held ↔ Contains self.old.triples t) }
+        ensures removed { IfOk result (λ held. OnTrue held (IsPermutation self.old.triples (t ∷ self.new.triples))) }
+        ensures sealed { IsSealedWith terms.now self.new }
+        ensures kept { IfOk result (λ held. OnFalse held (self.new ≡ self.old)) }
+        ensures err { OnErr result (self.new ≡ self.old) }
+        ensures distinct { AreDistinct self.new.triples }
+    {
+        let _count = self.len();
+        if !self.holds(t) {
+            return Ok(false);
+        }
+        self.take_out(t, terms)?;
+        Ok(true)
+    }
+
+    /// Puts a triple behind those of a sealed graph, and takes it up into its rows.
+    fn take_up(&mut self, t: Triple, terms: &TermTable) -> Result<(), AllocError>
+        requires sealed { IsSealedWith terms.now self.old }
+        requires new { ¬ Contains self.old.triples t }
+        requires few { length self.old.triples < max_triples }
+        ensures added { OnOk result (self.new.triples ≡ self.old.triples ++ t ∷ []) }
+        ensures sealed { OnOk result (IsSealedWith terms.now self.new) }
+        ensures err { OnErr result (self.new ≡ self.old) }
+    {
+        self.held.reserve(1)?;
+        insert_row(&mut self.rows, self.alloc, t, terms)?;
+        match self.held.insert(t) {
+            Ok(_) => Ok(()),
+            Err(_) => unreachable!(),
+        }
+    }
+
+    /// Takes a triple that a sealed graph holds out of it and out of its rows.
+    fn take_out(&mut self, t: Triple, terms: &TermTable) -> Result<(), AllocError>
+        requires sealed { IsSealedWith terms.now self.old }
+        requires held { Contains self.old.triples t }
+        ensures removed { OnOk result (IsPermutation self.old.triples (t ∷ self.new.triples)) }
+        ensures sealed { OnOk result (IsSealedWith terms.now self.new) }
+        ensures err { OnErr result (self.new ≡ self.old) }
+        ensures distinct { OnOk result (AreDistinct self.new.triples) }
+    {
+        remove_row(&mut self.rows, self.alloc, t, terms)?;
+        self.held.swap_remove(&t);
         Ok(())
     }
 

@@ -3,11 +3,13 @@
 #![tactic(auto)]
 
 mod arcs;
+mod edited;
 mod ends;
 pub mod graph;
 pub mod laws;
 pub mod loading;
 pub mod neighbours;
+mod node_rows;
 mod numbers;
 mod places;
 pub mod read_error;

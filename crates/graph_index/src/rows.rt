@@ -1,13 +1,18 @@
-//! The triples of a sealed graph in two orders.
+//! The triples of a sealed graph in two orders, which are kept up when one is inserted or removed.
 
-ghost use Rattle.std.specs.Prelude.{◌≡◌, All, filter, nat_eq};
+ghost use Rattle.std.specs.Prelude.{List, ◌≡◌, ◌∷◌, All, IfOk, IsSomeAnd, OnErr, OnOk, filter, nat_eq};
+ghost use Rattle.std.specs.List.Sorted.{IsPermutation};
 ghost use Rattle.rdf_terms.specs.Graphs.{same_id};
+ghost use Rattle.rdf_terms.specs.declared.terms.Triple.{Triple as Row};
+ghost use Rattle.graph_index.specs.Contents.{IsArranged};
 ghost use Rattle.graph_index.specs.Places.{AreApart, IsPlaced, place_of};
-ghost use Rattle.graph_index.specs.Rows.{IsByPredicate};
+ghost use Rattle.graph_index.specs.Rows.{IsByPredicate, arcs_at};
 
-use crate::arcs::Arcs;
+use crate::arcs::{Arcs, without_loops};
+use crate::edited::EditedArcs;
 use crate::ends::End;
 use crate::neighbours::Neigh;
+use crate::node_rows::{block_of, with_row, without_row};
 use crate::places::{place_of, places_in};
 use rdf_terms::table::TermTable;
 use rdf_terms::terms::{TermId, Triple};
@@ -15,43 +20,34 @@ use std::alloc::{AllocError, Global};
 use std::marker::Model;
 
 /// The triples of a sealed graph: those of each subject, those of each object, and of these again those that are no
-/// self-loops; and the places of their numbers in the order of texts.
-#[derive(Debug, Drop)]
+/// self-loops; and the places of the numbers that were sealed in the order of texts.
+#[derive(Drop)]
 pub struct Rows {
     places: Vec<usize>,
-    outward: Arcs,
-    inward: Arcs,
-    into_others: Arcs,
+    outward: EditedArcs,
+    inward: EditedArcs,
+    into_others: EditedArcs,
 }
 
 impl Model for Rows {
-    ghost use Rattle.std.specs.Prelude.{◌≡◌, All, filter, not};
-    ghost use Rattle.rdf_terms.specs.Graphs.{is_loop};
-    ghost use Rattle.rdf_terms.specs.declared.terms.TermId.{TermId};
     ghost use Rattle.graph_index.specs.Contents.{Arrangement};
-    ghost use Rattle.graph_index.specs.Places.{AreApart, IsPlaced};
-    ghost use Rattle.graph_index.specs.Rows.{IsByPredicate, arcs_at};
-    ghost use Rattle.graph_index.specs.declared.ends.End.TheVariants.{Subject, Object};
+    ghost use Rattle.graph_index.specs.Edits.{AreKept};
 
     ghost Value = { Arrangement };
 
-    ghost view = { λ r. record { outward = r.outward.rows.items; inward = r.inward.rows.items } };
+    ghost view = { λ r. record { outward = r.outward.rows; inward = r.inward.rows } };
 
-    ghost invariant = { λ r. AreApart r.places.items
-        × All (IsPlaced r.places.items) r.outward.rows.items
-        × All (IsPlaced r.places.items) r.inward.rows.items
-        × (r.outward.end ≡ Subject)
-        × (r.inward.end ≡ Object)
-        × (r.into_others.end ≡ Object)
-        × (r.into_others.rows.items ≡ filter (λ t. not (is_loop t)) r.inward.rows.items)
-        × ((n : TermId) → IsByPredicate r.places.items (arcs_at Subject r.outward.rows.items n))
-        × ((n : TermId) → IsByPredicate r.places.items (arcs_at Object r.inward.rows.items n)) };
+    ghost invariant = { λ r. AreKept r.places.items r.outward r.inward r.into_others };
 }
 
 impl Rows {
-    ghost use Rattle.std.specs.Prelude.{◌≡◌, ◌++◌, IfOk, filter, not};
+    ghost use Rattle.std.specs.Prelude.{List, ◌≡◌, ◌∷◌, ◌++◌, IfOk, OnErr, OnOk, filter, not};
+    ghost use Rattle.std.specs.List.Sorted.{IsPermutation};
     ghost use Rattle.rdf_terms.specs.Graphs.{ins, is_loop, outs, same_id};
+    ghost use Rattle.rdf_terms.specs.declared.terms.Triple.{Triple as Row};
     ghost use Rattle.graph_index.specs.Contents.{IsArranged};
+    ghost use Rattle.graph_index.specs.Edits.{AreInTexts, GivesRows};
+    ghost use Rattle.graph_index.specs.declared.ends.End.TheVariants.{Object, Subject};
 
     /// The triples in both orders, by the texts of the table.
     pub fn arranged(
@@ -67,9 +63,9 @@ impl Rows {
         let into_others = inward.without_loops(alloc)?;
         Ok(Rows {
             places,
-            outward,
-            inward,
-            into_others,
+            outward: EditedArcs::over(alloc, outward),
+            inward: EditedArcs::over(alloc, inward),
+            into_others: EditedArcs::over(alloc, into_others),
         })
     }
 
@@ -91,14 +87,14 @@ impl Rows {
     pub(crate) fn outs_by(&self, n: TermId, p: TermId) -> &[Triple]
         ensures { result.now ≡ filter (λ t. same_id t.p p) (outs self.now.outward n) }
     {
-        of_predicate(self.outward.of_node(n), self.places.as_slice(), p)
+        rows_by(&self.outward, self.places.as_slice(), n, p)
     }
 
     /// The triples of an object and a predicate.
     pub(crate) fn ins_by(&self, n: TermId, p: TermId) -> &[Triple]
         ensures { result.now ≡ filter (λ t. same_id t.p p) (ins self.now.inward n) }
     {
-        of_predicate(self.inward.of_node(n), self.places.as_slice(), p)
+        rows_by(&self.inward, self.places.as_slice(), n, p)
     }
 
     /// The triples of a subject, and then those of the object that are no self-loops.
@@ -106,6 +102,111 @@ impl Rows {
         ensures { result ≡ outs self.now.outward n ++ filter (λ t. not (is_loop t)) (ins self.now.inward n) }
     {
         Neigh::of(self.outward.of_node(n), self.into_others.of_node(n))
+    }
+
+    /// Takes a triple up at its place by the texts of the table, by which the rows stand. It takes as long as the triples
+    /// of its subject and those of its object. A refusal changes nothing.
+    pub(crate) fn insert(
+        &mut self,
+        alloc: Global,
+        t: Triple,
+        terms: &TermTable,
+    ) -> Result<(), AllocError>
+        requires { (triples : List Row) × IsArranged terms.now triples self.old }
+        ensures arranged { OnOk result ((triples more : List Row) → IsPermutation more (t ∷ triples) → IsArranged terms.now triples self.old → IsArranged terms.now more self.new) }
+        ensures err { OnErr result (self.new ≡ self.old) }
+    {
+        let outward = with_row(alloc, End::Subject, terms, self.outs(t.s), t)?;
+        let inward = with_row(alloc, End::Object, terms, self.ins(t.o), t)?;
+        self.replace(alloc, t, outward, inward)
+    }
+
+    /// Takes a triple out, which is one of the rows. It takes as long as the triples of its subject and those of its
+    /// object. A refusal changes nothing.
+    pub(crate) fn remove(
+        &mut self,
+        alloc: Global,
+        t: Triple,
+        terms: &TermTable,
+    ) -> Result<(), AllocError>
+        requires { (triples left : List Row) × IsPermutation triples (t ∷ left) × IsArranged terms.now triples self.old }
+        ensures arranged { OnOk result ((triples left : List Row) → IsPermutation triples (t ∷ left) → IsArranged terms.now triples self.old → IsArranged terms.now left self.new) }
+        ensures err { OnErr result (self.new ≡ self.old) }
+    {
+        let outward = without_row(alloc, End::Subject, terms, self.outs(t.s), t)?;
+        let inward = without_row(alloc, End::Object, terms, self.ins(t.o), t)?;
+        self.replace(alloc, t, outward, inward)
+    }
+
+    /// Puts the rows of the triple's subject and those of its object in place of those that they have. A refusal changes
+    /// nothing.
+    fn replace(
+        &mut self,
+        alloc: Global,
+        t: Triple,
+        outward: Vec<Triple>,
+        inward: Vec<Triple>,
+    ) -> Result<(), AllocError>
+        requires outward { AreInTexts Subject t.s outward.items }
+        requires inward { AreInTexts Object t.o inward.items }
+        ensures rows { OnOk result (GivesRows Subject t.s outward.items self.old.outward self.new.outward × GivesRows Object t.o inward.items self.old.inward self.new.inward) }
+        ensures err { OnErr result (self.new ≡ self.old) }
+    {
+        let into_others = without_loops(alloc, inward.as_slice())?;
+        self.outward.make_room()?;
+        self.inward.make_room()?;
+        self.into_others.make_room()?;
+        self.outward.put(t.s, outward);
+        self.inward.put(t.o, inward);
+        self.into_others.put(t.o, into_others);
+        Ok(())
+    }
+}
+
+/// Takes a triple up into the rows of a sealed graph.
+pub(crate) fn insert_row(
+    rows: &mut Option<Rows>,
+    alloc: Global,
+    t: Triple,
+    terms: &TermTable,
+) -> Result<(), AllocError>
+    requires { (triples : List Row) × IsSomeAnd rows.old (IsArranged terms.now triples) }
+    ensures arranged { OnOk result ((triples more : List Row) → IsPermutation more (t ∷ triples) → IsSomeAnd rows.old (IsArranged terms.now triples) → IsSomeAnd rows.new (IsArranged terms.now more)) }
+    ensures err { OnErr result (rows.new ≡ rows.old) }
+{
+    match rows {
+        Some(rows) => rows.insert(alloc, t, terms),
+        None => unreachable!(),
+    }
+}
+
+/// Takes a triple out of the rows of a sealed graph.
+pub(crate) fn remove_row(
+    rows: &mut Option<Rows>,
+    alloc: Global,
+    t: Triple,
+    terms: &TermTable,
+) -> Result<(), AllocError>
+    requires { (triples left : List Row) × IsPermutation triples (t ∷ left) × IsSomeAnd rows.old (IsArranged terms.now triples) }
+    ensures arranged { OnOk result ((triples left : List Row) → IsPermutation triples (t ∷ left) → IsSomeAnd rows.old (IsArranged terms.now triples) → IsSomeAnd rows.new (IsArranged terms.now left)) }
+    ensures err { OnErr result (rows.new ≡ rows.old) }
+{
+    match rows {
+        Some(rows) => rows.remove(alloc, t, terms),
+        None => unreachable!(),
+    }
+}
+
+/// The triples of a node and a predicate.
+fn rows_by<'a>(arcs: &'a EditedArcs, places: &[usize], n: TermId, p: TermId) -> &'a [Triple]
+    requires apart { AreApart places.now }
+    requires placed { All (IsPlaced places.now) arcs.now.sealed }
+    requires by_predicate { IsByPredicate places.now (arcs_at arcs.now.end arcs.now.sealed n) }
+    ensures { result.now ≡ filter (λ t. same_id t.p p) (arcs_at arcs.entry.now.end arcs.entry.now.rows n) }
+{
+    match arcs.edited_rows(n) {
+        Some(rows) => block_of(rows, p),
+        None => of_predicate(arcs.sealed_rows(n), places, p),
     }
 }
 
