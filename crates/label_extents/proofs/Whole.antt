@@ -25,7 +25,8 @@ use Rattle.schema_tree.specs.Sure.{IsSure, Known}
 use Rattle.schema_tree.specs.Typings.{HoldsEnds}
 use Rattle.typing_answers.specs.Laws.{SureAnswersAreTrue}
 use Rattle.label_extents.specs.declared.finding.Extents.{Extents}
-use Rattle.label_extents.specs.Demanded.{AreDemanded, AreWide}
+use Rattle.label_extents.specs.Demanded.{AreDemanded}
+use Rattle.wide_pairs.specs.Wide.{AreWide}
 use Rattle.label_extents.specs.Extents.{AreExtents, AreInOrder, AreKnownExtents, IsKnownMember, IsMember, IsNode, IsUndecided, IsUnknown}
 use Rattle.label_extents.specs.Found.{AreFound, AreMembers, HoldDecided}
 use Rattle.label_extents.specs.Members.{GivesVerdicts, has_unknown, is_unknown, is_yes, members_with}

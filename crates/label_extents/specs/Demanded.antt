@@ -11,8 +11,6 @@ use Rattle.schema_tree.specs.declared.schema.Pair.{Pair}
 use Rattle.schema_tree.specs.declared.schema.Schema.{Schema}
 use Rattle.schema_tree.specs.Needs.{Reaches}
 use Rattle.demand.specs.Orders.{compare_pairs, max_pairs}
-use Rattle.typing_refiner.specs.Building.{AreWidths, wide_of}
-use Rattle.typing_refiner.specs.declared.building.WidePair.{WidePair}
 use Rattle.label_extents.specs.declared.error.ExtentsError.{ExtentsError}
 use Rattle.label_extents.specs.declared.error.ExtentsError.TheVariants as Errors
 use Rattle.label_extents.specs.Extents.{IsNode}
@@ -42,8 +40,3 @@ pub record AreTooMany (s : Schema) (g : List Triple) : Type 0 where
 abbrev pub Explains : Schema → List Triple → ExtentsError → Type 0
 Explains s g Errors.Pairs = AreTooMany s g
 Explains s g Errors.Memory = ⊤
-
--- the pairs whose Width is above the budget, in their order, each with its Width, or with 18,446,744,073,709,551,615 where that is
--- greater
-abbrev pub AreWide : Schema → List Term → List Triple → ℕ → List Pair → List WidePair → Type 0
-AreWide s terms g budget pairs wide = (width : Pair → ℕ) → AreWidths s terms g width → wide ≡ wide_of width budget pairs

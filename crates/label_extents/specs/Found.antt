@@ -12,7 +12,8 @@ use Rattle.schema_tree.specs.Needs.{IsDecided}
 use Rattle.schema_tree.specs.Removal.{IsRefined}
 use Rattle.schema_tree.specs.Sure.{Known}
 use Rattle.label_extents.specs.declared.finding.Extents.{Extents}
-use Rattle.label_extents.specs.Demanded.{AreDemanded, AreWide}
+use Rattle.label_extents.specs.Demanded.{AreDemanded}
+use Rattle.wide_pairs.specs.Wide.{AreWide}
 use Rattle.label_extents.specs.Extents.{AreKnownExtents, IsMember, IsNode, IsUndecided, IsUnknown, member}
 
 -- by the verdicts of refinement over the demanded pairs, f giving the Shapes their strata: the members are the extents without the

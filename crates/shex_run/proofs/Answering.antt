@@ -31,7 +31,7 @@ use Rattle.shex_run.specs.Statuses.{status_of}
 use Rattle.shex_run.specs.Stopping.{Explains, FaultsAs, LeavesStored, ProofStops, stop_of}
 use Rattle.shex_run.specs.Storing.{IsCutStore, IsDueUpgrade, IsUpgradeOf, Upgrades}
 use Rattle.shex_run.specs.Texts.{notes_of}
-use Rattle.shex_run.specs.Wide.{AreWide}
+use Rattle.wide_pairs.specs.Wide.{AreWide}
 use Rattle.typing_refiner.specs.declared.building.WidePair.{WidePair}
 use Rattle.shex_run.specs.Tasks.{IsInputOf, IsToCheck, IsToStore, IsToValidate, act_of, inputs_of, name_of, stored_of}
 use Rattle.shex_run.proofs.Checked.{fetched_act, fetched_name, reaches, stored_name}

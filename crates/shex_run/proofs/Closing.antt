@@ -25,12 +25,14 @@ use Rattle.program_ends.specs.Printing.{IsCut, PrintsBoth, PrintsTo, SinkSeen}
 use Rattle.shex_run.specs.declared.stop.File.{File}
 use Rattle.shex_run.specs.Checking.{IsFull, IsGiven, IsRejected, Rejects}
 use Rattle.shex_run.specs.Drills.{AreDrillAnswers, IsDrilled}
-use Rattle.shex_run.specs.Endings.{Ends, FilesSeen, IsAnswered, IsConfirmed, IsDrillWhollyStored, IsFailedDrill, IsFailedFile, IsPartlyStored, IsPrintedInPart, IsRefusalLine, IsRefusedBy, IsRejectedBy, IsRespondedTo, IsResponse, IsUnprinted, IsWhollyStored, IsWhollyUpgraded, IsWordsLine, KeepsTold, MayPrintInPart, answer_in_part, answered, failed, faulty, line_in_part, notes_in_part, refused, rejected, wanting}
+use Rattle.program_ends.specs.Ends.{FilesSeen}
+use Rattle.shex_run.specs.Endings.{Ends, IsAnswered, IsConfirmed, IsDrillWhollyStored, IsFailedDrill, IsFailedFile, IsPartlyStored, IsPrintedInPart, IsRefusalLine, IsRefusedBy, IsRejectedBy, IsRespondedTo, IsResponse, IsUnprinted, IsWhollyStored, IsWhollyUpgraded, IsWordsLine, KeepsTold, MayPrintInPart, answer_in_part, answered, failed, faulty, line_in_part, notes_in_part, refused, rejected, wanting}
 use Rattle.shex_run.specs.Outcomes.{AreTaken, IsAbsent, IsRefused, TakesFor}
 use Rattle.shex_run.specs.Proofs.{Accepted, IsStoredProofOf, Stores}
 use Rattle.shex_run.specs.Statuses.{Concludes, IsAnswering, IsInterrupted, are_wanted, status_by}
 use Rattle.shex_run.specs.Storing.{IsDueStore, IsUpgradeOf}
-use Rattle.shex_run.specs.Texts.{notes_by, wide_lines}
+use Rattle.shex_run.specs.Texts.{notes_by}
+use Rattle.wide_pairs.specs.Lines.{wide_lines}
 use Rattle.shex_run.specs.Tasks.{IsToStore, IsToValidate, checked_of, inputs_of, stored_of}
 use Rattle.shex_run.proofs.Checked.{concludes, no_both}
 use Rattle.shex_run.proofs.Exclusive.{AreOne, asked_not_absent, asked_not_refused, check_not_refused, full_not_absent, full_not_wish, given_not_absent, one_given, refused_not_absent}

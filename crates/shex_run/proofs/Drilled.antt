@@ -39,7 +39,8 @@ use Rattle.shex_run.specs.declared.stop.Stop.{Stop}
 use Rattle.shex_run.specs.declared.stop.Stop.TheVariants as Stops
 use Rattle.shex_run.specs.Checking.{ConfirmStops}
 use Rattle.shex_run.specs.Drills.{AreDrillAnswers, IsCutDrill, IsDrillProof, IsDrilled, drill_command}
-use Rattle.shex_run.specs.Endings.{Ends, FilesSeen, answered, failed, wanting}
+use Rattle.shex_run.specs.Endings.{Ends, answered, failed, wanting}
+use Rattle.program_ends.specs.Ends.{FilesSeen}
 use Rattle.shex_run.specs.Proofs.{Accepted, AreAnswers, IsStoredProofOf}
 use Rattle.shex_run.specs.Ready.{AreTexts, IsReply}
 use Rattle.shex_run.specs.Stopping.{DrillStops, Explains, FaultsAs, IsFit, ProofStops}

@@ -16,7 +16,8 @@ use Rattle.shex_run.specs.declared.stop.Refusal.TheVariants as Refusals
 use Rattle.shex_run.specs.declared.stop.Stop.{Stop}
 use Rattle.shex_run.specs.declared.stop.Stop.TheVariants as Stops
 use Rattle.shex_run.specs.Checking.{IsRejected}
-use Rattle.shex_run.specs.Endings.{AreLeft, Ends, FilesSeen, IsPartlyStored, IsResponse, answered, failed, faulty, refused, rejected, wanting}
+use Rattle.program_ends.specs.Ends.{AreLeft, FilesSeen}
+use Rattle.shex_run.specs.Endings.{Ends, IsPartlyStored, IsResponse, answered, failed, faulty, refused, rejected, wanting}
 use Rattle.shex_run.specs.Printing.{RefusesWords}
 use Rattle.shex_run.specs.Statuses.{IsAnswering, refusal_status}
 use Rattle.shex_run.specs.Stopping.{Explains, FaultsAs, LeavesStored}

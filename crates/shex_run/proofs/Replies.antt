@@ -40,7 +40,7 @@ use Rattle.shex_run.specs.Statuses.{status_of}
 use Rattle.shex_run.specs.Stopping.{IsFit}
 use Rattle.shex_run.specs.Tasks.{IsToValidate, inputs_of}
 use Rattle.shex_run.specs.Texts.{notes_by}
-use Rattle.shex_run.specs.Wide.{AreWide}
+use Rattle.wide_pairs.specs.Wide.{AreWide}
 use Rattle.shex_run.proofs.Asked.{asked, ends, few, lines, proved}
 use Rattle.shex_run.proofs.Digests.{as_wanted, head_given}
 

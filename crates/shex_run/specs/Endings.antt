@@ -4,7 +4,6 @@ use Rattle.clap.specs.Words.{Text}
 use Rattle.shex_io.specs.Faults.{Rose}
 use Rattle.shex_io.specs.Files.{Told, KeepsOthers}
 use Rattle.shex_io.specs.Sinks.{Gains, GainsPrefix}
-use Rattle.shex_io.specs.declared.files.Act.{Act}
 use Rattle.shex_io.specs.declared.files.Act.TheVariants.{Store}
 use Rattle.schema_tree.specs.declared.schema.Answer.{Answer}
 use Rattle.shape_map.specs.Results.{result_text}
@@ -18,6 +17,7 @@ use Rattle.shex_inputs.specs.Asked.{Question}
 use Rattle.shex_run.specs.declared.stop.File.{File}
 use Rattle.shex_run.specs.declared.stop.Refusal.TheVariants as Refusals
 use Rattle.shex_run.specs.Checking.{IsCheckedAs, IsFull, IsRejected}
+use Rattle.program_ends.specs.Ends.{AreLeft, FilesSeen}
 use Rattle.program_ends.specs.Printing.{IsQuiet, PrintsBoth, PrintsTo, SinkSeen}
 use Rattle.shex_run.specs.Drills.{IsCutDrill, IsDrillProof, IsDrilled}
 use Rattle.shex_run.specs.Outcomes.{IsRefused, Reaches}
@@ -26,7 +26,7 @@ use Rattle.shex_run.specs.Statuses.{IsAnswering, status_of}
 use Rattle.shex_run.specs.Storing.{IsCutStore, IsDueUpgrade, IsUpgradeOf}
 use Rattle.shex_run.specs.Tasks.{IsToStore, IsToValidate, act_of, name_of, stored_of}
 use Rattle.shex_run.specs.Texts.{failed_line, refusal_line, notes_of, words_line}
-use Rattle.shex_run.specs.Wide.{AreWide}
+use Rattle.wide_pairs.specs.Wide.{AreWide}
 use Rattle.typing_refiner.specs.declared.building.WidePair.{WidePair}
 
 -- the text is the result map of the true answers to what the map asks of the files, and the notes are those that are due; the status
@@ -94,15 +94,6 @@ pub record IsRejectedBy (told : Told) (words : List Text) (line : List ℕ) : Ty
   pub rejected : IsRejected told command rejection
   pub line_is : line ≡ refusal_line command (Refusals.Proof rejection)
 
--- the files before and after a call: what they tell, and the count of faults; and the last fault
-pub record FilesSeen : Type 0 where
-  pub told : Told
-  pub told_after : Told
-  pub faults : ℕ
-  pub faults_after : ℕ
-  pub blame : List ℕ
-  pub act : Act
-
 -- the last fault is that of a file of the words to which the steps came, and which could not be fetched or stored
 pub record IsFailedFile (files : FilesSeen) (words : List Text) : Type 0 where
   pub command : Command
@@ -138,11 +129,6 @@ KeepsTold told after words =
     (after ≡ told)
     ⊎ (((c : Command) × IsAsked words c × ((name : Text) × IsToStore c name × KeepsOthers told after name))
     ⊎ ((d : Drill) × IsDrill words d × ((name : Text) × (d.proof ≡ Some name) × KeepsOthers told after name)))
-
--- nothing is stored, and no fault of the files came
-pub record AreLeft (files : FilesSeen) : Type 0 where
-  pub told_same : files.told_after ≡ files.told
-  pub faults_same : files.faults_after ≡ files.faults
 
 -- a call on a file failed: the count of faults does not fall, and the proof is stored in part at most
 pub record HaveFailed (files : FilesSeen) (words : List Text) : Type 0 where

@@ -10,4 +10,3 @@ pub mod Ready
 pub mod Texts
 pub mod Printing
 pub mod Endings
-pub mod Wide

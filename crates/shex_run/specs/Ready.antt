@@ -40,7 +40,7 @@ use Rattle.shex_run.specs.Proofs.{AreAnswers, IsStoredProofOf}
 use Rattle.shex_run.specs.Statuses.{IsAnswering, status_of}
 use Rattle.shex_run.specs.Tasks.{inputs_of}
 use Rattle.shex_run.specs.Texts.{notes_by, notes_of}
-use Rattle.shex_run.specs.Wide.{AreWide}
+use Rattle.wide_pairs.specs.Wide.{AreWide}
 
 -- the term of the node can stand on one line
 abbrev pub IsOnLine : List Term → TermId → Type 0

@@ -1,8 +1,5 @@
 -- The lines that are printed to the error stream.
-use Rattle.std.specs.Prelude.{ℕ, List, [], ◌++◌, codes, if◌then◌else◌, length, nat_lt}
-use Rattle.std.specs.Fmt.{decimal}
-use Rattle.std.specs.List.{flat_map}
-use Rattle.rdf_terms.specs.Order.{text_at}
+use Rattle.std.specs.Prelude.{ℕ, List, [], codes, if◌then◌else◌, length, nat_lt}
 use Rattle.rdf_terms.specs.declared.terms.Term.{Term}
 use Rattle.schema_tree.specs.declared.schema.Answer.{Answer}
 use Rattle.shex_inputs.specs.Asked.{Question}
@@ -12,6 +9,7 @@ use Rattle.command_words.specs.Asked.{Command, fault_text}
 use Rattle.command_words.specs.Checks.{Fault}
 use Rattle.shex_inputs.specs.Lines.{error_line, refusal_text}
 use Rattle.shex_inputs.specs.Named.{source_name, source_of}
+use Rattle.wide_pairs.specs.Lines.{wide_lines}
 use Rattle.shex_run.specs.declared.stop.File.TheVariants as Files
 use Rattle.shex_run.specs.declared.stop.Refusal.{Refusal}
 use Rattle.shex_run.specs.declared.stop.Refusal.TheVariants as Refusals
@@ -38,15 +36,6 @@ cause_text (Refusals.Proof error) = check_text error
 -- the line for a file that is refused
 abbrev pub refusal_line : Command → Refusal → List ℕ
 refusal_line c refusal = shex_line (refused_name c refusal) (cause_text refusal)
-
--- the line for a pair whose Width is above the budget: its node, the number of its Shape, its Width and the budget
-abbrev pub wide_line : List Term → ℕ → WidePair → List ℕ
-wide_line terms budget w =
-    codes "wide " ++ (text_at terms w.pair.node ++ (codes " #" ++ (decimal w.pair.shape.0 ++ (codes " width " ++ (decimal w.width ++ (codes " budget " ++ (decimal budget ++ codes "\n")))))))
-
--- the lines for such pairs, in their order
-abbrev pub wide_lines : List Term → ℕ → List WidePair → List ℕ
-wide_lines terms budget ws = flat_map (wide_line terms budget) ws
 
 -- what is due beside answers to so many associations: where some have none, a line for each pair that is wide, and else nothing
 unfoldable pub notes_by : List Term → ℕ → ℕ → List Answer → List WidePair → List ℕ

@@ -1,9 +1,8 @@
 //! The answers to `validate`, their text, what is noted beside them, and their proof.
 
-ghost use Rattle.std.specs.Prelude.{◌≡◌, ◌++◌, ◌<◌, ℕ, Contains, IfOk, IfSome, List, OnOk, is_some, length, map, true};
+ghost use Rattle.std.specs.Prelude.{◌≡◌, ◌<◌, ℕ, Contains, IfOk, IfSome, List, is_some, length, map, true};
 ghost use Rattle.std.specs.Bool.{beq};
-ghost use Rattle.std.specs.List.{AllByRecursion, flat_map};
-ghost use Rattle.rdf_terms.specs.Order.{text_at};
+ghost use Rattle.std.specs.List.{AllByRecursion};
 ghost use Rattle.rdf_terms.specs.declared.terms.Triple.{Triple};
 ghost use Rattle.schema_tree.specs.declared.schema.Answer.{Answer as Given};
 ghost use Rattle.schema_tree.specs.declared.schema.Pair.{Pair};
@@ -15,13 +14,11 @@ ghost use Rattle.typing_answers.specs.Proofs.{AreInRange, AreShownFor, IsProofOf
 ghost use Rattle.typing_refiner.specs.declared.wanted.Wanted.TheVariants as Wanteds;
 ghost use Rattle.shex_run.specs.Ready.{IsDecided, IsReady};
 ghost use Rattle.shex_run.specs.Statuses.{IsAnswering, are_wanted, status_by};
-ghost use Rattle.shex_run.specs.Texts.{notes_by, wide_line, wide_lines};
+ghost use Rattle.shex_run.specs.Texts.{notes_by};
 
 use proof_file::Proof;
 use proof_file::head::Head;
 use rdf_terms::table::TermTable;
-use rdf_terms::terms::TermId;
-use rdf_terms::written::write_term;
 use schema_tree::schema::Answer;
 use shape_map::{Association, write_result};
 use shex_inputs::{Asked, Holding};
@@ -30,6 +27,7 @@ use typing_answers::laws::sure_answers_are_true;
 use typing_answers::{answers, proof_of};
 use typing_refiner::building::WidePair;
 use typing_refiner::{Refined, Wanted, refine};
+use wide_pairs::push_lines;
 
 /// The answers to the associations of a map: their status, their text, what is noted beside them and, if it was wanted, their
 /// proof.
@@ -87,56 +85,6 @@ fn status(wants: &[bool], answers: &[Answer]) -> u8
     }
 }
 
-/// Appends the text of the term of a number, if it is of the table.
-fn push_term(
-    alloc: Global,
-    terms: &TermTable,
-    node: TermId,
-    out: &mut Vec<u8>,
-) -> Result<(), AllocError>
-    ensures { OnOk result (out.new.items ≡ out.old.items ++ text_at terms.now node) }
-{
-    if (node.0 as usize) < terms.len() {
-        write_term(alloc, terms.get(node), out)?;
-    }
-    Ok(())
-}
-
-/// Appends the line for a wide pair.
-fn push_wide(
-    alloc: Global,
-    terms: &TermTable,
-    budget: u64,
-    wide: WidePair,
-    out: &mut Vec<u8>,
-) -> Result<(), AllocError>
-    ensures { OnOk result (out.new.items ≡ out.old.items ++ wide_line terms.now budget wide) }
-{
-    out.extend_from_slice(b"wide ")?;
-    push_term(alloc, terms, wide.pair.node, out)?;
-    let rest = format!(in alloc;
-        " #{} width {} budget {}\n",
-        wide.pair.shape.0, wide.width, budget
-    )?;
-    out.extend_from_slice(rest.as_bytes())
-}
-
-/// Appends the lines for wide pairs.
-fn push_all(
-    alloc: Global,
-    terms: &TermTable,
-    budget: u64,
-    wide: &[WidePair],
-    out: &mut Vec<u8>,
-) -> Result<(), AllocError>
-    ensures { OnOk result (out.new.items ≡ out.old.items ++ wide_lines terms.now budget wide.now) }
-{
-    for pair in wide {
-        push_wide(alloc, terms, budget, *pair, out)?;
-    }
-    Ok(())
-}
-
 /// What is noted beside answers to so many associations.
 #[tactic(auto, unfolding(crate::specs::Texts::notes_by))]
 fn notes(
@@ -151,7 +99,7 @@ fn notes(
 {
     let mut notes = Vec::new(alloc);
     if answers.len() < asked {
-        push_all(alloc, terms, budget, wide, &mut notes)?;
+        push_lines(alloc, terms, budget, wide, &mut notes)?;
     }
     Ok(notes)
 }

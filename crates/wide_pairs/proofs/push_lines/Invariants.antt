@@ -1,6 +1,6 @@
 use Rattle.std.proofs.Common.{◌≡◌, ◌++◌, take}
-use Rattle.shex_run.specs.Texts.{wide_lines}
-use Rattle.shex_run.proofs.deciding.push_all.Given as goal
+use Rattle.wide_pairs.specs.Lines.{wide_lines}
+use Rattle.wide_pairs.proofs.push_lines.Given as goal
 
 -- the lines of the pairs so far
 abbrev pub invariant-loop-pair : goal.invariant-loop-pair
