@@ -1,5 +1,5 @@
 -- Verdicts that are kept, one after the other.
-use Rattle.std.proofs.Common.{◌≡◌, ℕ, ◌<◌, ◌+◌, ◌⊎◌, inl, inr, List, [], ◌∷◌, ◌++◌, refl, arith, sym, subst, ap, ◌∙◌, Bool, true, false, true≢false, cond, not, take, length, get_or, append_assoc}
+use Rattle.std.proofs.Common.{◌≡◌, ℕ, zero, suc, ◌<◌, ◌+◌, ◌⊎◌, inl, inr, List, [], ◌∷◌, ◌++◌, refl, arith, sym, subst, ap, ◌∙◌, Bool, true, false, true≢false, cond, not, take, length, get_or, append_assoc}
 use Rattle.std.proofs.lemmas.List.{append-nil, map-append, take_more}
 use Rattle.std.proofs.lemmas.List.Elements.{Contains-append_cases, Contains-append_left, Contains-append_right}
 use Rattle.std.proofs.lemmas.Option.{slice_get-get_or}
@@ -9,7 +9,6 @@ use Rattle.lists.specs.Distinct.{AreDistinct}
 use Rattle.lists.proofs.Filters.{filter_has, in_filter}
 use Rattle.lists.proofs.Members.{got_in, in_one, in_rest, is_first, is_later, not_in_none}
 use Rattle.locality_laws.proofs.Alike.{one_verdict}
-use Rattle.typing_session.proofs.Copying.{in_take}
 use Rattle.removal_laws.specs.Marks.{same_verdict}
 use Rattle.schema_tree.specs.declared.schema.Pair.{Pair}
 use Rattle.schema_tree.specs.declared.verdicts.Verdict.{Verdict}
@@ -135,6 +134,16 @@ gains_more known pairs old mid new i d v inside h is said = record {
 
 pub gains_begin : (known : Known) (pairs : List Pair) (old new : Entries) → Gains known pairs old new → Begins old new
 gains_begin known pairs old new h = (h.more, h.is)
+
+-- what is among the first items has a place among them
+in_take : {X : Type 0} (xs : List X) (n : ℕ) (q : X) → Contains (take n xs) q → (j : ℕ) × (j < n) × (slice_get xs j ≡ Some q)
+in_take [] zero q c = absurd (not_in_none q c)
+in_take [] (suc n) q c = absurd (not_in_none q c)
+in_take (x ∷ xs) zero q c = absurd (not_in_none q c)
+in_take (x ∷ xs) (suc n) q c = elim (in_rest x (take n xs) q c) [
+  | inl e ↦ (0, omega arith, ap (λ z. Some z) e)
+  | inr later ↦ (let (j, l, at) = in_take xs n q later in (suc j, omega (arith, l), at))
+]
 
 -- no verdict is kept yet on the next pair
 pub still_free : (known : Known) (pairs : List Pair) (old mid : Entries) (i : ℕ) (d : Pair) → i < length pairs → AreDistinct pairs → ((q : Pair) → Contains pairs q → kept_on old q ≡ None) →

@@ -1,7 +1,6 @@
 pub mod Alike
 pub mod Asked
 pub mod Around
-pub mod Copying
 pub mod Edited
 pub mod Everywhere
 pub mod Grown

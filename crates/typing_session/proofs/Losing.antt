@@ -1,11 +1,13 @@
 -- What an edit leaves of what is kept.
-use Rattle.std.proofs.Common.{◌≡◌, ◌∙◌, ℕ, List, [], ◌∷◌, ◌++◌, sym, subst, All}
+use Rattle.std.proofs.Common.{◌≡◌, ◌∙◌, ℕ, inl, inr, List, [], ◌∷◌, ◌++◌, sym, subst, All, Bool, true, false, true≢false}
 use Rattle.std.proofs.lemmas.List.Elements.{All-push, All-tail}
 use Rattle.std.proofs.lemmas.List.Sorted.{All-permutation, IsPermutation-to_front}
+use Rattle.std.specs.Bool.{OnTrue}
 use Rattle.std.specs.List.Sorted.{IsPermutation}
-use Rattle.std.specs.Prelude.{◌↔◌, Contains, Some, None}
+use Rattle.std.specs.Prelude.{◌↔◌, Contains, IsTrue, Some, None}
 use Rattle.graph_index.specs.Contents.{Contents, IsSealedWith}
 use Rattle.graph_index.specs.Laws.{IsOfTable}
+use Rattle.lists.specs.Additions.{Adds}
 use Rattle.lists.specs.Distinct.{AreDistinct}
 use Rattle.rdf_terms.specs.declared.terms.Term.{Term}
 use Rattle.rdf_terms.specs.declared.terms.Triple.{Triple}
@@ -71,6 +73,16 @@ module _ (s : Schema) (terms : List Term) (f : List ℕ) (budget : ℕ) (t : Tri
     verdicts = λ p v e. (stays s terms g.triples h.triples t f budget loaded dg dh edit (pairs_of new) distinct (far s t old new touched gone others g.triples are) p (kept_key new p v e) v).0
         (closed s t old new touched gone others g.triples are sound.closed) (sound.verdicts p v (still s t old new touched gone others g.triples are p v e).0);
   }
+
+-- a triple that is new goes last
+pub added_last : (old new : List Triple) (t : Triple) → ¬ Contains old t → Adds old t new → new ≡ old ++ t ∷ []
+added_last old new t missing (inl (held, same)) = absurd (missing held)
+added_last old new t missing (inr (none, more)) = more
+
+-- a triple that is held is taken out
+pub taken_out : (answer : Bool) (old new : List Triple) (t : Triple) → Contains old t → IsTrue answer ↔ Contains old t → OnTrue answer (IsPermutation old (t ∷ new)) → IsPermutation old (t ∷ new)
+taken_out true old new t held told edit = edit
+taken_out false old new t held told edit = absurd (true≢false (sym (told.1 held)))
 
 -- a triple that goes last
 pub last_edit : (old new : List Triple) (t : Triple) → new ≡ old ++ t ∷ [] → IsEdit new t old

@@ -3,7 +3,6 @@
 #![tactic(auto)]
 
 mod answering;
-mod editing;
 pub mod error;
 pub mod kept;
 pub mod laws;

@@ -21,7 +21,6 @@ ghost use Rattle.typing_session.specs.Questions.{AreFresh, IsAnswer, IsAnswerByA
 ghost use Rattle.typing_session.specs.Seen.{with_graph, with_kept, with_terms};
 
 use crate::answering::{answer, reached};
-use crate::editing::{insert, take_out};
 use crate::error::AskError;
 use crate::kept::Kept;
 use crate::laws::{edits_are_local, growth_is_local};
@@ -151,9 +150,7 @@ impl Session {
         ) else {
             return Err(AddError::Memory);
         };
-        let Ok(()) = insert(self.alloc, &mut self.graph, &self.terms, triple) else {
-            return Err(AddError::Memory);
-        };
+        self.graph.insert_sealed(triple, &self.terms)?;
         self.kept.forget_all(touched.as_slice());
         Ok(true)
     }
@@ -183,7 +180,7 @@ impl Session {
             &self.kept,
             triple,
         )?;
-        take_out(self.alloc, &mut self.graph, &self.terms, triple)?;
+        self.graph.remove_sealed(triple, &self.terms)?;
         self.kept.forget_all(lost.as_slice());
         Ok(true)
     }
