@@ -1,8 +1,14 @@
 mod Absolute
 mod Cardinalities
+mod Conversions
 mod Documents
 mod Expressions
 mod Facets
 mod Names
+mod ResolvedTexts
+mod TextExpressions
+mod TextFacets
+mod TextTokens
+mod TextValues
 mod Trees
 mod Values

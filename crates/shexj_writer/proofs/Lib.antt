@@ -1,3 +1,4 @@
+mod CompactBack
 mod Digits
 mod Exact
 mod ExpressionsBack
@@ -6,6 +7,7 @@ mod Fields
 mod JsonStrings
 mod JsonValues
 mod Lists
+pub mod Parts
 mod ReadBack
 mod Readable
 mod SameTerms
@@ -14,3 +16,4 @@ mod Strings
 mod TextsBack
 mod Told
 mod ValuesBack
+mod Writable
