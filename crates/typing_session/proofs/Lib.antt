@@ -8,6 +8,8 @@ pub mod Keeping
 pub mod Lists
 pub mod Losing
 pub mod Products
+pub mod Reordered
+pub mod Sets
 pub mod Spreading
 pub mod Terms
 pub mod Using

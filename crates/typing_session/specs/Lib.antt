@@ -6,3 +6,5 @@ pub mod Questions
 pub mod Seen
 pub mod Sound
 pub mod Uses
+pub mod SetLaws
+pub mod Widths

@@ -8,8 +8,10 @@ pub mod kept;
 pub mod laws;
 mod reaching;
 pub mod session;
+pub mod set_laws;
 mod users;
 mod uses;
+mod widths;
 
 pub use error::AskError;
 pub use session::Session;

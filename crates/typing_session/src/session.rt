@@ -19,12 +19,14 @@ ghost use Rattle.typing_refiner.specs.Statements.{CountNeeds, most_of};
 ghost use Rattle.typing_session.specs.Edits.{Loses};
 ghost use Rattle.typing_session.specs.Questions.{AreFresh, IsAnswer, IsAnswerByAll, IsTrueAnswer, IsUnknownOnlyWide, IsVerdictByAll, Keeps, ReachesTooMany};
 ghost use Rattle.typing_session.specs.Seen.{with_graph, with_kept, with_terms};
+ghost use Rattle.typing_session.specs.Widths.{AreReachedWide};
 
 use crate::answering::{answer, reached};
 use crate::error::AskError;
 use crate::kept::Kept;
 use crate::laws::{edits_are_local, growth_is_local};
 use crate::reaching::reaching;
+use crate::widths::wide_among;
 use graph_index::graph::{AddError, Graph, MAX_TRIPLES};
 use graph_index::laws::sealing_outlives_growth;
 use locality_laws::laws::strata_are_independent;
@@ -38,6 +40,7 @@ use std::marker::Model;
 use std::sync::ledger::Ledger;
 use strata::list::Strata;
 use tally::Steps;
+use typing_refiner::building::WidePair;
 
 /// A graph with its terms and a schema, and verdicts on pairs of a node and a Shape that are kept from question to question.
 #[derive(Drop)]
@@ -247,5 +250,45 @@ impl Session {
             steps,
         )?;
         Ok(verdict)
+    }
+
+    /// The terms of the session.
+    pub fn terms(&self) -> &TermTable
+        ensures { result.now ≡ self.now.terms }
+    {
+        &self.terms
+    }
+
+    /// The greatest Width that is looked into.
+    pub fn budget(&self) -> u64
+        ensures { result ≡ self.now.budget }
+    {
+        self.budget
+    }
+
+    /// The pairs that a node with an expression reaches and whose Width is above the budget, in the order of the texts of
+    /// their nodes and then of their Shapes. It fails as `Pairs` exactly where the two reach more than 4,194,304 pairs.
+    pub fn wide(&self, node: TermId, expr: ExprId) -> Result<Vec<WidePair>, AskError>
+        ensures wide { IfOk result (λ w. AreReachedWide self.now.schema self.now.terms self.now.graph self.now.budget node expr w.items) }
+        ensures many { (result ≡ Err AskError.Pairs) → ReachesTooMany self.now.schema self.now.graph node expr }
+        ensures few { IfOk result (λ w. ¬ ReachesTooMany self.now.schema self.now.graph node expr) }
+    {
+        let pairs = reached(
+            self.alloc,
+            &self.schema,
+            &self.graph,
+            &self.terms,
+            node,
+            expr,
+        )?;
+        let wide = wide_among(
+            self.alloc,
+            &self.schema,
+            &self.graph,
+            &self.terms,
+            pairs.list(),
+            self.budget,
+        )?;
+        Ok(wide)
     }
 }
