@@ -9,7 +9,7 @@ its data are loaded, validated without and with a proof, and the proof is checke
 and the bench stops where it is another. Printed are seconds by the clock, megabytes at the peak, and the exponent of the growth
 from the size before (time as size to the exponent). Where `serdi` is installed, it reads the same Turtle in the same run, and
 where Debian's `libapache-jena-java` is, Jena's ShEx validator answers the same map: records and catalogues at sizes up to that of
-`--jena`, the others, most of which it does not end, up to a hundredth of that and in a tenth of the time. What is not there is
+`--jena`, the others, some of which it does not end, up to a hundredth of that and in a tenth of the time. What is not there is
 named, and the bench goes on. A run is ended behind `--limit` seconds. Sessions and extents are timed by tools.py, where their
 programs are built, and not with `--alone`. All that is printed is Markdown, the goals last. Nothing but Python's standard library
 is wanted.

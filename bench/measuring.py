@@ -22,7 +22,7 @@ Run = collections.namedtuple("Run", "status seconds megabytes")
 Row = collections.namedtuple("Row", "family size triples files steps jena")
 
 # A run that is shorter than this is made again, so often and so long.
-REPEATED, TIMES, TOGETHER = 1.0, 7, 1.5
+REPEATED, TIMES, TOGETHER = 1.0, 5, 0.8
 
 # Growth from a time below this says nothing of what is done, but of how a process begins.
 SHORTEST = 0.02
