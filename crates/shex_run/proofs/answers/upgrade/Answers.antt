@@ -6,7 +6,7 @@ use Rattle.shex_inputs.specs.Held.{held_by}
 use Rattle.shex_run.specs.Endings.{IsResponse}
 use Rattle.shex_run.specs.Storing.{Upgrades}
 use Rattle.shex_run.specs.Tasks.{inputs_of}
-use Rattle.shex_run.proofs.Answering.{upgrade_stopped, upgraded}
+use Rattle.shex_run.proofs.Answering.{fetch_stopped, upgrade_stopped, upgraded}
 use Rattle.shex_run.proofs.Digests.{head_fits}
 use Rattle.shex_run.proofs.answers.upgrade.Goals as goal
 
@@ -56,3 +56,19 @@ returns-in_err-store-clause-stored g c =
     ((upgrade_stopped told k held c.requires.taken v.proof.now refl bytes c.in_ok-bytes.ensures.bytes v.to.now refl text c.as_slice.result.now
     (subst (λ new. Upgrades held bytes text new) (sym c.as_slice.ensures.value) c.in_ok-text.ensures.upgrades) (g.F.Files.told mid) (g.F.Files.told c.store.new.files) c.fetch_proof.ensures.told_stays
     (g.F.Files.faults mid) (g.F.Files.faults c.store.new.files) (g.F.Files.blame c.store.new.files) (g.F.Files.act c.store.new.files) c.in_err-store.field-0.0 c.in_err-store.ensures.stops c.in_err-store.ensures.part c.store.ensures.others).stored)
+
+pub returns-in_err-bytes-clause-cause : goal.returns-in_err-bytes-clause-cause
+returns-in_err-bytes-clause-cause g c =
+    let p = err_from_is_err_and c.from_residual.result c.from_residual.ensures.1 in
+    let new = c.fetch_proof.new.files in
+    rw (p.1, p.2)
+    ((fetch_stopped (g.F.Files.told c.args.files.now) (command_of (Lent.Upgrade c.args.upgrading.now)) (held_by c.args.holding) c.requires.taken c.args.upgrading.now.proof.now refl
+    (g.F.Files.told new) c.fetch_proof.ensures.told_stays (g.F.Files.faults c.args.files.now) (g.F.Files.faults new) (g.F.Files.blame new) (g.F.Files.act new) c.in_err-bytes.field-0.0 c.in_err-bytes.ensures.stops).cause)
+
+pub returns-in_err-bytes-clause-faults : goal.returns-in_err-bytes-clause-faults
+returns-in_err-bytes-clause-faults g c =
+    let p = err_from_is_err_and c.from_residual.result c.from_residual.ensures.1 in
+    let new = c.fetch_proof.new.files in
+    rw (p.1, p.2)
+    ((fetch_stopped (g.F.Files.told c.args.files.now) (command_of (Lent.Upgrade c.args.upgrading.now)) (held_by c.args.holding) c.requires.taken c.args.upgrading.now.proof.now refl
+    (g.F.Files.told new) c.fetch_proof.ensures.told_stays (g.F.Files.faults c.args.files.now) (g.F.Files.faults new) (g.F.Files.blame new) (g.F.Files.act new) c.in_err-bytes.field-0.0 c.in_err-bytes.ensures.stops).faults)

@@ -1,4 +1,5 @@
 use Rattle.std.proofs.Common.{subst}
+use Rattle.std.proofs.lemmas.Result.{err_from_is_err_and}
 use Rattle.std.specs.Prelude.{IfErr, IfOk}
 use Rattle.command_words.specs.Lent.{command_of}
 use Rattle.command_words.specs.declared.command.Command.TheVariants as Lent
@@ -21,3 +22,13 @@ returns-clause-faults g c =
 pub returns-clause-stored : goal.returns-clause-stored
 returns-clause-stored g c =
     subst (λ t. IfErr c.keep.result (LeavesStored t (g.F.Files.told c.keep.new.files) (command_of (Lent.Validate c.args.validation.now)))) c.decide_map.ensures.told_stays c.keep.ensures.stored
+
+pub returns-in_err-decided-clause-cause : goal.returns-in_err-decided-clause-cause
+returns-in_err-decided-clause-cause g c =
+    let p = err_from_is_err_and c.from_residual.result c.from_residual.ensures.1 in
+    rw (p.1, p.2) c.in_err-decided.ensures.cause
+
+pub returns-in_err-decided-clause-faults : goal.returns-in_err-decided-clause-faults
+returns-in_err-decided-clause-faults g c =
+    let p = err_from_is_err_and c.from_residual.result c.from_residual.ensures.1 in
+    rw (p.1, p.2) c.in_err-decided.ensures.faults

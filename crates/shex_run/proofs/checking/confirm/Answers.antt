@@ -1,4 +1,5 @@
 use Rattle.std.proofs.Common.{◌≤◌, ◌++◌, ◌∙◌, ap, subst, sym}
+use Rattle.std.proofs.lemmas.Result.{err_from_is_err_and}
 use Rattle.std.specs.Prelude.{All, Contains}
 use Rattle.graph_index.specs.Laws.{IsOfTable}
 use Rattle.rdf_terms.specs.Tables.{max_terms}
@@ -49,3 +50,8 @@ returns-in-Err-clause-stops c =
     let fails : FailsAs held.schema held.files held.terms terms held.graph c.args.proof.now c.in-Err.error = subst (λ ts. FailsAs held.schema held.files held.terms terms ts c.args.proof.now c.in-Err.error) c.seal.ensures.same c.in-Err.ensures.fails in
     subst (λ s. ConfirmStops held c.args.proof.now s) (sym c.check_stop.ensures)
     (stops held terms c.args.proof.now c.in-Err.error (subst (λ k. k ≤ max_terms) c.len-count.ensures.count c.len-count.ensures.few) fails)
+
+pub returns-in_err-seal-clause-stops : goal.returns-in_err-seal-clause-stops
+returns-in_err-seal-clause-stops c =
+    let p = err_from_is_err_and c.from_residual.result c.from_residual.ensures.1 in
+    rw (p.1, p.2) tt
