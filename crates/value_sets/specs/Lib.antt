@@ -1,3 +1,4 @@
+pub mod Indexed
 pub mod Laws
 pub mod Matching
 pub mod Stems

@@ -1,6 +1,7 @@
 //! Value sets of node constraints: values, stems and ranges (ShEx 2.1, section 5.4, Values Constraint).
 #![tactic(auto)]
 
+mod index;
 pub mod laws;
 mod stems;
 mod value;

@@ -2,6 +2,7 @@
 
 ghost use Rattle.std.specs.Prelude.{◌≡◌, ◌↔◌, IfOk, IsTrue};
 
+use crate::index::ValueIndex;
 use crate::value::Value;
 use rdf_terms::terms::Term;
 use std::alloc::{AllocError, Global};
@@ -11,24 +12,29 @@ use std::marker::Model;
 #[derive(Debug, Drop)]
 pub struct ValueSet {
     values: Vec<Value>,
+    index: ValueIndex,
 }
 
 impl Model for ValueSet {
+    ghost use Rattle.value_sets.specs.Indexed.{IsIndexOf};
     ghost use Rattle.value_sets.specs.Values.{ValueList};
 
     ghost Value = { ValueList };
 
     ghost view = { λ s. s.values.items };
+
+    ghost invariant = { λ s. IsIndexOf s.values.items s.index };
 }
 
 impl ValueSet {
     ghost use Rattle.value_sets.specs.Values.{HasValue};
 
-    /// The set of these values. It takes no memory, so it does not fail.
-    pub fn of(_alloc: Global, values: Vec<Value>) -> Result<ValueSet, AllocError>
+    /// The set of these values, with a copy of each term among them, by which it is found.
+    pub fn of(alloc: Global, values: Vec<Value>) -> Result<ValueSet, AllocError>
         ensures { IfOk result (λ s. s ≡ values.items) }
     {
-        Ok(ValueSet { values })
+        let index = ValueIndex::of(alloc, values.as_slice())?;
+        Ok(ValueSet { values, index })
     }
 
     /// The values, as they were given.
@@ -42,6 +48,6 @@ impl ValueSet {
     pub fn has(&self, term: &Term) -> bool
         ensures { IsTrue result ↔ HasValue self.now term.now }
     {
-        self.values.iter().any(|value| value.takes(term))
+        self.index.has(self.values.as_slice(), term)
     }
 }
