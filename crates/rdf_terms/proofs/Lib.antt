@@ -1,5 +1,6 @@
 pub mod Anonymous
 pub mod Characters
+pub mod Comparing
 pub mod DistinctTexts
 pub mod Escapes
 pub mod Orders

@@ -1,6 +1,6 @@
 //! Terms in the order of their texts, and numbers of a table in that of their terms.
 
-ghost use Rattle.std.specs.Prelude.{◌≡◌, ◌++◌, [], codes, length, ◌↔◌, IsSome, IfSome, IfNone, IsNone, ◌∷◌, MatchOption, ◌≤◌, slice_get, Contains, OnOk};
+ghost use Rattle.std.specs.Prelude.{◌≡◌, ◌++◌, [], codes, get_or, length, take, ◌↔◌, IfSome, IfNone, ◌∷◌, ◌≤◌, ◌⊎◌, slice_get, Contains, OnOk};
 ghost use Rattle.std.specs.Cmp.Lexicographic.{slice_cmp};
 ghost use Rattle.std.specs.Fmt.{decimal};
 ghost use Rattle.std.specs.Iterator.{YieldsFirst, item_count};
@@ -11,9 +11,9 @@ ghost use Rattle.std.specs.Ordering.{nat_cmp};
 ghost use Rattle.rdf_terms.specs.Order.{compare_at, text_at};
 ghost use Rattle.rdf_terms.specs.Texts.{same_text};
 ghost use Rattle.rdf_terms.specs.Vocabulary.{xsd_string};
-ghost use Rattle.rdf_terms.specs.TextBytes.{bytes_left, escaped_byte, number_in, number_of_name};
+ghost use Rattle.rdf_terms.specs.TextBytes.{bytes_left, escaped_byte};
 ghost use Rattle.rdf_terms.specs.declared.terms.TermId.{TermId as Id};
-ghost use Rattle.rdf_terms.specs.Written.{escaped, term_text, literal_text, printed_name};
+ghost use Rattle.rdf_terms.specs.Written.{iri_text, literal_text, printed_name, suffix_text, term_text};
 
 use crate::table::TermTable;
 use crate::terms::{Literal, Name, Term, TermId};
@@ -24,15 +24,21 @@ use itoa::Buffer;
 use std::alloc::AllocError;
 use std::cmp::Ordering;
 
-/// Compares the texts of two terms byte by byte, a proper prefix first. It takes no memory.
+/// Compares the texts of two terms, a proper prefix first. It takes no memory.
 pub fn compare_texts(a: &Term, b: &Term) -> Ordering
     ensures { result ≡ slice_cmp nat_cmp (term_text a.now) (term_text b.now) }
 {
-    let mut left = Buffer::new();
-    let mut right = Buffer::new();
-    let digits_left = left.format(number_of(a));
-    let digits_right = right.format(number_of(b));
-    TextBytes::of(a, digits_left).cmp(TextBytes::of(b, digits_right))
+    match (a, b) {
+        (Term::Iri(one), Term::Iri(other)) => compare_iris(one, other),
+        (Term::Iri(_), Term::Blank(_)) => Ordering::Less,
+        (Term::Iri(_), Term::Lit(_)) => Ordering::Greater,
+        (Term::Blank(_), Term::Iri(_)) => Ordering::Greater,
+        (Term::Blank(one), Term::Blank(other)) => compare_names(one, other),
+        (Term::Blank(_), Term::Lit(_)) => Ordering::Greater,
+        (Term::Lit(_), Term::Iri(_)) => Ordering::Less,
+        (Term::Lit(_), Term::Blank(_)) => Ordering::Less,
+        (Term::Lit(one), Term::Lit(other)) => compare_literals(one, other),
+    }
 }
 
 /// Compares two numbers by the texts of their terms, and numbers of one text by their size.
@@ -82,21 +88,117 @@ fn term_at(terms: &TermTable, id: TermId) -> Option<&Term>
     }
 }
 
-/// The number of an anonymous node, and 0 for any other term.
-fn number_of(term: &Term) -> u32
-    ensures { result ≡ number_in term.now }
+/// Compares the texts of two IRIs.
+fn compare_iris(one: &Text, other: &Text) -> Ordering
+    ensures { result ≡ slice_cmp nat_cmp (iri_text one.now) (iri_text other.now) }
 {
-    match term {
-        Term::Blank(Name::Fresh(number)) => number.get(),
-        _ => 0,
+    compare_closed(one.as_str().as_bytes(), other.as_str().as_bytes())
+}
+
+/// Compares bytes with `>` behind them: as many as both have, and then what stands behind these.
+fn compare_closed(one: &[u8], other: &[u8]) -> Ordering
+    ensures { result ≡ slice_cmp nat_cmp (one.now ++ codes ">") (other.now ++ codes ">") }
+{
+    let both = one.len().min(other.len());
+    let (front, rest) = one.split_at(both);
+    let (other_front, other_rest) = other.split_at(both);
+    front
+        .cmp(&other_front)
+        .then(compare_rests(rest, other_rest))
+}
+
+/// Compares bytes with `>` behind them, where one has none.
+fn compare_rests(one: &[u8], other: &[u8]) -> Ordering
+    requires { (one.now ≡ []) ⊎ (other.now ≡ []) }
+    ensures { result ≡ slice_cmp nat_cmp (one.now ++ codes ">") (other.now ++ codes ">") }
+{
+    first_or_close(one)
+        .cmp(&first_or_close(other))
+        .then(one.len().cmp(&other.len()))
+}
+
+/// The first byte, and `>` where there is none.
+fn first_or_close(bytes: &[u8]) -> u8
+    ensures { result ≡ get_or bytes.now 0 62 }
+{
+    match bytes.first() {
+        Some(byte) => *byte,
+        None => b'>',
     }
 }
 
-/// The bytes of a text that are left: an opening, the rest of an escape that has begun, a lexical form that is escaped
-/// as it is read, what joins it to a name, that name, and what closes it.
+/// Compares the printed names of two blank nodes.
+fn compare_names(one: &Name, other: &Name) -> Ordering
+    ensures { result ≡ slice_cmp nat_cmp (printed_name one.now) (printed_name other.now) }
+{
+    match (one, other) {
+        (Name::Label(one), Name::Label(other)) => compare_labels(one, other),
+        (Name::Label(one), Name::Fresh(other)) => compare_to_anonymous(one, other.get()),
+        (Name::Fresh(one), Name::Label(other)) => compare_to_anonymous(other, one.get()).reverse(),
+        (Name::Fresh(one), Name::Fresh(other)) => compare_digits(one.get(), other.get()),
+    }
+}
+
+/// Compares the printed names of two labels. These are in the order of the labels, since a mark stands before each that
+/// begins with `anon`, and another differs from such a one in its first four bytes.
+fn compare_labels(one: &Text, other: &Text) -> Ordering
+    ensures { result ≡ slice_cmp nat_cmp (printed_name (Name.Label one.now)) (printed_name (Name.Label other.now)) }
+{
+    one.as_str().cmp(other.as_str())
+}
+
+/// Compares the printed name of a label with that of an anonymous node, whatever its number is.
+fn compare_to_anonymous(label: &Text, _number: u32) -> Ordering
+    ensures { result ≡ slice_cmp nat_cmp (printed_name (Name.Label label.now)) (printed_name (Name.Fresh _number)) }
+{
+    if begins_with_anon(label) {
+        Ordering::Greater
+    } else {
+        label.as_str().cmp("anon")
+    }
+}
+
+/// Compares the digits of two numbers.
+fn compare_digits(one: u32, other: u32) -> Ordering
+    ensures { result ≡ slice_cmp nat_cmp (decimal one) (decimal other) }
+{
+    let mut left = Buffer::new();
+    let mut right = Buffer::new();
+    left.format(one).cmp(right.format(other))
+}
+
+/// Compares the texts of two literals: what their lexical forms have in common is passed over, and from there on byte
+/// after byte is escaped as it is read.
+fn compare_literals(one: &Literal, other: &Literal) -> Ordering
+    ensures { result ≡ slice_cmp nat_cmp (literal_text one.now) (literal_text other.now) }
+{
+    let lexical = one.lex().as_str().as_bytes();
+    let other_lexical = other.lex().as_str().as_bytes();
+    let same = common_front(lexical, other_lexical);
+    let (_, rest) = lexical.split_at(same);
+    let (_, other_rest) = other_lexical.split_at(same);
+    TextBytes::of(rest, one).cmp(TextBytes::of(other_rest, other))
+}
+
+/// How many bytes both begin with.
+fn common_front(one: &[u8], other: &[u8]) -> usize
+    ensures inside { result ≤ length one.now }
+    ensures within { result ≤ length other.now }
+    ensures same { take result one.now ≡ take result other.now }
+{
+    let both = one.len().min(other.len());
+    for place in 0..both {
+        if one[place] != other[place] {
+            return place;
+        }
+    }
+    both
+}
+
+/// The bytes of a literal's text that are left: the rest of an escape that has begun, a lexical form that is escaped as it
+/// is read, what joins it to a name, that name, and what closes it.
 #[derive(Drop)]
 struct TextBytes<'a> {
-    opening: &'a [u8],
     pending: Option<u8>,
     lexical: &'a [u8],
     joint: &'a [u8],
@@ -105,74 +207,24 @@ struct TextBytes<'a> {
 }
 
 impl<'a> TextBytes<'a> {
-    /// The text of a term, whose number is spelled by the digits where it is an anonymous node.
-    fn of(term: &'a Term, digits: &'a str) -> TextBytes<'a>
-        requires { digits.now ≡ decimal (number_in term.now) }
-        ensures { bytes_left result ≡ term_text term.entry.now }
+    /// The end of a lexical form, and what follows the lexical form of the literal.
+    fn of(lexical: &'a [u8], literal: &'a Literal) -> TextBytes<'a>
+        ensures { bytes_left result ≡ flat_map escaped_byte lexical.entry.now ++ (codes "\"" ++ suffix_text literal.entry.now literal.entry.now.lang) }
     {
-        match term {
-            Term::Iri(iri) => TextBytes::unquoted("<", iri.as_str(), ">"),
-            Term::Blank(name) => TextBytes::of_name(name, digits),
-            Term::Lit(literal) => TextBytes::of_literal(literal),
-        }
-    }
-
-    /// The text of a blank node, whose number is spelled by the digits where it is anonymous.
-    fn of_name(name: &'a Name, digits: &'a str) -> TextBytes<'a>
-        requires { digits.now ≡ decimal (number_of_name name.now) }
-        ensures { bytes_left result ≡ codes "_:" ++ printed_name name.entry.now }
-    {
-        match name {
-            Name::Label(label) => TextBytes::of_label(label),
-            Name::Fresh(_) => TextBytes::unquoted("_:anon", digits, ""),
-        }
-    }
-
-    /// The text of a blank node with a label.
-    fn of_label(label: &'a Text) -> TextBytes<'a>
-        ensures { bytes_left result ≡ codes "_:" ++ printed_name (Name.Label label.entry.now) }
-    {
-        if begins_with_anon(label) {
-            TextBytes::unquoted("_:anon_", label.as_str(), "")
-        } else {
-            TextBytes::unquoted("_:", label.as_str(), "")
-        }
-    }
-
-    /// The text of a literal.
-    fn of_literal(literal: &'a Literal) -> TextBytes<'a>
-        ensures { bytes_left result ≡ literal_text literal.entry.now }
-    {
-        let lex = literal.lex();
         match literal.lang() {
-            Some(tag) => TextBytes::quoted(lex, "\"@", tag.as_str(), ""),
-            None if is_string(literal.datatype()) => TextBytes::quoted(lex, "\"", "", ""),
-            None => TextBytes::quoted(lex, "\"^^<", literal.datatype().as_str(), ">"),
+            Some(tag) => TextBytes::quoted(lexical, "\"@", tag.as_str(), ""),
+            None if is_string(literal.datatype()) => TextBytes::quoted(lexical, "\"", "", ""),
+            None => TextBytes::quoted(lexical, "\"^^<", literal.datatype().as_str(), ">"),
         }
     }
 
-    /// A name between two marks.
-    fn unquoted(opening: &'a str, name: &'a str, closing: &'a str) -> TextBytes<'a>
-        ensures { bytes_left result ≡ opening.entry.now ++ (name.entry.now ++ closing.entry.now) }
+    /// The end of a lexical form, and what follows it.
+    fn quoted(lexical: &'a [u8], joint: &'a str, name: &'a str, closing: &'a str) -> TextBytes<'a>
+        ensures { bytes_left result ≡ flat_map escaped_byte lexical.entry.now ++ (joint.entry.now ++ (name.entry.now ++ closing.entry.now)) }
     {
         TextBytes {
-            opening: opening.as_bytes(),
             pending: None,
-            lexical: b"",
-            joint: b"",
-            name: name.as_bytes(),
-            closing: closing.as_bytes(),
-        }
-    }
-
-    /// A lexical form behind its opening quote, and what follows it.
-    fn quoted(lex: &'a Text, joint: &'a str, name: &'a str, closing: &'a str) -> TextBytes<'a>
-        ensures { bytes_left result ≡ codes "\"" ++ (flat_map escaped lex.entry.now ++ (joint.entry.now ++ (name.entry.now ++ closing.entry.now))) }
-    {
-        TextBytes {
-            opening: b"\"",
-            pending: None,
-            lexical: lex.as_str().as_bytes(),
+            lexical,
             joint: joint.as_bytes(),
             name: name.as_bytes(),
             closing: closing.as_bytes(),
@@ -188,9 +240,6 @@ impl Iterator for TextBytes<'_> {
     ghost remaining = { item_count bytes_left };
 
     fn next(&mut self) -> Option<u8> {
-        if let Some(byte) = take_first(&mut self.opening) {
-            return Some(byte);
-        }
         if let Some(byte) = self.pending.take() {
             return Some(byte);
         }

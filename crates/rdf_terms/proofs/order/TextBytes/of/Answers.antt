@@ -2,7 +2,7 @@ use Rattle.std.proofs.Common.{ap, sym, ◌∙◌}
 use Rattle.rdf_terms.specs.Vocabulary.{xsd_string}
 use Rattle.rdf_terms.specs.Texts.{same_text}
 use Rattle.rdf_terms.proofs.Escapes.{tagged_suffix, plain_suffix, typed_suffix}
-use Rattle.rdf_terms.proofs.order.TextBytes.of_literal.Goals as goal
+use Rattle.rdf_terms.proofs.order.TextBytes.of.Goals as goal
 
 pub returns-in-Some : goal.returns-in-Some
 returns-in-Some c =
