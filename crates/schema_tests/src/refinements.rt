@@ -255,7 +255,16 @@ fn times_asked<L: Ledger>(
     let mut steps = Steps::<L>::new(blank);
     let all = pairs.list();
     let whole = refine_from(
-        alloc, schema, graph, terms, strata, all, &Nothing, 1, &mut steps,
+        alloc,
+        schema,
+        graph,
+        terms,
+        strata,
+        all,
+        &Nothing,
+        1,
+        Wanted::Records,
+        &mut steps,
     )?;
     let row = with_first(alloc, all)?;
     let row = row.as_slice();
@@ -265,7 +274,16 @@ fn times_asked<L: Ledger>(
         times: &times,
     };
     let found = refine_from(
-        alloc, schema, graph, terms, strata, row, &asked, 1, &mut steps,
+        alloc,
+        schema,
+        graph,
+        terms,
+        strata,
+        row,
+        &asked,
+        1,
+        Wanted::Records,
+        &mut steps,
     )?;
     if row.len() != ROW as usize || !are_no(&found, row) {
         return Err("a pair of the row that is not No".into());

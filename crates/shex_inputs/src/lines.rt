@@ -1,11 +1,15 @@
 //! The lines that programs print to their errors.
 
-ghost use Rattle.std.specs.Prelude.{◌≡◌, ◌++◌, IfOk, OnOk, codes, string_bytes};
+ghost use Rattle.std.specs.Prelude.{[], ◌≡◌, ◌++◌, IfOk, OnOk, codes, string_bytes};
 ghost use Rattle.std.specs.Fmt.{decimal};
 ghost use Rattle.std.specs.List.{flat_map};
+ghost use Rattle.schema_files.specs.Named.{name_of};
 ghost use Rattle.shex_inputs.specs.Lines.{cycle_text, error_line, refusal_text};
+ghost use Rattle.shex_inputs.specs.Named.{asked_of, inputs_with, source_name};
 
-use crate::error::Refusal;
+use crate::error::{Refusal, Source};
+use command_words::Inputs;
+use schema_files::{SchemaFile, file_name};
 use schema_tree::schema::ShapeId;
 use std::alloc::{AllocError, Global};
 
@@ -20,6 +24,24 @@ pub fn error_line(
     ensures { IfOk result (λ s. string_bytes s ≡ error_line program.now place.now what.now) }
 {
     format!(in alloc; "{program}: {place}: {what}\n")
+}
+
+/// The name of a file of the schema among the inputs, and the empty text where no word names it.
+fn schema_name<'a>(inputs: &Inputs<'a>, file: SchemaFile) -> &'a str
+    ensures { result.now ≡ name_of (asked_of (inputs_with inputs.now [])) file }
+{
+    file_name(inputs.schema, inputs.imports.as_slice(), file)
+}
+
+/// The name of a file of the inputs, whose map has this name, and the empty text where no word names it.
+pub fn input_name<'a>(inputs: &Inputs<'a>, map: &'a str, source: Source) -> &'a str
+    ensures { result.now ≡ source_name (inputs_with inputs.now map.now) source }
+{
+    match source {
+        Source::Schema(file) => schema_name(inputs, file),
+        Source::Data => inputs.data,
+        Source::Map => map,
+    }
 }
 
 /// Appends a Shape by its number, with a comma before it.

@@ -144,8 +144,8 @@ fn refine_over<K: View, L: Ledger>(
 /// The verdicts of refinement on a list of pairs, over what is kept of those that they need besides: on each pair of the
 /// list the verdict that refinement of all that it needs would give, and Unknown on every other. For each pair whose Width
 /// is within the budget it ticks at most (2 × k + 3) × (d + 1) × Width times, where k is how many pairs of the list it needs
-/// and d is how many of its node's triples are relevant. The records are made as those of `refine`, and show the verdicts
-/// where the list holds all that it needs.
+/// and d is how many of its node's triples are relevant. Where records are wanted, they are made as those of `refine`, and
+/// show the verdicts where the list holds all that it needs.
 pub fn refine_from<K: View, L: Ledger>(
     alloc: Global,
     schema: &Schema,
@@ -155,6 +155,7 @@ pub fn refine_from<K: View, L: Ledger>(
     pairs: &[Pair],
     kept: &K,
     budget: u64,
+    wanted: Wanted,
     steps: &mut Steps<L>,
 ) -> Result<Refined, AllocError>
     requires loaded { IsLoaded schema.now }
@@ -177,10 +178,13 @@ pub fn refine_from<K: View, L: Ledger>(
     ensures only_wide { IfOk result (λ r. IsUnknownOnlyWide schema.now terms.now graph.now.triples strata.now budget pairs.now (known_by_it r)) }
     ensures wide { IfOk result (λ r. (width : Held → ℕ) → AreWidths schema.now terms.now graph.now.triples width → r.wide ≡ wide_of width budget pairs.now) }
 
-    // Where the list holds all that it needs, the records show exactly the verdicts, and are accepted.
-    ensures records { HoldNeeds schema.now graph.now.triples pairs.now → IfOk result (λ r. AreShownBy schema.now terms.now graph.now.triples strata.now pairs.now budget (known_by_it r) r.nodes r.sections) }
-    ensures fine { HoldNeeds schema.now graph.now.triples pairs.now → IfOk result (λ r. AreFine r.sections) }
-    ensures accepted { HoldNeeds schema.now graph.now.triples pairs.now → IfOk result (λ r. AreAccepted schema.now terms.now graph.now.triples strata.now pairs.now r.nodes r.sections) }
+    // Where records are wanted and the list holds all that it needs, they show exactly the verdicts, and are accepted.
+    ensures records { (wanted ≡ Wanteds.Records) → HoldNeeds schema.now graph.now.triples pairs.now → IfOk result (λ r. AreShownBy schema.now terms.now graph.now.triples strata.now pairs.now budget (known_by_it r) r.nodes r.sections) }
+    ensures fine { (wanted ≡ Wanteds.Records) → HoldNeeds schema.now graph.now.triples pairs.now → IfOk result (λ r. AreFine r.sections) }
+    ensures accepted { (wanted ≡ Wanteds.Records) → HoldNeeds schema.now graph.now.triples pairs.now → IfOk result (λ r. AreAccepted schema.now terms.now graph.now.triples strata.now pairs.now r.nodes r.sections) }
+
+    // Where the verdicts alone are wanted, nothing is recorded.
+    ensures unrecorded { (wanted ≡ Wanteds.Verdicts) → IfOk result (λ r. (r.nodes ≡ []) × (r.sections ≡ [])) }
 
     // However it ends, it ticks at most so often.
     ensures bounded { (width count : Held → ℕ) → AreWidths schema.now terms.now graph.now.triples width → CountNeeds schema.now graph.now.triples pairs.now count →
@@ -202,7 +206,7 @@ pub fn refine_from<K: View, L: Ledger>(
         pairs,
         kept,
         budget,
-        Wanted::Records,
+        wanted,
         steps,
     )
 }

@@ -34,7 +34,7 @@ use std::alloc::{AllocError, Global};
 use std::sync::ledger::Ledger;
 use strata::list::Strata;
 use tally::Steps;
-use typing_refiner::refine_from;
+use typing_refiner::{Wanted, refine_from};
 
 /// The pairs that a node with an expression reaches. It is refused as `Pairs` exactly where these are more than 4,194,304.
 pub(crate) fn reached(
@@ -88,7 +88,16 @@ fn keep_fresh<L: Ledger>(
     let missing = kept.missing(alloc, pairs)?;
     let fresh = missing.as_slice();
     let found = refine_from(
-        alloc, schema, graph, terms, strata, fresh, &*kept, budget, steps,
+        alloc,
+        schema,
+        graph,
+        terms,
+        strata,
+        fresh,
+        &*kept,
+        budget,
+        Wanted::Verdicts,
+        steps,
     )?;
     kept.keep_all(fresh, &found)?;
     Ok(())

@@ -25,16 +25,16 @@ returns-clause-by_all g c =
     c.refine_over.result c.strata_are_independent.ensures.verdict (returns-clause-verdicts g c)
 
 pub returns-clause-records : goal.returns-clause-records
-returns-clause-records g c = λ closed.
+returns-clause-records g c = λ wanted closed.
     ok_shown c.args.schema.now c.args.terms.now c.args.graph.now.triples c.args.strata.now c.args.budget c.args.pairs.now c.args.pairs.now c.list.result.now c.refine_over.result
-    refl c.list.ensures (c.refine_over.ensures.shown refl closed)
+    refl c.list.ensures (c.refine_over.ensures.shown wanted closed)
 
 pub returns-clause-accepted : goal.returns-clause-accepted
-returns-clause-accepted g c = λ closed.
+returns-clause-accepted g c = λ wanted closed.
     ok_accepted c.args.schema.now c.args.terms.now c.args.graph.now.triples c.args.strata.now c.args.budget c.args.pairs.now c.refine_over.result c.requires.stratified
-    (returns-clause-records g c closed)
+    (returns-clause-records g c wanted closed)
 
 pub returns-clause-fine : goal.returns-clause-fine
-returns-clause-fine g c = λ closed.
+returns-clause-fine g c = λ wanted closed.
     ok_fine c.args.schema.now c.args.terms.now c.args.graph.now.triples c.args.strata.now c.args.budget c.args.pairs.now c.refine_over.result c.requires.loaded c.len-held.result
-    c.len-held.ensures.count c.len-held.ensures.few c.requires.few (returns-clause-records g c closed)
+    c.len-held.ensures.count c.len-held.ensures.few c.requires.few (returns-clause-records g c wanted closed)
