@@ -8,3 +8,5 @@ pub mod Causes
 pub mod Depths
 pub mod ScopeLines
 pub mod DocumentLines
+pub mod Adding
+pub mod ListLoading

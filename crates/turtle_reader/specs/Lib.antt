@@ -1,3 +1,4 @@
+pub mod Objects
 pub mod States
 pub mod Meanings
 pub mod Reading

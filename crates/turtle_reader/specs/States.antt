@@ -3,14 +3,13 @@ use Rattle.std.specs.Prelude.{ℕ, ◌+◌, List, [], ◌∷◌, ◌++◌, Optio
 use Rattle.std.specs.Str.{bytes_eq}
 use Rattle.rdf_terms.specs.declared.terms.Name.TheVariants.{Fresh}
 use Rattle.rdf_terms.specs.declared.terms.Term.{Term}
-use Rattle.rdf_terms.specs.declared.terms.Term.TheVariants.{Iri, Blank}
+use Rattle.rdf_terms.specs.declared.terms.Term.TheVariants.{Blank}
 use Rattle.rdf_lex.specs.Prefixes.{base_of, iri_under}
 use Rattle.graph_index.specs.declared.loading.TermTriple.{TermTriple}
 use Rattle.term_tokens.specs.Scopes as tokens
 use Rattle.term_tokens.specs.Terms.{iri_term}
 use Rattle.turtle_reader.specs.declared.state.State.{State}
-use Rattle.turtle_reader.specs.declared.state.Resource.{Resource}
-use Rattle.turtle_reader.specs.declared.state.Resource.TheVariants as resource
+use Rattle.turtle_reader.specs.Objects.{all_triples_of}
 
 -- the base and the IRI of each prefix, as bytes; the number of the next anonymous node; and the triples so far
 pub record DocumentScope : Type 0 where
@@ -53,8 +52,4 @@ start base = record { base = base; prefixes = λ prefix. None; next = 1; triples
 
 -- what the code holds
 abbrev pub scope_of : State → DocumentScope
-scope_of s = record { base = base_of s.prefixes; prefixes = iri_under s.prefixes; next = s.next; triples = s.triples.items }
-
-abbrev pub term_of : Resource → Term
-term_of (resource.Iri iri) = Iri iri
-term_of (resource.Blank name) = Blank name
+scope_of s = record { base = base_of s.prefixes; prefixes = iri_under s.prefixes; next = s.next; triples = all_triples_of s.lists.items }

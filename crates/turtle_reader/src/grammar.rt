@@ -13,10 +13,12 @@ ghost use Rattle.rdf_cursor.specs.Cursors.{ahead, source_in};
 ghost use Rattle.rdf_cursor.specs.Lent.{spelled};
 ghost use Rattle.turtle_reader.specs.Meanings.{verbs};
 ghost use Rattle.turtle_reader.specs.Reading.{iri_ref, iri, literal, resource, simple, verb, one_object, comma, objects, pair, semicolon, predicates, node, in_cell, member, next_member, cells, collection, object, subject, about_subject, listed, about_node, triples, ended, prefix_declaration, base_declaration, behind, statement};
-ghost use Rattle.turtle_reader.specs.States.{scope_of, term_of, anonymous};
+ghost use Rattle.turtle_reader.specs.Objects.{term_of};
+ghost use Rattle.turtle_reader.specs.States.{scope_of, anonymous};
 ghost use Rattle.rdf_cursor.specs.Symbols.{is_symbol, is_other, is_among};
 
-use crate::state::{Resource, State};
+use crate::resource::Resource;
+use crate::state::State;
 use rdf_cursor::{Cursor, Fault, Stop, Symbol};
 use rdf_lex::Token;
 use rdf_terms::terms::{FreshNumber, Literal, Name, Term};

@@ -3,7 +3,10 @@
 
 mod grammar;
 mod laws;
+mod loading;
+mod objects;
 mod reader;
+mod resource;
 mod state;
 
 pub use laws::{documents_are_one, documents_have_lines};

@@ -15,8 +15,9 @@ ghost use Rattle.turtle_reader.specs.States.{DocumentScope, scope_of};
 ghost use Rattle.turtle_reader.specs.Steps.{Steps, Ends};
 
 use crate::grammar::statement;
+use crate::loading::load_lists;
 use crate::state::State;
-use data_loading::{Refusal, error, load_all};
+use data_loading::{Refusal, error};
 use graph_index::graph::Graph;
 use graph_index::read_error::ReadError;
 use rdf_cursor::Cursor;
@@ -37,8 +38,8 @@ fn load_statement(
     ensures appended { (more : List Triple) × (graph.new.triples ≡ graph.old.triples ++ more) }
 {
     statement(c, state)?;
-    let triples = state.take_triples();
-    load_all(terms, graph, triples)?;
+    let lists = state.take_lists();
+    load_lists(state.alloc, terms, graph, lists)?;
     Ok(())
 }
 

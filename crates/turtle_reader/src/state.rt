@@ -4,7 +4,8 @@ ghost use Rattle.std.specs.Prelude.{◌≡◌, ◌≤◌, IfOk, OnOk, IsSome};
 ghost use Rattle.iri_resolve.specs.Reference.{scheme_of};
 ghost use Rattle.rdf_lex.specs.Prefixes.{base_of};
 
-use graph_index::loading::TermTriple;
+use crate::objects::{ObjectList, add_triple};
+use crate::resource::Resource;
 use rdf_cursor::{Fault, Stop};
 use rdf_lex::Prefixes;
 use rdf_terms::terms::{FreshNumber, Name, Term};
@@ -13,39 +14,6 @@ use rdf_terms::vocabulary::{RDF_FIRST, RDF_NIL, RDF_REST};
 use std::alloc::{AllocError, Global};
 use std::mem;
 use term_tokens::Names;
-
-/// What a triple may be about: an IRI or a blank node (RDF 1.1 Concepts, section 3.1).
-#[derive(Debug, Drop)]
-pub enum Resource {
-    /// An IRI.
-    Iri(Text),
-    /// A blank node.
-    Blank(Name),
-}
-
-impl Resource {
-    ghost use Rattle.turtle_reader.specs.States.{term_of};
-
-    /// The term, without taking memory.
-    pub fn into_term(self) -> Term
-        ensures { result ≡ term_of self }
-    {
-        match self {
-            Resource::Iri(iri) => Term::Iri(iri),
-            Resource::Blank(name) => Term::Blank(name),
-        }
-    }
-
-    /// A copy of the term.
-    pub fn to_term(&self, alloc: Global) -> Result<Term, AllocError>
-        ensures { IfOk result (λ t. t ≡ term_of self.now) }
-    {
-        match self {
-            Resource::Iri(iri) => Ok(Term::Iri(iri.try_clone(alloc)?)),
-            Resource::Blank(name) => Ok(Term::Blank(name.try_clone(alloc)?)),
-        }
-    }
-}
 
 /// The state of the parser (RDF 1.1 Turtle, section 7.1): the base and the prefixes, the number of the next anonymous
 /// node, and the triples of the statement that is being read.
@@ -58,7 +26,7 @@ pub struct State {
     /// The number of the next anonymous node, at least 1.
     pub next: u64,
     /// The triples of the statement that is being read, in their order.
-    pub triples: Vec<TermTriple>,
+    pub lists: Vec<ObjectList>,
     ghost from_one: { 1 ≤ next },
     ghost absolute: { IsSome (scheme_of (base_of prefixes)) },
 }
@@ -67,7 +35,8 @@ impl State {
     ghost use Rattle.std.specs.Prelude.{true};
     ghost use Rattle.rdf_cursor.specs.Stops.{Answers};
     ghost use Rattle.turtle_reader.specs.Meanings.{numbered};
-    ghost use Rattle.turtle_reader.specs.States.{anonymous, names_in, scope_of, term_of, added, begun, declared, rebased, start};
+    ghost use Rattle.turtle_reader.specs.States.{anonymous, names_in, scope_of, added, begun, declared, rebased, start};
+    ghost use Rattle.turtle_reader.specs.Objects.{all_triples_of, term_of};
     ghost use Rattle.term_tokens.specs.Terms.{iri_term};
     ghost use Rattle.turtle_reader.specs.Documents.{AreLast};
     ghost use Rattle.term_tokens.specs.Scopes.{scope_in};
@@ -82,7 +51,7 @@ impl State {
             alloc,
             prefixes: Prefixes::new(alloc, base)?,
             next: 1,
-            triples: Vec::new(alloc),
+            lists: Vec::new(alloc),
         })
     }
 
@@ -120,13 +89,7 @@ impl State {
     ) -> Result<(), AllocError>
         ensures { OnOk result (scope_of self.new ≡ added (term_of subject.now) predicate.now object (scope_of self.old)) }
     {
-        let triple = TermTriple {
-            subject: subject.to_term(self.alloc)?,
-            predicate: Term::Iri(Text::from_str(self.alloc, predicate)?),
-            object,
-        };
-        self.triples.push(triple)?;
-        Ok(())
+        add_triple(&mut self.lists, self.alloc, subject, predicate, object)
     }
 
     /// Adds the triple of a cell of a collection and its member (RDF 1.1 Turtle, section 2.8).
@@ -155,12 +118,12 @@ impl State {
     }
 
     /// The triples of the statement that was read, which are taken away.
-    pub fn take_triples(&mut self) -> Vec<TermTriple>
-        ensures triples { result.items ≡ (scope_of self.old).triples }
+    pub fn take_lists(&mut self) -> Vec<ObjectList>
+        ensures triples { all_triples_of result.items ≡ (scope_of self.old).triples }
         ensures rest { scope_of self.new ≡ begun (scope_of self.old) }
     {
         let alloc = self.alloc;
-        mem::replace(&mut self.triples, Vec::new(alloc))
+        mem::replace(&mut self.lists, Vec::new(alloc))
     }
 
     /// The base and the prefixes.

@@ -3,7 +3,8 @@ use Rattle.std.proofs.lemmas.Result.{err_from_is_err_and}
 use Rattle.rdf_cursor.proofs.Loops.{loop_goes, loop_ends}
 use Rattle.rdf_cursor.specs.Cursors.{ahead}
 use Rattle.turtle_reader.specs.Reading.{object}
-use Rattle.turtle_reader.specs.States.{scope_of, term_of, anonymous}
+use Rattle.turtle_reader.specs.Objects.{term_of}
+use Rattle.turtle_reader.specs.States.{scope_of, anonymous}
 use Rattle.term_tokens.proofs.Failing.{fails_loop}
 use Rattle.turtle_reader.proofs.Places.{consumes_comma, consumes_semicolon, consumes_next_member, local_object, consumes_object}
 use Rattle.turtle_reader.proofs.grammar.+grammar.Goals as goal

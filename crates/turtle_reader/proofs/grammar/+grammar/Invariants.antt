@@ -4,7 +4,8 @@ use Rattle.rdf_cursor.specs.Readers.{loop}
 use Rattle.rdf_cursor.specs.declared.symbols.Symbol.TheVariants.{Comma, Semicolon, CloseParenthesis}
 use Rattle.rdf_cursor.specs.Cursors.{ahead, source_in}
 use Rattle.turtle_reader.specs.Reading.{comma, semicolon, object, next_member}
-use Rattle.turtle_reader.specs.States.{scope_of, term_of, anonymous}
+use Rattle.turtle_reader.specs.Objects.{term_of}
+use Rattle.turtle_reader.specs.States.{scope_of, anonymous}
 use Rattle.rdf_cursor.specs.Symbols.{is_symbol, is_other}
 use Rattle.turtle_reader.proofs.grammar.+grammar.Given as goal
 

@@ -1,0 +1,29 @@
+-- The triples of object lists (RDF 1.1 Turtle, section 2.3).
+use Rattle.std.specs.Prelude.{ℕ, List, [], ◌∷◌, ◌++◌, map}
+use Rattle.std.specs.List.{flat_map}
+use Rattle.rdf_terms.specs.declared.terms.Term.{Term}
+use Rattle.rdf_terms.specs.declared.terms.Term.TheVariants.{Blank, Iri}
+use Rattle.graph_index.specs.declared.loading.TermTriple.{TermTriple}
+use Rattle.turtle_reader.specs.declared.objects.ObjectList.{ObjectList}
+use Rattle.turtle_reader.specs.declared.resource.Resource.{Resource}
+use Rattle.turtle_reader.specs.declared.resource.Resource.TheVariants as resource
+
+abbrev pub term_of : Resource → Term
+term_of (resource.Iri iri) = Iri iri
+term_of (resource.Blank name) = Blank name
+
+-- the triple of a subject, a predicate and an object
+abbrev pub triple_of : Term → List ℕ → Term → TermTriple
+triple_of s p o = record { subject = s; predicate = Iri p; object = o }
+
+-- the triple of an object of a list
+abbrev pub triple_in : ObjectList → Term → TermTriple
+triple_in l o = triple_of (term_of l.subject) l.predicate o
+
+-- the triples of a list, one for each object
+abbrev pub triples_of : ObjectList → List TermTriple
+triples_of l = map (triple_in l) (l.before.items ++ l.last ∷ [])
+
+-- the triples of lists, one list after the other
+abbrev pub all_triples_of : List ObjectList → List TermTriple
+all_triples_of ls = flat_map triples_of ls
