@@ -46,7 +46,7 @@ pub fn repeated(
     Ok(text)
 }
 
-/// A collection, a list of objects, a document of statements, and a text that is too long at its token.
+/// A collection, a list of objects, and a document of statements.
 #[test]
 fn large_documents_are_read(rt: HostRuntime) -> Result<(), Fail> {
     let alloc = rt.alloc();
@@ -68,18 +68,32 @@ fn large_documents_are_read(rt: HostRuntime) -> Result<(), Fail> {
             Ok(100_001),
         ),
         (Format::Turtle, "", "[] <p> 1 .\n", 100_000, "", Ok(100_000)),
-        (
-            Format::NTriples,
-            "<a:s> <a:p> \"",
-            "x",
-            16_777_217,
-            "\" .",
-            Err(ReadError::Long(12)),
-        ),
     ] {
         let text = repeated(alloc, front, part, times, back)?;
         assert_eq!(rt; count(alloc, format, text.as_str()), wanted, "{part}");
     }
+    Ok(())
+}
+
+/// How many triples a literal of so many bytes is in each format, or why it is refused.
+fn counts(alloc: Global, bytes: u32) -> Result<[Result<u64, ReadError>; 2], AllocError> {
+    let text = repeated(alloc, "<a:s> <a:p> \"", "x", bytes, "\" .")?;
+    Ok([
+        count(alloc, Format::NTriples, text.as_str()),
+        count(alloc, Format::Turtle, text.as_str()),
+    ])
+}
+
+/// A literal as long as it may be, and one of a byte more.
+#[test]
+fn the_longest_literal_is_read(rt: HostRuntime) -> Result<(), Fail> {
+    let alloc = rt.alloc();
+    let [in_lines, in_turtle] = counts(alloc, 16_777_216)?;
+    assert_eq!(rt; in_lines, Ok(1));
+    assert_eq!(rt; in_turtle, Ok(1));
+    let [in_lines, in_turtle] = counts(alloc, 16_777_217)?;
+    assert_eq!(rt; in_lines, Err(ReadError::Long(12)));
+    assert_eq!(rt; in_turtle, Err(ReadError::Long(12)));
     Ok(())
 }
 
