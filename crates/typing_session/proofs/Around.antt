@@ -41,12 +41,12 @@ not_so true h = absurd (h refl)
 not_so false h = refl
 
 -- triples of one node that tie by predicate and other end are one
-tie_parts : (a b : Ordering) → ordering_then a b ≡ Equal → (a ≡ Equal) × (b ≡ Equal)
+pub tie_parts : (a b : Ordering) → ordering_then a b ≡ Equal → (a ≡ Equal) × (b ≡ Equal)
 tie_parts Less b e = cc
 tie_parts Equal b e = (refl, e)
 tie_parts Greater b e = cc
 
-id_tie : (terms : List Term) (a b : TermId) → compare_at terms a b ≡ Equal → a ≡ b
+pub id_tie : (terms : List Term) (a b : TermId) → compare_at terms a b ≡ Equal → a ≡ b
 id_tie terms a b e = same_is a b (ids_tie terms a b ∙ ap is_eq e)
 
 object_tie : (terms : List Term) (n : TermId) (a b : Triple) → same_id a.s n ≡ true → same_id b.s n ≡ true → by_object terms a b ≡ Equal → a ≡ b

@@ -1,15 +1,14 @@
 -- What a question comes to by what is kept.
 use Rattle.std.proofs.Common.{◌≡◌, ◌∙◌, ℕ, suc, ◌<◌, ◌≤◌, ◌+◌, ◌⊎◌, inl, inr, List, [], ◌∷◌, ◌++◌, refl, arith, sym, subst, ap, All, Bool, true, false, true≢false, length, take}
 use Rattle.std.proofs.lemmas.List.Elements.{All-contains}
-use Rattle.std.proofs.lemmas.List.Kept.{IsStrictlySortedBy-filter}
-use Rattle.std.specs.List.Sorted.{IsStrictlySortedBy}
 use Rattle.std.specs.Prelude.{◌↔◌, Contains, IfSome, IsNone, Option, Some, None}
 use Rattle.demand.specs.Demand.{AreAsked, IsAsked}
 use Rattle.demand.specs.Orders.{compare_pairs}
 use Rattle.demand.proofs.PairOrder.{pairs_once, pairs_total}
 use Rattle.graph_index.specs.Contents.{Contents}
 use Rattle.graph_index.specs.Laws.{IsOfTable}
-use Rattle.lists.proofs.Filters.{filter_has, filter_none, in_filter}
+use Rattle.lists.specs.Distinct.{AreDistinct}
+use Rattle.lists.proofs.Filters.{filter_has, in_filter}
 use Rattle.lists.proofs.Members.{in_one, is_first, not_in_none}
 use Rattle.lists.proofs.Ordered.{sorted_one}
 use Rattle.locality_laws.specs.Local.{AreKept, IsVerdict}
@@ -18,8 +17,9 @@ use Rattle.locality_laws.proofs.Alike.{by_members, one_verdict}
 use Rattle.rdf_terms.specs.declared.terms.Term.{Term}
 use Rattle.rdf_terms.specs.declared.terms.TermId.{TermId}
 use Rattle.rdf_terms.specs.declared.terms.Triple.{Triple}
-use Rattle.removal_laws.specs.Marks.{KnowSame}
+use Rattle.removal_laws.specs.Marks.{KnowSame, same_verdict}
 use Rattle.removal_laws.proofs.Carried.{sure_carries}
+use Rattle.removal_laws.proofs.Verdicts.{verdict_is, verdict_same}
 use Rattle.schema_tree.specs.declared.schema.ExprId.{ExprId}
 use Rattle.schema_tree.specs.declared.schema.Pair.{Pair}
 use Rattle.schema_tree.specs.declared.schema.Schema.{Schema}
@@ -28,11 +28,12 @@ use Rattle.schema_tree.specs.declared.verdicts.Verdict.{Verdict}
 use Rattle.schema_tree.specs.declared.verdicts.Verdict.TheVariants.{No, Unknown, Yes}
 use Rattle.schema_tree.specs.Edges.{IsStratified, StandsIn}
 use Rattle.schema_tree.specs.Entries.{pair_of}
-use Rattle.schema_tree.specs.Laws.{DecidedIsSure, OneVerdict, RefinementExists, RefinementIsTrue, SomeVerdict, SureFollowsAnswers, SureIsTrue, WidthIsOne}
+use Rattle.schema_tree.specs.Laws.{DecidedIsSure, OneVerdict, RefinementExists, RefinementIsTrue, SatIsDecided, SomeVerdict, SureFollowsAnswers, SureIsTrue, WidthIsOne}
 use Rattle.schema_tree.specs.Loaded.{IsLoaded}
 use Rattle.schema_tree.specs.Matches.{other_end}
 use Rattle.schema_tree.specs.Needs.{HoldNeeds, Leads, Needs, Reaches, here, step}
 use Rattle.schema_tree.specs.Removal.{IsRefined}
+use Rattle.schema_tree.specs.Satisfies.{Sat}
 use Rattle.schema_tree.specs.Sure.{IsSure, Known, PairIs}
 use Rattle.schema_tree.specs.Typings.{HoldsEnds}
 use Rattle.schema_tree.proofs.Strata.{stands_there}
@@ -41,7 +42,9 @@ use Rattle.typing_refiner.specs.Statements.{CountNeeds, most_of}
 use Rattle.typing_session.specs.Kept.{Begins, Gains, fresh_of, is_free, kept_on, known_by_kept, pairs_of}
 use Rattle.typing_session.specs.Questions.{AreFresh, IsAnswer, IsAnswerByAll, IsTrueAnswer, IsUnknownOnlyWide, IsVerdictByAll, Keeps, root_of}
 use Rattle.typing_session.specs.Sound.{AreKeptFor, AreSound, HaveVerdicts, IsOfBoth}
-use Rattle.typing_session.proofs.Keeping.{Entries, free_is, gained_pairs, gained_verdict, gains_begin, kept_answers, kept_key, key_kept, key_none, known_kept, no_key}
+use Rattle.typing_session.specs.Walks.{HoldOrKeepNeeds}
+use Rattle.typing_session.proofs.Keeping.{Entries, free_is, gained_pairs, gained_verdict, gains_begin, kept_answers, kept_key, key_kept, known_kept, no_key}
+use Rattle.typing_session.proofs.Sifting.{not_not_asked}
 use Rattle.typing_session.proofs.Using.{value_there}
 
 -- ---- what one root asks for
@@ -69,47 +72,51 @@ fresh_exactly es pairs q = (
   (λ (held, is). filter_has (λ p. is_free (kept_on es p)) pairs q held (ap is_free is)),
 )
 
-pub fresh_sorted : (terms : List Term) (es : Entries) (pairs : List Pair) → IsStrictlySortedBy (compare_pairs terms) pairs → IsStrictlySortedBy (compare_pairs terms) (fresh_of es pairs)
-fresh_sorted terms es pairs up = IsStrictlySortedBy-filter (compare_pairs terms) (λ p. is_free (kept_on es p)) pairs up
+-- a verdict is kept on a pair, or none is
+pub kept_or_not : (es : Entries) (q : Pair) → Contains (pairs_of es) q ⊎ (¬ Contains (pairs_of es) q)
+kept_or_not es q = go (kept_on es q) refl
+  where
+    go : (o : Option Verdict) → kept_on es q ≡ o → Contains (pairs_of es) q ⊎ (¬ Contains (pairs_of es) q)
+    go None is = inr (no_key es q is)
+    go (Some v) is = inl (kept_key es q v is)
 
--- they are those that are asked for and not kept
-pub fresh_one : (s : Schema) (terms : List Term) (g : List Triple) (n : TermId) (e : ExprId) (es : Entries) (pairs fresh : List Pair) → AreAsked s terms g (root_of n e) pairs →
-    AreFresh s terms g (pairs_of es) n e fresh → fresh_of es pairs ≡ fresh
-fresh_one s terms g n e es pairs fresh asked are =
-    sorted_one (compare_pairs terms) (pairs_total terms) (fresh_of es pairs) fresh (fresh_sorted terms es pairs asked.sorted) are.sorted
-    (λ q c. let (held, free) = (fresh_exactly es pairs q).0 c in (are.exactly q).1 ((one_root s g n e q).0 ((asked.exactly q).0 held), no_key es q free))
-    (λ q c. let (reaches, none) = (are.exactly q).0 c in (fresh_exactly es pairs q).1 ((asked.exactly q).1 ((one_root s g n e q).1 reaches), key_none es q none))
+module _ (s : Schema) (terms : List Term) (g : List Triple) (n : TermId) (e : ExprId) (es : Entries) (fresh : List Pair) (are : AreFresh s terms g (pairs_of es) n e fresh) where
+  -- what is reached is kept or fresh
+  pub kept_or_fresh : (q : Pair) → Reaches s g n e q → Contains (pairs_of es) q ⊎ Contains fresh q
+  kept_or_fresh q reaches = elim (kept_or_not es q) [ inl k ↦ inl k | inr none ↦ inr ((are.exactly q).1 (reaches, none)) ]
+
+  pub fresh_apart : (q : Pair) → Contains fresh q → ¬ Contains (pairs_of es) q
+  fresh_apart q c = ((are.exactly q).0 c).1
+
+  -- what fresh pairs need is fresh or kept
+  pub fresh_whole : HoldOrKeepNeeds s g (pairs_of es) fresh
+  fresh_whole p q c need =
+      let (i, sign, st, leads) = ((are.exactly p).0 c).0 in
+      elim (kept_or_fresh q (i, sign, st, leads_on s g (pair_of n i) p q leads need)) [ inl k ↦ inr k | inr f ↦ inl f ]
+
+  -- there is one list of them
+  pub fresh_one : (others : List Pair) → AreFresh s terms g (pairs_of es) n e others → fresh ≡ others
+  fresh_one others too =
+      sorted_one (compare_pairs terms) (pairs_total terms) fresh others are.sorted too.sorted
+      (λ q c. (too.exactly q).1 ((are.exactly q).0 c)) (λ q c. (are.exactly q).1 ((too.exactly q).0 c))
 
 -- what they need is among them, or kept with its verdict
-pub fresh_kept : (s : Schema) (terms : List Term) (g : List Triple) (f : List ℕ) (budget : ℕ) (es : Entries) (pairs : List Pair) → HoldNeeds s g pairs → HaveVerdicts s terms g f budget es →
-    AreKept s terms g f budget (known_by_kept es) (fresh_of es pairs)
-fresh_kept s terms g f budget es pairs closed verdicts p q c need = go (kept_on es q) refl
-  where
-    go : (o : Option Verdict) → kept_on es q ≡ o → Contains (fresh_of es pairs) q ⊎ ((v : Verdict) → PairIs (known_by_kept es) q v → IsVerdict s terms g f budget q v)
-    go None is = inl ((fresh_exactly es pairs q).1 (closed p q ((fresh_exactly es pairs p).0 c).0 need, is))
-    go (Some w) is = inr (λ v known. verdicts q v (known_kept es q v w is known))
+pub fresh_kept : (s : Schema) (terms : List Term) (g : List Triple) (f : List ℕ) (budget : ℕ) (es : Entries) (pairs : List Pair) → HoldOrKeepNeeds s g (pairs_of es) pairs → HaveVerdicts s terms g f budget es →
+    AreKept s terms g f budget (known_by_kept es) pairs
+fresh_kept s terms g f budget es pairs whole verdicts p q c need = elim (whole p q c need) [
+  | inl f ↦ inl f
+  | inr k ↦ (let (w, is) = key_kept es q k in inr (λ v known. verdicts q v (known_kept es q v w is known)))
+]
 
 -- ---- what is kept then
 
-pub kept_for : (s : Schema) (terms : List Term) (g : List Triple) (f : List ℕ) (budget : ℕ) (known : Known) (pairs : List Pair) (old new : Entries) → HaveVerdicts s terms g f budget old →
-    ((p : Pair) (v : Verdict) → Contains (fresh_of old pairs) p → PairIs known p v → IsVerdict s terms g f budget p v) → Gains known (fresh_of old pairs) old new →
-    AreKeptFor s terms g f budget pairs old new
-kept_for s terms g f budget known pairs old new verdicts found gains = record {
-  begins = gains_begin known (fresh_of old pairs) old new gains;
-  pairs_are = λ q. (
-    (λ c. elim ((gained_pairs known (fresh_of old pairs) old new gains q).0 c) [ inl o ↦ inl o | inr m ↦ inr ((fresh_exactly old pairs q).0 m).0 ]),
-    (λ c. (gained_pairs known (fresh_of old pairs) old new gains q).1 (by q c)),
-  );
-  verdicts = λ p v e. elim (gained_verdict known (fresh_of old pairs) old new gains p v e) [ inl was ↦ verdicts p v was | inr (held, is) ↦ found p v held is ];
+pub kept_for : (s : Schema) (terms : List Term) (g : List Triple) (f : List ℕ) (budget : ℕ) (known : Known) (fresh : List Pair) (old new : Entries) → HaveVerdicts s terms g f budget old →
+    ((p : Pair) (v : Verdict) → Contains fresh p → PairIs known p v → IsVerdict s terms g f budget p v) → Gains known fresh old new → AreKeptFor s terms g f budget fresh old new
+kept_for s terms g f budget known fresh old new verdicts found gains = record {
+  begins = gains_begin known fresh old new gains;
+  pairs_are = gained_pairs known fresh old new gains;
+  verdicts = λ p v e. elim (gained_verdict known fresh old new gains p v e) [ inl was ↦ verdicts p v was | inr (held, is) ↦ found p v held is ];
 }
-  where
-    by : (q : Pair) → Contains (pairs_of old) q ⊎ Contains pairs q → Contains (pairs_of old) q ⊎ Contains (fresh_of old pairs) q
-    by q (inl o) = inl o
-    by q (inr p) = go (kept_on old q) refl
-      where
-        go : (o : Option Verdict) → kept_on old q ≡ o → Contains (pairs_of old) q ⊎ Contains (fresh_of old pairs) q
-        go None is = inr ((fresh_exactly old pairs q).1 (p, is))
-        go (Some v) is = inl (kept_key old q v is)
 
 -- ---- the answer
 
@@ -159,77 +166,6 @@ module _ (s : Schema) (terms : List Term) (g : List Triple) (f : List ℕ) (budg
       let (known, refined) = exists s terms g f pairs budget loaded (pairs_once terms pairs asked.sorted) in
       one s terms known n e w v (answer pairs known asked refined) (sure_there pairs known asked refined v h)
 
--- ---- what the session keeps true
-
-pub keeps : (s : Schema) (terms : List Term) (g : List Triple) (f : List ℕ) (budget : ℕ) (n : TermId) (e : ExprId) (pairs : List Pair) (old new : Entries) → AreAsked s terms g (root_of n e) pairs →
-    AreKeptFor s terms g f budget pairs old new → Keeps s g n e (pairs_of old) (pairs_of new)
-keeps s terms g f budget n e pairs old new asked kept q = (
-  (λ c. elim ((kept.pairs_are q).0 c) [ inl o ↦ inl o | inr p ↦ inr ((one_root s g n e q).0 ((asked.exactly q).0 p)) ]),
-  (λ c. (kept.pairs_are q).1 (elim c [ inl o ↦ inl o | inr r ↦ inr ((asked.exactly q).1 ((one_root s g n e q).1 r)) ])),
-)
-
-module _ (s : Schema) (terms : List Term) (g : List Triple) (loaded : IsLoaded s) (ends : All (IsOfTable terms) g) where
-  end_of : (t : Triple) (inverse : Bool) → Contains g t → (other_end inverse t).0 < length terms
-  end_of t true c = (All-contains (IsOfTable terms) g t ends c).subject
-  end_of t false c = (All-contains (IsOfTable terms) g t ends c).object
-
-  led_of : (p q : Pair) → Leads s g p q → IsOfBoth s terms p → IsOfBoth s terms q
-  led_of p q here h = h
-  led_of p q (step u need rest) h = led_of u q rest (record {
-    node = subst (λ m. m.0 < length terms) (sym need.end) (end_of need.triple need.occ.inverse need.held);
-    shape = value_there s loaded u.shape need.occ.value need.sign need.stands;
-  })
-
-  reached_of : (n : TermId) (e : ExprId) → n.0 < length terms → (q : Pair) → Reaches s g n e q → IsOfBoth s terms q
-  reached_of n e lt q (i, sign, st, leads) = led_of (pair_of n i) q leads (record { node = lt; shape = stands_there s loaded i e sign st })
-
-pub sound_asked : (s : Schema) (terms : List Term) (g : Contents) (f : List ℕ) (budget : ℕ) (n : TermId) (e : ExprId) (pairs : List Pair) (old new : Entries) → IsLoaded s → All (IsOfTable terms) g.triples →
-    n.0 < length terms → AreAsked s terms g.triples (root_of n e) pairs → AreSound s terms g f budget old → AreKeptFor s terms g.triples f budget pairs old new → AreSound s terms g f budget new
-sound_asked s terms g f budget n e pairs old new loaded ends lt asked sound kept = record {
-  of_both = λ p c. elim ((kept.pairs_are p).0 c) [
-    | inl o ↦ sound.of_both p o
-    | inr a ↦ reached_of s terms g.triples loaded ends n e lt p ((one_root s g.triples n e p).0 ((asked.exactly p).0 a))
-  ];
-  closed = λ p q c need. (kept.pairs_are q).1 (elim ((kept.pairs_are p).0 c) [
-    | inl o ↦ inl (sound.closed p q o need)
-    | inr a ↦ inr (asked_closed s terms g.triples n e pairs asked p q a need)
-  ]);
-  verdicts = kept.verdicts;
-}
-
--- ---- what is taken back
-
-pub taken_back : (old new : Entries) (k : ℕ) → Begins old new → k ≡ length old → take k new ≡ old
-taken_back old new k (more, is) count = ap (λ z. take z new) count ∙ ap (take (length old)) is ∙ front old more
-  where
-    front : (xs ys : Entries) → take (length xs) (xs ++ ys) ≡ xs
-    front [] ys = zero_taken ys
-      where
-        zero_taken : (zs : Entries) → take 0 zs ≡ []
-        zero_taken [] = refl
-        zero_taken (z ∷ zs) = refl
-    front (x ∷ xs) ys = ap (λ zs. x ∷ zs) (front xs ys)
-
--- ---- where verdicts on all are kept
-
-pub none_fresh : (s : Schema) (terms : List Term) (g : List Triple) (n : TermId) (e : ExprId) (es : Entries) (pairs : List Pair) → AreAsked s terms g (root_of n e) pairs →
-    ((q : Pair) → Reaches s g n e q → Contains (pairs_of es) q) → fresh_of es pairs ≡ []
-none_fresh s terms g n e es pairs asked all = filter_none (λ p. is_free (kept_on es p)) pairs (λ q c. held q (all q ((one_root s g n e q).0 ((asked.exactly q).0 c))))
-  where
-    held : (q : Pair) → Contains (pairs_of es) q → is_free (kept_on es q) ≡ false
-    held q c = let (v, is) = key_kept es q c in ap is_free is
-
--- then no step is taken
-pub silent : (s : Schema) (terms : List Term) (g : List Triple) (budget : ℕ) (law : WidthIsOne) (n : TermId) (e : ExprId) (es : Entries) (pairs : List Pair) (old new : ℕ) →
-    AreAsked s terms g (root_of n e) pairs → ((q : Pair) → Reaches s g n e q → Contains (pairs_of es) q) →
-    ((width count : Pair → ℕ) → AreWidths s terms g width → CountNeeds s g (fresh_of es pairs) count → new ≤ old + most_of s terms g budget width count (fresh_of es pairs)) → new ≤ old
-silent s terms g budget law n e es pairs old new asked all bound =
-    let none = none_fresh s terms g n e es pairs asked all in
-    let width : Pair → ℕ = λ p. (law s terms g p).0.0 in
-    let le = bound width (λ p. 0) (λ p. (law s terms g p).0.1) (λ p c. absurd (not_in_none p (subst (λ xs. Contains xs p) none c))) in
-    let free : most_of s terms g budget width (λ p. 0) (fresh_of es pairs) ≡ 0 = ap (most_of s terms g budget width (λ p. 0)) none in
-    omega (arith, le, free)
-
 -- ---- what the answer means
 
 module _ (s : Schema) (terms : List Term) (g : List Triple) (f : List ℕ) (budget : ℕ) (n : TermId) (e : ExprId) (pairs : List Pair) (asked : AreAsked s terms g (root_of n e) pairs)
@@ -265,6 +201,122 @@ module _ (s : Schema) (terms : List Term) (g : List Triple) (f : List ℕ) (budg
         | inr negative ↦ (let d : No ≡ Unknown = one s terms known n e No Unknown negative said in absurd (cc))
       ]
 
+-- ---- what the session keeps true
+
+module _ (s : Schema) (terms : List Term) (g : List Triple) (f : List ℕ) (budget : ℕ) (n : TermId) (e : ExprId) (fresh : List Pair) (old new : Entries)
+    (are : AreFresh s terms g (pairs_of old) n e fresh) (kept : AreKeptFor s terms g f budget fresh old new) where
+  -- all that is reached is kept
+  reached_kept : (q : Pair) → Reaches s g n e q → Contains (pairs_of new) q
+  reached_kept q reaches = (kept.pairs_are q).1 (kept_or_fresh s terms g n e old fresh are q reaches)
+
+  pub keeps : Keeps s g n e (pairs_of old) (pairs_of new)
+  keeps q = (
+    (λ c. elim ((kept.pairs_are q).0 c) [ inl o ↦ inl o | inr f ↦ inr ((are.exactly q).0 f).0 ]),
+    (λ c. elim c [ inl o ↦ (kept.pairs_are q).1 (inl o) | inr r ↦ reached_kept q r ]),
+  )
+
+  -- the same of all that is asked for
+  kept_asked : (pairs : List Pair) → AreAsked s terms g (root_of n e) pairs → AreKeptFor s terms g f budget pairs old new
+  kept_asked pairs asked = record {
+    begins = kept.begins;
+    pairs_are = λ q. (
+      (λ c. elim ((keeps q).0 c) [ inl o ↦ inl o | inr r ↦ inr ((asked.exactly q).1 ((one_root s g n e q).1 r)) ]),
+      (λ c. (keeps q).1 (elim c [ inl o ↦ inl o | inr a ↦ inr ((one_root s g n e q).0 ((asked.exactly q).0 a)) ])),
+    );
+    verdicts = kept.verdicts;
+  }
+
+  module _ (distinct : AreDistinct (pairs_of new)) where
+    -- it cannot be that there is no list of what is asked for
+    some_asked : ¬ (¬ ((pairs : List Pair) × AreAsked s terms g (root_of n e) pairs))
+    some_asked = not_not_asked s terms g (root_of n e) (pairs_of new) distinct (λ q asked. reached_kept q ((one_root s g n e q).0 asked))
+
+    module _ (one : OneVerdict) (some : SomeVerdict) (exists : RefinementExists) (loaded : IsLoaded s) (v : Verdict) (said : IsSure s terms (known_by_kept new) n e v) where
+      pub answered : IsAnswer s terms g f budget n e v
+      answered others known asked refined = is_answer s terms g f budget n e others old new asked (kept_asked others asked) one some v said others known asked refined
+
+      pub no_other : (w : Verdict) → IsAnswer s terms g f budget n e w → w ≡ v
+      no_other w answer = by (same_verdict w v) refl
+        where
+          by : (b : Bool) → same_verdict w v ≡ b → w ≡ v
+          by true is = verdict_is w v is
+          by false is = absurd (some_asked (λ (pairs, asked).
+              (let same : w ≡ v = only_answer s terms g f budget n e pairs old new asked (kept_asked pairs asked) one some exists loaded v said w answer in
+              true≢false (sym (verdict_same v) ∙ ap (λ z. same_verdict z v) (sym same) ∙ is))))
+
+      pub true_answer : SatIsDecided → RefinementIsTrue → SureIsTrue → IsTrueAnswer s terms g f n e v
+      true_answer decided whole sure U T typing ends there = (
+        (λ is. by (decided s terms T n e) is),
+        (λ is sat. some_asked (λ (pairs, asked). (is_true s terms g f budget n e pairs asked exists loaded whole sure v answered U T typing ends there).1 is sat)),
+      )
+        where
+          by : Sat s terms T n e ⊎ (¬ Sat s terms T n e) → v ≡ Yes → Sat s terms T n e
+          by (inl sat) is = sat
+          by (inr none) is = absurd (some_asked (λ (pairs, asked). none ((is_true s terms g f budget n e pairs asked exists loaded whole sure v answered U T typing ends there).0 is)))
+
+      pub only_wide : DecidedIsSure → IsStratified s f → IsUnknownOnlyWide s terms g budget n e v
+      only_wide decided strat unknown narrow =
+          some_asked (λ (pairs, asked). is_wide s terms g f budget n e pairs asked exists loaded decided one strat v answered unknown narrow)
+
+module _ (s : Schema) (terms : List Term) (g : List Triple) (loaded : IsLoaded s) (ends : All (IsOfTable terms) g) where
+  end_of : (t : Triple) (inverse : Bool) → Contains g t → (other_end inverse t).0 < length terms
+  end_of t true c = (All-contains (IsOfTable terms) g t ends c).subject
+  end_of t false c = (All-contains (IsOfTable terms) g t ends c).object
+
+  led_of : (p q : Pair) → Leads s g p q → IsOfBoth s terms p → IsOfBoth s terms q
+  led_of p q here h = h
+  led_of p q (step u need rest) h = led_of u q rest (record {
+    node = subst (λ m. m.0 < length terms) (sym need.end) (end_of need.triple need.occ.inverse need.held);
+    shape = value_there s loaded u.shape need.occ.value need.sign need.stands;
+  })
+
+  reached_of : (n : TermId) (e : ExprId) → n.0 < length terms → (q : Pair) → Reaches s g n e q → IsOfBoth s terms q
+  reached_of n e lt q (i, sign, st, leads) = led_of (pair_of n i) q leads (record { node = lt; shape = stands_there s loaded i e sign st })
+
+pub sound_asked : (s : Schema) (terms : List Term) (g : Contents) (f : List ℕ) (budget : ℕ) (n : TermId) (e : ExprId) (fresh : List Pair) (old new : Entries) → IsLoaded s → All (IsOfTable terms) g.triples →
+    n.0 < length terms → AreFresh s terms g.triples (pairs_of old) n e fresh → AreSound s terms g f budget old → AreKeptFor s terms g.triples f budget fresh old new → AreSound s terms g f budget new
+sound_asked s terms g f budget n e fresh old new loaded ends lt are sound kept = record {
+  of_both = λ p c. elim ((kept.pairs_are p).0 c) [
+    | inl o ↦ sound.of_both p o
+    | inr a ↦ reached_of s terms g.triples loaded ends n e lt p ((are.exactly p).0 a).0
+  ];
+  closed = λ p q c need. (kept.pairs_are q).1 (elim ((kept.pairs_are p).0 c) [
+    | inl o ↦ inl (sound.closed p q o need)
+    | inr a ↦ elim (fresh_whole s terms g.triples n e old fresh are p q a need) [ inl more ↦ inr more | inr k ↦ inl k ]
+  ]);
+  verdicts = kept.verdicts;
+}
+
+-- ---- what is taken back
+
+pub taken_back : (old new : Entries) (k : ℕ) → Begins old new → k ≡ length old → take k new ≡ old
+taken_back old new k (more, is) count = ap (λ z. take z new) count ∙ ap (take (length old)) is ∙ front old more
+  where
+    front : (xs ys : Entries) → take (length xs) (xs ++ ys) ≡ xs
+    front [] ys = zero_taken ys
+      where
+        zero_taken : (zs : Entries) → take 0 zs ≡ []
+        zero_taken [] = refl
+        zero_taken (z ∷ zs) = refl
+    front (x ∷ xs) ys = ap (λ zs. x ∷ zs) (front xs ys)
+
+-- ---- where verdicts on all are kept
+
+none_there : (xs : List Pair) → ((q : Pair) → ¬ Contains xs q) → xs ≡ []
+none_there [] none = refl
+none_there (x ∷ xs) none = absurd (none x (is_first x xs))
+
+-- then no step is taken
+pub silent : (s : Schema) (terms : List Term) (g : List Triple) (budget : ℕ) (law : WidthIsOne) (n : TermId) (e : ExprId) (es : Entries) (fresh : List Pair) (old new : ℕ) →
+    AreFresh s terms g (pairs_of es) n e fresh → ((q : Pair) → Reaches s g n e q → Contains (pairs_of es) q) →
+    ((width count : Pair → ℕ) → AreWidths s terms g width → CountNeeds s g fresh count → new ≤ old + most_of s terms g budget width count fresh) → new ≤ old
+silent s terms g budget law n e es fresh old new are all bound =
+    let none : fresh ≡ [] = none_there fresh (λ q c. ((are.exactly q).0 c).1 (all q ((are.exactly q).0 c).0)) in
+    let width : Pair → ℕ = λ p. (law s terms g p).0.0 in
+    let le = bound width (λ p. 0) (λ p. (law s terms g p).0.1) (λ p c. absurd (not_in_none p (subst (λ xs. Contains xs p) none c))) in
+    let free : most_of s terms g budget width (λ p. 0) fresh ≡ 0 = ap (most_of s terms g budget width (λ p. 0)) none in
+    omega (arith, le, free)
+
 -- ---- by whichever strata
 
 know_same : (a b : Known) → KnowSame a b → (p : Pair) (v : Verdict) → PairIs a p v ↔ PairIs b p v
@@ -279,11 +331,11 @@ by_all s terms g f budget n e exists law follows loaded strat v answer h strat_t
 
 -- ---- what a question costs, by the pairs on which no verdict was kept
 
-pub bound_fresh : (s : Schema) (terms : List Term) (g : List Triple) (budget : ℕ) (n : TermId) (e : ExprId) (es : Entries) (pairs : List Pair) (old new : ℕ) → AreAsked s terms g (root_of n e) pairs →
-    ((width count : Pair → ℕ) → AreWidths s terms g width → CountNeeds s g (fresh_of es pairs) count → new ≤ old + most_of s terms g budget width count (fresh_of es pairs)) →
+pub bound_fresh : (s : Schema) (terms : List Term) (g : List Triple) (budget : ℕ) (n : TermId) (e : ExprId) (es : Entries) (own : List Pair) (old new : ℕ) → AreFresh s terms g (pairs_of es) n e own →
+    ((width count : Pair → ℕ) → AreWidths s terms g width → CountNeeds s g own count → new ≤ old + most_of s terms g budget width count own) →
     (fresh : List Pair) (width count : Pair → ℕ) → AreFresh s terms g (pairs_of es) n e fresh → AreWidths s terms g width → CountNeeds s g fresh count → new ≤ old + most_of s terms g budget width count fresh
-bound_fresh s terms g budget n e es pairs old new asked bound fresh width count are widths needs =
-    subst (λ xs. CountNeeds s g xs count → new ≤ old + most_of s terms g budget width count xs) (fresh_one s terms g n e es pairs fresh asked are) (λ m. bound width count widths m) needs
+bound_fresh s terms g budget n e es own old new are bound fresh width count too widths needs =
+    subst (λ xs. CountNeeds s g xs count → new ≤ old + most_of s terms g budget width count xs) (fresh_one s terms g n e es own are fresh too) (λ m. bound width count widths m) needs
 
 -- ---- what is kept of one pair
 

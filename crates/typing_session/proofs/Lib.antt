@@ -10,6 +10,8 @@ pub mod Losing
 pub mod Products
 pub mod Reordered
 pub mod Sets
+pub mod Sifting
 pub mod Spreading
 pub mod Terms
 pub mod Using
+pub mod Walking

@@ -15,13 +15,12 @@ use Rattle.schema_tree.specs.declared.schema.ExprId.{ExprId}
 use Rattle.schema_tree.specs.declared.schema.Pair.{Pair}
 use Rattle.schema_tree.specs.declared.schema.Schema.{Schema}
 use Rattle.schema_tree.specs.declared.verdicts.Lean.{Lean}
-use Rattle.schema_tree.specs.declared.verdicts.Verdict.{Verdict}
 use Rattle.schema_tree.specs.Needs.{Leads, Needs, here, step}
 use Rattle.schema_tree.specs.Places.{PairCanMatch}
 use Rattle.schema_tree.specs.Sure.{Known}
 use Rattle.schema_tree.specs.Width.{IsWithinWidth}
 use Rattle.typing_session.specs.Edits.{IsAtEnd}
-use Rattle.typing_session.specs.Questions.{IsAnswer, ReachesTooMany, root_of}
+use Rattle.typing_session.specs.Questions.{ReachesTooMany, root_of}
 use Rattle.typing_session.specs.SetLaws.{AnswersAreOfSets, ReachIsOfSets}
 use Rattle.typing_session.proofs.Alike.{AreAlike, refined_alike}
 use Rattle.typing_session.proofs.Around.{match_same, within_same}

@@ -1,5 +1,5 @@
 -- Graphs as lists of distinct triples, of which only membership counts.
-use Rattle.std.proofs.Common.{◌≡◌, ◌∙◌, ℕ, zero, suc, ◌≤◌, ◌+◌, List, [], ◌∷◌, ◌++◌, refl, arith, sym, subst, ap, Bool, true, false, true≢false, cond, eq-eqb, nat_eq, inl, inr}
+use Rattle.std.proofs.Common.{◌≡◌, ◌∙◌, ℕ, zero, suc, ◌≤◌, List, [], ◌∷◌, refl, arith, sym, subst, ap, Bool, true, false, true≢false, cond, eq-eqb, nat_eq, inl, inr}
 use Rattle.std.proofs.lemmas.Bool.{and_parts}
 use Rattle.std.proofs.lemmas.List.Sums.{sum_by-cons}
 use Rattle.std.proofs.lemmas.List.Sorted.{Contains-permutation, IsPermutation-cons, IsPermutation-middle, IsPermutation-refl, IsPermutation-sym, IsPermutation-trans, sum_by-IsPermutation}
@@ -7,7 +7,7 @@ use Rattle.std.specs.List.{sum_by}
 use Rattle.std.specs.List.Sorted.{IsPermutation}
 use Rattle.std.specs.Prelude.{◌↔◌, ◌&&◌, ◌⊎◌, Contains}
 use Rattle.lists.specs.Distinct.{AreDistinct}
-use Rattle.lists.proofs.Members.{got_in, in_rest, is_first, is_later, not_in_none, place_of}
+use Rattle.lists.proofs.Members.{got_in, in_rest, is_first, is_later, not_in_none}
 use Rattle.rdf_terms.specs.declared.terms.Triple.{Triple}
 use Rattle.rdf_terms.specs.Graphs.{same_id}
 use Rattle.rdf_terms.proofs.SameTerms.{same_is}

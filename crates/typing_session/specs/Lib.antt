@@ -6,5 +6,6 @@ pub mod Questions
 pub mod Seen
 pub mod Sound
 pub mod Uses
+pub mod Walks
 pub mod SetLaws
 pub mod Widths

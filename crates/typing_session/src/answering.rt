@@ -1,6 +1,6 @@
 //! The answer to a question, by the verdicts that are kept and those that are found.
 
-ghost use Rattle.std.specs.Prelude.{ℕ, ◌≡◌, ◌≤◌, ◌<◌, ◌+◌, ◌-◌, ◌^◌, IfOk, OnErr, OnOk, length};
+ghost use Rattle.std.specs.Prelude.{ℕ, ◌≡◌, ◌≤◌, ◌<◌, ◌+◌, ◌-◌, ◌^◌, Contains, IfOk, OnErr, OnOk, length};
 ghost use Rattle.std.specs.List.Sorted.{IsStrictlySortedBy};
 ghost use Rattle.demand.specs.Demand.{AreAsked};
 ghost use Rattle.demand.specs.Orders.{compare_pairs, max_pairs};
@@ -12,12 +12,15 @@ ghost use Rattle.schema_tree.specs.Loaded.{IsLoaded};
 ghost use Rattle.schema_tree.specs.Needs.{HoldNeeds};
 ghost use Rattle.typing_refiner.specs.Building.{AreWidths};
 ghost use Rattle.typing_refiner.specs.Statements.{CountNeeds, most_of};
-ghost use Rattle.typing_session.specs.Kept.{fresh_of};
-ghost use Rattle.typing_session.specs.Questions.{IsAnswer, IsAnswerByAll, IsTrueAnswer, IsUnknownOnlyWide, ReachesTooMany, root_of};
+ghost use Rattle.typing_session.specs.Kept.{pairs_of};
+ghost use Rattle.typing_session.specs.Questions.{AreFresh, IsAnswer, IsAnswerByAll, IsTrueAnswer, IsUnknownOnlyWide, ReachesTooMany, root_of};
 ghost use Rattle.typing_session.specs.Sound.{AreKeptFor, HaveVerdicts};
+ghost use Rattle.typing_session.specs.Walks.{HoldOrKeepNeeds};
 
 use crate::error::AskError;
+use crate::fresh::fresh;
 use crate::kept::Kept;
+use demand::table::MAX_PAIRS;
 use demand::{DemandError, Pairs, Root, close};
 use graph_index::graph::Graph;
 use locality_laws::laws::strata_are_independent;
@@ -25,7 +28,7 @@ use rdf_terms::table::TermTable;
 use rdf_terms::terms::TermId;
 use schema_tree::laws::{
     layers_are_meanings, refinement_is_complete, refinement_is_one, refinement_is_true,
-    sure_is_true, verdict_is_one,
+    satisfaction_is_decided, sure_is_true, verdict_is_one,
 };
 use schema_tree::schema::{ExprId, Pair, Schema};
 use schema_tree::sure::sure;
@@ -60,14 +63,43 @@ pub(crate) fn reached(
     }
 }
 
-/// Finds and keeps the verdicts on those of the pairs on which none is kept. A refusal changes nothing.
+/// The pairs that a node with an expression reaches and on which no verdict is kept, in order. It is refused as `Pairs` exactly
+/// where all that the two reach are more than 4,194,304.
+pub(crate) fn asked(
+    alloc: Global,
+    schema: &Schema,
+    graph: &Graph,
+    terms: &TermTable,
+    kept: &Kept,
+    node: TermId,
+    expr: ExprId,
+) -> Result<Vec<Pair>, AskError>
+    requires loaded { IsLoaded schema.now }
+    requires sealed { IsSealedWith terms.now graph.now }
+    requires closed { HoldNeeds schema.now graph.now.triples (pairs_of kept.now) }
+    ensures fresh { IfOk result (λ v. AreFresh schema.now terms.now graph.now.triples (pairs_of kept.now) node expr v.items) }
+    ensures few_fresh { IfOk result (λ v. length v.items ≤ max_pairs) }
+    ensures many { (result ≡ Err AskError.Pairs) → ReachesTooMany schema.now graph.now.triples node expr }
+    ensures few { IfOk result (λ v. ¬ ReachesTooMany schema.now graph.now.triples node expr) }
+{
+    let found = fresh(alloc, schema, graph, terms, kept, node, expr)?;
+    if kept.len() <= MAX_PAIRS - found.len() {
+        return Ok(found);
+    }
+    // How many of the kept ones are reached is not known.
+    let _all = reached(alloc, schema, graph, terms, node, expr)?;
+    Ok(found)
+}
+
+/// Finds and keeps the verdicts on pairs on which none is kept, while all that they need besides is. A refusal changes
+/// nothing.
 fn keep_fresh<L: Ledger>(
     alloc: Global,
     schema: &Schema,
     graph: &Graph,
     terms: &TermTable,
     strata: &Strata,
-    pairs: &[Pair],
+    fresh: &[Pair],
     kept: &mut Kept,
     budget: u64,
     steps: &mut Steps<L>,
@@ -76,17 +108,16 @@ fn keep_fresh<L: Ledger>(
     requires sealed { IsSealedWith terms.now graph.now }
     requires stratified { IsStratified schema.now strata.now }
     requires budget { budget < 2 ^ 64 - 1 }
-    requires closed { HoldNeeds schema.now graph.now.triples pairs.now }
-    requires sorted { IsStrictlySortedBy (compare_pairs terms.now) pairs.now }
-    requires few { length pairs.now ≤ max_pairs }
+    requires sorted { IsStrictlySortedBy (compare_pairs terms.now) fresh.now }
+    requires few { length fresh.now ≤ max_pairs }
+    requires apart { (q : Held) → Contains fresh.now q → ¬ Contains (pairs_of kept.old) q }
+    requires whole { HoldOrKeepNeeds schema.now graph.now.triples (pairs_of kept.old) fresh.now }
     requires verdicts { HaveVerdicts schema.now terms.now graph.now.triples strata.now budget kept.old }
-    ensures kept { OnOk result (AreKeptFor schema.now terms.now graph.now.triples strata.now budget pairs.now kept.old kept.new) }
+    ensures kept { OnOk result (AreKeptFor schema.now terms.now graph.now.triples strata.now budget fresh.now kept.old kept.new) }
     ensures err { OnErr result (kept.new ≡ kept.old) }
-    ensures bounded { (width count : Held → ℕ) → AreWidths schema.now terms.now graph.now.triples width → CountNeeds schema.now graph.now.triples (fresh_of kept.old pairs.now) count →
-        steps.new ≤ steps.old + most_of schema.now terms.now graph.now.triples budget width count (fresh_of kept.old pairs.now) }
+    ensures bounded { (width count : Held → ℕ) → AreWidths schema.now terms.now graph.now.triples width → CountNeeds schema.now graph.now.triples fresh.now count →
+        steps.new ≤ steps.old + most_of schema.now terms.now graph.now.triples budget width count fresh.now }
 {
-    let missing = kept.missing(alloc, pairs)?;
-    let fresh = missing.as_slice();
     let found = refine_from(
         alloc,
         schema,
@@ -103,15 +134,15 @@ fn keep_fresh<L: Ledger>(
     Ok(())
 }
 
-/// The verdict on a node with an expression that reaches these pairs, on which verdicts are kept then. A refusal changes
-/// nothing.
+/// The verdict on a node with an expression that reaches these pairs besides kept ones; verdicts are kept on them then. A
+/// refusal changes nothing.
 pub(crate) fn answer<L: Ledger>(
     alloc: Global,
     schema: &Schema,
     graph: &Graph,
     terms: &TermTable,
     strata: &Strata,
-    pairs: &Pairs,
+    fresh: &[Pair],
     node: TermId,
     expr: ExprId,
     kept: &mut Kept,
@@ -122,38 +153,33 @@ pub(crate) fn answer<L: Ledger>(
     requires sealed { IsSealedWith terms.now graph.now }
     requires stratified { IsStratified schema.now strata.now }
     requires budget { budget < 2 ^ 64 - 1 }
-    requires closed { HoldNeeds schema.now graph.now.triples pairs.now }
-    requires asked { AreAsked schema.now terms.now graph.now.triples (root_of node expr) pairs.now }
+    requires fresh { AreFresh schema.now terms.now graph.now.triples (pairs_of kept.old) node expr fresh.now }
+    requires few { length fresh.now ≤ max_pairs }
     requires verdicts { HaveVerdicts schema.now terms.now graph.now.triples strata.now budget kept.old }
     ensures answer { IfOk result (IsAnswer schema.now terms.now graph.now.triples strata.now budget node expr) }
     ensures no_other { IfOk result (λ v. (w : Found) → IsAnswer schema.now terms.now graph.now.triples strata.now budget node expr w → w ≡ v) }
     ensures by_all { IfOk result (IsAnswerByAll schema.now terms.now graph.now.triples budget node expr) }
     ensures true_answer { IfOk result (IsTrueAnswer schema.now terms.now graph.now.triples strata.now node expr) }
     ensures only_wide { IfOk result (IsUnknownOnlyWide schema.now terms.now graph.now.triples budget node expr) }
-    ensures kept { OnOk result (AreKeptFor schema.now terms.now graph.now.triples strata.now budget pairs.now kept.old kept.new) }
+    ensures kept { OnOk result (AreKeptFor schema.now terms.now graph.now.triples strata.now budget fresh.now kept.old kept.new) }
     ensures err { OnErr result (kept.new ≡ kept.old) }
-    ensures bounded { (width count : Held → ℕ) → AreWidths schema.now terms.now graph.now.triples width → CountNeeds schema.now graph.now.triples (fresh_of kept.old pairs.now) count →
-        steps.new ≤ steps.old + most_of schema.now terms.now graph.now.triples budget width count (fresh_of kept.old pairs.now) }
+    ensures bounded { (width count : Held → ℕ) → AreWidths schema.now terms.now graph.now.triples width → CountNeeds schema.now graph.now.triples fresh.now count →
+        steps.new ≤ steps.old + most_of schema.now terms.now graph.now.triples budget width count fresh.now }
 {
     layers_are_meanings();
     refinement_is_one();
     refinement_is_true();
     refinement_is_complete();
+    satisfaction_is_decided();
     strata_are_independent();
     sure_is_true();
     verdict_is_one();
     let before = kept.len();
     keep_fresh(
-        alloc,
-        schema,
-        graph,
-        terms,
-        strata,
-        pairs.list(),
-        kept,
-        budget,
-        steps,
+        alloc, schema, graph, terms, strata, fresh, kept, budget, steps,
     )?;
+    // The number of verdicts tells contracts that their pairs are distinct.
+    let _after = kept.len();
     match sure(alloc, schema, terms, node, expr, &*kept) {
         Ok(verdict) => Ok(verdict),
         Err(error) => {

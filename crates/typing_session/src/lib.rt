@@ -4,8 +4,10 @@
 
 mod answering;
 pub mod error;
+mod fresh;
 pub mod kept;
 pub mod laws;
+mod met;
 mod reaching;
 pub mod session;
 pub mod set_laws;

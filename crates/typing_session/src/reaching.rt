@@ -1,10 +1,7 @@
 //! The pairs that an edit touches: those among kept ones that reach a pair at an end of the triple.
 
-ghost use Rattle.std.specs.Prelude.{[], ◌≡◌, ◌<◌, ◌↔◌, Contains, IfOk, OnOk, filter, length, map, not};
-ghost use Rattle.demand.specs.Closing.{Grows};
+ghost use Rattle.std.specs.Prelude.{◌≡◌, ◌<◌, ◌↔◌, Contains, IfOk, OnOk, filter, length, map, not};
 ghost use Rattle.graph_index.specs.Contents.{IsSealedWith};
-ghost use Rattle.lists.specs.Additions.{Adds};
-ghost use Rattle.lists.specs.Distinct.{AreDistinct};
 ghost use Rattle.schema_tree.specs.declared.schema.Pair.{Pair as Held};
 ghost use Rattle.schema_tree.specs.Loaded.{IsLoaded};
 ghost use Rattle.schema_tree.specs.Needs.{HoldNeeds};
@@ -13,74 +10,14 @@ ghost use Rattle.typing_session.specs.Kept.{is_free, kept_on, pairs_of};
 ghost use Rattle.typing_session.specs.Uses.{AreUsesByValue};
 
 use crate::kept::Kept;
+use crate::met::Met;
 use crate::users::users;
 use crate::uses::{Use, uses};
 use graph_index::graph::Graph;
-use indexmap::IndexSet;
 use rdf_terms::table::TermTable;
 use rdf_terms::terms::{TermId, Triple};
 use schema_tree::schema::{Pair, Schema, ShapeId};
 use std::alloc::{AllocError, Global};
-use std::marker::Model;
-
-/// Distinct pairs, in the order in which they were met.
-#[derive(Drop)]
-pub(crate) struct Met {
-    pairs: IndexSet<Pair>,
-}
-
-impl Model for Met {
-    ghost use Rattle.std.specs.Prelude.{List};
-    ghost use Rattle.schema_tree.specs.declared.schema.Pair.{Pair};
-
-    ghost Value = { List Pair };
-
-    ghost view = { λ m. m.pairs.keys };
-}
-
-impl Met {
-    /// No pairs.
-    fn new(alloc: Global) -> Met
-        ensures { result ≡ [] }
-    {
-        Met {
-            pairs: IndexSet::new(alloc),
-        }
-    }
-
-    /// How many pairs there are.
-    fn len(&self) -> usize
-        ensures count { result ≡ length self.now }
-        ensures distinct { AreDistinct self.now }
-    {
-        self.pairs.len()
-    }
-
-    /// The pairs.
-    pub(crate) fn as_slice(&self) -> &[Pair]
-        ensures { result.now ≡ self.now }
-    {
-        self.pairs.as_slice()
-    }
-
-    /// Adds a pair, which goes last where it is new.
-    fn put(&mut self, pair: Pair) -> Result<(), AllocError>
-        ensures { OnOk result (Adds self.old pair self.new) }
-    {
-        self.pairs.insert(pair)?;
-        Ok(())
-    }
-
-    /// Adds pairs, each of which goes last where it is new.
-    fn put_all(&mut self, pairs: &[Pair]) -> Result<(), AllocError>
-        ensures { OnOk result (Grows self.old pairs.now self.new) }
-    {
-        for pair in pairs {
-            self.put(*pair)?;
-        }
-        Ok(())
-    }
-}
 
 /// Those of the pairs that are kept, in their order.
 fn kept_of(alloc: Global, kept: &Kept, pairs: &[Pair]) -> Result<Vec<Pair>, AllocError>

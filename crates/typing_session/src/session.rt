@@ -21,7 +21,7 @@ ghost use Rattle.typing_session.specs.Questions.{AreFresh, IsAnswer, IsAnswerByA
 ghost use Rattle.typing_session.specs.Seen.{with_graph, with_kept, with_terms};
 ghost use Rattle.typing_session.specs.Widths.{AreReachedWide};
 
-use crate::answering::{answer, reached};
+use crate::answering::{answer, asked, reached};
 use crate::error::AskError;
 use crate::kept::Kept;
 use crate::laws::{edits_are_local, growth_is_local};
@@ -158,8 +158,8 @@ impl Session {
         Ok(true)
     }
 
-    /// Removes a triple, and answers whether it was held; then of the kept pairs exactly those are
-    /// lost that reach a pair at its subject or object. A refusal changes nothing.
+    /// Removes a triple, and answers whether it was held; then of the kept pairs exactly those are lost that reach a pair at
+    /// its subject or object. A refusal changes nothing.
     pub fn remove(&mut self, triple: Triple) -> Result<bool, AllocError>
         ensures held { IfOk result (λ held. IsTrue held ↔ Contains self.old.graph triple) }
         ensures removed { IfOk result (λ held. OnTrue held (IsPermutation self.old.graph (triple ∷ self.new.graph))) }
@@ -202,9 +202,9 @@ impl Session {
     /// The verdict on a node of the session's terms with an expression: what the expression is at the node under the verdicts
     /// of refinement of all pairs that the two reach in the graph as it is, whatever was added, removed and asked before. Then
     /// verdicts on these pairs are kept, and on those on which they were. Of the steps that refinement takes it ticks at most
-    /// those for the pairs on which none was kept, so never where
-    /// verdicts on all were. It fails as `Pairs` exactly where the two reach more than 4,194,304 pairs;
-    /// a refusal changes nothing.
+    /// those for the pairs on which none was kept, so never where verdicts on all were. It does not ask what others need, as
+    /// long as these and the kept ones are at most 4,194,304. It fails as `Pairs` exactly where the two reach more than
+    /// 4,194,304 pairs; a refusal changes nothing.
     pub fn ask<L: Ledger>(
         &mut self,
         node: TermId,
@@ -228,11 +228,12 @@ impl Session {
         ensures silent { ((q : Held) → Reaches self.old.schema self.old.graph node expr q → Contains self.old.kept q) → steps.new ≤ steps.old }
     {
         width_is_one();
-        let pairs = reached(
+        let fresh = asked(
             self.alloc,
             &self.schema,
             &self.graph,
             &self.terms,
+            &self.kept,
             node,
             expr,
         )?;
@@ -242,7 +243,7 @@ impl Session {
             &self.graph,
             &self.terms,
             &self.strata,
-            &pairs,
+            fresh.as_slice(),
             node,
             expr,
             &mut self.kept,

@@ -14,19 +14,23 @@ pub returns-in_err-verdict-clause-bounded : goal.returns-in_err-verdict-clause-b
 returns-in_err-verdict-clause-bounded g c =
     subst (λ (x : Seen). (fresh : List Pair) (width count : Pair → ℕ) → AreFresh x.schema x.terms x.graph x.kept c.args.node c.args.expr fresh → AreWidths x.schema x.terms x.graph width → CountNeeds x.schema x.graph fresh count →
     c.answer.new.steps ≤ c.args.steps.now + most_of x.schema x.terms x.graph x.budget width count fresh) c.self.view_is
-    (bound_fresh c.self.inside.schema c.self.inside.terms c.self.inside.graph.triples c.self.inside.budget c.args.node c.args.expr c.self.inside.kept c.in_ok-pairs.pairs c.args.steps.now c.answer.new.steps c.in_ok-pairs.ensures.asked c.in_err-verdict.ensures.bounded)
+    (bound_fresh c.self.inside.schema c.self.inside.terms c.self.inside.graph.triples c.self.inside.budget c.args.node c.args.expr c.self.inside.kept c.as_slice.result.now c.args.steps.now c.answer.new.steps
+    (subst (AreFresh c.self.inside.schema c.self.inside.terms c.self.inside.graph.triples (pairs_of c.self.inside.kept) c.args.node c.args.expr) (sym c.as_slice.ensures.value) c.in_ok-fresh.ensures.fresh) c.in_err-verdict.ensures.bounded)
 
 pub returns-in_err-verdict-clause-silent : goal.returns-in_err-verdict-clause-silent
 returns-in_err-verdict-clause-silent g c =
     subst (λ (x : Seen). ((q : Pair) → Reaches x.schema x.graph c.args.node c.args.expr q → Contains x.kept q) → c.answer.new.steps ≤ c.args.steps.now) c.self.view_is
-    (λ all. silent c.self.inside.schema c.self.inside.terms c.self.inside.graph.triples c.self.inside.budget c.width_is_one.ensures.one c.args.node c.args.expr c.self.inside.kept c.in_ok-pairs.pairs c.args.steps.now c.answer.new.steps c.in_ok-pairs.ensures.asked all c.in_err-verdict.ensures.bounded)
+    (λ all. silent c.self.inside.schema c.self.inside.terms c.self.inside.graph.triples c.self.inside.budget c.width_is_one.ensures.one c.args.node c.args.expr c.self.inside.kept c.as_slice.result.now c.args.steps.now c.answer.new.steps
+    (subst (AreFresh c.self.inside.schema c.self.inside.terms c.self.inside.graph.triples (pairs_of c.self.inside.kept) c.args.node c.args.expr) (sym c.as_slice.ensures.value) c.in_ok-fresh.ensures.fresh) all c.in_err-verdict.ensures.bounded)
 
 pub invariant_of-self-2 : goal.invariant_of-self-2
 invariant_of-self-2 g c = (
   c.self.invariant.0,
   c.self.invariant.1,
-  sound_asked c.self.inside.schema c.self.inside.terms c.self.inside.graph c.self.inside.strata c.self.inside.budget c.args.node c.args.expr c.in_ok-pairs.pairs c.self.inside.kept c.answer.new.kept c.self.invariant.0.loaded c.self.invariant.1.ends
-      (subst (λ (x : Seen). c.args.node.0 < length x.terms) (sym c.self.view_is) c.requires.node) c.in_ok-pairs.ensures.asked c.self.invariant.2 c.in_ok-verdict.ensures.kept,
+  sound_asked c.self.inside.schema c.self.inside.terms c.self.inside.graph c.self.inside.strata c.self.inside.budget c.args.node c.args.expr c.as_slice.result.now c.self.inside.kept c.answer.new.kept c.self.invariant.0.loaded c.self.invariant.1.ends
+      (subst (λ (x : Seen). c.args.node.0 < length x.terms) (sym c.self.view_is) c.requires.node)
+      (subst (AreFresh c.self.inside.schema c.self.inside.terms c.self.inside.graph.triples (pairs_of c.self.inside.kept) c.args.node c.args.expr) (sym c.as_slice.ensures.value) c.in_ok-fresh.ensures.fresh) c.self.invariant.2
+      c.in_ok-verdict.ensures.kept,
 )
 
 pub returns-clause-answer : goal.returns-clause-answer
@@ -48,15 +52,18 @@ returns-clause-only_wide g c = subst (λ (x : Seen). IsUnknownOnlyWide x.schema 
 pub returns-clause-keeps : goal.returns-clause-keeps
 returns-clause-keeps g c =
     subst (λ (x : Seen). Keeps x.schema x.graph c.args.node c.args.expr x.kept (pairs_of c.answer.new.kept)) c.self.view_is
-    (keeps c.self.inside.schema c.self.inside.terms c.self.inside.graph.triples c.self.inside.strata c.self.inside.budget c.args.node c.args.expr c.in_ok-pairs.pairs c.self.inside.kept c.answer.new.kept c.in_ok-pairs.ensures.asked c.in_ok-verdict.ensures.kept)
+    (keeps c.self.inside.schema c.self.inside.terms c.self.inside.graph.triples c.self.inside.strata c.self.inside.budget c.args.node c.args.expr c.as_slice.result.now c.self.inside.kept c.answer.new.kept
+    (subst (AreFresh c.self.inside.schema c.self.inside.terms c.self.inside.graph.triples (pairs_of c.self.inside.kept) c.args.node c.args.expr) (sym c.as_slice.ensures.value) c.in_ok-fresh.ensures.fresh) c.in_ok-verdict.ensures.kept)
 
 pub returns-clause-bounded : goal.returns-clause-bounded
 returns-clause-bounded g c =
     subst (λ (x : Seen). (fresh : List Pair) (width count : Pair → ℕ) → AreFresh x.schema x.terms x.graph x.kept c.args.node c.args.expr fresh → AreWidths x.schema x.terms x.graph width → CountNeeds x.schema x.graph fresh count →
     c.answer.new.steps ≤ c.args.steps.now + most_of x.schema x.terms x.graph x.budget width count fresh) c.self.view_is
-    (bound_fresh c.self.inside.schema c.self.inside.terms c.self.inside.graph.triples c.self.inside.budget c.args.node c.args.expr c.self.inside.kept c.in_ok-pairs.pairs c.args.steps.now c.answer.new.steps c.in_ok-pairs.ensures.asked c.in_ok-verdict.ensures.bounded)
+    (bound_fresh c.self.inside.schema c.self.inside.terms c.self.inside.graph.triples c.self.inside.budget c.args.node c.args.expr c.self.inside.kept c.as_slice.result.now c.args.steps.now c.answer.new.steps
+    (subst (AreFresh c.self.inside.schema c.self.inside.terms c.self.inside.graph.triples (pairs_of c.self.inside.kept) c.args.node c.args.expr) (sym c.as_slice.ensures.value) c.in_ok-fresh.ensures.fresh) c.in_ok-verdict.ensures.bounded)
 
 pub returns-clause-silent : goal.returns-clause-silent
 returns-clause-silent g c =
     subst (λ (x : Seen). ((q : Pair) → Reaches x.schema x.graph c.args.node c.args.expr q → Contains x.kept q) → c.answer.new.steps ≤ c.args.steps.now) c.self.view_is
-    (λ all. silent c.self.inside.schema c.self.inside.terms c.self.inside.graph.triples c.self.inside.budget c.width_is_one.ensures.one c.args.node c.args.expr c.self.inside.kept c.in_ok-pairs.pairs c.args.steps.now c.answer.new.steps c.in_ok-pairs.ensures.asked all c.in_ok-verdict.ensures.bounded)
+    (λ all. silent c.self.inside.schema c.self.inside.terms c.self.inside.graph.triples c.self.inside.budget c.width_is_one.ensures.one c.args.node c.args.expr c.self.inside.kept c.as_slice.result.now c.args.steps.now c.answer.new.steps
+    (subst (AreFresh c.self.inside.schema c.self.inside.terms c.self.inside.graph.triples (pairs_of c.self.inside.kept) c.args.node c.args.expr) (sym c.as_slice.ensures.value) c.in_ok-fresh.ensures.fresh) all c.in_ok-verdict.ensures.bounded)

@@ -1,5 +1,5 @@
 use Rattle.demand.proofs.Growing.{grow_one}
-use Rattle.typing_session.proofs.reaching.Met.put_all.Goals as goal
+use Rattle.typing_session.proofs.met.Met.put_all.Goals as goal
 
 pub loop-pair-preserved : goal.loop-pair-preserved
 loop-pair-preserved c =
