@@ -52,6 +52,9 @@ PIECES = {
     "words": "validate check upgrade drill --schema --data --map --proof --to --budget --schema-base --data-base -- - = x=y http://a=b.shex 0 00 1 2 99999999999999 -h --help --version --schema=x --proof= --budget=1 a: a/b".split(" "),
 }
 
+# Words that no command has: the empty one, and some that are no UTF-8.
+NO_WORDS = ("", "\udcff", "--schema=\udcff", "http://a=\udcc3.shex")
+
 TOKENS = {
     ".json": re.compile(rb'"(?:\\.|[^"\\])*"|[0-9.eE+-]+|\w+|\s+|.', re.S),
     "proof": re.compile(rb"[^ \n]+|\n| "),
@@ -440,7 +443,7 @@ class Runner:
         words = ["drill", "10"] if command == "drill" else words_of(seed, command, named[command])
         for _ in range(chance.randint(1, 2)):
             at = chance.randrange(len(words) + 1)
-            words[at:at + chance.randint(0, 2)] = [chance.choice(PIECES["words"]) for _ in range(chance.randint(0, 2))]
+            words[at:at + chance.randint(0, 2)] = [chance.choice([*PIECES["words"], *NO_WORDS]) for _ in range(chance.randint(0, 2))]
         seen = self.run(words)
         fine = self.is_plain(seen, words[0] if words else "")
         if seen.status in (2, 3, 6):

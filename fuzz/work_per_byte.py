@@ -189,6 +189,12 @@ def values(size):
     return made({"s.shex": schema, "d.ttl": f"<n> <p> {numbers(size - 1)} .", "m": "<n>@<S>"}, VALIDATE.format(data="d.ttl"), 0, None, 1)
 
 
+def stems(size):
+    """A value set of so many stems, of which the last alone holds, asked about as many IRIs."""
+    named, objects = (" ".join(f"<a:{number}/>~" for number in range(size)), ",".join(f"<b:{number}>" for number in range(size)))
+    return made({"s.shex": f"<S> {{ <p> [ {named} <b:>~ ] * }}", "d.ttl": f"<n> <p> {objects} .", "m": "<n>@<S>"}, VALIDATE.format(data="d.ttl"), 0, None, 1)
+
+
 def labels(size):
     """So many labelled shape expressions."""
     rows = [f"<S{number}> IRI" for number in range(size)]
@@ -554,7 +560,7 @@ FAMILIES = [
     (forged_claims, (100_000, 400_000, 1_600_000)), (forged_nodes, (100_000, 400_000, 1_600_000)), (forged_records, (100_000, 400_000, 1_600_000)), (forged_records_of_one_node, (1000, 2000, 4000)),
     (occurrences, (100, 400, 1600)), (occurrences_of_one, (10, 40, 160)), (occurrences_that_overlap, (5, 20, 80)), (occurrences_wide, (10, 40, 160)),
     (shapes, (1000, 2000, 4000)), (pairs, (250, 500, 1000, 2000)), (shapes_of_one_node, (1000, 2000, 4000)), (alternatives, (100_000, 400_000, 1_600_000)),
-    (values, (4000, 16_000, 64_000)), (labels, (20_000, 80_000, 320_000)),
+    (values, (4000, 16_000, 64_000)), (stems, (1000, 4000, 16_000)), (labels, (20_000, 80_000, 320_000)),
     (pattern_positions, (1000, 10_000, 100_000)), (pattern_optional, (1000, 10_000, 100_000)), (pattern_class, (1000, 10_000, 100_000)),
     (pattern_small, (100_000, 1_000_000, 10_000_000)),
     (associations, (10_000, 100_000, 1_000_000)), (associations_again, (10_000, 100_000, 1_000_000)),
