@@ -1,18 +1,21 @@
 //! A row that is tried.
 
 use crate::common::Common;
-use crate::trial::{Failing, call};
+use crate::cuts::cut_each;
+use crate::program::Call;
+use crate::trial::{Failing, call, files_with};
 use crate::verdict::Verdict;
 use anyhow::bail;
 use row_format::{Entry, NamedFile, file_of, first_word, note, numbers_of};
 use std::alloc::{AllocError, Global};
 
-/// A row that is being tried: its files, what fails in the next call, the last call with what was said of it, and what
-/// differs.
+/// A row that is being tried: its files, what fails in the next call, the last call, what it gave and was said of that, and
+/// what differs.
 #[derive(Drop)]
 struct Bench {
     files: Vec<NamedFile>,
     failing: Failing,
+    call: Option<Call>,
     verdict: Option<Verdict>,
     differences: String,
 }
@@ -23,6 +26,7 @@ impl Bench {
         Bench {
             files: Vec::new(alloc),
             failing: Failing::none(alloc),
+            call: None,
             verdict: None,
             differences: String::new(alloc),
         }
@@ -41,21 +45,45 @@ impl Bench {
         Ok(())
     }
 
-    /// Calls with the words of a line; what was said of the call before it is complete.
-    fn run(&mut self, alloc: Global, common: &[NamedFile], line: &str) -> Result<(), AllocError> {
+    /// Makes a call; what was said of the call before it is complete.
+    fn run(&mut self, alloc: Global, common: &[NamedFile], made: Call) -> Result<(), AllocError> {
         self.end(alloc)?;
-        let failing = std::mem::replace(&mut self.failing, Failing::none(alloc));
-        let trial = call(alloc, line, common, self.files.as_slice(), failing)?;
+        let Failing { files, out, err } = std::mem::replace(
+            &mut self.failing,
+            Failing::none(alloc),
+        );
+        let files = files_with(alloc, files, common, self.files.as_slice())?;
+        let trial = call(alloc, &made, files, out, err)?;
         self.verdict = Some(Verdict::new(trial));
+        self.call = Some(made);
         Ok(())
     }
 
-    /// Calls with the words that all rows have, where nothing was called.
+    /// Makes the call of each row that makes no other, where nothing was called.
     fn run_once(&mut self, alloc: Global, common: &Common) -> Result<(), AllocError> {
-        if let (None, Some(words)) = (&self.verdict, &common.words) {
-            self.run(alloc, common.files.as_slice(), words.as_str())?;
+        if let (None, Some(made)) = (&self.verdict, &common.call) {
+            let made = made.try_clone(alloc)?;
+            self.run(alloc, common.files.as_slice(), made)?;
         }
         Ok(())
+    }
+
+    /// Makes the last call again with a file cut behind each of its bytes but the last.
+    fn cut(&mut self, alloc: Global, common: &[NamedFile], line: &str) -> anyhow::Result<()> {
+        let (name, statuses) = first_word(line);
+        let wanted = numbers_of(alloc, statuses)?;
+        let Some(made) = &self.call else {
+            bail!("a file is cut before there is a call");
+        };
+        cut_each(
+            alloc,
+            &mut self.differences,
+            made,
+            common,
+            self.files.as_slice(),
+            name,
+            wanted.as_slice(),
+        )
     }
 
     /// Compares what is said of the last call. A file that is said to be stored is there from now on.
@@ -81,15 +109,16 @@ impl Bench {
             self.files.push(file)?;
             return Ok(());
         }
-        let rest = entry.rest.as_str();
-        match entry.verb.as_str() {
-            "fails" => self.fail(alloc, rest),
-            "run" => Ok(self.run(alloc, common.files.as_slice(), rest)?),
-            _ => {
-                self.run_once(alloc, common)?;
-                self.say(alloc, entry)
-            }
+        if let Some(made) = Call::of_entry(alloc, entry)? {
+            return Ok(self.run(alloc, common.files.as_slice(), made)?);
         }
+        match entry.verb.as_str() {
+            "fails" => return self.fail(alloc, entry.rest.as_str()),
+            "cut" => return self.cut(alloc, common.files.as_slice(), entry.rest.as_str()),
+            _ => {}
+        }
+        self.run_once(alloc, common)?;
+        self.say(alloc, entry)
     }
 
     /// Ends what is said of the last call, if there is one.

@@ -1,17 +1,18 @@
 //! What all rows of a document have.
 
 use crate::bench::tried;
+use crate::program::Call;
 use anyhow::bail;
 use row_format::{Entry, NamedFile, Rows, file_of};
 use std::alloc::Global;
 
-/// What stands before the first row: files, and the words of each row that calls with no others.
+/// What stands before the first row: files, and the call of each row that makes no other.
 #[derive(Drop)]
 pub struct Common {
     /// The files.
     pub files: Vec<NamedFile>,
-    /// The words, in a line.
-    pub words: Option<String>,
+    /// The call.
+    pub call: Option<Call>,
 }
 
 impl Common {
@@ -21,10 +22,10 @@ impl Common {
             self.files.push(file)?;
             return Ok(());
         }
-        if entry.verb.as_str() != "run" {
-            bail!("only files and words stand before the first row");
-        }
-        self.words = Some(String::from_str(alloc, entry.rest.as_str())?);
+        let Some(call) = Call::of_entry(alloc, entry)? else {
+            bail!("only files and a call stand before the first row");
+        };
+        self.call = Some(call);
         Ok(())
     }
 }
@@ -33,7 +34,7 @@ impl Rows for Common {
     fn shared(alloc: Global, entries: &[Entry]) -> anyhow::Result<Common> {
         let mut common = Common {
             files: Vec::new(alloc),
-            words: None,
+            call: None,
         };
         for entry in entries {
             common.take_up(alloc, entry)?;

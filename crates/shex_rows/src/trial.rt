@@ -1,8 +1,8 @@
 //! One call, and what it gave.
 
+use crate::program::Call;
 use row_format::{NamedFile, words_of};
 use shex_io::{MemFiles, MemSink};
-use shex_run::run;
 use std::alloc::{AllocError, Global};
 
 /// Which calls fail, by their numbers from 0.
@@ -53,22 +53,34 @@ fn add_all(files: &mut MemFiles, added: &[NamedFile]) -> Result<(), AllocError> 
     Ok(())
 }
 
-/// Calls with the words of a line, over the files that all rows have and those of one row.
-pub fn call(
+/// The files that all rows have and those of one row, of which the calls of these numbers fail.
+pub fn files_with(
     alloc: Global,
-    line: &str,
+    failing: Vec<u64>,
     common: &[NamedFile],
     own: &[NamedFile],
-    failing: Failing,
-) -> Result<Trial, AllocError> {
-    let Failing { files, out, err } = failing;
-    let mut files = MemFiles::new(alloc, files);
+) -> Result<MemFiles, AllocError> {
+    let mut files = MemFiles::new(alloc, failing);
     add_all(&mut files, common)?;
     add_all(&mut files, own)?;
+    Ok(files)
+}
+
+/// Makes a call over files; the calls of the sinks of these numbers fail.
+pub fn call(
+    alloc: Global,
+    call: &Call,
+    files: MemFiles,
+    out: Vec<u64>,
+    err: Vec<u64>,
+) -> Result<Trial, AllocError> {
+    let mut files = files;
     let mut out = MemSink::new(alloc, out);
     let mut err = MemSink::new(alloc, err);
-    let words = words_of(alloc, line)?;
-    let status = run(alloc, words.as_slice(), &mut files, &mut out, &mut err);
+    let words = words_of(alloc, call.words.as_str())?;
+    let status = call
+        .program
+        .call(alloc, words.as_slice(), &mut files, &mut out, &mut err);
     Ok(Trial {
         status,
         out,

@@ -1,0 +1,26 @@
+use Rattle.std.proofs.Common.{[], arith, subst, sym}
+use Rattle.std.proofs.lemmas.Result.{err_from_is_err_and}
+use Rattle.lists.specs.Distinct.{AreDistinct}
+use Rattle.shex_inputs.specs.Held.{held_by}
+use Rattle.typing_session.specs.Seen.{Seen}
+use Rattle.session_run.specs.Running.{IsDone, StopsOr, state_of}
+use Rattle.session_run.specs.Script.{Runs, refused}
+use Rattle.session_run.proofs.Stopped.{command_stops}
+use Rattle.session_run.proofs.responding.answer.Goals as goal
+
+pub session_of-requires-clause-budget : goal.session_of-requires-clause-budget
+session_of-requires-clause-budget c = let le = c.requires.budget in omega (arith, le)
+
+pub run-requires : goal.run-requires
+run-requires c = record { distinct = subst (λ (x : Seen). AreDistinct x.graph) (sym c.in_ok-session.ensures.seen) c.in_ok-session.ensures.distinct }
+
+pub returns-in_err-run-clause-stops : goal.returns-in_err-run-clause-stops
+returns-in_err-run-clause-stops c =
+    let p = err_from_is_err_and c.from_residual-in_err-run.result c.from_residual-in_err-run.ensures.1 in
+    rw p.1 (command_stops (held_by c.args.holding) c.args.budget c.args.commands.items c.in_err-run.field-0.0 p.0
+    (subst (λ (x : Seen). StopsOr (λ e. Runs x.schema x.strata x.budget (state_of x) [] c.args.commands.items (refused e)) c.in_err-run.field-0.0) c.in_ok-session.ensures.seen c.in_err-run.ensures.stopped) p.2)
+
+pub returns-clause-answers : goal.returns-clause-answers
+returns-clause-answers c =
+    let done = subst (λ (x : Seen). IsDone x c.args.commands.items c.in_ok-run.field-0) c.in_ok-session.ensures.seen c.in_ok-run.ensures.done in
+    (done.replies, done.runs, done.says)

@@ -1,0 +1,9 @@
+pub mod Replies
+pub mod Script
+pub mod Files
+pub mod Messages
+pub mod Texts
+pub mod Outcomes
+pub mod Endings
+pub mod Running
+pub mod Stopping

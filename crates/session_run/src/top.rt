@@ -1,0 +1,192 @@
+//! The top call.
+
+ghost use Rattle.std.specs.Prelude.{◌≡◌, ◌<◌, ◌⊎◌, ℕ, List, Option, Some, codes, map, string_bytes};
+ghost use Rattle.clap.specs.Words.{Text};
+ghost use Rattle.shex_io.specs.Faults.{Rose};
+ghost use Rattle.shex_io.specs.Sinks.{Gains};
+ghost use Rattle.command_words.specs.Checks.{Fault};
+ghost use Rattle.command_words.specs.Lent.{words_text};
+ghost use Rattle.call_ends.specs.Parts.{AreQuiet};
+ghost use Rattle.call_ends.specs.Statuses.{IsAnswering, IsCutOff, IsInterrupted, IsStatus};
+ghost use Rattle.call_ends.specs.Words.{RefusesWords};
+ghost use Rattle.tool_words.specs.Asked.{Editing as Asking, IsEditing, IsEditingFault};
+ghost use Rattle.tool_words.specs.Lent.{editing_of};
+ghost use Rattle.session_run.specs.Endings.{IsAnsweredBy, IsFailedBy, IsPrintedInPart, IsRefusedBy, IsWordsLine, SessionEnds};
+ghost use Rattle.session_run.specs.Outcomes.{AreAnswers, IsAbsent, IsRefused};
+ghost use Rattle.session_run.specs.Replies.{Reply, status_of};
+ghost use Rattle.session_run.specs.Stopping.{IsFit};
+ghost use Rattle.session_run.specs.Texts.{session_line};
+
+use crate::report;
+use crate::responding::respond;
+use crate::stop::{File, Refusal, Stop};
+use command_words::WordsError;
+use program_ends::say;
+use session_script::laws::{scripts_are_not_refused, scripts_are_one};
+use shex_inputs::{inputs_are_one, taken_is_loaded};
+use shex_io::{Files, Sink};
+use std::alloc::Global;
+use tool_words::{Editing, answers_are_one, read_session};
+use typing_session::set_laws::answers_are_of_sets;
+
+/// Says what is wrong with the words, unless memory ran out, and gives the status.
+fn refuse<S: Sink>(alloc: Global, error: WordsError<'_>, sink: &mut S) -> u8
+    ensures { RefusesWords WordsError.Memory error.entry (session_line (codes "words") (words_text error.entry)) (record { got = S.got sink.old; got_after = S.got sink.new; faults = S.faults sink.old; faults_after = S.faults sink.new }) result }
+{
+    match error {
+        WordsError::Memory => 8,
+        error => say(report::words(alloc, error), 2, sink),
+    }
+}
+
+/// Answers what the words ask, or says why there are no answers, and gives the status.
+fn end_editing<F: Files, O: Sink, E: Sink>(
+    alloc: Global,
+    editing: &Editing<'_>,
+    files: &mut F,
+    out: &mut O,
+    err: &mut E,
+) -> u8
+    requires { IsFit (editing_of editing.now) }
+    ensures { (words : List Text) → IsEditing words (editing_of editing.now) → SessionEnds
+        words
+        (record { told = F.told files.old; told_after = F.told files.new; faults = F.faults files.old; faults_after = F.faults files.new; blame = F.blame files.new; act = F.act files.new })
+        (record { got = O.got out.old; got_after = O.got out.new; faults = O.faults out.old; faults_after = O.faults out.new })
+        (record { got = E.got err.old; got_after = E.got err.new; faults = E.faults err.old; faults_after = E.faults err.new })
+        result }
+{
+    match respond(alloc, files, editing) {
+        Ok(said) => said.into_response().print(out, err),
+        Err(Stop::Refused(refusal)) => say(report::refusal(alloc, editing, &refusal), 3, err),
+        Err(Stop::Failed(file)) => say(report::failed(alloc, editing, file), 5, err),
+        Err(Stop::Memory) => 8,
+    }
+}
+
+/// Answers what the words ask, or says why there are no answers, and gives the status.
+fn end<F: Files, O: Sink, E: Sink>(
+    alloc: Global,
+    words: &[String],
+    files: &mut F,
+    out: &mut O,
+    err: &mut E,
+) -> u8
+    ensures { SessionEnds
+        (map string_bytes words.now)
+        (record { told = F.told files.old; told_after = F.told files.new; faults = F.faults files.old; faults_after = F.faults files.new; blame = F.blame files.new; act = F.act files.new })
+        (record { got = O.got out.old; got_after = O.got out.new; faults = O.faults out.old; faults_after = O.faults out.new })
+        (record { got = E.got err.old; got_after = E.got err.new; faults = E.faults err.old; faults_after = E.faults err.new })
+        result }
+{
+    match read_session(alloc, words) {
+        Ok(editing) => end_editing(alloc, &editing, files, out, err),
+        Err(error) => refuse(alloc, error, err),
+    }
+}
+
+/// Answers the questions of a script over a graph that the script edits.
+///
+/// The words are `--schema F --data F --script F [--budget N] [--schema-base I] [--data-base I] [IRI=FILE ..]`. The schema and
+/// the data are read, then the script whole, and then its commands are run one after the other: `+` adds a triple to the graph
+/// and `-` removes one, and `?` asks whether a node satisfies a target over the graph that the edits before it left. For each
+/// question a line is printed to `out`: the text of the node, `@`, `!` where it does not satisfy the target and `?` where that
+/// depends on a pair that is wider than the budget, and the target. Nothing is stored. Where there are no answers, one line on
+/// `err` says why, unless memory ran out.
+///
+/// The status is 0 where each question is answered with yes or no; 4 where some answer is Unknown, and then `err` gets, for
+/// each such answer in turn, a line for each pair that the question reaches and whose Width is above the budget; 2 where the
+/// words are refused, 3 where a file is refused, 5 where a file was not fetched, 7 where a sink failed, 8 where memory ran out.
+pub fn run_session<F: Files, O: Sink, E: Sink>(
+    alloc: Global,
+    words: &[String],
+    files: &mut F,
+    out: &mut O,
+    err: &mut E,
+) -> u8
+    // How a call ends, with all that it has printed then. The clauses below follow from it.
+    ensures ends { SessionEnds
+        (map string_bytes words.now)
+        (record { told = F.told files.old; told_after = F.told files.new; faults = F.faults files.old; faults_after = F.faults files.new; blame = F.blame files.new; act = F.act files.new })
+        (record { got = O.got out.old; got_after = O.got out.new; faults = O.faults out.old; faults_after = O.faults out.new })
+        (record { got = E.got err.old; got_after = E.got err.new; faults = E.faults err.old; faults_after = E.faults err.new })
+        result }
+    ensures statuses { IsStatus result }
+    ensures told { F.told files.new ≡ F.told files.old }
+
+    // The answers are those to the questions of the script, each over the graph that the edits before it left, by the verdicts of
+    // refinement over it and so true of the complete typing; the status is 4 exactly where one is Unknown, and then the wide pairs
+    // on which it depends are noted.
+    ensures answered { IsAnswering result →
+        (text notes : List ℕ)
+        × IsAnsweredBy (F.told files.old) (map string_bytes words.now) result text notes
+        × Gains (O.got out.old) (O.got out.new) text
+        × Gains (E.got err.old) (E.got err.new) notes }
+    ensures answered_quietly { result ≡ 0 → E.got err.new ≡ E.got err.old }
+
+    // Each other status has its cause. With 2, 3 and 5 its line is all that is printed, with 7 and 8 a part of what is due.
+    ensures arguments { result ≡ 2 →
+        (line : List ℕ)
+        × IsWordsLine (map string_bytes words.now) line
+        × Gains (E.got err.old) (E.got err.new) line }
+    ensures refused { result ≡ 3 →
+        (line : List ℕ)
+        × IsRefusedBy (F.told files.old) (map string_bytes words.now) line
+        × Gains (E.got err.old) (E.got err.new) line }
+    ensures failed { result ≡ 5 →
+        (line : List ℕ)
+        × IsFailedBy
+        (record { told = F.told files.old; told_after = F.told files.new; faults = F.faults files.old; faults_after = F.faults files.new; blame = F.blame files.new; act = F.act files.new })
+        (map string_bytes words.now) line
+        × Gains (E.got err.old) (E.got err.new) line }
+    ensures fault { result ≡ 5 → Rose (F.faults files.old) (F.faults files.new) }
+    ensures sink_failed { result ≡ 7 →
+        Rose (O.faults out.old) (O.faults out.new) ⊎ Rose (E.faults err.old) (E.faults err.new) }
+    ensures nothing_out { (result ≡ 2) ⊎ ((result ≡ 3) ⊎ (result ≡ 5)) → O.got out.new ≡ O.got out.old }
+    ensures in_part { result ≡ 7 → IsPrintedInPart
+        (map string_bytes words.now)
+        (record { told = F.told files.old; told_after = F.told files.new; faults = F.faults files.old; faults_after = F.faults files.new; blame = F.blame files.new; act = F.act files.new })
+        (record { got = O.got out.old; got_after = O.got out.new; faults = O.faults out.old; faults_after = O.faults out.new })
+        (record { got = E.got err.old; got_after = E.got err.new; faults = E.faults err.old; faults_after = E.faults err.new }) }
+    ensures unprinted { result ≡ 8 → IsPrintedInPart
+        (map string_bytes words.now)
+        (record { told = F.told files.old; told_after = F.told files.new; faults = F.faults files.old; faults_after = F.faults files.new; blame = F.blame files.new; act = F.act files.new })
+        (record { got = O.got out.old; got_after = O.got out.new; faults = O.faults out.old; faults_after = O.faults out.new })
+        (record { got = E.got err.old; got_after = E.got err.new; faults = E.faults err.old; faults_after = E.faults err.new })
+        ⊎ AreQuiet
+        (record { got = O.got out.old; got_after = O.got out.new; faults = O.faults out.old; faults_after = O.faults out.new })
+        (record { got = E.got err.old; got_after = E.got err.new; faults = E.faults err.old; faults_after = E.faults err.new }) }
+
+    // Where contents are told, words and files decide how the call ends, but for faults and want of memory: with the status of the
+    // answers, which is 4 exactly where one is Unknown.
+    ensures unasked { (f : Fault) → IsEditingFault (map string_bytes words.now) f → (result ≡ 2) ⊎ IsCutOff result }
+    ensures takes { (contents : List ℕ → Option (List ℕ)) (e : Asking) (replies : List Reply) →
+        F.told files.old ≡ Some contents → IsEditing (map string_bytes words.now) e →
+        AreAnswers (F.told files.old) e replies → (result ≡ status_of replies) ⊎ IsInterrupted result }
+    ensures refuses { (contents : List ℕ → Option (List ℕ)) (e : Asking) (refusal : Refusal) →
+        F.told files.old ≡ Some contents → IsEditing (map string_bytes words.now) e →
+        IsRefused (F.told files.old) e refusal → (result ≡ 3) ⊎ IsInterrupted result }
+    ensures misses { (contents : List ℕ → Option (List ℕ)) (e : Asking) (file : File) →
+        F.told files.old ≡ Some contents → IsEditing (map string_bytes words.now) e →
+        IsAbsent (F.told files.old) e file → IsInterrupted result }
+    ensures completes { (contents : List ℕ → Option (List ℕ)) (e : Asking) (replies : List Reply) →
+        F.told files.old ≡ Some contents → IsEditing (map string_bytes words.now) e →
+        AreAnswers (F.told files.old) e replies → ¬ Rose (F.faults files.old) (F.faults files.new) →
+        ¬ Rose (O.faults out.old) (O.faults out.new) → ¬ Rose (E.faults err.old) (E.faults err.new) →
+        (result ≡ status_of replies) ⊎ (result ≡ 8) }
+    ensures unrefused { (e : Asking) → IsEditing (map string_bytes words.now) e →
+        ((refusal : Refusal) → ¬ IsRefused (F.told files.old) e refusal) → IsAnswering result ⊎ IsInterrupted result }
+
+    // Faults that came are said.
+    ensures files_fault { F.faults files.old < F.faults files.new → IsInterrupted result }
+    ensures sink_fault { (O.faults out.old < O.faults out.new) ⊎ (E.faults err.old < E.faults err.new) →
+        result ≡ 7 }
+{
+    // The laws by which words and files say one thing, and a graph is a set.
+    answers_are_one();
+    inputs_are_one();
+    taken_is_loaded();
+    scripts_are_one();
+    scripts_are_not_refused();
+    answers_are_of_sets();
+    end(alloc, words, files, out, err)
+}

@@ -1,0 +1,24 @@
+-- The files that a call reads, by their names in the words.
+use Rattle.std.specs.Prelude.{[], ◌≡◌, ◌≢◌}
+use Rattle.schema_files.specs.declared.error.SchemaFile.TheVariants.{Root}
+use Rattle.shex_inputs.specs.declared.error.Source.{Source}
+use Rattle.shex_inputs.specs.declared.error.Source.TheVariants.{Map, Schema}
+use Rattle.shex_inputs.specs.Named.{Inputs}
+use Rattle.tool_words.specs.Asked.{ToolCall, of_labels, of_schema}
+
+-- what a call is given; `convert` is given no data and no imports, and no call a map
+abbrev pub inputs_of : ToolCall → Inputs
+inputs_of (of_schema c) = record { schema = c.schema; data_file = []; map_file = []; schema_base = c.schema_base; data_base = []; imports = [] }
+inputs_of (of_labels l) = record {
+  schema = l.inputs.schema;
+  data_file = l.inputs.data_file;
+  map_file = [];
+  schema_base = l.inputs.schema_base;
+  data_base = l.inputs.data_base;
+  imports = l.inputs.imports;
+}
+
+-- the file is one that the call reads: `convert` reads the schema file alone, and `extents` all but a map
+abbrev pub IsReadBy : ToolCall → Source → Type 0
+IsReadBy (of_schema c) source = source ≡ Schema Root
+IsReadBy (of_labels l) source = source ≢ Map

@@ -1,0 +1,9 @@
+pub mod Calls
+pub mod Documents
+pub mod Laws
+pub mod Outcomes
+pub mod Texts
+pub mod Finding
+pub mod Results
+pub mod Endings
+pub mod Stopping

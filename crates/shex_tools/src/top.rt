@@ -1,0 +1,226 @@
+//! The top call.
+
+ghost use Rattle.std.specs.Prelude.{◌≡◌, ◌<◌, ◌≤◌, ◌⊎◌, ℕ, List, Option, Some, IfErr, IfOk, OnOk, codes, map, string_bytes};
+ghost use Rattle.schema_tree.specs.declared.schema.Pair.{Pair};
+ghost use Rattle.schema_tree.specs.Removal.{IsRefined};
+ghost use Rattle.schema_tree.specs.Sure.{Known};
+ghost use Rattle.command_words.specs.Checks.{Fault};
+ghost use Rattle.command_words.specs.Lent.{words_text};
+ghost use Rattle.label_extents.specs.Demanded.{AreDemanded, AreTooMany};
+ghost use Rattle.label_extents.specs.Extents.{IsUndecided};
+ghost use Rattle.call_ends.specs.Parts.{AreQuiet};
+ghost use Rattle.call_ends.specs.Statuses.{IsAnswering, IsCutOff, IsInterrupted, IsStatus};
+ghost use Rattle.call_ends.specs.Words.{RefusesWords};
+ghost use Rattle.shex_inputs.specs.Held.{Held};
+ghost use Rattle.shex_io.specs.Faults.{Rose};
+ghost use Rattle.shex_io.specs.Sinks.{Gains};
+ghost use Rattle.tool_words.specs.Asked.{IsToolCall, IsToolFault, Listing as Listed, ToolCall as Asked, of_labels};
+ghost use Rattle.tool_words.specs.Lent.{tool_call_of};
+ghost use Rattle.shex_tools.specs.Endings.{IsAnswered, IsFailedBy, IsPrintedInPart, IsRefusedBy, IsWordsLine, ToolEnds};
+ghost use Rattle.shex_tools.specs.Outcomes.{AreHeld, AreTaken, IsAbsent, IsRefused};
+ghost use Rattle.shex_tools.specs.Results.{Concludes, IsAnswer};
+ghost use Rattle.shex_tools.specs.Stopping.{Explains, FaultsAs, IsFit};
+ghost use Rattle.shex_tools.specs.Texts.{tool_line};
+
+use crate::converting::convert;
+use crate::laws::documents_are_one;
+use crate::listing::list;
+use crate::report;
+use crate::stop::{Refusal, Stop};
+use call_ends::Response;
+use command_words::WordsError;
+use program_ends::say;
+use schema_tree::laws::{layers_are_meanings, refinement_is_one};
+use shex_inputs::{Source, inputs_are_one, taken_is_loaded};
+use shex_io::{Files, Sink};
+use std::alloc::Global;
+use tool_words::{ToolCall, answers_are_one, read_tool};
+
+/// What answers a call.
+fn respond<F: Files>(alloc: Global, files: &mut F, call: &ToolCall<'_>) -> Result<Response, Stop>
+    requires { IsFit (tool_call_of call.now) }
+    ensures answer { IfOk result (λ r. IsAnswer (F.told files.old) (tool_call_of call.now) r.status r.text.items r.notes.items) }
+    ensures low { IfOk result (λ r. r.status < 7) }
+    ensures cause { IfErr result (Explains (F.told files.old) (tool_call_of call.now)) }
+    ensures faults { IfErr result (FaultsAs (tool_call_of call.now) (F.faults files.old) (F.faults files.new) (F.blame files.new) (F.act files.new)) }
+    ensures faults_stay { OnOk result (F.faults files.new ≡ F.faults files.old) }
+    ensures told_stays { F.told files.new ≡ F.told files.old }
+{
+    match call {
+        ToolCall::Convert(converting) => convert(alloc, files, converting),
+        ToolCall::Extents(listing) => list(alloc, files, listing),
+    }
+}
+
+/// Says what is wrong with the words, unless memory ran out, and gives the status.
+fn refuse<S: Sink>(alloc: Global, error: WordsError<'_>, sink: &mut S) -> u8
+    ensures { RefusesWords WordsError.Memory error.entry (tool_line (codes "words") (words_text error.entry)) (record { got = S.got sink.old; got_after = S.got sink.new; faults = S.faults sink.old; faults_after = S.faults sink.new }) result }
+{
+    match error {
+        WordsError::Memory => 8,
+        error => say(report::words(alloc, error), 2, sink),
+    }
+}
+
+/// Answers a call, or says why there is no answer, and gives the status.
+fn end_call<F: Files, O: Sink, E: Sink>(
+    alloc: Global,
+    call: &ToolCall<'_>,
+    files: &mut F,
+    out: &mut O,
+    err: &mut E,
+) -> u8
+    requires { IsFit (tool_call_of call.now) }
+    ensures { (words : List (List ℕ)) → IsToolCall words (tool_call_of call.now) → ToolEnds
+        words
+        (record { told = F.told files.old; told_after = F.told files.new; faults = F.faults files.old; faults_after = F.faults files.new; blame = F.blame files.new; act = F.act files.new })
+        (record { got = O.got out.old; got_after = O.got out.new; faults = O.faults out.old; faults_after = O.faults out.new })
+        (record { got = E.got err.old; got_after = E.got err.new; faults = E.faults err.old; faults_after = E.faults err.new })
+        result }
+{
+    match respond(alloc, files, call) {
+        Ok(response) => response.print(out, err),
+        Err(Stop::Refused(refusal)) => say(report::refusal(alloc, call, &refusal), 3, err),
+        Err(Stop::Failed(source)) => say(report::failed(alloc, call, source), 5, err),
+        Err(Stop::Memory) => 8,
+    }
+}
+
+/// Answers what the words ask, or says why there is no answer, and gives the status.
+fn end<F: Files, O: Sink, E: Sink>(
+    alloc: Global,
+    words: &[String],
+    files: &mut F,
+    out: &mut O,
+    err: &mut E,
+) -> u8
+    ensures { ToolEnds
+        (map string_bytes words.now)
+        (record { told = F.told files.old; told_after = F.told files.new; faults = F.faults files.old; faults_after = F.faults files.new; blame = F.blame files.new; act = F.act files.new })
+        (record { got = O.got out.old; got_after = O.got out.new; faults = O.faults out.old; faults_after = O.faults out.new })
+        (record { got = E.got err.old; got_after = E.got err.new; faults = E.faults err.old; faults_after = E.faults err.new })
+        result }
+{
+    match read_tool(alloc, words) {
+        Ok(call) => end_call(alloc, &call, files, out, err),
+        Err(error) => refuse(alloc, error, err),
+    }
+}
+
+/// Answers what the words ask of `shextool`. Nothing is stored.
+///
+/// `convert --schema F [--schema-base I]` reads one schema document, of which it follows no import, and prints it to `out` in
+/// ShExJ, as compact JSON, with a line feed behind it.
+/// `extents --schema F --data F [--budget N] [--schema-base I] [--data-base I] [IRI=FILE ..]` prints a result shape map to `out`:
+/// for each label of the schema the nodes of the graph that satisfy its expression, but for those on which the verdict is
+/// Unknown, which comes only where it depends on a pair of a node and a Shape whose width is above the budget. Where there is no
+/// answer, one line on `err` says why, unless memory ran out.
+///
+/// The status is 0 where there is an answer; 4 where the membership of some node in the extents is not told, since it depends on
+/// a pair that is wider than the budget; 2 where the words are refused, 3 where a file is refused, 5 where a file was not
+/// fetched, 7 where a sink failed, 8 where memory ran out.
+pub fn run_tool<F: Files, O: Sink, E: Sink>(
+    alloc: Global,
+    words: &[String],
+    files: &mut F,
+    out: &mut O,
+    err: &mut E,
+) -> u8
+    // How a call ends, with all that it has printed then. The clauses below follow from it.
+    ensures ends { ToolEnds
+        (map string_bytes words.now)
+        (record { told = F.told files.old; told_after = F.told files.new; faults = F.faults files.old; faults_after = F.faults files.new; blame = F.blame files.new; act = F.act files.new })
+        (record { got = O.got out.old; got_after = O.got out.new; faults = O.faults out.old; faults_after = O.faults out.new })
+        (record { got = E.got err.old; got_after = E.got err.new; faults = E.faults err.old; faults_after = E.faults err.new })
+        result }
+    ensures statuses { IsStatus result }
+    ensures four { result ≡ 4 → (l : Listed) × IsToolCall (map string_bytes words.now) (of_labels l) }
+    ensures told { F.told files.new ≡ F.told files.old }
+
+    // With 0 the text of `convert` is that of the document in the schema file, from which its plain form is read back. The text of
+    // `extents` is the members that are known: each is one, and those alone are left out, with status 4, on which the verdicts of
+    // refinement are Unknown, so that they depend on a pair whose Width is above the budget, and then each such pair that the nodes
+    // with the labels reach is noted.
+    ensures answered { IsAnswering result →
+        (text notes : List ℕ)
+        × IsAnswered (F.told files.old) (map string_bytes words.now) result text notes
+        × Gains (O.got out.old) (O.got out.new) text
+        × Gains (E.got err.old) (E.got err.new) notes }
+    ensures answered_quietly { result ≡ 0 → E.got err.new ≡ E.got err.old }
+
+    // Each other status has its cause. With 2, 3 and 5 its line is all that is printed, with 7 and 8 a part of what is due.
+    ensures arguments { result ≡ 2 →
+        (line : List ℕ)
+        × IsWordsLine (map string_bytes words.now) line
+        × Gains (E.got err.old) (E.got err.new) line }
+    ensures refused { result ≡ 3 →
+        (line : List ℕ)
+        × IsRefusedBy (F.told files.old) (map string_bytes words.now) line
+        × Gains (E.got err.old) (E.got err.new) line }
+    ensures failed { result ≡ 5 →
+        (line : List ℕ)
+        × IsFailedBy
+        (record { told = F.told files.old; told_after = F.told files.new; faults = F.faults files.old; faults_after = F.faults files.new; blame = F.blame files.new; act = F.act files.new })
+        (map string_bytes words.now) line
+        × Gains (E.got err.old) (E.got err.new) line }
+    ensures fault { result ≡ 5 → Rose (F.faults files.old) (F.faults files.new) }
+    ensures sink_failed { result ≡ 7 →
+        Rose (O.faults out.old) (O.faults out.new) ⊎ Rose (E.faults err.old) (E.faults err.new) }
+    ensures nothing_out { (result ≡ 2) ⊎ ((result ≡ 3) ⊎ (result ≡ 5)) → O.got out.new ≡ O.got out.old }
+    ensures in_part { result ≡ 7 → IsPrintedInPart
+        (map string_bytes words.now)
+        (record { told = F.told files.old; told_after = F.told files.new; faults = F.faults files.old; faults_after = F.faults files.new; blame = F.blame files.new; act = F.act files.new })
+        (record { got = O.got out.old; got_after = O.got out.new; faults = O.faults out.old; faults_after = O.faults out.new })
+        (record { got = E.got err.old; got_after = E.got err.new; faults = E.faults err.old; faults_after = E.faults err.new }) }
+    ensures unprinted { result ≡ 8 → IsPrintedInPart
+        (map string_bytes words.now)
+        (record { told = F.told files.old; told_after = F.told files.new; faults = F.faults files.old; faults_after = F.faults files.new; blame = F.blame files.new; act = F.act files.new })
+        (record { got = O.got out.old; got_after = O.got out.new; faults = O.faults out.old; faults_after = O.faults out.new })
+        (record { got = E.got err.old; got_after = E.got err.new; faults = E.faults err.old; faults_after = E.faults err.new })
+        ⊎ AreQuiet
+        (record { got = O.got out.old; got_after = O.got out.new; faults = O.faults out.old; faults_after = O.faults out.new })
+        (record { got = E.got err.old; got_after = E.got err.new; faults = E.faults err.old; faults_after = E.faults err.new }) }
+
+    // Where contents are told, words and files decide how the call ends, but for faults and want of memory.
+    ensures unasked { (f : Fault) → IsToolFault (map string_bytes words.now) f → (result ≡ 2) ⊎ IsCutOff result }
+    ensures takes { (contents : List ℕ → Option (List ℕ)) (call : Asked) →
+        F.told files.old ≡ Some contents → IsToolCall (map string_bytes words.now) call →
+        AreTaken (F.told files.old) call → Concludes call result ⊎ IsInterrupted result }
+    ensures completes { (contents : List ℕ → Option (List ℕ)) (call : Asked) →
+        F.told files.old ≡ Some contents → IsToolCall (map string_bytes words.now) call →
+        AreTaken (F.told files.old) call → ¬ Rose (F.faults files.old) (F.faults files.new) →
+        ¬ Rose (O.faults out.old) (O.faults out.new) → ¬ Rose (E.faults err.old) (E.faults err.new) →
+        Concludes call result ⊎ (result ≡ 8) }
+    ensures refuses { (contents : List ℕ → Option (List ℕ)) (call : Asked) (refusal : Refusal) →
+        F.told files.old ≡ Some contents → IsToolCall (map string_bytes words.now) call →
+        IsRefused (F.told files.old) call refusal → (result ≡ 3) ⊎ IsInterrupted result }
+    ensures misses { (contents : List ℕ → Option (List ℕ)) (call : Asked) (source : Source) →
+        F.told files.old ≡ Some contents → IsToolCall (map string_bytes words.now) call →
+        IsAbsent (F.told files.old) call source → IsInterrupted result }
+
+    // Extents end with 4 exactly where a verdict of refinement over the demanded pairs is Unknown.
+    ensures undecided { (contents : List ℕ → Option (List ℕ)) (l : Listed) (h : Held) (pairs : List Pair) (verdicts : Known) →
+        F.told files.old ≡ Some contents → IsToolCall (map string_bytes words.now) (of_labels l) →
+        AreHeld (F.told files.old) l h → ¬ AreTooMany h.schema h.graph → AreDemanded h.schema h.terms h.graph pairs →
+        IsRefined h.schema h.terms h.graph h.strata pairs l.budget verdicts →
+        IsUndecided h.schema h.terms h.graph verdicts → (result ≡ 4) ⊎ IsInterrupted result }
+    ensures decided { (contents : List ℕ → Option (List ℕ)) (l : Listed) (h : Held) (pairs : List Pair) (verdicts : Known) →
+        F.told files.old ≡ Some contents → IsToolCall (map string_bytes words.now) (of_labels l) →
+        AreHeld (F.told files.old) l h → ¬ AreTooMany h.schema h.graph → AreDemanded h.schema h.terms h.graph pairs →
+        IsRefined h.schema h.terms h.graph h.strata pairs l.budget verdicts →
+        ¬ IsUndecided h.schema h.terms h.graph verdicts → (result ≡ 0) ⊎ IsInterrupted result }
+
+    // Faults that came are said.
+    ensures files_fault { F.faults files.old < F.faults files.new → IsInterrupted result }
+    ensures sink_fault { (O.faults out.old < O.faults out.new) ⊎ (E.faults err.old < E.faults err.new) →
+        result ≡ 7 }
+{
+    // The laws by which words and files say one thing.
+    answers_are_one();
+    inputs_are_one();
+    taken_is_loaded();
+    documents_are_one();
+    refinement_is_one();
+    layers_are_meanings();
+    end(alloc, words, files, out, err)
+}
