@@ -7,6 +7,7 @@ import collections
 import math
 import os
 import resource
+import signal
 import subprocess
 import tempfile
 import time
@@ -60,7 +61,9 @@ def run(words, where, seconds=SECONDS, limits=(), environment=None):
         child.returncode = os.waitstatus_to_exitcode(status)
         out.seek(0)
         err.seek(0)
-        return Run("late" if late or taken > seconds else child.returncode, taken, peak, out.read(), err.read())
+        # The limit of the processor's seconds is the system's, which kills the program, too.
+        late = late or taken > seconds or child.returncode == -signal.SIGKILL
+        return Run("late" if late else child.returncode, taken, peak, out.read(), err.read())
 
 
 def write(where, files):
