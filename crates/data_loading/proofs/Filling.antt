@@ -1,22 +1,15 @@
 -- Triples among which one finds no room.
-use Rattle.std.proofs.Common.{◌≡◌, List, [], ◌∷◌, ◌++◌, Result, Err, refl, sym, ap, ◌∙◌, append_assoc}
+use Rattle.std.proofs.Common.{◌≡◌, List, [], ◌∷◌, ◌++◌, sym, ap, ◌∙◌, append_assoc}
 use Rattle.std.proofs.lemmas.List.{append-nil}
 use Rattle.rdf_terms.specs.declared.terms.Term.{Term}
 use Rattle.rdf_terms.specs.declared.terms.Triple.{Triple}
-use Rattle.graph_index.specs.declared.loading.LoadError.{LoadError}
-use Rattle.graph_index.specs.declared.loading.LoadError.TheVariants as load
 use Rattle.graph_index.specs.declared.loading.TermTriple.{TermTriple}
 use Rattle.graph_index.specs.Loading.{Loads, FindsNoRoom}
 use Rattle.graph_index.proofs.Loaded.{loads_append}
-use Rattle.data_loading.specs.Loads.{Fills, LoadsAll}
+use Rattle.data_loading.specs.Loads.{Fills}
 
 pub fills_at : (terms now_terms : List Term) (graph now_graph : List Triple) (all so rest : List TermTriple) (t : TermTriple) → all ≡ so ++ t ∷ rest → Loads terms graph so now_terms now_graph → FindsNoRoom now_terms now_graph t → Fills terms graph all
 fills_at terms now_terms graph now_graph all so rest t e l n = record { before = so; last = t; behind = rest; parts = e; mid_terms = now_terms; mid_graph = now_graph; loaded = l; no_room = n }
-
-pub load_fails : (terms now_terms new_terms : List Term) (graph now_graph new_graph : List Triple) (all so rest : List TermTriple) (t : TermTriple) (e : LoadError) → all ≡ so ++ t ∷ rest → Loads terms graph so now_terms now_graph
-    → (Path (Result (Unit {0}) LoadError) (Err e) (Err load.Full) → FindsNoRoom now_terms now_graph t) → LoadsAll (Err e) terms graph all new_terms new_graph
-load_fails terms now_terms new_terms graph now_graph new_graph all so rest t load.Memory e l n = tt
-load_fails terms now_terms new_terms graph now_graph new_graph all so rest t load.Full e l n = fills_at terms now_terms graph now_graph all so rest t e l (n refl)
 
 -- triples behind others
 pub fills_behind : (terms mid_terms : List Term) (graph mid_graph : List Triple) (so ts : List TermTriple) → Loads terms graph so mid_terms mid_graph → Fills mid_terms mid_graph ts → Fills terms graph (so ++ ts)

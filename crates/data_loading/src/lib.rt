@@ -1,8 +1,6 @@
-//! What the readers of data share: triples that are loaded one after the other, and why a text was not read.
+//! What the readers of data share: what it is that triples are loaded one after the other, and why a text was not read.
 #![tactic(auto)]
 
-mod loading;
 mod refusal;
 
-pub use loading::load_all;
 pub use refusal::{Refusal, error};
