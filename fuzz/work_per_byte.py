@@ -560,7 +560,7 @@ FAMILIES = [
     (forged_claims, (100_000, 400_000, 1_600_000)), (forged_nodes, (100_000, 400_000, 1_600_000)), (forged_records, (100_000, 400_000, 1_600_000)), (forged_records_of_one_node, (1000, 2000, 4000)),
     (occurrences, (100, 400, 1600)), (occurrences_of_one, (10, 40, 160)), (occurrences_that_overlap, (5, 20, 80)), (occurrences_wide, (10, 40, 160)),
     (shapes, (1000, 2000, 4000)), (pairs, (250, 500, 1000, 2000)), (shapes_of_one_node, (1000, 2000, 4000)), (alternatives, (100_000, 400_000, 1_600_000)),
-    (values, (4000, 16_000, 64_000)), (stems, (1000, 4000, 16_000)), (labels, (20_000, 80_000, 320_000)),
+    (values, (4000, 16_000, 64_000)), (stems, (4000, 16_000, 64_000)), (labels, (20_000, 80_000, 320_000)),
     (pattern_positions, (1000, 10_000, 100_000)), (pattern_optional, (1000, 10_000, 100_000)), (pattern_class, (1000, 10_000, 100_000)),
     (pattern_small, (100_000, 1_000_000, 10_000_000)),
     (associations, (10_000, 100_000, 1_000_000)), (associations_again, (10_000, 100_000, 1_000_000)),

@@ -1,3 +1,5 @@
+pub mod Apart
+pub mod Between
 pub mod Deciding
 pub mod Indexing
 pub mod Prefixes

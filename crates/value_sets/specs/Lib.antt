@@ -1,5 +1,6 @@
 pub mod Indexed
 pub mod Laws
 pub mod Matching
+pub mod StemIndex
 pub mod Stems
 pub mod Values

@@ -3,6 +3,7 @@
 
 mod index;
 pub mod laws;
+mod stem_index;
 mod stems;
 mod value;
 mod value_set;

@@ -2,7 +2,6 @@
 
 ghost use Rattle.std.specs.Prelude.{◌≡◌, ◌↔◌, IsSomeAnd, IsTrue};
 ghost use Rattle.std.specs.Option.{option_copied};
-ghost use Rattle.value_sets.specs.Indexed.{term_of};
 ghost use Rattle.value_sets.specs.Matching.{HasStem};
 ghost use Rattle.value_sets.specs.Values.{IsExcludedBy, IsInRange, IsValue, iri_of, lexical_form_of, tag_of};
 
@@ -47,16 +46,6 @@ pub enum Value {
 }
 
 impl Value {
-    /// The term, if the value is one.
-    pub(crate) fn as_term(&self) -> Option<&Term>
-        ensures { option_copied result ≡ term_of self.now }
-    {
-        match self {
-            Value::Term(term) => Some(term),
-            _ => None,
-        }
-    }
-
     /// Whether the value holds for the term (ShEx 2.1, section 5.4, Values Constraint).
     pub fn takes(&self, term: &Term) -> bool
         ensures { IsTrue result ↔ IsValue self.now term.now }
