@@ -28,7 +28,7 @@ use Rattle.shex_run.specs.Endings.{IsResponse}
 use Rattle.shex_run.specs.Outcomes.{Reaches, ReachesProof}
 use Rattle.shex_run.specs.Proofs.{AreAnswers, IsDueProof, IsStoredProofOf, Stores}
 use Rattle.shex_run.specs.Statuses.{status_of}
-use Rattle.shex_run.specs.Stopping.{Explains, FaultsAs, LeavesStored, ProofStops, stop_of}
+use Rattle.shex_run.specs.Stopping.{Explains, FaultsAs, LeavesFailed, LeavesStored, ProofStops, stop_of}
 use Rattle.shex_run.specs.Storing.{IsCutStore, IsDueUpgrade, IsUpgradeOf, Upgrades}
 use Rattle.shex_run.specs.Texts.{notes_of}
 use Rattle.wide_pairs.specs.Wide.{AreWide}
@@ -74,7 +74,7 @@ base_of_task t Errors.Memory before = tt
 pub input_stopped : (told after : Told) (c : Command) (before later : ℕ) (blame : List ℕ) (act : Act) (e : InputError) → IsOfTask c.task e → ExplainsInput told (inputs_of c) e → FaultsAsInput (inputs_of c) before later blame act e → after ≡ told →
     Stopped told after c before later blame act (stop_of e)
 input_stopped told after c before later blame act (Errors.Refused refusal) of cause still same = record { cause = (of, cause); faults = still; stored = same }
-input_stopped told after c before later blame act (Errors.Failed source) of cause rose same = record { cause = (of, cause); faults = rose; stored = inl same }
+input_stopped told after c before later blame act (Errors.Failed source) of cause rose same = record { cause = (of, cause); faults = rose; stored = same }
 input_stopped told after c before later blame act Errors.Memory of cause still same = record { cause = tt; faults = still; stored = inl same }
 
 -- ---- `validate`
@@ -140,7 +140,7 @@ module _ (told : Told) (c : Command) (map_name : Text) (proof_name : Option Text
     store_stopped after before later blame act (Stops.Failed file) (e, (rose, up, blamed, acted)) part others = record {
       cause = reached file e;
       faults = (rose, up, blamed ∙ own_name, acted ∙ own_act);
-      stored = inr (cut after part others);
+      stored = subst (LeavesFailed told after c) own_act (inr (cut after part others));
     }
       where
         own_name : name ≡ name_of c file
@@ -158,7 +158,7 @@ module _ (told : Told) (c : Command) (b : Held) (taken : IsTaken told (inputs_of
   fetch_stopped after same before later blame act (Stops.Failed file) (e, (rose, up, blamed, acted)) = record {
     cause = subst (λ f. Reaches told c f) (sym e) (reaches told c c.task name is b taken);
     faults = (rose, up, blamed ∙ own_name, acted ∙ own_act);
-    stored = inl same;
+    stored = subst (LeavesFailed told after c) own_act same;
   }
     where
       own_name : name ≡ name_of c file
@@ -221,7 +221,7 @@ module _ (told : Told) (c : Command) (b : Held) (taken : IsTaken told (inputs_of
       upgrade_stopped before later blame act (Stops.Failed file) (e, (rose, up, blamed, acted)) part others = record {
         cause = subst (λ f. Reaches told c f) (sym e) (to, (new, due_upgrade));
         faults = (rose, up, blamed ∙ own_name, acted ∙ own_act);
-        stored = inr (cut_upgrade part others);
+        stored = subst (LeavesFailed told after c) own_act (inr (cut_upgrade part others));
       }
         where
           own_name : to ≡ name_of c file

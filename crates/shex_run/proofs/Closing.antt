@@ -8,6 +8,7 @@ use Rattle.rdf_terms.specs.declared.terms.Term.{Term}
 use Rattle.schema_tree.specs.declared.schema.Answer.{Answer}
 use Rattle.shex_io.specs.Faults.{Rose}
 use Rattle.shex_io.specs.Files.{Holds, HoldsPart, KeepsOthers, Told}
+use Rattle.shex_io.specs.declared.files.Act.TheVariants.{Fetch}
 use Rattle.shex_io.specs.Sinks.{Gains, GainsPrefix}
 use Rattle.shape_map.specs.declared.resolve.Association.{Association}
 use Rattle.typing_refiner.specs.declared.building.WidePair.{WidePair}
@@ -367,6 +368,17 @@ five_rose words files out err status (refused line by left quiet prints) at = ab
 five_rose words files out err status (rejected line by left quiet prints) at = absurd (other_status err line 6 status 5 (λ e. absurd (omega (arith, e))) (omega arith) prints at)
 five_rose words files out err status (failed line by have quiet prints) at = by.rose
 five_rose words files out err status (wanting stored same quiet also h) at = absurd (omega (arith, h, at))
+
+-- and where that was a fetch, nothing is stored
+pub five_unfetched : (words : List Text) (files : FilesSeen) (out err : SinkSeen) (status : ℕ) → Ends words files out err status → status ≡ 5 → files.act ≡ Fetch → files.told_after ≡ files.told
+five_unfetched words files out err status (faulty line by left quiet prints) at act = left.told_same
+five_unfetched words files out err status (answered text notes wanted low r same prints) at act =
+    let under = low_wanted wanted low in
+    absurd (other_both out err text notes wanted status 5 (λ e. absurd (omega (arith, e, under))) (omega arith) prints at)
+five_unfetched words files out err status (refused line by left quiet prints) at act = left.told_same
+five_unfetched words files out err status (rejected line by left quiet prints) at act = left.told_same
+five_unfetched words files out err status (failed line by have quiet prints) at act = have.unfetched act
+five_unfetched words files out err status (wanting stored same quiet also h) at act = absurd (omega (arith, h, at))
 
 -- 7 comes only where a fault of a sink rose
 seven_of : (sink : SinkSeen) (text : List ℕ) (wanted status : ℕ) → wanted < 7 → PrintsTo sink text wanted status → status ≡ 7 → Rose sink.faults sink.faults_after

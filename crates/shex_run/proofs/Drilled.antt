@@ -177,13 +177,16 @@ module _ (words : List Text) (d : Drill) (is_drill : IsDrill words d) (files : F
   pub with_line : (text notes : List ℕ) (wanted : ℕ) → IsDrilled files.told files.told_after d wanted text notes → files.faults_after ≡ files.faults → PrintsBoth out err text notes wanted status → Ends words files out err status
   with_line text notes wanted drilled still prints = answered text notes wanted (inl drilled.status_is) (inr (d, is_drill, drilled)) still prints
 
+  no_fetch : {act : Act} → act ≡ Acts.Store → act ≡ Acts.Fetch → ⊥
+  no_fetch stored fetched = cc
+
   pub with_failure : (file : File) → DrillStops files.told files.told_after d files.faults files.faults_after files.blame files.act (Stops.Failed file) → IsQuiet out → PrintsTo err (failed_line files.blame) 5 status → Ends words files out err status
   with_failure file (rose, up, named, acted, cut_store) quiet prints =
       failed (failed_line files.blame) (record {
         rose = rose;
         failed = inr (record { drill = d; is_drill = is_drill; bytes = cut_store.bytes; due = cut_store.due; name_is = named; act_is = acted });
         line_is = refl;
-      }) (record { later = up; stored = inr (inr (d, is_drill, cut_store)) }) quiet prints
+      }) (record { later = up; stored = inr (inr (d, is_drill, cut_store)); unfetched = λ e. absurd (no_fetch acted e) }) quiet prints
 
   pub with_want : DrillStops files.told files.told_after d files.faults files.faults_after files.blame files.act Stops.Memory → IsQuiet out → IsQuiet err → status ≡ 8 → Ends words files out err status
   with_want (still, inl same) quiet also at = wanting (inl same) still quiet also at

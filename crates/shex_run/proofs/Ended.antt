@@ -1,7 +1,9 @@
 -- How a call ends, from what it found.
-use Rattle.std.proofs.Common.{◌≡◌, ap, subst, sym, refl, List, ℕ, inl, inr}
+use Rattle.std.proofs.Common.{◌≡◌, ◌∙◌, ap, subst, sym, refl, List, ℕ, inl, inr}
 use Rattle.std.specs.Prelude.{IfOk, Option, Result}
 use Rattle.clap.specs.Words.{Text}
+use Rattle.shex_io.specs.declared.files.Act.{Act}
+use Rattle.shex_io.specs.declared.files.Act.TheVariants as Acts
 use Rattle.command_words.specs.Asked.{Command, IsAsked}
 use Rattle.command_words.specs.Checks.{Fault, arguments, base, ending, import_word, same as same_name}
 use Rattle.command_words.specs.Drills.{IsFault}
@@ -20,9 +22,9 @@ use Rattle.program_ends.specs.Ends.{AreLeft, FilesSeen}
 use Rattle.shex_run.specs.Endings.{Ends, IsPartlyStored, IsResponse, answered, failed, faulty, refused, rejected, wanting}
 use Rattle.shex_run.specs.Printing.{RefusesWords}
 use Rattle.shex_run.specs.Statuses.{IsAnswering, refusal_status}
-use Rattle.shex_run.specs.Stopping.{Explains, FaultsAs, LeavesStored}
+use Rattle.shex_run.specs.Stopping.{Explains, FaultsAs, LeavesFailed, LeavesStored}
 use Rattle.shex_run.specs.Storing.{MayStore}
-use Rattle.shex_run.specs.Tasks.{name_of}
+use Rattle.shex_run.specs.Tasks.{act_of, name_of}
 use Rattle.shex_run.specs.Texts.{failed_line, refusal_line, words_line}
 
 module _ (words : List Text) (c : Command) (is_asked : IsAsked words c) (files : FilesSeen) (out err : SinkSeen) (status : ℕ) where
@@ -30,6 +32,16 @@ module _ (words : List Text) (c : Command) (is_asked : IsAsked words c) (files :
   partly : MayStore files.told files.told_after c → IsPartlyStored files.told files.told_after words
   partly (inl still) = inl still
   partly (inr cut) = inr (inl (c, is_asked, cut))
+
+  -- a failed call stores the proof in part at most
+  failed_in_part : (act : Act) → LeavesFailed files.told files.told_after c act → MayStore files.told files.told_after c
+  failed_in_part Acts.Fetch still = inl still
+  failed_in_part Acts.Store may = may
+
+  -- and nothing where it was a fetch
+  failed_unfetched : (act : Act) → act ≡ Acts.Fetch → LeavesFailed files.told files.told_after c act → files.told_after ≡ files.told
+  failed_unfetched Acts.Fetch e still = still
+  failed_unfetched Acts.Store e may = absurd cc
 
   pub with_response : (text notes : List ℕ) (wanted : ℕ) → IsAnswering wanted → IsResponse files.told files.told_after c wanted text notes → files.faults_after ≡ files.faults → PrintsBoth out err text notes wanted status → Ends words files out err status
   with_response text notes wanted low response still prints = answered text notes wanted low (inl (record { command = c; is_asked = is_asked; response = response })) still prints
@@ -59,7 +71,7 @@ module _ (words : List Text) (c : Command) (is_asked : IsAsked words c) (files :
     rose = rose;
     failed = inl (record { command = c; is_asked = is_asked; file = file; reached = cause; name_is = named; act_is = act });
     line_is = ap failed_line (sym named);
-  }) (record { later = later; stored = partly left }) quiet prints
+  }) (record { later = later; stored = partly (failed_in_part (act_of c.task file) left); unfetched = λ e. failed_unfetched (act_of c.task file) (sym act ∙ e) left }) quiet prints
   with_stop Stops.Memory cause still left quiet (silent, at) = wanting (partly left) still quiet silent at
 
   -- a refusal is printed with its status

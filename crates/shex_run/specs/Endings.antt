@@ -4,7 +4,7 @@ use Rattle.clap.specs.Words.{Text}
 use Rattle.shex_io.specs.Faults.{Rose}
 use Rattle.shex_io.specs.Files.{Told, KeepsOthers}
 use Rattle.shex_io.specs.Sinks.{Gains, GainsPrefix}
-use Rattle.shex_io.specs.declared.files.Act.TheVariants.{Store}
+use Rattle.shex_io.specs.declared.files.Act.TheVariants.{Fetch, Store}
 use Rattle.schema_tree.specs.declared.schema.Answer.{Answer}
 use Rattle.shape_map.specs.Results.{result_text}
 use Rattle.proof_checker.specs.declared.checking.CheckError.{CheckError}
@@ -130,10 +130,11 @@ KeepsTold told after words =
     ⊎ (((c : Command) × IsAsked words c × ((name : Text) × IsToStore c name × KeepsOthers told after name))
     ⊎ ((d : Drill) × IsDrill words d × ((name : Text) × (d.proof ≡ Some name) × KeepsOthers told after name)))
 
--- a call on a file failed: the count of faults does not fall, and the proof is stored in part at most
+-- a call on a file failed: the count of faults does not fall; the proof is stored in part at most, and nothing where it was a fetch
 pub record HaveFailed (files : FilesSeen) (words : List Text) : Type 0 where
   pub later : files.faults ≤ files.faults_after
   pub stored : IsPartlyStored files.told files.told_after words
+  pub unfetched : files.act ≡ Fetch → files.told_after ≡ files.told
 
 -- how a call ends: the words are at fault; or there is an answer; or the inputs are refused; or the proof is rejected; or a
 -- call on a file failed; or memory ran out before anything was printed

@@ -59,10 +59,15 @@ abbrev pub FaultsAs : Command → ℕ → ℕ → List ℕ → Act → Stop → 
 FaultsAs c before after blame act (Stops.Failed file) = Rose before after × (before ≤ after) × (blame ≡ name_of c file) × (act ≡ act_of c.task file)
 FaultsAs c before after blame act stop = after ≡ before
 
--- what a call that stops leaves stored: nothing, or, where a call on a file failed or memory ran out, the proof in part
+-- what a failed call on a file leaves stored: nothing where it was to be fetched, and the proof in part where that was to be stored
+abbrev pub LeavesFailed : Told → Told → Command → Act → Type 0
+LeavesFailed told after c Acts.Fetch = after ≡ told
+LeavesFailed told after c Acts.Store = MayStore told after c
+
+-- what a call that stops leaves stored: nothing, or, where a store failed or memory ran out, the proof in part
 abbrev pub LeavesStored : Told → Told → Command → Stop → Type 0
 LeavesStored told after c (Stops.Refused refusal) = after ≡ told
-LeavesStored told after c (Stops.Failed file) = MayStore told after c
+LeavesStored told after c (Stops.Failed file) = LeavesFailed told after c (act_of c.task file)
 LeavesStored told after c Stops.Memory = MayStore told after c
 
 -- how a call on a file of this name stops, which holds a proof or is to hold one: the call failed, or memory ran out

@@ -5,6 +5,7 @@ ghost use Rattle.rdf_terms.specs.declared.terms.Term.{Term};
 ghost use Rattle.schema_tree.specs.declared.schema.Answer.{Answer};
 ghost use Rattle.clap.specs.Words.{Text};
 ghost use Rattle.shex_io.specs.Faults.{Rose};
+ghost use Rattle.shex_io.specs.declared.files.Act.TheVariants as Acts;
 ghost use Rattle.shex_io.specs.Sinks.{Gains};
 ghost use Rattle.command_words.specs.Asked.{Command as Asking, IsAsked};
 ghost use Rattle.command_words.specs.Checks.{Fault};
@@ -194,9 +195,10 @@ pub fn run<F: Files, O: Sink, E: Sink>(
         (record { got = O.got out.old; got_after = O.got out.new; faults = O.faults out.old; faults_after = O.faults out.new })
         (record { got = E.got err.old; got_after = E.got err.new; faults = E.faults err.old; faults_after = E.faults err.new }) }
 
-    // What is stored: nothing where the words, the inputs or the proof are refused, the proof or a part of it where the call
-    // is interrupted, the whole proof where a sink alone failed, and under no other name anything.
+    // What is stored: nothing where the words, the inputs or the proof are refused or a file could not be fetched, the proof or
+    // a part of it where the call is interrupted, the whole proof where a sink alone failed, and under no other name anything.
     ensures unstored { (result ≡ 2) ⊎ ((result ≡ 3) ⊎ (result ≡ 6)) → F.told files.new ≡ F.told files.old }
+    ensures unfetched { result ≡ 5 → F.act files.new ≡ Acts.Fetch → F.told files.new ≡ F.told files.old }
     ensures stored_in_part { IsInterrupted result →
         IsPartlyStored (F.told files.old) (F.told files.new) (map string_bytes words.now) }
     ensures stored_whole { (contents : List ℕ → Option (List ℕ)) (c : Asking) (map_name name : Text) (budget : ℕ) →

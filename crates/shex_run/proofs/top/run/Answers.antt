@@ -1,4 +1,4 @@
-use Rattle.shex_run.proofs.Closing.{absent_ends, accepted_ends, drill_ends, drill_stored, ends_kept, ends_partly, ends_quietly, faulty_ends, filled_ends, five_rose, in_part, refused_ends, rejected_ends, seven_rose, taken_ends, unfaulted, unprinted, upgraded_ends, whole_ends}
+use Rattle.shex_run.proofs.Closing.{absent_ends, accepted_ends, drill_ends, drill_stored, ends_kept, ends_partly, ends_quietly, faulty_ends, filled_ends, five_rose, five_unfetched, in_part, refused_ends, rejected_ends, seven_rose, taken_ends, unfaulted, unprinted, upgraded_ends, whole_ends}
 use Rattle.shex_run.proofs.Exclusive.{are_one}
 use Rattle.shex_run.proofs.top.run.Goals as goal
 
@@ -18,6 +18,9 @@ returns-clause-upgraded_whole g c = λ contents k name h bytes terms answers tol
 
 pub returns-clause-stored_in_part : goal.returns-clause-stored_in_part
 returns-clause-stored_in_part g c = λ interrupted. ends_partly _ _ _ _ _ c.end.ensures
+
+pub returns-clause-unfetched : goal.returns-clause-unfetched
+returns-clause-unfetched g c = λ at act. five_unfetched _ _ _ _ _ c.end.ensures at act
 
 pub returns-clause-told : goal.returns-clause-told
 returns-clause-told g c = ends_kept _ _ _ _ _ c.end.ensures
