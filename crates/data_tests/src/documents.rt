@@ -75,25 +75,25 @@ fn large_documents_are_read(rt: HostRuntime) -> Result<(), Fail> {
     Ok(())
 }
 
-/// How many triples a literal of so many bytes is in each format, or why it is refused.
-fn counts(alloc: Global, bytes: u32) -> Result<[Result<u64, ReadError>; 2], AllocError> {
+/// How many triples a statement is whose object is a literal of so many bytes, or why it is refused.
+fn count_of_literal(
+    alloc: Global,
+    format: Format,
+    bytes: u32,
+) -> Result<Result<u64, ReadError>, AllocError> {
     let text = repeated(alloc, "<a:s> <a:p> \"", "x", bytes, "\" .")?;
-    Ok([
-        count(alloc, Format::NTriples, text.as_str()),
-        count(alloc, Format::Turtle, text.as_str()),
-    ])
+    Ok(count(alloc, format, text.as_str()))
 }
 
 /// A literal as long as it may be, and one of a byte more.
 #[test]
 fn the_longest_literal_is_read(rt: HostRuntime) -> Result<(), Fail> {
-    let alloc = rt.alloc();
-    let [in_lines, in_turtle] = counts(alloc, 16_777_216)?;
-    assert_eq!(rt; in_lines, Ok(1));
-    assert_eq!(rt; in_turtle, Ok(1));
-    let [in_lines, in_turtle] = counts(alloc, 16_777_217)?;
-    assert_eq!(rt; in_lines, Err(ReadError::Long(12)));
-    assert_eq!(rt; in_turtle, Err(ReadError::Long(12)));
+    for format in [Format::NTriples, Format::Turtle] {
+        let within = count_of_literal(rt.alloc(), format, 16_777_216)?;
+        assert_eq!(rt; within, Ok(1));
+        let beyond = count_of_literal(rt.alloc(), format, 16_777_217)?;
+        assert_eq!(rt; beyond, Err(ReadError::Long(12)));
+    }
     Ok(())
 }
 

@@ -322,7 +322,7 @@ fn asked_by_row<L: Ledger>(blank: Blank, alloc: Global) -> Result<u64, Fail>
 }
 
 /// Each pair of a row needs the next one, and the last cannot match. A pair is looked at again only when the one that it
-/// needs goes, so what is kept of others is asked at most 14,991 times; in rounds over all pairs it were 400,000 times.
+/// needs goes, so what is kept of others is asked at most 14,991 times; in rounds over all pairs it would be 400,000 times.
 #[test]
 fn a_row_falls_from_its_end_without_rounds(rt: HostRuntime) -> Result<(), Fail> {
     let times = asked_by_row::<Brand>(Blank::new(1), rt.alloc())?;
