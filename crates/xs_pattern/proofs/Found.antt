@@ -58,10 +58,9 @@ found_exact f text e w b is found missed = (λ h. out (found h), λ p. into b re
 
 -- the same of what a call answers
 pub found_result :
-    {E : Type 0} (r : Result Bool E) (f : Flags) (cs text : List ℕ) (e : Regex) (w : Way) → cs ≡ text → w ≡ unroll 0 e →
-    IfOk r (λ b. b ≡ true → (j : ℕ) × (j ≤ length cs) × (exits_at f (sets e) cs w j ≡ true)) →
-    IfOk r (λ b. b ≡ false → (j : ℕ) → j ≤ length cs → exits_at f (sets e) cs w j ≡ false) →
+    {E : Type 0} (r : Result Bool E) (f : Flags) (text : List ℕ) (e : Regex) (w : Way) → w ≡ unroll 0 e →
+    IfOk r (λ b. b ≡ true → (j : ℕ) × (j ≤ length text) × (exits_at f (sets e) text w j ≡ true)) →
+    IfOk r (λ b. b ≡ false → (j : ℕ) → j ≤ length text → exits_at f (sets e) text w j ≡ false) →
     IfOk r (λ b. IsTrue b ↔ IsFound f text e)
-found_result (Ok b) f cs text e w same is found missed =
-    subst (λ t. IsTrue b ↔ IsFound f t e) same (found_exact f cs e w b is found missed)
-found_result (Err x) f cs text e w same is found missed = tt
+found_result (Ok b) f text e w is found missed = found_exact f text e w b is found missed
+found_result (Err x) f text e w is found missed = tt

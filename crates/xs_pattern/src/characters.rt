@@ -3,8 +3,8 @@ ghost use Rattle.std.specs.Prelude.{◌≡◌, ◌++◌, IfOk, OnOk, map};
 ghost use Rattle.std.specs.Str.{chars};
 ghost use Rattle.xs_pattern.specs.Characters.{has_kind};
 ghost use Rattle.xs_pattern.specs.Regex.{chars_of, members_of, regex_of, regexes_of};
-ghost use Rattle.xs_pattern.specs.Tests.{alike, item_has, some_has, member_has, class_has, set_has, some_within};
-ghost use Rattle.xs_pattern.specs.Unrolling.{all_sets, kept, sets};
+ghost use Rattle.xs_pattern.specs.Tests.{item_has, some_has, member_has, class_has, set_has, some_within, others};
+ghost use Rattle.xs_pattern.specs.Unrolling.{all_sets, having, kept, sets};
 
 use crate::{CharGroup, Expression, Flags, Item, Kind, Set};
 use std::alloc::{AllocError, Global};
@@ -102,26 +102,43 @@ impl Set {
     }
 }
 
-/// The characters that stand for this one: itself, and where case is ignored those with its simple folding.
-pub(crate) fn alike(alloc: Global, flags: Flags, c: char) -> Result<Vec<u32>, AllocError>
-    ensures { IfOk result (λ cs. cs.items ≡ alike flags c) }
+/// Adds the other characters with the simple folding of this one.
+fn add_others(code: u32, alike: &mut Vec<u32>) -> Result<(), AllocError>
+    ensures { OnOk result (alike.new.items ≡ alike.old.items ++ others code) }
 {
-    let code = u32::from(c);
-    let mut all = Vec::new(alloc);
-    all.push(code)?;
-    if flags.ignore_case {
-        for pair in fold_pairs() {
-            if pair.0 == code {
-                all.push(pair.1)?;
-            }
+    for pair in fold_pairs() {
+        if pair.0 == code {
+            alike.push(pair.1)?;
         }
     }
-    Ok(all)
+    Ok(())
+}
+
+/// Sets `answers` to whether each set of the expression has the character. Where case is ignored, `alike` is what stands
+/// for the character: itself, and those with its simple folding.
+pub(crate) fn fill_having(
+    e: &Expression,
+    flags: Flags,
+    c: char,
+    alike: &mut Vec<u32>,
+    answers: &mut Vec<bool>,
+) -> Result<(), AllocError>
+    ensures { OnOk result (answers.new.items ≡ having flags (sets (regex_of e.now)) c) }
+{
+    let code = u32::from(c);
+    answers.clear();
+    if !flags.ignore_case {
+        return add_having(e, flags, c, &[code], answers);
+    }
+    alike.clear();
+    alike.push(code)?;
+    add_others(code, alike)?;
+    add_having(e, flags, c, alike, answers)
 }
 
 /// Adds for each set of the expression whether it has the character.
 #[cycle(having)]
-pub(crate) fn add_having(
+fn add_having(
     e: &Expression,
     flags: Flags,
     c: char,

@@ -5,10 +5,10 @@ ghost use Rattle.std.specs.Str.{chars};
 ghost use Rattle.xs_pattern.specs.Language.{IsFound};
 ghost use Rattle.xs_pattern.specs.Limits.{IsLarge, positions};
 ghost use Rattle.xs_pattern.specs.Regex.{Regex, regex_of};
-ghost use Rattle.xs_pattern.specs.Unrolling.{exits, exits_at, having, sets};
+ghost use Rattle.xs_pattern.specs.Unrolling.{exits, exits_at, sets};
 ghost use Rattle.xs_pattern.specs.Way.{next, size, way_of};
 
-use crate::characters::{add_having, alike, characters};
+use crate::characters::fill_having;
 use crate::flagged::{are_flags, flags_named};
 use crate::limits::fitting_positions;
 use crate::reader::read_expression;
@@ -16,6 +16,7 @@ use crate::unrolled::{Unrolled, unroll};
 use crate::walk::{Edge, add_blank, advance, exit_of};
 use crate::{Expression, Flags, PatternError};
 use std::alloc::{AllocError, Global};
+use std::mem;
 
 /// A pattern with its flags (XPath Functions and Operators 3.1, sections 5.6.1 and 5.6.2).
 #[derive(Debug, Drop)]
@@ -93,35 +94,30 @@ impl Pattern {
     pub fn found(&self, alloc: Global, text: &str) -> Result<bool, AllocError>
         ensures { IfOk result (λ b. IsTrue b ↔ IsFound (flags_of self.now) (chars text.now) (regex self.now)) }
     {
-        let characters = characters(alloc, text)?;
         let mut next = 0;
         let way = unroll(alloc, &self.expression, &mut next)?;
-        is_found(alloc, &self.expression, self.flags, &way, &characters)
+        is_found(alloc, &self.expression, self.flags, &way, text)
     }
 }
 
-/// Reads a character at a place, and answers whether a part of the text ends there that is of the pattern.
+/// Reads a character at a place, of which it is known which sets have it, and answers whether a part of the text ends
+/// there that is of the pattern. What is in `behind` does not matter.
 fn read_char(
-    alloc: Global,
-    e: &Expression,
-    flags: Flags,
     way: &Unrolled,
     edge: Edge,
-    c: char,
+    having: &[bool],
     marks: &mut Vec<bool>,
+    behind: &mut Vec<bool>,
 ) -> Result<bool, AllocError>
     requires { size (way_of way.now) ≤ length marks.old.items }
     ensures exits { IfOk result (λ b. b ≡ exits edge (way_of way.now) marks.old.items) }
     ensures marks { OnOk result (marks.new.items
-        ≡ next edge (λ k. slice_index_or (having flags (sets (regex_of e.now)) c) k false) (way_of way.now) true marks.old.items) }
+        ≡ next edge (λ k. slice_index_or having.now k false) (way_of way.now) true marks.old.items) }
 {
-    let alike = alike(alloc, flags, c)?;
-    let mut having = Vec::new(alloc);
-    add_having(e, flags, c, &alike, &mut having)?;
-    let mut behind = Vec::with_capacity(alloc, marks.len())?;
-    let exit = advance(way, edge, &having, true, marks, &mut behind)?;
-    *marks = behind;
-    Ok(exit.ends || exit.passes)
+    behind.clear();
+    let exit = advance(way, edge, having, true, marks, behind)?;
+    mem::swap(marks, behind);
+    Ok(exit.leaves())
 }
 
 /// Whether some part of the text is of the pattern, which is given unrolled, too.
@@ -130,28 +126,27 @@ pub(crate) fn is_found(
     e: &Expression,
     flags: Flags,
     way: &Unrolled,
-    text: &[char],
+    text: &str,
 ) -> Result<bool, AllocError>
-    ensures found { IfOk result (λ b. b ≡ true →
-        (j : ℕ) × (j ≤ length text.now) × (exits_at flags (sets (regex_of e.now)) text.now (way_of way.now) j ≡ true)) }
-    ensures missed { IfOk result (λ b. b ≡ false →
-        (j : ℕ) → j ≤ length text.now → exits_at flags (sets (regex_of e.now)) text.now (way_of way.now) j ≡ false) }
+    ensures found { IfOk result (λ b. b ≡ true → (j : ℕ) × (j ≤ length (chars text.now))
+        × (exits_at flags (sets (regex_of e.now)) (chars text.now) (way_of way.now) j ≡ true)) }
+    ensures missed { IfOk result (λ b. b ≡ false → (j : ℕ) → j ≤ length (chars text.now)
+        → exits_at flags (sets (regex_of e.now)) (chars text.now) (way_of way.now) j ≡ false) }
 {
     let mut marks = Vec::new(alloc);
     add_blank(way, &mut marks)?;
-    for (place, c) in text.iter().enumerate() {
-        let edge = Edge {
-            start: place == 0,
-            end: false,
-        };
-        if read_char(alloc, e, flags, way, edge, *c, &mut marks)? {
+    let mut behind = Vec::with_capacity(alloc, marks.len())?;
+    let mut having = Vec::with_capacity(alloc, marks.len())?;
+    let mut alike = Vec::new(alloc);
+    let mut start = true;
+    for c in text.chars() {
+        fill_having(e, flags, c, &mut alike, &mut having)?;
+        let edge = Edge { start, end: false };
+        if read_char(way, edge, &having, &mut marks, &mut behind)? {
             return Ok(true);
         }
+        start = false;
     }
-    let edge = Edge {
-        start: text.is_empty(),
-        end: true,
-    };
-    let exit = exit_of(way, edge, &marks, 0);
-    Ok(exit.ends || exit.passes)
+    let edge = Edge { start, end: true };
+    Ok(exit_of(way, edge, &marks, 0).leaves())
 }

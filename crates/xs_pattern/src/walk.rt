@@ -41,6 +41,13 @@ impl Exit {
         enters || self.ends
     }
 
+    /// Whether a part of the text ends there, whether this part is entered there or before.
+    pub(crate) fn leaves(self) -> bool
+        ensures { result ≡ (self.ends || self.passes) }
+    {
+        self.ends || self.passes
+    }
+
     /// What this part and then another one do.
     fn then(self, second: Exit) -> Exit
         ensures { result ≡ record {

@@ -1,4 +1,4 @@
-use Rattle.std.proofs.Common.{arith, ◌∙◌}
+use Rattle.std.proofs.Common.{arith}
 use Rattle.xs_pattern.specs.Regex.{regex_of}
 use Rattle.xs_pattern.proofs.Found.{found_result, sets_within}
 use Rattle.xs_pattern.proofs.pattern.Pattern.found.Goals as goal
@@ -11,6 +11,5 @@ unroll-requires c =
 
 pub returns : goal.returns
 returns c =
-    found_result c.is_found.result c.args.self.now.flags _ _ (regex_of c.args.self.now.expression) _
-    (c.deref.ensures.value ∙ c.in_ok-characters.ensures) c.in_ok-way.ensures.way
+    found_result c.is_found.result c.args.self.now.flags _ (regex_of c.args.self.now.expression) _ c.in_ok-way.ensures.way
     c.is_found.ensures.found c.is_found.ensures.missed
