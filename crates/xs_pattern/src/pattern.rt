@@ -1,11 +1,11 @@
 //! Patterns, and whether they are found in a text.
-ghost use Rattle.std.specs.Prelude.{◌≡◌, ◌↔◌, ℕ, ◌≤◌, ◌<◌, true, false, IsTrue, ◌⊎◌, IfOk, IfSome, IsErrOf, IsNone, MatchResult, OnOk, length, slice_index_or};
+ghost use Rattle.std.specs.Prelude.{◌≡◌, ◌↔◌, ℕ, ◌≤◌, ◌<◌, true, false, IsTrue, ◌⊎◌, IfOk, IfSome, IsErrOf, IsNone, IsSome, MatchResult, OnOk, length, slice_index_or};
 ghost use Rattle.xs_pattern.specs.Flagged.{AreFlags, IsSpelledUnder, SpellsUnder, flags_named};
 ghost use Rattle.std.specs.Str.{chars};
 ghost use Rattle.xs_pattern.specs.Language.{IsFound};
 ghost use Rattle.xs_pattern.specs.Limits.{IsLarge, positions};
 ghost use Rattle.xs_pattern.specs.Regex.{Regex, regex_of};
-ghost use Rattle.xs_pattern.specs.Unrolling.{exits, exits_at, sets};
+ghost use Rattle.xs_pattern.specs.Unrolling.{exits, exits_at, sets, unroll};
 ghost use Rattle.xs_pattern.specs.Way.{next, size, way_of};
 
 use crate::characters::fill_having;
@@ -18,12 +18,18 @@ use crate::{Expression, Flags, PatternError};
 use std::alloc::{AllocError, Global};
 use std::mem;
 
+/// The most positions of a pattern whose unrolled form is kept.
+const FEW: u32 = 64;
+
 /// A pattern with its flags (XPath Functions and Operators 3.1, sections 5.6.1 and 5.6.2).
 #[derive(Debug, Drop)]
 pub struct Pattern {
     expression: Expression,
     flags: Flags,
+    // The unrolled form of a pattern of few positions, so that it is not made anew for each text.
+    unrolled: Option<Unrolled>,
     ghost small: { positions (regex_of expression) ≤ 4096 },
+    ghost kept: { ∥ IfSome unrolled (λ w. way_of w ≡ unroll 0 (regex_of expression)) ∥₁ },
 }
 
 impl Pattern {
@@ -38,7 +44,11 @@ impl Pattern {
         ensures none { IsNone result ↔ (4096 < positions (regex_of expression)) }
     {
         if fitting_positions(&expression).is_some() {
-            Some(Pattern { expression, flags })
+            Some(Pattern {
+                expression,
+                flags,
+                unrolled: None,
+            })
         } else {
             None
         }
@@ -81,9 +91,26 @@ impl Pattern {
     {
         let expression = read_expression(alloc, text, flags)?;
         match Pattern::new(expression, flags_named(flags)) {
-            Some(pattern) => Ok(pattern),
+            Some(pattern) => Ok(pattern.keeping(alloc)?),
             None => Err(PatternError::Large),
         }
+    }
+
+    /// The same pattern. Where it has few positions, its unrolled form is kept.
+    fn keeping(self, alloc: Global) -> Result<Pattern, AllocError>
+        ensures { IfOk result (λ p. (regex p ≡ regex self) × (flags_of p ≡ flags_of self)) }
+    {
+        let Pattern {
+            expression,
+            flags,
+            unrolled: _,
+        } = self;
+        let unrolled = unrolled_if_few(alloc, &expression)?;
+        Ok(Pattern {
+            expression,
+            flags,
+            unrolled,
+        })
     }
 
     /// Whether some part of the text is in the language of the pattern (section 5.6.3).
@@ -94,10 +121,35 @@ impl Pattern {
     pub fn found(&self, alloc: Global, text: &str) -> Result<bool, AllocError>
         ensures { IfOk result (λ b. IsTrue b ↔ IsFound (flags_of self.now) (chars text.now) (regex self.now)) }
     {
+        match &self.unrolled {
+            Some(way) => is_found(alloc, &self.expression, self.flags, way, text),
+            None => self.found_anew(alloc, text),
+        }
+    }
+
+    /// The same, with the pattern unrolled for this text.
+    fn found_anew(&self, alloc: Global, text: &str) -> Result<bool, AllocError>
+        ensures { IfOk result (λ b. IsTrue b ↔ IsFound (flags_of self.now) (chars text.now) (regex self.now)) }
+    {
         let mut next = 0;
         let way = unroll(alloc, &self.expression, &mut next)?;
         is_found(alloc, &self.expression, self.flags, &way, text)
     }
+}
+
+/// The unrolled form of an expression that has few positions.
+fn unrolled_if_few(alloc: Global, e: &Expression) -> Result<Option<Unrolled>, AllocError>
+    ensures way { IfOk result (λ o. IfSome o (λ w. way_of w ≡ unroll 0 (regex_of e.now))) }
+    ensures few { IfOk result (λ o. IsSome o ↔ (positions (regex_of e.now) ≤ 64)) }
+{
+    let Some(number) = fitting_positions(e) else {
+        return Ok(None);
+    };
+    if number > FEW {
+        return Ok(None);
+    }
+    let mut next = 0;
+    Ok(Some(unroll(alloc, e, &mut next)?))
 }
 
 /// Reads a character at a place, of which it is known which sets have it, and answers whether a part of the text ends

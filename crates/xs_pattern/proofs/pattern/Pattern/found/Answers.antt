@@ -1,15 +1,9 @@
-use Rattle.std.proofs.Common.{arith}
+use Rattle.std.specs.Str.{chars}
 use Rattle.xs_pattern.specs.Regex.{regex_of}
-use Rattle.xs_pattern.proofs.Found.{found_result, sets_within}
+use Rattle.xs_pattern.proofs.Found.{kept_result}
 use Rattle.xs_pattern.proofs.pattern.Pattern.found.Goals as goal
 
-pub unroll-requires : goal.unroll-requires
-unroll-requires c =
-    let all = sets_within (regex_of c.args.self.now.expression) in
-    let small = c.args.self.now.small in
-    omega arith
-
-pub returns : goal.returns
-returns c =
-    found_result c.is_found.result c.args.self.now.flags _ (regex_of c.args.self.now.expression) _ c.in_ok-way.ensures.way
+pub returns-in-Some : goal.returns-in-Some
+returns-in-Some c =
+    kept_result c.args.self.now.flags (chars c.args.text.now) (regex_of c.args.self.now.expression) _ _ c.in-Some.is c.args.self.now.kept c.is_found.result
     c.is_found.ensures.found c.is_found.ensures.missed
