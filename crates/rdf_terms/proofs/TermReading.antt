@@ -29,7 +29,7 @@ use Rattle.rdf_terms.specs.declared.terms.Name.TheVariants.{Label, Fresh}
 use Rattle.rdf_terms.specs.declared.terms.Term.{Term}
 use Rattle.rdf_terms.specs.declared.terms.Term.TheVariants.{Iri, Blank, Lit}
 use Rattle.rdf_terms.proofs.Anonymous.{anonymous_bytes}
-use Rattle.rdf_terms.proofs.Characters.{ascii_codes, lowered, starts, starts_encodes, front_chars}
+use Rattle.rdf_terms.proofs.Characters.{ascii_codes, starts, starts_encodes, front_chars}
 use Rattle.rdf_terms.proofs.DistinctTexts.{IsCode, Spelling, short, plain, spelling, first_byte, lex_once, lex_rest, iri_once, Suffix, tag, string, typed, suffix, not_head, not_empty, same_tails}
 use Rattle.rdf_terms.proofs.Escapes.{escaped_bytes, escaped_character}
 use Rattle.rdf_terms.proofs.PrintedNames.{printed_read, names_one}

@@ -4,7 +4,7 @@ use Rattle.std.specs.List.{flat_map}
 use Rattle.std.specs.Option.{option_to_list}
 use Rattle.rdf_terms.specs.declared.order.TextBytes.{TextBytes}
 
--- a byte of a quoted string: each character that is escaped is one byte (N-Triples, section 2.4)
+-- a byte of a quoted string: each character that is escaped is one byte (N-Triples, section 2.3)
 abbrev pub escaped_byte : ℕ → List ℕ
 escaped_byte b =
     if b == 34 then codes "\\\""

@@ -10,7 +10,7 @@ use Rattle.rdf_terms.specs.declared.terms.Name.TheVariants.{Label, Fresh}
 use Rattle.rdf_terms.specs.declared.terms.Term.{Term}
 use Rattle.rdf_terms.specs.declared.terms.Term.TheVariants.{Iri, Blank, Lit}
 
--- an IRI in angle brackets (N-Triples, section 2.1)
+-- an IRI in angle brackets (N-Triples, section 2.2)
 abbrev pub iri_text : List ℕ → List ℕ
 iri_text iri = codes "<" ++ (encode_utf8_all iri ++ codes ">")
 
@@ -20,7 +20,7 @@ abbrev pub printed_name : Name → List ℕ
 printed_name (Label label) = (if starts_with nat_eq label (codes "anon") then codes "anon_" else []) ++ encode_utf8_all label
 printed_name (Fresh n) = codes "anon" ++ decimal n
 
--- a character of a quoted string: quote, backslash, line feed and carriage return are escaped (N-Triples, section 2.4)
+-- a character of a quoted string: quote, backslash, line feed and carriage return are escaped (N-Triples, section 2.3)
 abbrev pub escaped : ℕ → List ℕ
 escaped c =
     if c == 34 then codes "\\\""
@@ -34,7 +34,7 @@ abbrev pub suffix_text : LiteralParts → Option (List ℕ) → List ℕ
 suffix_text l (Some tag) = codes "@" ++ encode_utf8_all tag
 suffix_text l None = if same_text l.datatype xsd_string then [] else codes "^^" ++ iri_text l.datatype
 
--- a literal (N-Triples, section 2.4)
+-- a literal (N-Triples, section 2.3)
 abbrev pub literal_text : LiteralParts → List ℕ
 literal_text l = codes "\"" ++ (flat_map escaped l.lex ++ (codes "\"" ++ suffix_text l l.lang))
 

@@ -264,7 +264,7 @@ fn is_string(datatype: &Text) -> bool
     datatype.as_str() == XSD_STRING
 }
 
-/// What stands behind the backslash where a byte of a quoted string is escaped (N-Triples, section 2.4).
+/// What stands behind the backslash where a byte of a quoted string is escaped (N-Triples, section 2.3).
 fn escape_of(byte: u8) -> Option<u8>
     ensures escaped { IfSome result (λ e. escaped_byte byte ≡ 92 ∷ (e ∷ [])) }
     ensures plain { IfNone result (escaped_byte byte ≡ byte ∷ []) }

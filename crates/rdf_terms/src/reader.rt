@@ -150,7 +150,7 @@ fn take_escape(characters: &mut Chars<'_>) -> Piece
     }
 }
 
-/// The character that is written as a backslash and this one (N-Triples, section 2.4).
+/// The character that is written as a backslash and this one (N-Triples, section 2.3).
 fn meant_by(code: char) -> Piece
     ensures { IsEscape code result }
 {

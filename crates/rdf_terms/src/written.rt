@@ -110,7 +110,7 @@ fn push_suffix(literal: &Literal, out: &mut String) -> Result<(), AllocError>
     }
 }
 
-/// Appends a lexical form with its escapes (N-Triples, section 2.4).
+/// Appends a lexical form with its escapes (N-Triples, section 2.3).
 fn push_escaped(lex: &Text, out: &mut String) -> Result<(), AllocError>
     ensures { OnOk result (string_bytes out.new ≡ string_bytes out.old ++ flat_map escaped lex.now) }
 {
