@@ -1,5 +1,5 @@
 -- The next token of a text as a function: what a scan finds that keeps the last place in which a token may end.
-use Rattle.std.specs.Prelude.{ℕ, ◌+◌, Bool, true, false, Option, Some, None, List, [], ◌∷◌, take, drop, nat_eq, if◌then◌else◌, ◌&&◌, not}
+use Rattle.std.specs.Prelude.{ℕ, ◌+◌, Option, Some, None, List, [], ◌∷◌, take, drop, nat_eq, if◌then◌else◌, ◌&&◌}
 use Rattle.std.specs.Char.{len_utf8}
 use Rattle.std.specs.Str.{chars}
 use Rattle.rdf_lex.specs.declared.kinds.Kind.{Kind}

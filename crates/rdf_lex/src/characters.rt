@@ -22,6 +22,7 @@ pub fn is_letter(ch: char) -> bool
     matches!(ch, 'A'..='Z' | 'a'..='z')
 }
 
+/// A to Z, a to z and 0 to 9.
 #[tactic(auto, unfolding(crate::specs::Characters::letter_or_digit))]
 pub fn is_letter_or_digit(ch: char) -> bool
     ensures { result ≡ has letter_or_digit ch }
@@ -86,7 +87,28 @@ pub fn is_local_char(ch: char) -> bool
 pub fn is_local_escaped(ch: char) -> bool
     ensures { result ≡ has local_escaped ch }
 {
-    matches!(ch, '_' | '~' | '-'..='/' | '!' | '#'..=',' | ';' | '=' | '?'..='@')
+    matches!(
+        ch,
+        '_' | '~'
+            | '.'
+            | '-'
+            | '!'
+            | '$'
+            | '&'
+            | '\''
+            | '('
+            | ')'
+            | '*'
+            | '+'
+            | ','
+            | ';'
+            | '='
+            | '/'
+            | '?'
+            | '#'
+            | '@'
+            | '%'
+    )
 }
 
 /// ECHAR, behind its backslash ([159s]).
@@ -102,7 +124,10 @@ pub fn is_text_escaped(ch: char) -> bool
 pub fn is_iri_char(ch: char) -> bool
     ensures { result ≡ has iri_char ch }
 {
-    !matches!(ch, '\0'..=' ' | '<' | '>' | '"' | '{'..='}' | '^' | '`' | '\\')
+    !matches!(
+        ch,
+        '\0'..=' ' | '<' | '>' | '"' | '{' | '}' | '|' | '^' | '`' | '\\'
+    )
 }
 
 /// The character of a quotation mark.
@@ -151,7 +176,7 @@ pub fn is_line_end(ch: char) -> bool
 pub fn is_turtle_mark(ch: char) -> bool
     ensures { result ≡ has turtle_mark ch }
 {
-    matches!(ch, '('..=')' | ';' | '[' | ']')
+    matches!(ch, '(' | ')' | ';' | '[' | ']')
 }
 
 /// A brace.
@@ -167,7 +192,7 @@ pub fn is_brace(ch: char) -> bool
 pub fn is_schema_mark(ch: char) -> bool
     ensures { result ≡ has schema_mark ch }
 {
-    matches!(ch, '$'..='&' | '*' | '=' | '?' | '|' | '~')
+    matches!(ch, '|' | '~' | '=' | '$' | '&' | '*' | '?' | '%')
 }
 
 /// What a pattern may begin with as it is.

@@ -3,6 +3,7 @@
 ghost use Rattle.std.specs.Prelude.{◌≡◌, ℕ, ◌+◌, ◌*◌, ◌^◌, ◌<◌, List, true, false, MatchResult, IfOk, string_bytes};
 ghost use Rattle.std.specs.Str.{chars};
 ghost use Rattle.rdf_lex.specs.Escapes.{digit_of, goes_on, numbers, escaped, bound_of, IsBelow, StaysBelow, step_after, fits, Gave, StandsFor, ReadsAs, inside_of, holds_text, IsSpelled, Unescapes};
+ghost use Rattle.rdf_lex.specs.declared.machine.Left.{Left};
 ghost use Rattle.rdf_lex.specs.declared.escapes.LexError.TheVariants.{Escape, Memory};
 
 use crate::bodies::body_of;
@@ -112,7 +113,7 @@ fn step_on(inside: Inside, reading: Reading, ch: char) -> Step
         )),
         Reading::Behind => Step::Gives(named(inside, ch)),
         Reading::Digits(left, number) => {
-            let number = number_on(left, number, ch);
+            let number = number_on(number, ch);
             match fewer(left) {
                 Some(fewer) => Step::On(Reading::Digits(fewer, number)),
                 None => Step::Gives(number),
@@ -122,10 +123,10 @@ fn step_on(inside: Inside, reading: Reading, ch: char) -> Step
 }
 
 /// A number with one more hexadecimal digit.
-fn number_on(left: Left, number: u32, ch: char) -> u32
-    requires { number < bound_of left }
+fn number_on(number: u32, ch: char) -> u32
+    requires { number < 2 ^ 28 }
     ensures value { result ≡ goes_on number ch }
-    ensures below { result < 16 * bound_of left }
+    ensures below { (left : Left) → number < bound_of left → result < 16 * bound_of left }
 {
     number * 16 + digit(ch)
 }

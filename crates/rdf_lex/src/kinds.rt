@@ -1,6 +1,6 @@
 //! The kinds of tokens, and the languages that have them.
 
-/// The language that a text is read in. Turtle's tokens are in all four.
+/// The language that a text is read in: each has marks of its own, and some have kinds of tokens that others have not.
 #[derive(Clone, Copy, Debug, PartialEq, Eq)]
 pub enum Mode {
     /// N-Triples (RDF 1.1 N-Triples, section 7): line ends are tokens.
