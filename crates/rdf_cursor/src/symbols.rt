@@ -184,7 +184,7 @@ impl Symbol {
     pub fn is(self, other: Symbol) -> bool
         ensures { result ≡ same_symbol self other }
     {
-        self as u8 == other as u8
+        self == other
     }
 }
 
