@@ -1,5 +1,5 @@
 -- The triples that a set holds.
-use Rattle.std.proofs.Common.{◌≡◌, ℕ, ◌-◌, Bool, true, List, [], ◌∷◌, ap, eq-eqb, refl, sym, ◌∙◌, ◌&&◌, ◌↔◌, IsTrue, true≢false, Contains, length, get_or, set, take, arith, Option, Some, None, subst}
+use Rattle.std.proofs.Common.{◌≡◌, ℕ, ◌+◌, ◌-◌, ◌≤◌, Bool, true, false, not, if◌then◌else◌, List, [], ◌∷◌, ap, eq-eqb, refl, sym, ◌∙◌, ◌&&◌, ◌↔◌, IsTrue, true≢false, Contains, length, get_or, set, take, arith, Option, Some, None, subst}
 use Rattle.std.proofs.lemmas.List.{get_or_default}
 use borrow.Author.Tests.{eqb-true}
 use Rattle.std.proofs.lemmas.List.Quantifiers.{position-Some}
@@ -41,6 +41,26 @@ held xs t h = Contains-list_any same_triple (λ a b. (triple_decides a b).0) xs 
 
 pub held_exactly : (xs : List Triple) (t : Triple) (r : Bool) → r ≡ list_any (same_triple t) xs → IsTrue r ↔ Contains xs t
 held_exactly xs t r is = (λ h. held xs t (sym is ∙ h), λ there. is ∙ list_any-from_Contains (decided_equiv same_triple triple_decides) t xs there)
+
+-- what an insertion says of a triple: it was not held, or it was
+pub told_new : (xs ys : List Triple) (t : Triple) (r : Bool) → xs ≡ ys → r ≡ not (list_any (same_triple t) xs) → r ≡ true → ¬ Contains ys t
+told_new xs ys t r same is e = λ there. by (list_any (same_triple t) xs) (list_any-from_Contains (decided_equiv same_triple triple_decides) t xs (subst (λ zs. Contains zs t) (sym same) there)) (sym is ∙ e)
+  where
+    by : (b : Bool) → b ≡ true → not b ≡ true → ⊥
+    by true h n = true≢false (sym n)
+    by false h n = true≢false (sym h)
+
+pub told_old : (xs ys : List Triple) (t : Triple) (r : Bool) → xs ≡ ys → r ≡ not (list_any (same_triple t) xs) → r ≡ false → Contains ys t
+told_old xs ys t r same is e = subst (λ zs. Contains zs t) same (held xs t (by (list_any (same_triple t) xs) (sym is ∙ e)))
+  where
+    by : (b : Bool) → not b ≡ false → b ≡ true
+    by true n = refl
+    by false n = absurd (true≢false n)
+
+-- a set that was not full is not too large with one more
+pub still_few : (old new most : ℕ) (r : Bool) → new ≡ old + (if r then 1 else 0) → old ≤ most → (old ≡ most → ⊥) → new ≤ most
+still_few old new most true is few less = omega arith
+still_few old new most false is few less = omega arith
 
 -- of a list that is not empty, the item that fills the gap does not depend on the default
 same_gap : (x t : Triple) (ys : List Triple) (i : ℕ) → swap_remove (x ∷ ys) i t ≡ swap_remove (x ∷ ys) i x

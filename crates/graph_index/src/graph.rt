@@ -101,20 +101,25 @@ impl Graph {
         ensures err { OnErr result (self.new ≡ self.old) }
         ensures distinct { AreDistinct self.new.triples }
     {
-        let count = self.held.len();
-        if self.held.contains(&t) {
-            return Ok(false);
-        }
-        if count >= MAX_TRIPLES {
+        if self.lacks_room(t) {
             return Err(AddError::Full);
         }
         match self.held.insert(t) {
-            Ok(_) => {
+            Ok(true) => {
                 self.rows = None;
                 Ok(true)
             }
+            Ok(false) => Ok(false),
             Err(_) => Err(AddError::Memory),
         }
+    }
+
+    /// Whether the triple is new and the graph holds 4,000,000. A triple is looked up only where so many are held.
+    fn lacks_room(&self, t: Triple) -> bool
+        ensures lacks { IsTrue result ↔ ((¬ Contains self.now.triples t) × (length self.now.triples ≡ max_triples)) }
+        ensures distinct { AreDistinct self.now.triples }
+    {
+        self.len() >= MAX_TRIPLES as u64 && !self.holds(t)
     }
 
     /// Removes a triple, and answers whether it was held; then the graph is no longer sealed.
