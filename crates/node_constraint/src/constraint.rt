@@ -271,7 +271,7 @@ fn facets_hold_for(
     all_found(alloc, patterns, text)
 }
 
-/// The same of each facet that is no pattern.
+/// Whether each facet that is no pattern holds for the text and for the decimal text, if there is one.
 fn plain_facets_hold(facets: &[Facet], text: &str, decimal: Option<&str>) -> bool
     requires comparable { IsTrue (are_comparable facets.now) }
     requires decimal { ForSome (option_copied decimal) (λ d. IsTrue (is_decimal d)) }

@@ -105,7 +105,7 @@ impl Facet {
         }
     }
 
-    /// The same beside a decimal text.
+    /// Whether it holds for the text and for the decimal text beside it.
     fn holds_beside(&self, text: &str, number: &str) -> bool
         requires comparable { IsTrue (is_comparable self.now) }
         requires decimal { IsTrue (is_decimal number.now) }
@@ -114,7 +114,7 @@ impl Facet {
         self.holds_of_text(text) && self.holds_of_number(number)
     }
 
-    /// The same without a decimal text.
+    /// Whether it holds for the text where no decimal text stands beside it: then a facet on numbers does not.
     fn holds_without(&self, text: &str) -> bool
         ensures { IsTrue result ↔ (SatLength self.now (chars text.now) × (¬ IsNumeric self.now)) }
     {
