@@ -1,7 +1,6 @@
 -- Lists that are read one by one.
 use Rattle.std.proofs.lemmas.List.{map-append, take_more}
 use Rattle.std.proofs.Common.{◌≡◌, ◌∙◌, ℕ, zero, suc, ◌<◌, ◌+◌, ◌⊎◌, ◌++◌, inl, inr, take, List, [], ◌∷◌, refl, sym, ap, subst, length, get_or, map}
-use Rattle.std.proofs.lemmas.List.Elements.{Contains-append_cases, Contains-append_left, Contains-append_right}
 use Rattle.std.specs.Prelude.{◌↔◌, Contains, Some, slice_get}
 use Rattle.std.specs.List.{AllZip}
 use Rattle.agenda.proofs.Growing.{Has}

@@ -1,12 +1,8 @@
 -- The pairs that roots reach.
-use Rattle.std.proofs.Common.{◌≡◌, ◌∙◌, ℕ, suc, ◌≤◌, inl, inr, List, [], ◌∷◌, refl, arith, sym, ap, subst, length, Result, Err, remove}
-use Rattle.std.proofs.lemmas.List.Edits.{length-remove}
-use Rattle.std.proofs.lemmas.List.Sorted.{Contains-permutation, IsPermutation-remove}
-use Rattle.std.proofs.lemmas.Option.{slice_get-get_or}
-use Rattle.std.specs.List.Sorted.{IsPermutation, IsStrictlySortedBy}
-use Rattle.std.specs.Prelude.{◌↔◌, Contains, Some}
+use Rattle.std.proofs.Common.{◌≡◌, ◌≤◌, List, refl, arith, subst, length, Result, Err}
+use Rattle.std.specs.List.Sorted.{IsStrictlySortedBy}
+use Rattle.std.specs.Prelude.{◌↔◌, Contains}
 use Rattle.lists.proofs.Among.{few_among}
-use Rattle.lists.specs.Distinct.{AreDistinct}
 use Rattle.rdf_terms.specs.declared.terms.Term.{Term}
 use Rattle.demand.specs.Orders.{compare_pairs, max_pairs}
 use Rattle.schema_tree.specs.declared.schema.Pair.{Pair}
@@ -14,7 +10,6 @@ use Rattle.rdf_terms.specs.declared.terms.Triple.{Triple}
 use Rattle.schema_tree.specs.declared.schema.Schema.{Schema}
 use Rattle.schema_tree.specs.Entries.{pair_of}
 use Rattle.schema_tree.specs.Needs.{HoldNeeds, Leads, here, step}
-use Rattle.lists.proofs.Members.{in_rest, is_first, is_later}
 use Rattle.demand.specs.Closing.{GrowsByNeeds, IsStart, Starts, StopsAtStart, StopsByNeeds}
 use Rattle.demand.specs.Demand.{AreAsked, AreTooMany, IsAsked}
 use Rattle.demand.specs.declared.error.DemandError.{DemandError}

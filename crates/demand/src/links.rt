@@ -107,10 +107,8 @@ pub fn shapes_in(alloc: Global, schema: &Schema, expr: ExprId) -> Result<Items<S
     let mut shapes = IndexSet::new(alloc);
     let mut agenda = Agenda::new(alloc);
     agenda.put(expr.0)?;
-    let mut bound = u64::from(expr.0) + 1;
     while let Some(next) = agenda.take_greatest() {
         open(schema, ExprId(next), &mut agenda, &mut shapes)?;
-        bound = u64::from(next);
     }
     let list = shapes.as_slice().iter().copied().collect(alloc)?;
     Ok(Items::of(list))

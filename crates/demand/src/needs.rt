@@ -1,8 +1,9 @@
 //! The pairs that a pair needs.
 
-ghost use Rattle.std.specs.Prelude.{◌≡◌, ◌++◌, ◌↔◌, All, Contains, IfOk, OnOk, map};
+ghost use Rattle.std.specs.Prelude.{List, ◌≡◌, ◌++◌, ◌↔◌, All, Contains, IfOk, OnOk, map};
 ghost use Rattle.std.specs.List.{flat_map};
-ghost use Rattle.graph_index.specs.Contents.{IsSealedWith};
+ghost use Rattle.rdf_terms.specs.declared.terms.Term.{Term};
+ghost use Rattle.graph_index.specs.Contents.{IsSealed, IsSealedWith};
 ghost use Rattle.schema_tree.specs.declared.schema.Pair.{Pair as Needed};
 ghost use Rattle.schema_tree.specs.Entries.{pair_of};
 ghost use Rattle.schema_tree.specs.Needs.{Needs};
@@ -18,9 +19,9 @@ use schema_tree::schema::{Occurrence, Pair, Schema, ShapeId};
 use std::alloc::{AllocError, Global};
 
 /// The triples that an occurrence fits at a node.
-fn arcs<'a>(graph: &'a Graph, terms: &TermTable, node: TermId, occ: Occurrence) -> &'a [Triple]
-    requires sealed { IsSealedWith terms.now graph.now }
-    ensures { result.now ≡ arcs_of terms.now graph.now.triples node occ }
+fn arcs(graph: &Graph, node: TermId, occ: Occurrence) -> &[Triple]
+    requires sealed { IsSealed graph.now }
+    ensures { (terms : List Term) → IsSealedWith terms graph.now → result.now ≡ arcs_of terms graph.now.triples node occ }
 {
     if occ.inverse {
         graph.ins_by(node, occ.predicate)
@@ -54,16 +55,15 @@ fn push_ends(link: &Link, triples: &[Triple], found: &mut Vec<Pair>) -> Result<(
 /// Adds the pairs that the links of a Shape lead to from a node.
 fn push_needs(
     graph: &Graph,
-    terms: &TermTable,
     node: TermId,
     links: &[Link],
     found: &mut Vec<Pair>,
 ) -> Result<(), AllocError>
-    requires sealed { IsSealedWith terms.now graph.now }
-    ensures { OnOk result (found.new.items ≡ found.old.items ++ flat_map (needs_at terms.now graph.now.triples node) links.now) }
+    requires sealed { IsSealed graph.now }
+    ensures { (terms : List Term) → IsSealedWith terms graph.now → OnOk result (found.new.items ≡ found.old.items ++ flat_map (needs_at terms graph.now.triples node) links.now) }
 {
     for link in links {
-        let triples = arcs(graph, terms, node, link.occ);
+        let triples = arcs(graph, node, link.occ);
         push_ends(link, triples, found)?;
     }
     Ok(())
@@ -85,7 +85,7 @@ pub fn needs(
 {
     let mut found = Vec::new(alloc);
     if let Some(own) = links.get(pair.shape.0 as usize) {
-        push_needs(graph, terms, pair.node, own.as_slice(), &mut found)?;
+        push_needs(graph, pair.node, own.as_slice(), &mut found)?;
     }
     Ok(found)
 }

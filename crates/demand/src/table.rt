@@ -1,5 +1,5 @@
 //! The table that numbers pairs.
-ghost use Rattle.std.specs.Prelude.{List, ◌≡◌, ◌≤◌, ◌↔◌, [], length, slice_get, Some, IfOk, IfSome, IsNone, OnErr, OnOk, Contains};
+ghost use Rattle.std.specs.Prelude.{List, ◌≡◌, ◌≤◌, ◌↔◌, [], length, slice_get, Some, IfOk, IfSome, IsNone, IsTrue, OnErr, OnOk, Contains};
 ghost use Rattle.lists.specs.Additions.{Adds};
 ghost use Rattle.lists.specs.Distinct.{AreDistinct};
 ghost use Rattle.demand.specs.Orders.{max_pairs};
@@ -73,17 +73,21 @@ impl PairTable {
         ensures err { OnErr result (self.new ≡ self.old) }
         ensures distinct { AreDistinct self.new }
     {
-        let count = self.pairs.len();
-        if self.pairs.contains(&pair) {
-            return Ok(());
-        }
-        if count >= MAX_PAIRS {
+        if self.lacks_room(pair) {
             return Err(PairError::Full);
         }
         match self.pairs.insert(pair) {
             Ok(_) => Ok(()),
             Err(_) => Err(PairError::Memory),
         }
+    }
+
+    /// Whether the pair is new and the table holds 4,194,304 pairs. A pair is looked up only where so many are held.
+    fn lacks_room(&self, pair: Pair) -> bool
+        ensures lacks { IsTrue result ↔ ((¬ Contains self.now pair) × (length self.now ≡ max_pairs)) }
+        ensures distinct { AreDistinct self.now }
+    {
+        self.len() >= MAX_PAIRS && self.find(pair).is_none()
     }
 
     /// The number of the pair, and `None` exactly where the table does not hold it.

@@ -13,7 +13,7 @@ pub returns : goal.returns
 returns c = elim c.match-get.branch [
   | in-Some+in_ok-push_needs w ↦ λ q.
       subst (λ xs. Contains xs q ↔ Needs c.args.schema.now c.args.graph.now.triples c.args.pair q)
-      (sym (ap (λ v. v.items) w.found-is ∙ (w.in_ok-push_needs.ensures ∙ (ap (λ xs. xs ++ flat_map (needs_at c.args.terms.now c.args.graph.now.triples c.args.pair.node) w.as_slice.result.now) c.new-found.ensures.items
+      (sym (ap (λ v. v.items) w.found-is ∙ (w.in_ok-push_needs.ensures c.args.terms.now c.requires.sealed ∙ (ap (λ xs. xs ++ flat_map (needs_at c.args.terms.now c.args.graph.now.triples c.args.pair.node) w.as_slice.result.now) c.new-found.ensures.items
       ∙ ap (λ xs. flat_map (needs_at c.args.terms.now c.args.graph.now.triples c.args.pair.node) xs) w.as_slice.ensures))))
       (needs_exactly c.args.schema.now c.args.terms.now c.args.graph.now.triples c.args.links.now c.requires.links c.args.pair w.in-Some.own.now
       (slice_get_read c.args.links.now (length c.args.links.now) c.args.pair.shape.0 w.in-Some.own.now refl

@@ -1,7 +1,6 @@
-use Rattle.std.proofs.Common.{◌↔◌, ap, arith, length, refl, subst, Err, Contains}
+use Rattle.std.proofs.Common.{◌↔◌, ap, arith, length, subst, Contains}
 use Rattle.std.proofs.lemmas.Result.{err_from_is_err_and}
 use Rattle.schema_tree.specs.declared.schema.Pair.{Pair}
-use Rattle.demand.specs.declared.error.DemandError.TheVariants as Errors
 use Rattle.demand.proofs.Reached.{asked_in_order, closed_in_order, passed_on, not_many, too_many, too_many_roots}
 use Rattle.demand.proofs.reach.close.Goals as goal
 
