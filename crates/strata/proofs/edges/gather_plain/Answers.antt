@@ -1,5 +1,6 @@
 use Rattle.std.proofs.Common.{◌≡◌, ◌<◌, ◌⊎◌, ℕ, inr, refl, false, true, sym, subst, arith, ap, length, Contains}
 use Rattle.std.specs.Prelude.{◌↔◌, Some}
+use Rattle.agenda.proofs.Bounds.{falls}
 use Rattle.schema_tree.specs.declared.schema.ExprId.{ExprId}
 use Rattle.schema_tree.specs.Entries.{entry}
 use Rattle.strata.specs.Gathers.{FromEntry, FromOwn, FromSome}
@@ -10,27 +11,30 @@ use Rattle.strata.proofs.edges.gather_plain.Goals as goal
 pub loop-next-init : goal.loop-next-init
 loop-next-init c =
     let put = subst (λ xs. (q : ℕ) → Contains c.put.new.self q ↔ (Contains xs q ⊎ (q ≡ c.args.e.0))) c.new-agenda.ensures c.in_ok-put.ensures in
-    let all : length c.as_slice-bound.result.now ≡ length c.args.s.now.exprs = ap length c.as_slice-bound.ensures in
     record {
       owes = plain_begins c.args.s.now c.args.from c.args.e c.put.new.self c.new-negated.result put c.new-negated.ensures c.args.arcs.now.items;
-      below = one_below _ c.args.e.0 c.put.new.self put (omega (arith, all, c.requires.there));
-      inside = omega (arith, all);
+      below = one_below (length c.args.s.now.exprs) c.args.e.0 c.put.new.self put (omega (arith, c.requires.there));
       there = subst (λ xs. (q : ℕ) → Contains xs q → q < length c.args.s.now.exprs) (sym c.new-negated.ensures) (λ q none. absurd (omega (arith, none.1)));
     }
 
 pub bounds-as_slice-next : goal.bounds-as_slice-next
 bounds-as_slice-next c =
-    let lt : c.in-Some.next < c.loop-next.bound = c.loop-next.invariant.below c.in-Some.next ((c.in-Some.ensures.taken c.in-Some.next).1 (inr refl)) in
-    omega (arith, lt, c.loop-next.invariant.inside, ap length c.as_slice.ensures)
+    let inside : c.in-Some.next < length c.args.s.now.exprs = c.loop-next.invariant.below c.in-Some.next ((c.in-Some.ensures.taken c.in-Some.next).1 (inr refl)) in
+    omega (arith, inside, ap length c.as_slice.ensures)
 
 pub loop-next-smaller : goal.loop-next-smaller
-loop-next-smaller c = c.loop-next.invariant.below c.in-Some.next ((c.in-Some.ensures.taken c.in-Some.next).1 (inr refl))
+loop-next-smaller c =
+    let e : ExprId = record { 0 = c.in-Some.next } in
+    let inside : c.in-Some.next < length c.args.s.now.exprs = c.loop-next.invariant.below c.in-Some.next ((c.in-Some.ensures.taken c.in-Some.next).1 (inr refl)) in
+    let is : entry c.args.s.now e ≡ Some c.index-as_slice-next.result =
+    entry_in c.args.s.now e c.as_slice.result.now c.index-as_slice-next.result c.index-as_slice-next.result c.as_slice.ensures c.index-as_slice-next.is refl inside in
+    falls c.loop-next.agenda c.put_members.new.agenda c.in-Some.next ((c.in-Some.ensures.taken c.in-Some.next).1 (inr refl))
+    (put_below c.in-Some.next c.take_greatest.new.self _ c.put_members.new.agenda c.in_ok-put_members.ensures c.in-Some.ensures.greatest (member_below c.args.s.now c.requires.loaded e c.index-as_slice-next.result is))
 
 pub loop-next-preserved : goal.loop-next-preserved
 loop-next-preserved c =
     let e : ExprId = record { 0 = c.in-Some.next } in
-    let lt : c.in-Some.next < c.loop-next.bound = c.loop-next.invariant.below c.in-Some.next ((c.in-Some.ensures.taken c.in-Some.next).1 (inr refl)) in
-    let inside : c.in-Some.next < length c.args.s.now.exprs = omega (arith, lt, c.loop-next.invariant.inside) in
+    let inside : c.in-Some.next < length c.args.s.now.exprs = c.loop-next.invariant.below c.in-Some.next ((c.in-Some.ensures.taken c.in-Some.next).1 (inr refl)) in
     let is : entry c.args.s.now e ≡ Some c.index-as_slice-next.result =
     entry_in c.args.s.now e c.as_slice.result.now c.index-as_slice-next.result c.index-as_slice-next.result c.as_slice.ensures c.index-as_slice-next.is refl inside in
     record {
@@ -42,8 +46,8 @@ loop-next-preserved c =
           (plain_opened c.args.s.now c.args.from e (Some c.index-as_slice-next.result) is c.loop-next.agenda c.take_greatest.new.self c.put_members.new.agenda c.loop-next.negated c.put_negated.new.agenda
           c.in-Some.ensures.taken c.in_ok-put_members.ensures c.in_ok-put_negated.ensures)
           c.in_ok-push_own.ensures;
-      below = put_below c.in-Some.next c.take_greatest.new.self _ c.put_members.new.agenda c.in_ok-put_members.ensures c.in-Some.ensures.greatest (member_below c.args.s.now c.requires.loaded e c.index-as_slice-next.result is);
-      inside = omega (arith, inside);
+      below = further_below c.in-Some.next (length c.args.s.now.exprs) c.put_members.new.agenda inside
+          (put_below c.in-Some.next c.take_greatest.new.self _ c.put_members.new.agenda c.in_ok-put_members.ensures c.in-Some.ensures.greatest (member_below c.args.s.now c.requires.loaded e c.index-as_slice-next.result is));
       there = put_below (length c.args.s.now.exprs) c.loop-next.negated _ c.put_negated.new.agenda c.in_ok-put_negated.ensures c.loop-next.invariant.there
           (further_below c.in-Some.next (length c.args.s.now.exprs) _ inside (negated_below c.args.s.now c.requires.loaded e c.index-as_slice-next.result is));
     }
