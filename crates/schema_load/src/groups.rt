@@ -22,7 +22,9 @@ pub enum Standing {
     Grouped(usize),
 }
 
-/// A walk over the places, depth first, by which groups are found (the path-based search of Gabow).
+/// A walk over the places, depth first, by which groups are found. A place that is entered begins a group at the end of
+/// the trail. Where a place leads to one that is open, the groups that begin behind that one on the trail are joined to
+/// the group that it is in. When the place with which a group begins is left, the group is known and goes off the trail.
 #[derive(Drop)]
 pub struct Walk {
     /// Where the walk stands with each place.

@@ -55,8 +55,6 @@ pub fn load(alloc: Global, docs: Vec<Doc>, terms: &mut TermTable) -> Result<Sche
     ensures exactly { (e : LoadError) → IsRefused (map document_of docs.items) terms.old e → (result ≡ Err e) ⊎ (result ≡ Err Memory) }
     ensures kept { (more : List Term) × (terms.new ≡ terms.old ++ more) }
 {
-    match parts_surveyed(alloc, docs) {
-        Ok(surveyed) => schema_in(alloc, surveyed, terms),
-        Err(error) => Err(error),
-    }
+    let surveyed = parts_surveyed(alloc, docs)?;
+    schema_in(alloc, surveyed, terms)
 }

@@ -1,6 +1,6 @@
 //! An order in which each place stands behind those to which it leads.
 
-ghost use Rattle.std.specs.Prelude.{ℕ, true, false, [], ◌∷◌, ◌++◌, ◌≡◌, ◌+◌, ◌<◌, IfOk, OnOk, get_or, length, map};
+ghost use Rattle.std.specs.Prelude.{ℕ, List, true, false, [], ◌∷◌, ◌++◌, ◌≡◌, ◌+◌, ◌<◌, IfOk, OnOk, get_or, length, map};
 ghost use Rattle.schema_load.specs.Graph.{Reaches};
 ghost use Rattle.schema_load.specs.Sorting.{AreEntered, IsVisiting, unopened};
 ghost use Rattle.schema_load.specs.Steps.{AreInside, AreTargets, HasAll, IsNext, IsSorted, Keeps};
@@ -41,17 +41,11 @@ pub fn enter_all(visits: &mut Vec<Visit>, places: &[usize]) -> Result<(), AllocE
 }
 
 /// Puts a place behind the others, if it is not among them. All to which it leads are.
-fn finish(
-    parts: &[Part],
-    targets: &[usize],
-    done: &mut Vec<bool>,
-    order: &mut Vec<usize>,
-    place: usize,
-) -> Result<(), AllocError>
-    requires within { place < length parts.now }
-    requires kept { Keeps parts.now targets.now done.old.items order.old.items }
-    requires ready { (q : ℕ) → IsNext parts.now targets.now place q → get_or done.old.items q false ≡ true }
-    ensures kept { OnOk result (Keeps parts.now targets.now done.new.items order.new.items) }
+fn finish(done: &mut Vec<bool>, order: &mut Vec<usize>, place: usize) -> Result<(), AllocError>
+    requires { place < length done.old.items }
+    ensures kept { (parts : List Part) (targets : List ℕ) → Keeps parts targets done.old.items order.old.items →
+        ((q : ℕ) → IsNext parts targets place q → get_or done.old.items q false ≡ true) →
+        OnOk result (Keeps parts targets done.new.items order.new.items) }
     ensures done { OnOk result (get_or done.new.items place false ≡ true) }
     ensures still { OnOk result ((q : ℕ) → get_or done.old.items q false ≡ true → get_or done.new.items q false ≡ true) }
 {
@@ -85,7 +79,7 @@ fn visit_place(
 {
     match visit {
         Visit::Leave(place) => {
-            finish(parts, targets, done, order, place)?;
+            finish(done, order, place)?;
             Ok(true)
         }
         Visit::Enter(place) => {

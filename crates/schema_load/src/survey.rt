@@ -79,12 +79,10 @@ pub fn survey_of(alloc: Global, parts: &[Part], names: &Names) -> Result<Survey,
     if order.len() != parts.len() {
         return Err(circle_fault(alloc, parts, targets.as_slice()));
     }
-    match depths_within(alloc, parts, targets.as_slice(), order.as_slice()) {
-        Ok(depths) => Ok(Survey {
-            targets,
-            order,
-            depths,
-        }),
-        Err(fault) => Err(fault),
-    }
+    let depths = depths_within(alloc, parts, targets.as_slice(), order.as_slice())?;
+    Ok(Survey {
+        targets,
+        order,
+        depths,
+    })
 }

@@ -49,11 +49,6 @@ pub fn parts_surveyed(alloc: Global, docs: Vec<Doc>) -> Result<Surveyed, LoadErr
     ensures survey { IfOk result (λ s. IsSurveyOf s.parts.items s.survey) }
     ensures refused { (terms : List Term) → IfErr result (Explains (map document_of docs.items) terms) }
 {
-    match checked_parts(alloc, docs) {
-        Ok(named) => {
-            let Named { parts, names } = named;
-            survey_named(alloc, parts, &names)
-        }
-        Err(error) => Err(error),
-    }
+    let Named { parts, names } = checked_parts(alloc, docs)?;
+    survey_named(alloc, parts, &names)
 }

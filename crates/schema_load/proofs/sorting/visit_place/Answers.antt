@@ -7,11 +7,15 @@ use Rattle.schema_load.proofs.Visits.{dropped, enter_again, fewer, flag_off, lea
 use Rattle.schema_load.proofs.Walks.{flag_on}
 use Rattle.schema_load.proofs.sorting.visit_place.Goals as goal
 
-pub finish-requires-clause-within : goal.finish-requires-clause-within
-finish-requires-clause-within c = subst (λ z. z < length c.args.parts.now) (ap place_of c.in-Leave.is) (visit_inside c.args.parts.now c.args.targets.now c.args.opened.now.items c.args.done.now.items c.args.visits.now.items c.args.visit c.requires.visiting)
+pub finish-requires : goal.finish-requires
+finish-requires c =
+    let lt = subst (λ z. z < length c.args.parts.now) (ap place_of c.in-Leave.is) (visit_inside c.args.parts.now c.args.targets.now c.args.opened.now.items c.args.done.now.items c.args.visits.now.items c.args.visit c.requires.visiting) in
+    subst (λ n. c.in-Leave.place < n) (sym c.requires.kept.size) lt
 
-pub finish-requires-clause-ready : goal.finish-requires-clause-ready
-finish-requires-clause-ready c = leave_ready c.args.parts.now c.args.targets.now c.args.opened.now.items c.args.done.now.items c.args.visits.now.items c.args.visit c.requires.visiting c.in-Leave.place c.in-Leave.is
+pub returns-in_ok-finish-in-Leave-clause-kept : goal.returns-in_ok-finish-in-Leave-clause-kept
+returns-in_ok-finish-in-Leave-clause-kept c =
+    c.in_ok-finish-in-Leave.ensures.kept c.args.parts.now c.args.targets.now c.requires.kept
+    (leave_ready c.args.parts.now c.args.targets.now c.args.opened.now.items c.args.done.now.items c.args.visits.now.items c.args.visit c.requires.visiting c.in-Leave.place c.in-Leave.is)
 
 pub index-requires : goal.index-requires
 index-requires c =
