@@ -28,11 +28,7 @@ pub fn take_up(
         return Err(PutError::Memory);
     };
     for term in lines {
-        let node = match terms.put(term) {
-            Ok(node) => node,
-            Err(PutError::Full) => return Err(PutError::Full),
-            Err(PutError::Memory) => return Err(PutError::Memory),
-        };
+        let node = terms.put(term)?;
         let Ok(()) = nodes.push(node) else {
             return Err(PutError::Memory);
         };
