@@ -2,7 +2,6 @@
 use Rattle.std.proofs.Common.{◌≡◌, ◌≢◌, ◌⊎◌, inl, inr, ℕ, Bool, true, false, List, [], ◌∷◌, ◌++◌, Option, Result, Ok, Err, refl, sym, ap, ◌∙◌, subst, Any, zero, suc, arith}
 use Rattle.std.proofs.lemmas.Grind.{flat_map-append}
 use Rattle.std.specs.List.{AllByRecursion}
-use Rattle.std.specs.Prelude.{OnOk}
 use Rattle.lists.proofs.Quantifiers.{all_append}
 use Rattle.rdf_cursor.specs.Ahead.{Ahead}
 use Rattle.rdf_cursor.specs.Phrases.{Is}
@@ -204,7 +203,3 @@ sound_more datatype fs f s t = record {
 
 pub sound_none : (datatype : Option (List ℕ)) → IsSound datatype []
 sound_none datatype = record { no_float = λ h. absurd (omega (arith, h.2)); decimal = λ h. absurd (omega (arith, h.2)); readable = tt }
-
-pub sound_pushed : {A E : Type 0} (datatype : Option (List ℕ)) (r : Result A E) (old new : List Facet) (f : Facet) → IsSound datatype old → IsSound datatype (f ∷ []) → OnOk r (new ≡ old ++ f ∷ []) → OnOk r (IsSound datatype new)
-sound_pushed datatype (Ok x) old new f s t e = subst (IsSound datatype) (sym e) (sound_more datatype old f s t)
-sound_pushed datatype (Err e) old new f s t h = tt

@@ -24,7 +24,7 @@ use node_constraint::{Facet, MakeError, NodeConstraint};
 use rdf_cursor::{Cursor, Symbol};
 use rdf_lex::Token;
 use rdf_terms::text::Text;
-use std::alloc::{AllocError, AllocFailed, Global};
+use std::alloc::{AllocError, Global};
 use term_tokens::Names;
 
 /// Which facets may stand in a place.
@@ -173,20 +173,6 @@ fn judge(alloc: Global, datatype: Option<&Text>, facet: Facet) -> Result<Facet, 
     }
 }
 
-/// Puts a facet that may stand beside the datatype behind others that do.
-fn push(
-    datatype: Option<&Text>,
-    facet: Facet,
-    fs: &mut Vec<Facet>,
-) -> Result<(), AllocFailed<Facet>>
-    requires so_far { IsSound (option_copied datatype) fs.old.items }
-    requires this { IsSound (option_copied datatype) (facet ∷ []) }
-    ensures items { OnOk result (fs.new.items ≡ fs.old.items ++ facet ∷ []) }
-    ensures sound { OnOk result (IsSound (option_copied datatype.entry) fs.new.items) }
-{
-    fs.push(facet)
-}
-
 /// The facet of a word and a number.
 fn counted(symbol: Symbol, token: Token<'_>) -> Result<Facet, Stop>
     ensures { Answers (λ f. f) result (counted_of symbol (spelled token.entry)) }
@@ -222,7 +208,7 @@ fn counted_facet_behind(
     };
     let facet = judge(names.alloc, datatype, counted(symbol, token)?)?;
     c.advance();
-    push(datatype, facet, fs)?;
+    fs.push(facet)?;
     Ok(())
 }
 
@@ -245,7 +231,7 @@ fn range_facet_behind(
     };
     let facet = judge(names.alloc, datatype, ranged(names.alloc, symbol, token)?)?;
     c.advance();
-    push(datatype, facet, fs)?;
+    fs.push(facet)?;
     Ok(())
 }
 
@@ -271,7 +257,7 @@ fn pattern_behind(
         patterns::pattern(names.alloc, fs.as_slice(), token)?,
     )?;
     c.advance();
-    push(datatype, facet, fs)?;
+    fs.push(facet)?;
     Ok(())
 }
 
