@@ -29,7 +29,7 @@ impl Model for ValueSet {
 impl ValueSet {
     ghost use Rattle.value_sets.specs.Values.{HasValue};
 
-    /// The set of these values, with a copy of each term among them, by which it is found.
+    /// The set of these values, with a copy of each term and each stem among them, by which it is found.
     pub fn of(alloc: Global, values: Vec<Value>) -> Result<ValueSet, AllocError>
         ensures { IfOk result (λ s. s ≡ values.items) }
     {
