@@ -16,7 +16,8 @@ use Rattle.value_sets.proofs.Prefixes.{behind}
 abbrev compare : List ℕ → List ℕ → Ordering
 compare = slice_cmp nat_cmp
 
-cons_same : {x y : ℕ} {xs ys : List ℕ} → x ≡ y → xs ≡ ys → x ∷ xs ≡ y ∷ ys
+-- lists that begin with the same and go on with the same
+pub cons_same : {x y : ℕ} {xs ys : List ℕ} → x ≡ y → xs ≡ ys → x ∷ xs ≡ y ∷ ys
 cons_same p q = cc
 
 ranked : (x y : ℕ) → (nat_cmp x y ≡ Less) ⊎ ((x ≡ y) ⊎ (nat_cmp y x ≡ Less))

@@ -7,6 +7,7 @@ use Rattle.lists.specs.Equality.{option_decides}
 use Rattle.rdf_terms.specs.Texts.{same_text}
 use Rattle.rdf_terms.specs.declared.terms.Term.{Term}
 use Rattle.rdf_terms.proofs.SameTerms.{same_term, term_decides}
+use Rattle.value_sets.proofs.Between.{cons_same}
 use Rattle.value_sets.specs.Laws.{ValuesAreDecided}
 use Rattle.value_sets.specs.Stems.{HasPrefix, IsInLanguage, hyphen}
 use Rattle.value_sets.specs.Values.{IsExcludedBy, IsInRange, IsValue, iri_of, lexical_form_of, tag_of}
@@ -37,9 +38,6 @@ tag_told own tag o r there is = (
 
 decide_term : (a b : Term) → Decided (a ≡ b)
 decide_term a b = from_test (same_term a b) (term_decides a b)
-
-cons_same : {x y : ℕ} {xs ys : List ℕ} → x ≡ y → xs ≡ ys → x ∷ xs ≡ y ∷ ys
-cons_same p q = cc
 
 decide_prefix : (stem text : List ℕ) → Decided (HasPrefix stem text)
 decide_prefix [] text = inl (text, refl)
