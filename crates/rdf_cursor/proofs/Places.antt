@@ -1,8 +1,8 @@
 -- The place of a fault, by what a cursor keeps.
-use Rattle.std.proofs.Common.{◌≡◌, ℕ, ◌+◌, List, [], ◌∷◌, ◌++◌, length, refl, sym, ap, subst, ◌∙◌, arith}
+use Rattle.std.proofs.Common.{◌≡◌, ℕ, ◌+◌, ◌<◌, List, [], ◌∷◌, ◌++◌, length, drop, refl, sym, ap, subst, ◌∙◌, arith}
 use Rattle.std.proofs.Math.Logic.{∥∥₁_elim}
 use Rattle.std.proofs.Props.{props}
-use Rattle.std.specs.Str.{IsUtf8, IsCharBoundary}
+use Rattle.std.specs.Str.{IsUtf8, IsCharBoundary, chars}
 use Rattle.rdf_cursor.specs.Ahead.{Ahead, finished, token, prepend, count, SameNext}
 use Rattle.rdf_cursor.specs.Properties.{Blocked}
 use Rattle.rdf_cursor.proofs.Locality.{prepend-append}
@@ -10,11 +10,12 @@ use Rattle.rdf_lex.specs.declared.kinds.Mode.{Mode}
 use Rattle.rdf_lex.specs.declared.lexed.Lexed.{Lexed}
 use Rattle.rdf_lex.specs.declared.lexed.Lexed.TheVariants as lexed
 use Rattle.rdf_lex.specs.Scan.{Next, at_end, at_bad, at_token, next_of, seen}
-use Rattle.rdf_lex.specs.Tokens.{Spelled, IsFirst, Between}
+use Rattle.rdf_lex.specs.Tokens.{Spelled, IsFirst, IsSkipped, BeginsNone, Between}
 use Rattle.rdf_lex.proofs.Nexts.{is_next}
 use Rattle.rdf_cursor.specs.Streams.{stream_on, stream_from}
 use Rattle.rdf_cursor.specs.Lent.{ahead_of, place_of, IsReached, Stands}
 use Rattle.rdf_cursor.specs.Places as fault
+use Rattle.rdf_cursor.specs.Places.{StandsAt}
 use Rattle.rdf_cursor.proofs.Streams.{stream_step, stream_lexed, stream_between, cut_behind, found, start, to_tokens, one_between}
 
 -- fronts that leave the same of one list are the same
@@ -87,20 +88,22 @@ module _ (m : Mode) (source : List ℕ) (u : IsUtf8 source) where
         placed = ∥∥₁_elim s.reached (hlevel props) (λ r. reached_place front f.to s.next f.passed there r) ∙ sym s.placed;
       }
 
-  token_first : (t : Spelled) (rest : Ahead Spelled) (place from : ℕ) (x : Next) → IsCharBoundary source from → x ≡ next_of m source from → stream_on (stream_from m source) x ≡ token t rest → place_in x ≡ place
-      → IsFirst m source from t.kind t.text place
-  token_first t rest place from (at_token k text p) b e is at =
-      let first : IsFirst m source from k text p = is_next m source from (at_token k text p) u b e in
-      let same = (token_parts (record { kind = k; text = text }) t (stream_from m source (p + length text)) rest is).0 in
-      subst (λ (i : ℕ). IsFirst m source from t.kind t.text i) at (subst (λ (v : Spelled). IsFirst m source from v.kind v.text p) same first)
-  token_first t rest place from at_end b e is at = absurd cc
-  token_first t rest place from (at_bad p) b e is at = absurd cc
+  stands_by : (place from : ℕ) (x : Next) → IsCharBoundary source from → x ≡ next_of m source from → place_in x ≡ place → StandsAt m source from (stream_on (stream_from m source) x) place
+  stands_by place from (at_token k text p) b e at = subst (λ (i : ℕ). IsFirst m source from k text i) at (is_next m source from (at_token k text p) u b e)
+  stands_by place from at_end b e at = (subst (λ (i : ℕ). IsSkipped m source from i) at (is_next m source from at_end u b e), sym at)
+  stands_by place from (at_bad p) b e at = subst (λ (i : ℕ). IsSkipped m source from i × (i < length source) × BeginsNone m (chars (drop i source))) at (is_next m source from (at_bad p) u b e)
+
+  -- what lies ahead of some tokens stands at the place
+  pub stands_at : (rest : Ahead Spelled) (place : ℕ) (front : List Spelled) → stream_from m source 0 ≡ prepend front rest → Stands m source rest place
+      → (from : ℕ) × Between m source 0 front from × StandsAt m source from rest place
+  stands_at rest place front parts s =
+      let f = found_at rest place front parts s in
+      (f.from, f.passed, subst (λ (r : Ahead Spelled). StandsAt m source f.from r place) f.next (stands_by place f.from (next_of m source f.from) f.cut refl f.placed))
 
   -- the token that is next stands at the place
   pub first_at : (t : Spelled) (rest : Ahead Spelled) (place : ℕ) (front : List Spelled) → stream_from m source 0 ≡ prepend front (token t rest) → Stands m source (token t rest) place
       → (from : ℕ) × Between m source 0 front from × IsFirst m source from t.kind t.text place
-  first_at t rest place front parts s =
-      let f = found_at (token t rest) place front parts s in (f.from, f.passed, token_first t rest place f.from (next_of m source f.from) f.cut refl f.next f.placed)
+  first_at t rest place front parts s = stands_at (token t rest) place front parts s
 
   module _ {A : Type 0} (Spells : A → Ahead Spelled → Type 0) where
     abbrev Stops : ℕ → Type 0

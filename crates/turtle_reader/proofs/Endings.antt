@@ -20,7 +20,7 @@ use Rattle.rdf_cursor.specs.Cursors.{Source}
 use Rattle.rdf_cursor.specs.Lent.{Stands}
 use Rattle.rdf_cursor.specs.Places.{IsFaultPlace}
 use Rattle.rdf_cursor.specs.Streams.{stream_from}
-use Rattle.rdf_cursor.proofs.Places.{fault_place}
+use Rattle.rdf_cursor.proofs.Places.{fault_place, stands_at}
 use Rattle.rdf_cursor.proofs.Streams.{to_tokens, from_tokens, found, start}
 use Rattle.graph_index.specs.declared.loading.TermTriple.{TermTriple}
 use Rattle.graph_index.specs.Loading.{Loads, IsWithin}
@@ -105,18 +105,18 @@ module _ (base source : List ℕ) (u : IsUtf8 source) where
   caused f rest at h s =
       let front = many_front (v, []) (h.scope, h.so_far) ahead h.mid h.statements in
       let whole : ahead ≡ prepend (front.0 ++ h.inside) rest = front.1 ∙ ap (prepend front.0) h.parts ∙ sym (prepend-append front.0 h.inside rest) in
-      let to = found Turtle source u 0 (front.0 ++ h.inside) rest (start Turtle source u) whole in
+      let (from, passed, stands) = stands_at Turtle source u rest at (front.0 ++ h.inside) whole s in
       record {
         scope = h.scope;
         so_far = h.so_far;
         front = front.0;
         inside = h.inside;
         rest = rest;
-        from = to.to;
-        passed = to.passed;
+        from = from;
+        passed = passed;
         statements = subst (λ (m : Ahead Spelled). Many (Behind true inner_depth) (v, []) (h.scope, h.so_far) (prepend front.0 m) m) h.parts
             (subst (λ (ts : Ahead Spelled). Many (Behind true inner_depth) (v, []) (h.scope, h.so_far) ts h.mid) front.1 h.statements);
-        stands = s;
+        stands = stands;
         cause = h.cause;
         limit = h.limit;
       }

@@ -14,8 +14,7 @@ use Rattle.rdf_lex.specs.declared.kinds.Mode.TheVariants.{Turtle}
 use Rattle.rdf_lex.specs.declared.prefixes.Prefixes.{Prefixes}
 use Rattle.rdf_lex.specs.Prefixes.{AreOneLine, base_of, iri_under}
 use Rattle.rdf_lex.specs.Tokens.{Spelled, Between, Tokens}
-use Rattle.rdf_cursor.specs.Lent.{Stands}
-use Rattle.rdf_cursor.specs.Places.{IsFaultPlace}
+use Rattle.rdf_cursor.specs.Places.{IsFaultPlace, StandsAt}
 use Rattle.rdf_cursor.specs.declared.stops.Fault.{Fault}
 use Rattle.rdf_cursor.specs.declared.stops.Fault.TheVariants as faults
 use Rattle.turtle_reader.specs.Causes.{bare, Causes, IsAtLimit}
@@ -68,7 +67,7 @@ pub record IsOverfull (base source : List ℕ) (terms : List Term) (graph : List
 abbrev pub IsLimitPlace : List ℕ → List ℕ → ℕ → Type 0
 IsLimitPlace base source at = IsFaultPlace (Spells base) Turtle source at
 
--- behind some statements, in the scope in which they end, and behind tokens of a further one, the token at this place has a fault
+-- behind some statements, in the scope in which they end, and behind tokens of a further one, what stands at this place has a fault
 pub record IsCausedAt (base source : List ℕ) (f : Fault) (at : ℕ) : Type 0 where
   pub scope : DocumentScope
   pub so_far : List TermTriple
@@ -78,7 +77,7 @@ pub record IsCausedAt (base source : List ℕ) (f : Fault) (at : ℕ) : Type 0 w
   pub from : ℕ
   pub passed : Between Turtle source 0 (front ++ inside) from
   pub statements : Many (Behind true inner_depth) (start base, []) (scope, so_far) (prepend front (prepend inside rest)) (prepend inside rest)
-  pub stands : Stands Turtle source rest at
+  pub stands : StandsAt Turtle source from rest at
   pub cause : Causes (bare scope) f rest
   pub limit : IsAtLimit scope f inside
 
