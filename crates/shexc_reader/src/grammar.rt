@@ -198,7 +198,7 @@ fn shape_first(
 {
     let shape = shape_or_reference(c, names, depth, whole)?;
     if at_non_literal(c) {
-        return constraint_behind(c, names, depth, whole, shape);
+        return constraint_behind(c, names, whole, shape);
     }
     Ok((shape, false))
 }
@@ -231,13 +231,13 @@ fn atom(
     if at_non_literal(c) {
         constraint_first(c, names, depth, whole)
     } else if at_literal_constraint(c) {
-        literal_only(c, names, depth, whole)
+        literal_only(c, names, whole)
     } else if at_shape(c) {
         shape_first(c, names, depth, whole)
     } else if c.is_at(Symbol::OpenParenthesis) {
         parenthesised(c, names, depth)
     } else {
-        dot(c, names, depth)
+        dot(c, names)
     }
 }
 
@@ -504,10 +504,10 @@ fn an_arc(
     ensures gives { Gives triple_of result (ahead c.new) (reading.an_arc true (scope_in names.now) depth (level true (scope_in names.now) depth) label (ahead c.old)) }
     ensures source { source_in c.new ≡ source_in c.old }
 {
-    let inverse = direction(c, names, depth)?;
+    let inverse = direction(c)?;
     let predicate = predicate(c, names)?;
     let value = arc_value(c, names, depth)?;
-    let cardinality = cardinality_behind(c, names, depth, value.1)?;
+    let cardinality = cardinality_behind(c, depth, value.1)?;
     annotations(c, names)?;
     Ok(arc_of(
         label,
@@ -533,7 +533,7 @@ fn grouped(
     opens(c, Symbol::OpenParenthesis, depth)?;
     let inner = inside_triple(c, names, depth)?;
     take(c, Symbol::CloseParenthesis)?;
-    let cardinality = cardinality(c, names, depth)?;
+    let cardinality = cardinality(c, depth)?;
     annotations(c, names)?;
     bracketed(names.alloc, label, cardinality, inner)
 }
@@ -565,7 +565,7 @@ fn unary(c: &mut Cursor<'_>, names: &Names<'_>, depth: u32) -> Result<DocTriple,
     ensures source { source_in c.new ≡ source_in c.old }
 {
     if c.is_at(Symbol::Ampersand) {
-        return inclusion(c, names, depth);
+        return inclusion(c, names);
     }
     if c.is_at(Symbol::Dollar) {
         take(c, Symbol::Dollar)?;

@@ -1,6 +1,6 @@
 //! Shapes and shape expressions (ShEx 2.1, sections 5.2 and 5.5).
 
-ghost use Rattle.std.specs.Prelude.{◌≡◌, IfOk, true, false};
+ghost use Rattle.std.specs.Prelude.{◌≡◌, ℕ, IfOk, true, false};
 ghost use Rattle.rdf_cursor.specs.Cursors.{ahead, source_in};
 ghost use Rattle.rdf_cursor.specs.Readers.{loop};
 ghost use Rattle.rdf_cursor.specs.Symbols.{is_among, is_symbol};
@@ -133,10 +133,9 @@ pub fn opens(c: &mut Cursor<'_>, sought: Symbol, depth: u32) -> Result<(), Stop>
 pub fn literal_only(
     c: &mut Cursor<'_>,
     names: &Names<'_>,
-    depth: u32,
     whole: bool,
 ) -> Result<(DocExpr, bool), Stop>
-    ensures gives { Gives (λ p. (expr_of p.0, p.1)) result (ahead c.new) (reading.literal_only true (scope_in names.now) depth (level true (scope_in names.now) depth) whole (ahead c.old)) }
+    ensures gives { (depth : ℕ) → Gives (λ p. (expr_of p.0, p.1)) result (ahead c.new) (reading.literal_only true (scope_in names.now) depth (level true (scope_in names.now) depth) whole (ahead c.old)) }
     ensures source { source_in c.new ≡ source_in c.old }
 {
     let constraint = literal_constraint(c, names)?;
@@ -149,11 +148,10 @@ pub fn literal_only(
 pub fn constraint_behind(
     c: &mut Cursor<'_>,
     names: &Names<'_>,
-    depth: u32,
     whole: bool,
     shape: DocExpr,
 ) -> Result<(DocExpr, bool), Stop>
-    ensures gives { Gives (λ p. (expr_of p.0, p.1)) result (ahead c.new) (reading.constraint_behind true (scope_in names.now) depth (level true (scope_in names.now) depth) whole (expr_of shape) (ahead c.old)) }
+    ensures gives { (depth : ℕ) → Gives (λ p. (expr_of p.0, p.1)) result (ahead c.new) (reading.constraint_behind true (scope_in names.now) depth (level true (scope_in names.now) depth) whole (expr_of shape) (ahead c.old)) }
     ensures source { source_in c.new ≡ source_in c.old }
 {
     let constraint = non_literal(c, names)?;
@@ -163,8 +161,8 @@ pub fn constraint_behind(
 
 /// `.`
 #[tactic(auto, unfolding(crate::specs::Reading::dot))]
-pub fn dot(c: &mut Cursor<'_>, names: &Names<'_>, depth: u32) -> Result<(DocExpr, bool), Stop>
-    ensures gives { Gives (λ p. (expr_of p.0, p.1)) result (ahead c.new) (reading.dot true (scope_in names.now) depth (level true (scope_in names.now) depth) (ahead c.old)) }
+pub fn dot(c: &mut Cursor<'_>, names: &Names<'_>) -> Result<(DocExpr, bool), Stop>
+    ensures gives { (depth : ℕ) → Gives (λ p. (expr_of p.0, p.1)) result (ahead c.new) (reading.dot true (scope_in names.now) depth (level true (scope_in names.now) depth) (ahead c.old)) }
     ensures source { source_in c.new ≡ source_in c.old }
 {
     take(c, Symbol::Dot)?;

@@ -1,6 +1,6 @@
 //! Statements and documents (ShEx 2.1, section 6).
 
-ghost use Rattle.std.specs.Prelude.{◌≡◌, true};
+ghost use Rattle.std.specs.Prelude.{◌≡◌, ℕ, true};
 ghost use Rattle.rdf_cursor.specs.Cursors.{ahead, source_in};
 ghost use Rattle.rdf_cursor.specs.Readers.{finish, loop, one};
 ghost use Rattle.rdf_cursor.specs.Symbols.{is_any};
@@ -29,11 +29,8 @@ use term_tokens::parts::prefix_of;
 fn end(c: &Cursor<'_>) -> Result<(), Stop>
     ensures { Gives (λ x. x) result (ahead c.now) (finish Syntax tt (ahead c.now)) }
 {
-    match c.end() {
-        Ok(()) => Ok(()),
-        Err(rdf_cursor::Stop::Memory) => Err(Stop::Memory),
-        Err(rdf_cursor::Stop::Fault(_)) => Err(Stop::Fault(Fault::Syntax)),
-    }
+    c.end()?;
+    Ok(())
 }
 
 /// A shape expression in which so many brackets may nest.
@@ -60,8 +57,8 @@ fn body(c: &mut Cursor<'_>, names: &Names<'_>, depth: u32) -> Result<DocExpr, St
 
 /// A base.
 #[tactic(auto, unfolding(crate::specs::Reading::base_directive))]
-fn base_directive(c: &mut Cursor<'_>, state: &mut State, depth: u32) -> Result<(), Stop>
-    ensures gives { Gives (λ x. state_of state.new) result (ahead c.new) (reading.base_directive true depth (state_of state.old) (ahead c.old)) }
+fn base_directive(c: &mut Cursor<'_>, state: &mut State) -> Result<(), Stop>
+    ensures gives { (depth : ℕ) → Gives (λ x. state_of state.new) result (ahead c.new) (reading.base_directive true depth (state_of state.old) (ahead c.old)) }
     ensures source { source_in c.new ≡ source_in c.old }
 {
     take(c, Symbol::SparqlBase)?;
@@ -72,8 +69,8 @@ fn base_directive(c: &mut Cursor<'_>, state: &mut State, depth: u32) -> Result<(
 
 /// A prefix and its IRI.
 #[tactic(auto, unfolding(crate::specs::Reading::prefix_directive))]
-fn prefix_directive(c: &mut Cursor<'_>, state: &mut State, depth: u32) -> Result<(), Stop>
-    ensures gives { Gives (λ x. state_of state.new) result (ahead c.new) (reading.prefix_directive true depth (state_of state.old) (ahead c.old)) }
+fn prefix_directive(c: &mut Cursor<'_>, state: &mut State) -> Result<(), Stop>
+    ensures gives { (depth : ℕ) → Gives (λ x. state_of state.new) result (ahead c.new) (reading.prefix_directive true depth (state_of state.old) (ahead c.old)) }
     ensures source { source_in c.new ≡ source_in c.old }
 {
     take(c, Symbol::SparqlPrefix)?;
@@ -85,8 +82,8 @@ fn prefix_directive(c: &mut Cursor<'_>, state: &mut State, depth: u32) -> Result
 
 /// An import.
 #[tactic(auto, unfolding(crate::specs::Reading::import_directive))]
-fn import_directive(c: &mut Cursor<'_>, state: &mut State, depth: u32) -> Result<(), Stop>
-    ensures gives { Gives (λ x. state_of state.new) result (ahead c.new) (reading.import_directive true depth (state_of state.old) (ahead c.old)) }
+fn import_directive(c: &mut Cursor<'_>, state: &mut State) -> Result<(), Stop>
+    ensures gives { (depth : ℕ) → Gives (λ x. state_of state.new) result (ahead c.new) (reading.import_directive true depth (state_of state.old) (ahead c.old)) }
     ensures source { source_in c.new ≡ source_in c.old }
 {
     take(c, Symbol::Import)?;
@@ -130,11 +127,11 @@ fn statement(c: &mut Cursor<'_>, state: &mut State, depth: u32) -> Result<(), St
     ensures source { source_in c.new ≡ source_in c.old }
 {
     if c.is_at(Symbol::SparqlBase) {
-        base_directive(c, state, depth)
+        base_directive(c, state)
     } else if c.is_at(Symbol::SparqlPrefix) {
-        prefix_directive(c, state, depth)
+        prefix_directive(c, state)
     } else if c.is_at(Symbol::Import) {
-        import_directive(c, state, depth)
+        import_directive(c, state)
     } else if at_start(c) {
         start_directive(c, state, depth)
     } else {

@@ -1,10 +1,10 @@
 //! Cardinalities, inclusions, and how triple expressions are put together (ShEx 2.1, section 5.5).
 
-ghost use Rattle.std.specs.Prelude.{◌≡◌, unwrap_or, option_map, IfOk, IfErr, true};
+ghost use Rattle.std.specs.Prelude.{◌≡◌, ℕ, unwrap_or, option_map, IfOk, IfErr, true};
 ghost use Rattle.rdf_cursor.specs.Cursors.{ahead, source_in};
 ghost use Rattle.rdf_cursor.specs.Readers.{one};
 ghost use Rattle.schema_documents.specs.Tree.{arc, expr_of, maybe_expr, triple_of};
-ghost use Rattle.term_tokens.specs.Scopes.{scope_in};
+ghost use Rattle.term_tokens.specs.Scopes.{Scope, scope_in};
 ghost use Rattle.shexc_constraints.specs.declared.faults.Fault.TheVariants.{Syntax};
 ghost use Rattle.shexc_constraints.specs.declared.faults.Stop.TheVariants as stop;
 ghost use Rattle.shexc_constraints.specs.Meanings.{limit_of};
@@ -126,8 +126,8 @@ fn limit(c: &mut Cursor<'_>, least: u32) -> Result<u32, Stop>
 
 /// Behind the least number a comma, and perhaps a greatest number.
 #[tactic(auto, unfolding(crate::specs::Reading::most))]
-fn most(c: &mut Cursor<'_>, names: &Names<'_>, depth: u32, least: u32) -> Result<Bound, Stop>
-    ensures gives { Gives (λ x. x) result (ahead c.new) (reading.most true (scope_in names.now) depth (level true (scope_in names.now) depth) least (ahead c.old)) }
+fn most(c: &mut Cursor<'_>, least: u32) -> Result<Bound, Stop>
+    ensures gives { (scope : Scope) (depth : ℕ) → Gives (λ x. x) result (ahead c.new) (reading.most true scope depth (level true scope depth) least (ahead c.old)) }
     ensures source { source_in c.new ≡ source_in c.old }
 {
     take(c, Symbol::Comma)?;
@@ -144,13 +144,13 @@ fn most(c: &mut Cursor<'_>, names: &Names<'_>, depth: u32, least: u32) -> Result
 
 /// A cardinality behind its brace.
 #[tactic(auto, unfolding(crate::specs::Reading::limits))]
-fn limits(c: &mut Cursor<'_>, names: &Names<'_>, depth: u32) -> Result<(u32, Bound), Stop>
-    ensures gives { Gives (λ x. x) result (ahead c.new) (reading.limits true (scope_in names.now) depth (level true (scope_in names.now) depth) (ahead c.old)) }
+fn limits(c: &mut Cursor<'_>) -> Result<(u32, Bound), Stop>
+    ensures gives { (scope : Scope) (depth : ℕ) → Gives (λ x. x) result (ahead c.new) (reading.limits true scope depth (level true scope depth) (ahead c.old)) }
     ensures source { source_in c.new ≡ source_in c.old }
 {
     let least = limit(c, 0)?;
     if c.is_at(Symbol::Comma) {
-        let bound = most(c, names, depth, least)?;
+        let bound = most(c, least)?;
         take(c, Symbol::CloseBrace)?;
         return Ok((least, bound));
     }
@@ -160,12 +160,8 @@ fn limits(c: &mut Cursor<'_>, names: &Names<'_>, depth: u32) -> Result<(u32, Bou
 
 /// A cardinality, or none.
 #[tactic(auto, unfolding(crate::specs::Reading::cardinality, crate::specs::Reading::short))]
-pub fn cardinality(
-    c: &mut Cursor<'_>,
-    names: &Names<'_>,
-    depth: u32,
-) -> Result<Option<(u32, Bound)>, Stop>
-    ensures gives { Gives (λ x. x) result (ahead c.new) (reading.cardinality true (scope_in names.now) depth (level true (scope_in names.now) depth) (ahead c.old)) }
+pub fn cardinality(c: &mut Cursor<'_>, depth: u32) -> Result<Option<(u32, Bound)>, Stop>
+    ensures gives { (scope : Scope) → Gives (λ x. x) result (ahead c.new) (reading.cardinality true scope depth (level true scope depth) (ahead c.old)) }
     ensures source { source_in c.new ≡ source_in c.old }
 {
     if c.is_at(Symbol::Star) {
@@ -182,7 +178,7 @@ pub fn cardinality(
     }
     if c.is_at(Symbol::OpenBrace) {
         opens(c, Symbol::OpenBrace, depth)?;
-        let limits = limits(c, names, depth)?;
+        let limits = limits(c)?;
         return Ok(Some(limits));
     }
     Ok(None)
@@ -192,24 +188,23 @@ pub fn cardinality(
 #[tactic(auto, unfolding(crate::specs::Reading::cardinality_behind))]
 pub fn cardinality_behind(
     c: &mut Cursor<'_>,
-    names: &Names<'_>,
     depth: u32,
     counted: bool,
 ) -> Result<Option<(u32, Bound)>, Stop>
-    ensures gives { Gives (λ x. x) result (ahead c.new) (reading.cardinality_behind true (scope_in names.now) depth (level true (scope_in names.now) depth) counted (ahead c.old)) }
+    ensures gives { (scope : Scope) → Gives (λ x. x) result (ahead c.new) (reading.cardinality_behind true scope depth (level true scope depth) counted (ahead c.old)) }
     ensures source { source_in c.new ≡ source_in c.old }
 {
     if counted {
-        let limits = limits(c, names, depth)?;
+        let limits = limits(c)?;
         return Ok(Some(limits));
     }
-    cardinality(c, names, depth)
+    cardinality(c, depth)
 }
 
 /// `^`, or nothing.
 #[tactic(auto, unfolding(crate::specs::Reading::direction))]
-pub fn direction(c: &mut Cursor<'_>, names: &Names<'_>, depth: u32) -> Result<bool, Stop>
-    ensures gives { Gives (λ x. x) result (ahead c.new) (reading.direction true (scope_in names.now) depth (level true (scope_in names.now) depth) (ahead c.old)) }
+pub fn direction(c: &mut Cursor<'_>) -> Result<bool, Stop>
+    ensures gives { (scope : Scope) (depth : ℕ) → Gives (λ x. x) result (ahead c.new) (reading.direction true scope depth (level true scope depth) (ahead c.old)) }
     ensures source { source_in c.new ≡ source_in c.old }
 {
     if c.is_at(Symbol::Caret) {
@@ -221,8 +216,8 @@ pub fn direction(c: &mut Cursor<'_>, names: &Names<'_>, depth: u32) -> Result<bo
 
 /// An inclusion.
 #[tactic(auto, unfolding(crate::specs::Reading::inclusion))]
-pub fn inclusion(c: &mut Cursor<'_>, names: &Names<'_>, depth: u32) -> Result<DocTriple, Stop>
-    ensures gives { Gives triple_of result (ahead c.new) (reading.inclusion true (scope_in names.now) depth (level true (scope_in names.now) depth) (ahead c.old)) }
+pub fn inclusion(c: &mut Cursor<'_>, names: &Names<'_>) -> Result<DocTriple, Stop>
+    ensures gives { (depth : ℕ) → Gives triple_of result (ahead c.new) (reading.inclusion true (scope_in names.now) depth (level true (scope_in names.now) depth) (ahead c.old)) }
     ensures source { source_in c.new ≡ source_in c.old }
 {
     take(c, Symbol::Ampersand)?;

@@ -41,7 +41,8 @@ fn exprs_nest_within(members: &[DocExpr], levels: u32) -> bool
     true
 }
 
-/// The same of a triple expression; inclusions do not count.
+/// Whether at most so many shape and triple expressions nest in one another in a triple expression; references and
+/// inclusions do not count.
 #[cycle(nestings)]
 fn triple_nests_within(triple: &DocTriple, levels: u32) -> bool
     ensures { result ≡ nat_le (triple_nesting (triple_of triple.now)) levels }
