@@ -29,7 +29,8 @@ use Rattle.label_extents.specs.Demanded.{AreDemanded}
 use Rattle.wide_pairs.specs.Wide.{AreWide}
 use Rattle.label_extents.specs.Extents.{AreExtents, AreInOrder, AreKnownExtents, IsKnownMember, IsMember, IsNode, IsUndecided, IsUnknown}
 use Rattle.label_extents.specs.Found.{AreFound, AreMembers, HoldDecided}
-use Rattle.label_extents.specs.Members.{GivesVerdicts, has_unknown, is_unknown, is_yes, members_with}
+use Rattle.schema_tree.specs.Width.{is_certain}
+use Rattle.label_extents.specs.Members.{GivesVerdicts, has_unknown, is_unknown, members_with}
 use Rattle.label_extents.proofs.Judged.{AreVerdicts, fails, holds, one_truth, undecided}
 use Rattle.label_extents.proofs.Listed.{from_listed, in_listed, listed, listed_alike}
 
@@ -39,7 +40,7 @@ yes_unlike_unknown e = cc
 no_unlike_unknown : No ≡ Unknown → ⊥
 no_unlike_unknown e = cc
 
-only_yes : (v : Verdict) → is_yes v ≡ true → v ≡ Yes
+only_yes : (v : Verdict) → is_certain v ≡ true → v ≡ Yes
 only_yes Yes e = refl
 only_yes No e = absurd (true≢false (sym e))
 only_yes Unknown e = absurd (true≢false (sym e))
@@ -90,10 +91,10 @@ module _ (s : Schema) (terms : List Term) (g : List Triple) (f : List ℕ) (pair
         (record { node = is_node; satisfied = truth }, λ unknown. yes_unlike_unknown (one s terms verdicts n e Yes Unknown own unknown))
 
     -- and each such member has a Yes
-    known_yes : IsKnownMember s terms g verdicts e n → is_yes (verdict n e) ≡ true
+    known_yes : IsKnownMember s terms g verdicts e n → is_certain (verdict n e) ≡ true
     known_yes (m, known) = by (verdict n e) refl
       where
-        by : (v : Verdict) → verdict n e ≡ v → is_yes v ≡ true
+        by : (v : Verdict) → verdict n e ≡ v → is_certain v ≡ true
         by Yes is = refl
         by No is = absurd (one_truth s terms g nodes n e ends ((ordered.exactly n).1 is_node) m.satisfied (fails s terms g f pairs budget verdicts view law are n e roots (sure_of No is)).1)
         by Unknown is = absurd (known (undecided s terms g f pairs budget verdicts view law are n e roots (sure_of Unknown is)).0)
@@ -114,17 +115,17 @@ module _ (s : Schema) (terms : List Term) (g : List Triple) (f : List ℕ) (pair
     only_wide unknown = (unknown_from (unknown_there unknown)).1
 
   -- the nodes with Yes are the members that are known
-  in_order : (d : Label × ExprId) → Contains s.labels d → AreInOrder terms (IsKnownMember s terms g verdicts d.1) (filter (λ n. is_yes (verdict n d.1)) nodes)
+  in_order : (d : Label × ExprId) → Contains s.labels d → AreInOrder terms (IsKnownMember s terms g verdicts d.1) (filter (λ n. is_certain (verdict n d.1)) nodes)
   in_order d declared = record {
-    sorted = IsStrictlySortedBy-filter (compare_at terms) (λ n. is_yes (verdict n d.1)) nodes ordered.sorted;
+    sorted = IsStrictlySortedBy-filter (compare_at terms) (λ n. is_certain (verdict n d.1)) nodes ordered.sorted;
     exactly = λ n. (
-      λ c. (let (held, is) = in_filter (λ m. is_yes (verdict m d.1)) nodes n c in yes_known d.0 d.1 n declared ((ordered.exactly n).0 held) (only_yes (verdict n d.1) is)),
-      λ m. filter_has (λ k. is_yes (verdict k d.1)) nodes n ((ordered.exactly n).1 m.0.node) (known_yes d.0 d.1 n declared m.0.node m),
+      λ c. (let (held, is) = in_filter (λ m. is_certain (verdict m d.1)) nodes n c in yes_known d.0 d.1 n declared ((ordered.exactly n).0 held) (only_yes (verdict n d.1) is)),
+      λ m. filter_has (λ k. is_certain (verdict k d.1)) nodes n ((ordered.exactly n).1 m.0.node) (known_yes d.0 d.1 n declared m.0.node m),
     );
   }
 
   pub known_extents : (members : List Answer) → members ≡ flat_map (members_with verdict nodes) s.labels → AreKnownExtents s terms g verdicts members
-  known_extents members is = subst (AreKnownExtents s terms g verdicts) (sym is) (listed terms (IsKnownMember s terms g verdicts) (λ d. filter (λ n. is_yes (verdict n d.1)) nodes) s.labels in_order)
+  known_extents members is = subst (AreKnownExtents s terms g verdicts) (sym is) (listed terms (IsKnownMember s terms g verdicts) (λ d. filter (λ n. is_certain (verdict n d.1)) nodes) s.labels in_order)
 
   pub told_undecided : (told : Bool) → told ≡ list_any (has_unknown verdict nodes) s.labels → IsTrue told ↔ IsUndecided s terms g verdicts
   told_undecided told is = (there, back)

@@ -11,6 +11,7 @@ use Rattle.schema_tree.specs.declared.schema.Schema.{Schema}
 use Rattle.schema_tree.specs.declared.verdicts.Verdict.{Verdict}
 use Rattle.schema_tree.specs.declared.verdicts.Verdict.TheVariants.{Yes, No, Unknown}
 use Rattle.schema_tree.specs.Sure.{IsSure, Known}
+use Rattle.schema_tree.specs.Width.{is_certain}
 use Rattle.demand.specs.declared.reach.Root.{Root}
 use Rattle.label_extents.specs.Extents.{member}
 
@@ -25,11 +26,6 @@ root e n = record { node = n; expr = e }
 -- the nodes with the expression of each label
 abbrev pub roots_of : List TermId → List (Label × ExprId) → List Root
 roots_of nodes labels = flat_map (λ d. map (root d.1) nodes) labels
-
-abbrev pub is_yes : Verdict → Bool
-is_yes Yes = true
-is_yes No = false
-is_yes Unknown = false
 
 abbrev pub is_unknown : Verdict → Bool
 is_unknown Yes = false
@@ -49,7 +45,7 @@ GivesVerdicts s terms view verdict = (n : TermId) (e : ExprId) (v : Verdict) →
 module _ (verdict : TermId → ExprId → Verdict) (nodes : List TermId) where
   -- the members with a label
   abbrev pub members_with : Label × ExprId → List Answer
-  members_with d = map (member d.0) (filter (λ n. is_yes (verdict n d.1)) nodes)
+  members_with d = map (member d.0) (filter (λ n. is_certain (verdict n d.1)) nodes)
 
   -- whether the verdict on a node with the label is Unknown
   abbrev pub has_unknown : Label × ExprId → Bool

@@ -3,10 +3,10 @@ use Rattle.std.specs.Prelude.{ℕ, Bool, true, false, List, ◌+◌, ◌*◌, �
 use Rattle.schema_tree.specs.declared.schema.Pair.{Pair}
 use Rattle.schema_tree.specs.declared.verdicts.Verdict.{Verdict}
 use Rattle.schema_tree.specs.Edges.{level}
-use Rattle.schema_tree.specs.Width.{HasWidth}
 use Rattle.bag_match.specs.Bounds.{most_ticks}
 use Rattle.removal_laws.specs.Costs.{is_on, phase_cost, potential, total}
 use Rattle.locality_laws.specs.Bounds.{cost_where}
+use Rattle.typing_refiner.specs.Building.{AreWidths}
 use Rattle.typing_refiner.specs.declared.ground.Ground.{Ground}
 
 -- what one look at a pair ticks at most, where this is its Width
@@ -20,7 +20,7 @@ look_cost h width i = cost_of_pair h width (slice_get h.table.now i)
 
 -- the function gives each pair its Width
 abbrev pub GiveWidths : Ground → (Pair → ℕ) → Type 0
-GiveWidths h width = (p : Pair) → HasWidth h.schema.now h.terms.now h.graph.now.triples p (width p)
+GiveWidths h width = AreWidths h.schema.now h.terms.now h.graph.now.triples width
 
 abbrev pub is_some_true : Option Bool → Bool
 is_some_true None = false
