@@ -33,6 +33,12 @@ unfolding status_by
 decided_by true is = absurd (omega (arith, is))
 decided_by false is = refl
 
+-- and with 4 something is
+pub undecided_by : (undecided : Bool) → 4 ≡ status_by undecided → undecided ≡ true
+unfolding status_by
+undecided_by true is = refl
+undecided_by false is = absurd (omega (arith, is))
+
 -- ---- one text
 
 -- printing ends with the status that is wanted, or it stopped

@@ -1,13 +1,14 @@
 -- What the ways to end say of the status, where contents are told, and of what is printed.
-use Rattle.std.proofs.Common.{◌≡◌, ◌∙◌, ap, sym, subst, refl, List, ℕ, [], ◌++◌, ◌⊎◌, inl, inr, ◌<◌, Bool, true, false, true≢false, ◌||◌}
+use Rattle.std.proofs.Common.{◌≡◌, ◌≢◌, ◌∙◌, ap, sym, subst, refl, List, ℕ, [], ◌∷◌, ◌++◌, ◌⊎◌, inl, inr, ◌<◌, arith, Bool, true, false, true≢false, ◌||◌}
 use Rattle.std.proofs.lemmas.Grind.{flat_map-append}
 use Rattle.std.proofs.lemmas.List.Folds.{list_any-append}
-use Rattle.std.specs.Prelude.{Option, Some}
+use Rattle.std.specs.Prelude.{Option, Some, ◌-◌, ◌^◌}
 use Rattle.call_ends.specs.Parts.{AreQuiet}
 use Rattle.call_ends.specs.Statuses.{IsAnswering, IsCutOff, IsInterrupted, IsStatus}
-use Rattle.call_ends.proofs.Closing.{answers, by_status, comes_to, concludes, decided_by, fault_interrupts, five_says, in_part, is_status, nothing_out, quietly, seven_rose, sink_seven, three_says, told_stays, two_says, unprinted}
+use Rattle.call_ends.proofs.Closing.{answers, by_status, comes_to, concludes, decided_by, fault_interrupts, five_says, in_part, is_status, nothing_out, quietly, seven_rose, sink_seven, three_says, told_stays, two_says, undecided_by, unprinted}
 use Rattle.clap.specs.Words.{Text}
 use Rattle.command_words.specs.Checks.{Fault}
+use Rattle.lists.proofs.Members.{is_first}
 use Rattle.program_ends.specs.Ends.{FilesSeen}
 use Rattle.program_ends.specs.Printing.{SinkSeen}
 use Rattle.rdf_terms.specs.declared.terms.TermId.{TermId}
@@ -22,6 +23,8 @@ use Rattle.shex_io.specs.Files.{Told}
 use Rattle.shex_io.specs.Sinks.{Gains}
 use Rattle.tool_words.specs.Asked.{Editing, IsEditing, IsEditingFault}
 use Rattle.tool_words.specs.Laws.{AnswersAreOne}
+use Rattle.typing_session.specs.Questions.{IsUnknownOnlyWide}
+use Rattle.wide_pairs.specs.Laws.{NoneIsWide}
 use Rattle.session_run.specs.declared.error.CommandError.{CommandError}
 use Rattle.session_run.specs.declared.stop.File.{File}
 use Rattle.session_run.specs.declared.stop.Refusal.{Refusal}
@@ -30,6 +33,7 @@ use Rattle.session_run.specs.Files.{inputs_of}
 use Rattle.session_run.specs.Outcomes.{AreAnswers, IsAbsent, IsRefused, start_of}
 use Rattle.session_run.specs.Replies.{Reply, any_unknown, is_unknown, notes_of, status_of}
 use Rattle.session_run.specs.Script.{AreNotes, Outcome, Runs, State, Steps, answered, ended, goes, refused, stops}
+use Rattle.session_run.proofs.Fitting.{fit}
 use Rattle.session_run.proofs.Exclusive.{Laws, answers_agree, answers_not_absent, answers_not_refused, refused_not_absent}
 
 -- the status of answers is 0 or 4
@@ -142,6 +146,68 @@ quiet_answer told words text notes by =
     ∙ runs_quietly are.held.schema are.held.strata by.editing.budget (start_of are.held) [] are.commands (answered a.replies) a.replies refl are.ends (λ none. refl)
     (decided_by (any_unknown a.replies) a.status_is)
 
+-- ---- where some answer is Unknown, it is noted
+
+-- answers of which some is Unknown have notes
+abbrev AreNoted : List Reply → Type 0
+AreNoted replies = any_unknown replies ≡ true → notes_of replies ≢ []
+
+either_true : (a b : Bool) → (a || b) ≡ true → (a ≡ true) ⊎ (b ≡ true)
+either_true true b h = inl refl
+either_true false b h = inr h
+
+parts_none : (a b : List ℕ) → a ++ b ≡ [] → (a ≡ []) × (b ≡ [])
+parts_none [] b e = (refl, e)
+parts_none (x ∷ a) b e = absurd cc
+
+more_noted : (so more : List Reply) → AreNoted so → AreNoted more → AreNoted (so ++ more)
+more_noted so more h k some none = by (either_true (any_unknown so) (any_unknown more) (sym (list_any-append (λ (r : Reply). is_unknown r.verdict) so more) ∙ some))
+  where
+    parts : (notes_of so ≡ []) × (notes_of more ≡ [])
+    parts = parts_none (notes_of so) (notes_of more) (sym (flat_map-append (λ (r : Reply). r.notes) so more) ∙ none)
+
+    by : (any_unknown so ≡ true) ⊎ (any_unknown more ≡ true) → ⊥
+    by (inl a) = h a parts.0
+    by (inr b) = k b parts.1
+
+-- an Unknown answer reaches a wide pair, for which there is a line
+some_noted : NoneIsWide → (s : Schema) (x : State) (budget : ℕ) (n : TermId) (e : ExprId) (v : Verdict) (notes : List ℕ) → budget < 2 ^ 64 - 1 → IsUnknownOnlyWide s x.terms x.graph budget n e v → AreNotes s x budget n e v notes →
+    is_unknown v ≡ true → notes ≢ []
+some_noted law s x budget n e Yes notes few only noted some = absurd (true≢false (sym some))
+some_noted law s x budget n e No notes few only noted some = absurd (true≢false (sym some))
+some_noted law s x budget n e Unknown notes few only (wide, are, is) some = λ none.
+    only refl (λ q reached. law s x.terms x.graph budget are.pairs wide few are.wide (sym is ∙ none) q ((are.asked.exactly q).1 (record { node = n; expr = e }, is_first (record { node = n; expr = e }) [], reached)))
+
+module _ (law : NoneIsWide) (s : Schema) (f : List ℕ) (budget : ℕ) (few : budget < 2 ^ 64 - 1) where
+  step_noted : (x : State) (c : Command) (y : State) (more : List Reply) → Steps s f budget x c y more → AreNoted more
+  step_noted x (Add t) y more (e, is) = subst AreNoted (sym is) (λ some. absurd (true≢false (sym some)))
+  step_noted x (Remove t) y more (e, is) = subst AreNoted (sym is) (λ some. absurd (true≢false (sym some)))
+  step_noted x (Ask node target) y more (r, e, is) = subst AreNoted (sym is) (λ some none.
+      some_noted law s y budget e.number e.expr r.verdict r.notes few e.verdict.only_wide e.notes (alone (is_unknown r.verdict) some) (parts_none r.notes [] none).0)
+    where
+      alone : (b : Bool) → (b || false) ≡ true → b ≡ true
+      alone true h = refl
+      alone false h = h
+
+  runs_noted : (x : State) (so : List Reply) (cs : List Command) (o : Outcome) (replies : List Reply) → o ≡ answered replies → Runs s f budget x so cs o → AreNoted so → AreNoted replies
+  runs_noted x so cs o replies is ended h = subst AreNoted (same_replies so replies is) h
+    where
+      same_replies : (xs ys : List Reply) → answered xs ≡ answered ys → xs ≡ ys
+      same_replies xs ys e = cc
+  runs_noted x so cs o replies is (goes {c = c} {cs = behind} y more steps rest) h = runs_noted y (so ++ more) behind o replies is rest (more_noted so more h (step_noted x c y more steps))
+  runs_noted x so cs o replies is (stops {e = e} stop) h = absurd (differ e replies is)
+    where
+      differ : (d : CommandError) (ys : List Reply) → refused d ≡ answered ys → ⊥
+      differ d ys e = cc
+
+-- with status 4 something is noted
+noted_answer : NoneIsWide → (told : Told) (words : List Text) (text notes : List ℕ) → IsAnsweredBy told words 4 text notes → notes ≢ []
+noted_answer law told words text notes by none =
+    let a = by.answered in
+    let are = a.are_answers in
+    runs_noted law are.held.schema are.held.strata by.editing.budget (let le = (fit words by.editing by.is_asked).budget in omega (arith, le)) (start_of are.held) [] are.commands (answered a.replies) a.replies refl are.ends (λ some. absurd (true≢false (sym some)))
+    (undecided_by (any_unknown a.replies) a.status_is) (sym a.notes_are ∙ none)
+
 -- ---- the clauses that follow from each way to end
 
 module _ (words : List Text) (files : FilesSeen) (out err : SinkSeen) (status : ℕ) (ends : SessionEnds words files out err status) where
@@ -153,6 +219,9 @@ module _ (words : List Text) (files : FilesSeen) (out err : SinkSeen) (status : 
 
   pub says_answers : IsAnswering status → (text notes : List ℕ) × IsAnsweredBy files.told words status text notes × Gains out.got out.got_after text × Gains err.got err.got_after notes
   says_answers at = answers (IsWordsLine words) (IsRefusedBy files.told words) (IsFailedBy files words) (IsAnsweredBy files.told words) files out err status at ends
+
+  pub says_noted : NoneIsWide → (text notes : List ℕ) → IsAnsweredBy files.told words status text notes → status ≡ 4 → notes ≢ []
+  says_noted law text notes by at = noted_answer law files.told words text notes (subst (λ n. IsAnsweredBy files.told words n text notes) at by)
 
   pub says_quietly : status ≡ 0 → err.got_after ≡ err.got
   says_quietly at = quietly (IsWordsLine words) (IsRefusedBy files.told words) (IsFailedBy files words) (IsAnsweredBy files.told words) files out err status (quiet_answer files.told words) at ends

@@ -6,3 +6,4 @@ pub mod Exclusive
 pub mod Fitting
 pub mod Ran
 pub mod Stopped
+pub mod True

@@ -20,6 +20,8 @@ use Rattle.rdf_terms.specs.declared.terms.Term.{Term}
 use Rattle.rdf_terms.specs.declared.terms.TermId.{TermId}
 use Rattle.rdf_terms.specs.declared.terms.Triple.{Triple}
 use Rattle.schema_tree.specs.Loaded.{HasTarget, IsTarget}
+use Rattle.schema_tree.specs.Edges.{IsStratum}
+use Rattle.schema_tree.specs.Loaded.{IsLoaded}
 use Rattle.schema_tree.specs.declared.schema.ExprId.{ExprId}
 use Rattle.schema_tree.specs.declared.schema.Schema.{Schema}
 use Rattle.schema_tree.specs.declared.schema.Target.{Target}
@@ -78,6 +80,13 @@ terms_alone a b c h k = k ∙ ap (λ (x : Seen). with_terms c.terms x) h
 
 pub carried : (P : Schema → List ℕ → ℕ → Type 0) (first x : Seen) → Keeps first x → P x.schema x.strata x.budget → P first.schema first.strata first.budget
 carried P first x k p = subst (λ s. P s first.strata first.budget) k.schema (subst (λ f. P x.schema f first.budget) k.strata (subst (λ b. P x.schema x.strata b) k.budget p))
+
+-- the schema stays loaded, by the same strata
+pub stays_loaded : (first x : Seen) → Keeps first x → IsLoaded first.schema → IsLoaded x.schema
+stays_loaded first x k loaded = subst IsLoaded (sym k.schema) loaded
+
+pub stays_stratified : (first x : Seen) → Keeps first x → IsStratum first.schema first.strata → IsStratum x.schema x.strata
+stays_stratified first x k strata = subst (λ s. IsStratum s x.strata) (sym k.schema) (subst (λ f. IsStratum first.schema f) (sym k.strata) strata)
 
 -- ---- stops
 

@@ -1,5 +1,5 @@
 -- What the commands of a script lead to: a graph is edited, and questions are answered over what the edits before them left (own).
-use Rattle.std.specs.Prelude.{ℕ, List, [], ◌∷◌, ◌++◌, ◌≡◌, ◌≢◌, ◌≤◌, ◌⊎◌, ◌↔◌, Contains, Some, length, slice_get}
+use Rattle.std.specs.Prelude.{ℕ, true, false, List, [], ◌∷◌, ◌++◌, ◌≡◌, ◌≢◌, ◌≤◌, ◌⊎◌, ◌↔◌, Contains, Some, length, slice_get}
 use Rattle.graph_index.specs.Contents.{max_triples}
 use Rattle.graph_index.specs.Loading.{IsNumbered, terms_of}
 use Rattle.graph_index.specs.declared.loading.TermTriple.{TermTriple}
@@ -16,10 +16,11 @@ use Rattle.schema_tree.specs.declared.schema.Target.{Target}
 use Rattle.schema_tree.specs.declared.schema.Target.TheVariants as Targets
 use Rattle.schema_tree.specs.declared.verdicts.Verdict.{Verdict}
 use Rattle.schema_tree.specs.declared.verdicts.Verdict.TheVariants.{No, Unknown, Yes}
+use Rattle.schema_tree.specs.Truths.{IsTruth}
 use Rattle.session_script.specs.declared.commands.Command.{Command}
 use Rattle.session_script.specs.declared.commands.Command.TheVariants.{Add, Ask, Remove}
 use Rattle.typing_refiner.specs.declared.building.WidePair.{WidePair}
-use Rattle.typing_session.specs.Questions.{IsAnswer, IsAnswerByAll, IsTrueAnswer, IsUnknownOnlyWide, ReachesTooMany}
+use Rattle.typing_session.specs.Questions.{IsAnswer, IsAnswerByAll, IsUnknownOnlyWide, ReachesTooMany}
 use Rattle.typing_session.specs.Widths.{AreReachedWide}
 use Rattle.wide_pairs.specs.Lines.{wide_lines}
 use Rattle.session_run.specs.Replies.{Reply}
@@ -89,13 +90,14 @@ AreNotes s x budget n e Yes notes = notes ≡ []
 AreNotes s x budget n e No notes = notes ≡ []
 
 -- a node with an expression is answered over the graph of a state: by the verdicts of refinement of the pairs that the two reach in
--- it, whatever was asked before; Yes and No are so by each complete typing, and Unknown comes only where a pair that is too wide is
--- reached (ShEx 2.1, section 5.2)
+-- it, whatever was asked before; Yes comes only where the complete typing satisfies the expression at the node, No only where it does
+-- not, and Unknown only where a pair that is too wide is reached (ShEx 2.1, section 5.2)
 pub record IsVerdictAt (s : Schema) (f : List ℕ) (budget : ℕ) (x : State) (n : TermId) (e : ExprId) (v : Verdict) : Type 0 where
   pub answer : IsAnswer s x.terms x.graph f budget n e v
   pub no_other : (w : Verdict) → IsAnswer s x.terms x.graph f budget n e w → w ≡ v
   pub by_all : IsAnswerByAll s x.terms x.graph budget n e v
-  pub true_answer : IsTrueAnswer s x.terms x.graph f n e v
+  pub satisfied : v ≡ Yes → IsTruth s x.terms x.graph n e true
+  pub unsatisfied : v ≡ No → IsTruth s x.terms x.graph n e false
   pub only_wide : IsUnknownOnlyWide s x.terms x.graph budget n e v
 
 -- how a script ends: with its answers, or refused

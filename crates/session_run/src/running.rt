@@ -5,6 +5,8 @@ ghost use Rattle.graph_index.specs.Loading.{IsNumbered, terms_of};
 ghost use Rattle.lists.specs.Additions.{Adds, AddsAll};
 ghost use Rattle.lists.specs.Distinct.{AreDistinct};
 ghost use Rattle.rdf_terms.specs.Tables.{max_terms};
+ghost use Rattle.schema_tree.specs.Edges.{IsStratum};
+ghost use Rattle.schema_tree.specs.Loaded.{IsLoaded};
 ghost use Rattle.typing_session.specs.Questions.{ReachesTooMany};
 ghost use Rattle.typing_session.specs.Seen.{with_terms};
 ghost use Rattle.session_run.specs.Replies.{Reply, is_unknown};
@@ -15,6 +17,7 @@ use crate::error::CommandError;
 use crate::said::{Said, push_line};
 use graph_index::loading::TermTriple;
 use rdf_terms::terms::{Term, TermId, Triple};
+use schema_tree::laws::{strata_are_alike, strata_are_least, typing_is_one};
 use schema_tree::schema::{ExprId, Target};
 use schema_tree::verdicts::Verdict;
 use session_script::Command;
@@ -136,10 +139,16 @@ fn ask<L: Ledger>(
     steps: &mut Counter<L>,
     said: &mut Said,
 ) -> Result<(), CommandError>
+    requires loaded { IsLoaded session.old.schema }
+    requires strata { IsStratum session.old.schema session.old.strata }
     ensures replies { OnOk result ((r : Reply) × Replies session.old.schema session.old.strata session.old.budget (state_of session.old) node target.now (state_of session.new) r × SaysMore said.old (r ∷ []) said.new) }
     ensures stops { IfErr result (StopsOr (Stops session.old.schema session.old.strata session.old.budget (state_of session.old) (Command.Ask node target.now))) }
     ensures keeps { Keeps session.old session.new }
 {
+    // The laws by which there is a complete typing, and one alone.
+    typing_is_one();
+    strata_are_alike();
+    strata_are_least();
     let Some(expr) = session.target(target) else {
         return Err(undeclared(alloc, target));
     };
@@ -165,6 +174,8 @@ fn step<L: Ledger>(
     steps: &mut Counter<L>,
     said: &mut Said,
 ) -> Result<(), CommandError>
+    requires loaded { IsLoaded session.old.schema }
+    requires strata { IsStratum session.old.schema session.old.strata }
     requires distinct { AreDistinct session.old.graph }
     ensures steps { OnOk result ((more : List Reply) × Steps session.old.schema session.old.strata session.old.budget (state_of session.old) command (state_of session.new) more × SaysMore said.old more said.new) }
     ensures stops { IfErr result (StopsOr (Stops session.old.schema session.old.strata session.old.budget (state_of session.old) command)) }
@@ -187,6 +198,8 @@ fn run_with<L: Ledger>(
     requires name { blank.name ≡ L.name }
     requires parts { blank.parts ≡ L.parts }
     requires some { 0 < blank.parts }
+    requires loaded { IsLoaded session.old.schema }
+    requires strata { IsStratum session.old.schema session.old.strata }
     requires distinct { AreDistinct session.old.graph }
     ensures done { IfOk result (IsDone session.old commands.items) }
     ensures stopped { IfErr result (StopsOr (λ e. Runs session.old.schema session.old.strata session.old.budget (state_of session.old) [] commands.items (refused e))) }
@@ -206,6 +219,8 @@ pub fn run(
     session: &mut Session,
     commands: Vec<Command>,
 ) -> Result<Said, CommandError>
+    requires loaded { IsLoaded session.old.schema }
+    requires strata { IsStratum session.old.schema session.old.strata }
     requires distinct { AreDistinct session.old.graph }
     ensures done { IfOk result (IsDone session.old commands.items) }
     ensures stopped { IfErr result (StopsOr (λ e. Runs session.old.schema session.old.strata session.old.budget (state_of session.old) [] commands.items (refused e))) }

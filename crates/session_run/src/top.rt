@@ -1,6 +1,6 @@
 //! The top call.
 
-ghost use Rattle.std.specs.Prelude.{◌≡◌, ◌<◌, ◌⊎◌, ℕ, List, Option, Some, codes, map, string_bytes};
+ghost use Rattle.std.specs.Prelude.{[], ◌≡◌, ◌≢◌, ◌<◌, ◌⊎◌, ℕ, List, Option, Some, codes, map, string_bytes};
 ghost use Rattle.clap.specs.Words.{Text};
 ghost use Rattle.shex_io.specs.Faults.{Rose};
 ghost use Rattle.shex_io.specs.Sinks.{Gains};
@@ -28,6 +28,7 @@ use shex_io::{Files, Sink};
 use std::alloc::Global;
 use tool_words::{Editing, answers_are_one, read_session};
 use typing_session::set_laws::answers_are_of_sets;
+use wide_pairs::laws::none_is_wide;
 
 /// Says what is wrong with the words, unless memory ran out, and gives the status.
 fn refuse<S: Sink>(alloc: Global, error: WordsError<'_>, sink: &mut S) -> u8
@@ -115,13 +116,15 @@ pub fn run_session<F: Files, O: Sink, E: Sink>(
 
     // The answers are those to the questions of the script, each over the graph that the edits before it left, by the verdicts of
     // refinement over it and so true of the complete typing; the status is 4 exactly where one is Unknown, and then the wide pairs
-    // on which it depends are noted.
+    // on which it depends are noted, of which there is one at least.
     ensures answered { IsAnswering result →
         (text notes : List ℕ)
         × IsAnsweredBy (F.told files.old) (map string_bytes words.now) result text notes
         × Gains (O.got out.old) (O.got out.new) text
         × Gains (E.got err.old) (E.got err.new) notes }
     ensures answered_quietly { result ≡ 0 → E.got err.new ≡ E.got err.old }
+    ensures noted { result ≡ 4 → (text notes : List ℕ) →
+        IsAnsweredBy (F.told files.old) (map string_bytes words.now) result text notes → notes ≢ [] }
 
     // Each other status has its cause. With 2, 3 and 5 its line is all that is printed, with 7 and 8 a part of what is due.
     ensures arguments { result ≡ 2 →
@@ -188,5 +191,6 @@ pub fn run_session<F: Files, O: Sink, E: Sink>(
     scripts_are_one();
     scripts_are_not_refused();
     answers_are_of_sets();
+    none_is_wide();
     end(alloc, words, files, out, err)
 }

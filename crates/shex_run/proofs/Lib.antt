@@ -10,6 +10,7 @@ pub mod Ended
 pub mod Exclusive
 pub mod Fitting
 pub mod Newest
+pub mod Noted
 pub mod Replies
 pub mod Risen
 pub mod Selected

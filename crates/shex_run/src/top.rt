@@ -1,6 +1,6 @@
 //! The top call.
 
-ghost use Rattle.std.specs.Prelude.{◌≡◌, ◌<◌, ◌≤◌, ◌⊎◌, ℕ, List, Option, Some, IfOk, map, string_bytes};
+ghost use Rattle.std.specs.Prelude.{[], ◌≡◌, ◌≢◌, ◌<◌, ◌≤◌, ◌⊎◌, ℕ, List, Option, Some, IfOk, map, string_bytes};
 ghost use Rattle.rdf_terms.specs.declared.terms.Term.{Term};
 ghost use Rattle.schema_tree.specs.declared.schema.Answer.{Answer};
 ghost use Rattle.clap.specs.Words.{Text};
@@ -31,6 +31,7 @@ use proof_checker::CheckError;
 use shex_inputs::{Refusal, inputs_are_one};
 use shex_io::{Files, Sink};
 use std::alloc::Global;
+use wide_pairs::laws::none_is_wide;
 
 /// Says what is wrong with the words, unless memory ran out, and gives the status.
 fn refuse<S: Sink>(alloc: Global, error: WordsError<'_>, sink: &mut S) -> u8
@@ -148,7 +149,8 @@ pub fn run<F: Files, O: Sink, E: Sink>(
 
     // An answer is the truth of what the files hold, by the complete typing over the graph, and the answers alone are
     // printed. Those associations alone are left out, with status 4, on which the verdicts of refinement are Unknown, so that
-    // they depend on a pair whose Width is above the budget, and then each such pair that the associations reach is noted.
+    // they depend on a pair whose Width is above the budget, and then each such pair that the associations reach is noted, of
+    // which there is one at least.
     // The proof that is stored is accepted, its claims are the answers, and its records those of refinement; it names the
     // files by their digests, and brings the strata of the schema. The claims of a proof that is current and accepted are true,
     // and where it is to be upgraded, it is stored in format 2. The line of a drill counts the true answers to all that its texts
@@ -159,6 +161,9 @@ pub fn run<F: Files, O: Sink, E: Sink>(
         × Gains (O.got out.old) (O.got out.new) text
         × Gains (E.got err.old) (E.got err.new) notes }
     ensures answered_quietly { (result ≡ 0) ⊎ (result ≡ 1) → E.got err.new ≡ E.got err.old }
+    ensures noted { result ≡ 4 → (text notes : List ℕ) →
+        IsRespondedTo (F.told files.old) (F.told files.new) (map string_bytes words.now) result text notes →
+        notes ≢ [] }
 
     // Each other status has its cause. With 2, 3, 5 and 6 its line is all that is printed, with 7 and 8 a part of what is due.
     ensures arguments { result ≡ 2 →
@@ -255,5 +260,6 @@ pub fn run<F: Files, O: Sink, E: Sink>(
     // The laws by which words and files say one thing.
     answers_are_one();
     inputs_are_one();
+    none_is_wide();
     end(alloc, words, files, out, err)
 }

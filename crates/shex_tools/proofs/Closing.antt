@@ -1,6 +1,6 @@
 -- What the ways to end say of the status.
-use Rattle.std.proofs.Common.{◌≡◌, ◌∙◌, ap, sym, subst, refl, List, ℕ, [], ◌⊎◌, inl, inr, arith, Bool, false}
-use Rattle.std.specs.Prelude.{Option, Some, IsTrue}
+use Rattle.std.proofs.Common.{◌≡◌, ◌≢◌, ◌∙◌, ap, sym, subst, refl, List, ℕ, [], ◌⊎◌, inl, inr, arith, Bool, true, false}
+use Rattle.std.specs.Prelude.{Option, Some, IsTrue, ◌-◌, ◌^◌, ◌<◌, if◌then◌else◌}
 use Rattle.clap.specs.Words.{Text}
 use Rattle.rdf_terms.specs.declared.terms.Term.{Term}
 use Rattle.schema_tree.specs.declared.schema.Pair.{Pair}
@@ -31,7 +31,10 @@ use Rattle.shex_tools.specs.Laws.{DocumentsAreOne}
 use Rattle.shex_tools.specs.Results.{Concludes, IsAnswer, IsListed}
 use Rattle.shex_tools.specs.Texts.{notes_by}
 use Rattle.shex_tools.proofs.Exclusive.{AreOne, answer_taken, refused_not_absent, taken_not_absent, taken_not_refused}
+use Rattle.shex_tools.proofs.Fitting.{fit}
 use Rattle.shex_tools.proofs.Unknowns.{undecided_to}
+use Rattle.wide_pairs.specs.Laws.{NoneIsWide}
+use Rattle.wide_pairs.specs.Lines.{wide_lines}
 
 -- ---- answers
 
@@ -61,6 +64,29 @@ unnoted_answer told (of_labels l) text notes answer = answer.listed.notes_are �
 
 pub unnoted : (told : Told) (words : List Text) (text notes : List ℕ) → IsAnswered told words 0 text notes → notes ≡ []
 unnoted told words text notes (call, is_call, answer) = unnoted_answer told call text notes answer
+
+-- with 4 a wide pair is noted
+lines_due : (terms : List Term) (budget : ℕ) (undecided : Bool) (wide : List WidePair) → undecided ≡ true → notes_by terms budget undecided wide ≡ wide_lines terms budget wide
+unfolding notes_by
+lines_due terms budget undecided wide is = ap (λ b. if b then wide_lines terms budget wide else []) is
+
+noted_answer : NoneIsWide → (told : Told) (words : List Text) (call : ToolCall) (text notes : List ℕ) → IsToolCall words call → IsAnswer told call 4 text notes → notes ≢ []
+noted_answer law told words (of_schema c) text notes is_call answer none = let e : 4 ≡ 0 = answer.status_is in absurd (omega (arith, e))
+noted_answer law told words (of_labels l) text notes is_call answer none =
+    let h = answer.held in
+    let x = answer.listed.extents in
+    let found = answer.listed.is_found.found in
+    let some : x.undecided ≡ true = closing.undecided_by x.undecided answer.listed.status_is in
+    let lines : wide_lines h.terms l.budget x.wide ≡ [] = sym (lines_due h.terms l.budget x.undecided x.wide some) ∙ sym answer.listed.notes_are ∙ none in
+    let few = (fit words (of_labels l) is_call).2 in
+    let u = found.undecided.0 some in
+    found.only_wide u.label u.expr u.node u.declared u.is_node u.unknown (λ p reached.
+    law h.schema h.terms h.graph l.budget found.pairs x.wide (omega (arith, few)) found.wide lines p
+    ((found.demanded.exactly p).1 (record { label = u.label; expr = u.expr; node = u.node; declared = u.declared; is_node = u.is_node; reaches = reached })))
+
+pub four_noted : NoneIsWide → (told : Told) (words : List Text) (text notes : List ℕ) (status : ℕ) → status ≡ 4 → IsAnswered told words status text notes → notes ≢ []
+four_noted law told words text notes status at by =
+    let (call, is_call, answer) = subst (λ n. IsAnswered told words n text notes) at by in noted_answer law told words call text notes is_call answer
 
 -- 4 is that of extents
 of_listing : (told : Told) (words : List Text) (call : ToolCall) (text notes : List ℕ) → IsToolCall words call → IsAnswer told call 4 text notes → (l : Listing) × IsToolCall words (of_labels l)

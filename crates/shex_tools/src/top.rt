@@ -1,6 +1,6 @@
 //! The top call.
 
-ghost use Rattle.std.specs.Prelude.{◌≡◌, ◌<◌, ◌≤◌, ◌⊎◌, ℕ, List, Option, Some, IfErr, IfOk, OnOk, codes, map, string_bytes};
+ghost use Rattle.std.specs.Prelude.{[], ◌≡◌, ◌≢◌, ◌<◌, ◌≤◌, ◌⊎◌, ℕ, List, Option, Some, IfErr, IfOk, OnOk, codes, map, string_bytes};
 ghost use Rattle.schema_tree.specs.declared.schema.Pair.{Pair};
 ghost use Rattle.schema_tree.specs.Removal.{IsRefined};
 ghost use Rattle.schema_tree.specs.Sure.{Known};
@@ -35,6 +35,7 @@ use shex_inputs::{Source, inputs_are_one, taken_is_loaded};
 use shex_io::{Files, Sink};
 use std::alloc::Global;
 use tool_words::{ToolCall, answers_are_one, read_tool};
+use wide_pairs::laws::none_is_wide;
 
 /// What answers a call.
 fn respond<F: Files>(alloc: Global, files: &mut F, call: &ToolCall<'_>) -> Result<Response, Stop>
@@ -140,13 +141,15 @@ pub fn run_tool<F: Files, O: Sink, E: Sink>(
     // With 0 the text of `convert` is that of the document in the schema file, from which its plain form is read back. The text of
     // `extents` is the members that are known: each is one, and those alone are left out, with status 4, on which the verdicts of
     // refinement are Unknown, so that they depend on a pair whose Width is above the budget, and then each such pair that the nodes
-    // with the labels reach is noted.
+    // with the labels reach is noted, of which there is one at least.
     ensures answered { IsAnswering result →
         (text notes : List ℕ)
         × IsAnswered (F.told files.old) (map string_bytes words.now) result text notes
         × Gains (O.got out.old) (O.got out.new) text
         × Gains (E.got err.old) (E.got err.new) notes }
     ensures answered_quietly { result ≡ 0 → E.got err.new ≡ E.got err.old }
+    ensures noted { result ≡ 4 → (text notes : List ℕ) →
+        IsAnswered (F.told files.old) (map string_bytes words.now) result text notes → notes ≢ [] }
 
     // Each other status has its cause. With 2, 3 and 5 its line is all that is printed, with 7 and 8 a part of what is due.
     ensures arguments { result ≡ 2 →
@@ -222,5 +225,6 @@ pub fn run_tool<F: Files, O: Sink, E: Sink>(
     documents_are_one();
     refinement_is_one();
     layers_are_meanings();
+    none_is_wide();
     end(alloc, words, files, out, err)
 }

@@ -5,6 +5,8 @@ ghost use Rattle.std.specs.Prelude.{◌≡◌, ◌++◌, OnOk};
 ghost use Rattle.rdf_terms.specs.Order.{text_at};
 ghost use Rattle.wide_pairs.specs.Lines.{wide_line, wide_lines};
 
+pub mod laws;
+
 use rdf_terms::table::TermTable;
 use rdf_terms::terms::TermId;
 use rdf_terms::written::write_term;

@@ -1,6 +1,8 @@
 use Rattle.std.proofs.Common.{[], arith, subst, sym}
 use Rattle.std.proofs.lemmas.Result.{err_from_is_err_and}
 use Rattle.lists.specs.Distinct.{AreDistinct}
+use Rattle.schema_tree.specs.Edges.{IsStratum}
+use Rattle.schema_tree.specs.Loaded.{IsLoaded}
 use Rattle.shex_inputs.specs.Held.{held_by}
 use Rattle.typing_session.specs.Seen.{Seen}
 use Rattle.session_run.specs.Running.{IsDone, StopsOr, state_of}
@@ -12,7 +14,11 @@ pub session_of-requires-clause-budget : goal.session_of-requires-clause-budget
 session_of-requires-clause-budget c = let le = c.requires.budget in omega (arith, le)
 
 pub run-requires : goal.run-requires
-run-requires c = record { distinct = subst (λ (x : Seen). AreDistinct x.graph) (sym c.in_ok-session.ensures.seen) c.in_ok-session.ensures.distinct }
+run-requires c = record {
+  loaded = subst (λ (x : Seen). IsLoaded x.schema) (sym c.in_ok-session.ensures.seen) c.requires.loaded;
+  strata = subst (λ (x : Seen). IsStratum x.schema x.strata) (sym c.in_ok-session.ensures.seen) c.requires.strata;
+  distinct = subst (λ (x : Seen). AreDistinct x.graph) (sym c.in_ok-session.ensures.seen) c.in_ok-session.ensures.distinct;
+}
 
 pub returns-in_err-run-clause-stops : goal.returns-in_err-run-clause-stops
 returns-in_err-run-clause-stops c =

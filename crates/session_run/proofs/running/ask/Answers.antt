@@ -2,10 +2,13 @@ use Rattle.std.proofs.Common.{◌≡◌, ◌∙◌, Err, Some, ap, refl, subst, 
 use Rattle.std.specs.Prelude.{slice_get}
 use Rattle.std.proofs.lemmas.Option.{slice_get_within}
 use Rattle.std.proofs.lemmas.Result.{err_from_is_err_and}
+use Rattle.schema_tree.specs.Edges.{IsStratum}
+use Rattle.schema_tree.specs.Loaded.{IsLoaded}
 use Rattle.typing_session.specs.Seen.{Seen}
 use Rattle.session_run.specs.Running.{state_of}
 use Rattle.session_run.proofs.Edited.{terms_keep}
 use Rattle.session_run.proofs.Ran.{asked_fills, asked_keeps, is_none, many_first, many_kept, replies, says_one, too_many, undeclared}
+use Rattle.session_run.proofs.True.{AreLaws, satisfied, unsatisfied}
 use Rattle.session_run.proofs.running.ask.Goals as goal
 
 pub returns-in_default-clause-stops : goal.returns-in_default-clause-stops
@@ -57,13 +60,17 @@ returns-clause-replies g c =
     let x = c.args.session.now in
     let mid = c.number.new.session in
     let last = c.ask.new.self in
+    let loaded : IsLoaded mid.schema = subst (λ (z : Seen). IsLoaded z.schema) (sym c.number.ensures.alone) c.requires.loaded in
+    let strata : IsStratum mid.schema mid.strata = subst (λ (z : Seen). IsStratum z.schema z.strata) (sym c.number.ensures.alone) c.requires.strata in
+    let laws : AreLaws = record { exist = c.typing_is_one.ensures.exists; alike = c.strata_are_alike.ensures.answers; stratified = c.strata_are_least.ensures.stratified } in
     let (notes, are, noted) = c.in_ok-note.ensures.noted in (
       record { node = c.args.node; target = c.args.target.now; verdict = c.in_ok-verdict.verdict; notes = notes },
       replies x mid last c.number.ensures.alone c.ask.ensures.alone c.args.node c.args.target.now c.in-Some.expr c.in_ok-node.node c.in_ok-verdict.verdict notes c.in-Some.ensures.found c.in_ok-node.ensures.added c.in_ok-node.ensures.few c.in_ok-node.ensures.number c.in_ok-verdict.ensures.few (record {
         answer = c.in_ok-verdict.ensures.answer;
         no_other = c.in_ok-verdict.ensures.no_other;
         by_all = c.in_ok-verdict.ensures.by_all;
-        true_answer = c.in_ok-verdict.ensures.true_answer;
+        satisfied = satisfied laws mid.schema mid.terms mid.graph mid.strata loaded strata c.in_ok-node.node c.in-Some.expr c.in_ok-verdict.verdict c.in_ok-verdict.ensures.true_answer;
+        unsatisfied = unsatisfied laws mid.schema mid.terms mid.graph mid.strata loaded strata c.in_ok-node.node c.in-Some.expr c.in_ok-verdict.verdict c.in_ok-verdict.ensures.true_answer;
         only_wide = c.in_ok-verdict.ensures.only_wide;
       }) are,
       says_one c.args.said.now c.note.new.said c.terms.result.now c.in_ok-node.node c.args.node c.args.target.now c.in_ok-verdict.verdict notes

@@ -1,11 +1,15 @@
 use Rattle.std.proofs.Common.{rules}
 use Rattle.std.proofs.lemmas.List.{nil_from_length}
 use Rattle.std.proofs.lemmas.Result.{err_from_is_err_and}
-use Rattle.session_run.proofs.Ran.{runs_done, runs_on, runs_stop}
+use Rattle.session_run.proofs.Ran.{runs_done, runs_on, runs_stop, stays_loaded, stays_stratified}
 use Rattle.session_run.proofs.running.run_with.Goals as goal
 
 pub step-requires : goal.step-requires
-step-requires g c = record { distinct = c.loop-command.invariant.distinct }
+step-requires g c = record {
+  loaded = stays_loaded c.args.session.now c.loop-command.session c.loop-command.invariant.keeps c.requires.loaded;
+  strata = stays_stratified c.args.session.now c.loop-command.session c.loop-command.invariant.keeps c.requires.strata;
+  distinct = c.loop-command.invariant.distinct;
+}
 
 pub returns-in_err-step-clause-stopped : goal.returns-in_err-step-clause-stopped
 returns-in_err-step-clause-stopped g c =

@@ -1,5 +1,5 @@
 use Rattle.call_ends.proofs.Closing.{unfaulted}
-use Rattle.session_run.proofs.Closing.{absent_ends, faulty_ends, five_rose, refused_ends, says_answers, says_fault, says_five, says_in_part, says_nothing_out, says_quietly, says_seven, says_status, says_three, says_told, says_two, says_unprinted, seven_comes, taken_ends, unrefused_ends}
+use Rattle.session_run.proofs.Closing.{absent_ends, faulty_ends, five_rose, refused_ends, says_answers, says_fault, says_five, says_in_part, says_noted, says_nothing_out, says_quietly, says_seven, says_status, says_three, says_told, says_two, says_unprinted, seven_comes, taken_ends, unrefused_ends}
 use Rattle.session_run.proofs.Exclusive.{laws_of}
 use Rattle.session_run.proofs.top.run_session.Goals as goal
 
@@ -14,6 +14,9 @@ returns-clause-answered g c = λ at. says_answers _ _ _ _ _ c.end.ensures at
 
 pub returns-clause-answered_quietly : goal.returns-clause-answered_quietly
 returns-clause-answered_quietly g c = λ at. says_quietly _ _ _ _ _ c.end.ensures at
+
+pub returns-clause-noted : goal.returns-clause-noted
+returns-clause-noted g c = λ at text notes by. says_noted _ _ _ _ _ c.end.ensures c.none_is_wide.ensures text notes by at
 
 pub returns-clause-arguments : goal.returns-clause-arguments
 returns-clause-arguments g c = λ at. says_two _ _ _ _ _ c.end.ensures at

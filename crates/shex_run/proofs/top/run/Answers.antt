@@ -1,5 +1,6 @@
 use Rattle.shex_run.proofs.Closing.{absent_ends, accepted_ends, drill_ends, drill_stored, ends_kept, ends_partly, ends_quietly, faulty_ends, filled_ends, five_rose, five_unfetched, in_part, refused_ends, rejected_ends, seven_rose, taken_ends, unfaulted, unprinted, upgraded_ends, whole_ends}
 use Rattle.shex_run.proofs.Exclusive.{are_one}
+use Rattle.shex_run.proofs.Noted.{four_noted}
 use Rattle.shex_run.proofs.top.run.Goals as goal
 
 pub returns-clause-in_part : goal.returns-clause-in_part
@@ -54,6 +55,9 @@ returns-clause-ends g c = λ contents k told is_asked taken files out err.
 
 pub returns-clause-answered_quietly : goal.returns-clause-answered_quietly
 returns-clause-answered_quietly g c = λ low. ends_quietly _ _ _ _ _ c.end.ensures low
+
+pub returns-clause-noted : goal.returns-clause-noted
+returns-clause-noted g c = λ at text notes by. four_noted c.none_is_wide.ensures _ _ _ text notes _ at by
 
 pub returns-clause-drills : goal.returns-clause-drills
 returns-clause-drills g c = λ d is. drill_ends _ d is c.answers_are_one.ensures _ _ _ _ c.end.ensures

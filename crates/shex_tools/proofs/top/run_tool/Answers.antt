@@ -1,7 +1,7 @@
 use Rattle.call_ends.proofs.Closing.{answers, fault_interrupts, five_says, in_part, is_status, nothing_out, quietly, seven_rose, sink_seven, three_says, told_stays, two_says, unfaulted, unprinted}
 use Rattle.tool_words.specs.Asked.{of_labels}
 use Rattle.shex_tools.specs.Calls.{inputs_of}
-use Rattle.shex_tools.proofs.Closing.{absent_ends, decided_ends, faulty_ends, four_of_listing, low, refused_ends, taken_ends, undecided_ends, unnoted}
+use Rattle.shex_tools.proofs.Closing.{absent_ends, decided_ends, faulty_ends, four_noted, four_of_listing, low, refused_ends, taken_ends, undecided_ends, unnoted}
 use Rattle.shex_tools.proofs.Exclusive.{are_one}
 use Rattle.shex_tools.proofs.top.run_tool.Goals as goal
 
@@ -19,6 +19,9 @@ returns-clause-answered g c = λ at. answers _ _ _ _ _ _ _ _ at c.end.ensures
 
 pub returns-clause-answered_quietly : goal.returns-clause-answered_quietly
 returns-clause-answered_quietly g c = λ at. quietly _ _ _ _ _ _ _ _ (unnoted _ _) at c.end.ensures
+
+pub returns-clause-noted : goal.returns-clause-noted
+returns-clause-noted g c = λ at text notes by. four_noted c.none_is_wide.ensures _ _ text notes _ at by
 
 pub returns-clause-arguments : goal.returns-clause-arguments
 returns-clause-arguments g c = λ at. two_says _ _ _ _ _ _ _ _ (low _ _) at c.end.ensures
