@@ -7,7 +7,7 @@ PROGRAM is the built program, as `crates/shex_cli/out/shex_cli`. The seeds are t
 each call with its files, and for each call of `validate` the proof that it stores, in both formats. In each run one file of a seed
 is mutated (a schema or an imported one in either syntax, data in either format, a shape map, or a proof of either format), by bytes,
 by tokens or by values of JSON, or the words themselves are, and the program is run; some runs are drills. It may end with the
-statuses 0 to 6 that its command has, by no signal, within 10 seconds, with one line of errors where it refuses and none where it
+statuses 0 to 6 that its command has, by no signal, within 10 seconds, with a line of errors where it refuses and none where it
 answers; files other than the one that it is to store stay as they are. A proof that is stored has to be accepted with the printed
 answers as its claims; one that is mutated is accepted only where `validate`, asked for its claims, answers them so, and `upgrade`
 stores what `check` accepts. Anything else is kept in a folder under `found` with its words. The number of runs for each kind and

@@ -5,8 +5,8 @@
 
 ROWS is the built program `crates/shex_rows/out/shex_rows`, which calls what documents of rows say: here each row is a mutated input,
 with a status that no call has, so that the program prints what the call answered, printed and stored. Seeds, mutations and what has
-to hold are those of fuzz.py. A run of the program that ends by a signal or takes more than 10 seconds longer than its calls should is
-tried again call by call. What is not as it may be is kept under `found` as a document of one row. The number of calls for each kind
+to hold of statuses, lines and proofs are those of fuzz.py. A run of the program that ends by a signal, or takes more than a minute and
+0.05 seconds a call, is tried again in halves, down to one call. What is not as it may be is kept under `found` as a document of one row. The number of calls for each kind
 and status is printed at the end. Nothing but Python's standard library is wanted.
 """
 
