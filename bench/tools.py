@@ -5,7 +5,8 @@
 
 F are the built programs. A session runs a script of edits with a question behind each, over people in rows of `length`, of whom
 each knows the next: the last of a row loses its name, or gets it back, and the first is asked about, so that an edit touches
-`length` pairs. A script of k edits and one of 2k are timed, so that the difference is what k edits take: it is to hang on what they
+`length` pairs. Each has a name of its own; in one run all have one name, so that the object of an edit has as many triples as there
+are people. A script of k edits and one of 2k are timed, so that the difference is what k edits take: it is to hang on what they
 touch, and not on the size of the graph. k grows from 1,000 until the difference is well above what a run may vary by. The extents
 are those of a family of inputs at growing numbers of terms, which are subjects and objects. What is answered is compared with what
 is known. Nothing but Python's standard library is wanted.
@@ -21,13 +22,14 @@ from goals import lines, worst
 from inputs import FAMILIES, PREFIXES, SPACE, short
 from measuring import answers, built, exponent, made, measured, said
 
-LENGTHS = (1, 10, 100)
+# How long the rows are, and whether all people have one name.
+ROWS_OF = ((1, False), (10, False), (100, False), (1, True))
 COUNTS = (1_000, 10_000, 100_000)
 
 # How many triples, and how many terms, a record of a family has.
 TERMS = {"ring": (4, 3), "catalogue": (7, 5)}
 
-ROWS = ":Person { :name LITERAL ; :knows @:Person ? }\n"
+SCHEMA = ":Person { :name LITERAL ; :knows @:Person ? }\n"
 
 
 def person(row, at):
@@ -35,44 +37,50 @@ def person(row, at):
     return f"N{short(row)}-{short(at)}"
 
 
-def write_rows(folder, size, length):
+def name_of(row, at, is_one):
+    """The literal that names a person."""
+    return '"N"' if is_one else f'"{short(row)}-{short(at)}"'
+
+
+def write_rows(folder, size, length, is_one):
     """Writes the schema, and people in rows of this length. Gives how many rows there are."""
     count = max(1, size // (2 * length - 1))
     with open(os.path.join(folder, "schema.shex"), "w", encoding="ascii") as file:
-        file.write(PREFIXES + ROWS)
+        file.write(PREFIXES + SCHEMA)
     with open(os.path.join(folder, "data.ttl"), "w", encoding="ascii") as file:
         file.write(f"@prefix : <{SPACE}> .\n")
         for row in range(count):
             for at in range(length):
                 knows = f";:knows :{person(row, at + 1)}" if at + 1 < length else ""
-                file.write(f':{person(row, at)} :name"N"{knows}.\n')
+                file.write(f":{person(row, at)} :name{name_of(row, at, is_one)}{knows}.\n")
     return count
 
 
-def write_script(folder, name, edits, count, length):
+def write_script(folder, edits, count, length, is_one):
     """Writes a script of so many edits, each with a question behind it, and what it is to be answered."""
-    with open(os.path.join(folder, name), "w", encoding="ascii") as script, open(os.path.join(folder, "known"), "w", encoding="ascii") as known:
+    with open(os.path.join(folder, "script"), "w", encoding="ascii") as script, open(os.path.join(folder, "known"), "w", encoding="ascii") as known:
         for edit in range(edits):
             row = edit // 2 * 7919 % count
             first, last = (f"<{SPACE}{person(row, at)}>" for at in (0, length - 1))
-            script.write(f'{"+" if edit % 2 else "-"} {last} <{SPACE}name> "N" .\n? {first}@<{SPACE}Person>\n')
+            name = name_of(row, length - 1, is_one)
+            script.write(f'{"+" if edit % 2 else "-"} {last} <{SPACE}name> {name} .\n? {first}@<{SPACE}Person>\n')
             known.write(f'{first}@{"" if edit % 2 else "!"}<{SPACE}Person>\n')
 
 
-def session_run(program, folder, edits, count, length, limit):
+def session_run(program, folder, edits, count, length, is_one, limit):
     """Runs a session of so many edits, which has to answer what is known."""
-    write_script(folder, "script", edits, count, length)
+    write_script(folder, edits, count, length, is_one)
     done = measured([program, "--schema", "schema.shex", "--data", "data.ttl", "--script", "script"], folder, limit, 3)
     if done.status != "late" and (done.status != 0 or not filecmp.cmp(os.path.join(folder, "out"), os.path.join(folder, "known"), shallow=False)):
         sys.exit(f"bench: a session of {edits} edits of rows of {length}: ends with {done.status}, or answers otherwise than known: {said(folder)}")
     return done
 
 
-def edit_microseconds(program, folder, size, length, limit):
+def edit_microseconds(program, folder, size, length, is_one, limit):
     """How long an edit with a question takes, in microseconds, and with how many edits that was measured; or none where a run was ended."""
-    count = write_rows(folder, size, length)
+    count = write_rows(folder, size, length, is_one)
     for edits in COUNTS:
-        single, twice = (session_run(program, folder, number, count, length, limit) for number in (edits, 2 * edits))
+        single, twice = (session_run(program, folder, number, count, length, is_one, limit) for number in (edits, 2 * edits))
         if "late" in (single.status, twice.status):
             return None, edits
         difference = twice.seconds - single.seconds
@@ -86,12 +94,13 @@ def session_table(program, folder, sizes, limit):
     print("| length of a row, touched by an edit | " + " | ".join(f"{size:,} triples" for size in sizes) + " | last by first |")
     print("|---|" + "---:|" * (len(sizes) + 1))
     figures = []
-    for length in LENGTHS:
-        times = [edit_microseconds(program, folder, size, length, limit) for size in sizes]
+    for length, is_one in ROWS_OF:
+        times = [edit_microseconds(program, folder, size, length, is_one, limit) for size in sizes]
         ratio = times[-1][0] / times[0][0] if times[0][0] and times[-1][0] is not None else None
-        figures += [(ratio, f"rows of {length}")] if ratio is not None else []
+        of_name = ", one name for all" if is_one else ""
+        figures += [(ratio, f"rows of {length}{of_name}")] if ratio is not None else []
         cells = [f"ended behind {limit:.0f} s" if each is None else f"{each:.1f} µs ({edits:,} edits)" for each, edits in times]
-        print(f"| {length} | " + " | ".join(cells) + f" | {'' if ratio is None else f'{ratio:.2f}'} |", flush=True)
+        print(f"| {length}{of_name} | " + " | ".join(cells) + f" | {'' if ratio is None else f'{ratio:.2f}'} |", flush=True)
     return worst(f"time of an edit with its question at {sizes[-1]:,} triples, by that at {sizes[0]:,}", "2", 2.0, figures)
 
 

@@ -540,6 +540,16 @@ def base_references_that_differ(size):
     return base_of(200_000, size, str)
 
 
+def base_of_megabytes(size):
+    """So many references that are one, behind a base of 4,000,000 characters."""
+    return base_of(4_000_000, size, lambda number: "n")
+
+
+def base_that_is_dropped(size):
+    """So many references that are one, behind a base whose last segment, which is replaced, has 200,000 characters."""
+    return taken("d.ttl", [f"BASE <http://a/{'x' * 200_000}>\n"] + ["<n> <a:p> 1 .\n"] * size)
+
+
 def base_of_many_folders(size):
     """1,000 references that are one, behind a base of so many folders."""
     lines = ["<n> <a:p> 1 .\n"] * 1000
@@ -578,7 +588,7 @@ FAMILIES = [
     (objects, (400_000, 1_000_000, 2_000_000, 4_000_000)), (objects_too_many, (5_000_000, 10_000_000)),
     (subjects, (400_000, 1_000_000, 2_000_000, 4_000_000)), (subjects_too_many, (4_500_000,)),
     (base_length, (50_000, 100_000, 200_000)), (base_references, (2500, 5000, 10_000)), (base_references_that_differ, (2500, 5000, 10_000)),
-    (base_of_many_folders, (10_000, 100_000, 1_000_000)), (prefix_length, (50_000, 100_000, 200_000)),
+    (base_of_megabytes, (10, 100, 1000)), (base_that_is_dropped, (2500, 5000, 10_000)), (base_of_many_folders, (10_000, 100_000, 1_000_000)), (prefix_length, (50_000, 100_000, 200_000)),
 ]
 
 
