@@ -1,19 +1,21 @@
 -- Rows that are kept up when a triple is inserted or removed.
-use Rattle.std.proofs.Common.{◌≡◌, ℕ, List, ◌∷◌, refl, ap, sym, ◌∙◌, Bool, true, false, cond, not, filter, All, subst, eq-eqb, IsPermutation}
+use Rattle.std.proofs.Common.{◌≡◌, ℕ, List, ◌∷◌, refl, ap, sym, ◌∙◌, Bool, true, false, cond, if◌then◌else◌, not, filter, All, subst, eq-eqb, IsPermutation}
 use Rattle.std.proofs.lemmas.Bool.{eqb-true}
 use Rattle.rdf_terms.specs.declared.terms.Term.{Term}
 use Rattle.rdf_terms.specs.declared.terms.TermId.{TermId}
 use Rattle.rdf_terms.specs.declared.terms.Triple.{Triple}
 use Rattle.rdf_terms.specs.Graphs.{ins, is_loop, outs, same_id}
 use Rattle.lists.specs.Sorting.{insert_by, sorted_by}
+use Rattle.lists.proofs.Filters.{filter_comm}
+use Rattle.lists.proofs.Sorting.{filter_sorted_by}
 use Rattle.graph_index.specs.Contents.{Arrangement, IsArranged}
-use Rattle.graph_index.specs.Edits.{AreKept, GivesRows, HasSameRows, Incidence, PutsRows}
+use Rattle.graph_index.specs.Edits.{AreInTextsOf, AreKept, GivesRows, HasSameRows, Incidence, PutsRows}
 use Rattle.graph_index.specs.Places.{AreApart, IsPlaced}
 use Rattle.graph_index.specs.Rows.{AreArranged, IsByPredicate, arcs_at, by_texts, node_at}
 use Rattle.graph_index.specs.declared.ends.End.{End}
 use Rattle.graph_index.specs.declared.ends.End.TheVariants.{Object, Subject}
 use Rattle.graph_index.proofs.Lent.{of_others}
-use Rattle.graph_index.proofs.Permuted.{rows_one}
+use Rattle.graph_index.proofs.Permuted.{rows_one, texts_total}
 
 itself : (n : TermId) → same_id n n ≡ true
 itself n = eq-eqb n.0 n.0 refl
@@ -127,25 +129,79 @@ fresh_kept places lent also triples out_rows in_rows other_rows a b c is as_well
 
 -- ---- what the rows of both orders are after an edit
 
-module _ (terms : List Term) (t : Triple) (old new : Arrangement) (out_own in_own : List Triple) (gives : GivesRows Subject t.s out_own old.outward new.outward × GivesRows Object t.o in_own old.inward new.inward) where
-  pub arranged_more :
-      out_own ≡ insert_by (by_texts Subject terms) t (outs old.outward t.s) → in_own ≡ insert_by (by_texts Object terms) t (ins old.inward t.o)
-      → (triples more : List Triple) → IsPermutation more (t ∷ triples) → IsArranged terms triples old → IsArranged terms more new
-  arranged_more e f triples more p arranged = record {
-    outward = all_inserted Subject terms t old.outward new.outward out_own gives.0 triples more p e arranged.outward;
-    inward = all_inserted Object terms t old.inward new.inward in_own gives.1 triples more p f arranged.inward;
-  }
+pub arranged_more :
+    (terms : List Term) (t : Triple) (old new : Arrangement) (triples more : List Triple) → IsPermutation more (t ∷ triples)
+    → GivesRows Subject t.s (insert_by (by_texts Subject terms) t (outs old.outward t.s)) old.outward new.outward
+    → GivesRows Object t.o (insert_by (by_texts Object terms) t (ins old.inward t.o)) old.inward new.inward → IsArranged terms triples old → IsArranged terms more new
+arranged_more terms t old new triples more p gives_out gives_in arranged = record {
+  outward = all_inserted Subject terms t old.outward new.outward (insert_by (by_texts Subject terms) t (outs old.outward t.s)) gives_out triples more p refl arranged.outward;
+  inward = all_inserted Object terms t old.inward new.inward (insert_by (by_texts Object terms) t (ins old.inward t.o)) gives_in triples more p refl arranged.inward;
+}
 
-  pub arranged_less :
-      ((ts : List Triple) → outs old.outward t.s ≡ sorted_by (by_texts Subject terms) (t ∷ ts) → out_own ≡ sorted_by (by_texts Subject terms) ts)
-      → ((ts : List Triple) → ins old.inward t.o ≡ sorted_by (by_texts Object terms) (t ∷ ts) → in_own ≡ sorted_by (by_texts Object terms) ts)
-      → (triples left : List Triple) → IsPermutation triples (t ∷ left) → IsArranged terms triples old → IsArranged terms left new
-  arranged_less e f triples left p arranged = record {
-    outward = all_removed Subject terms t old.outward new.outward out_own gives.0 triples left p
-        (e (outs left t.s) (as_inserted Subject terms t triples left (outs old.outward t.s) p (arranged.outward t.s))) arranged.outward;
-    inward = all_removed Object terms t old.inward new.inward in_own gives.1 triples left p
-        (f (ins left t.o) (as_inserted Object terms t triples left (ins old.inward t.o) p (arranged.inward t.o))) arranged.inward;
-  }
+pub arranged_less :
+    (terms : List Term) (t : Triple) (old new : Arrangement) (triples left : List Triple) → IsPermutation triples (t ∷ left)
+    → GivesRows Subject t.s (sorted_by (by_texts Subject terms) (outs left t.s)) old.outward new.outward → GivesRows Object t.o (sorted_by (by_texts Object terms) (ins left t.o)) old.inward new.inward
+    → IsArranged terms triples old → IsArranged terms left new
+arranged_less terms t old new triples left p gives_out gives_in arranged = record {
+  outward = all_removed Subject terms t old.outward new.outward (sorted_by (by_texts Subject terms) (outs left t.s)) gives_out triples left p refl arranged.outward;
+  inward = all_removed Object terms t old.inward new.inward (sorted_by (by_texts Object terms) (ins left t.o)) gives_in triples left p refl arranged.inward;
+}
+
+-- ---- edits of rows that were made ready
+
+-- what an edit put holds of what there was before the rows were made ready
+pub from_same :
+    (N : End → TermId) (F : End → List Triple → List Triple) (a ready new : Incidence) → HasSameRows a ready → PutsRows (N ready.end) (F ready.end ready.rows) ready new → PutsRows (N a.end) (F a.end a.rows) a new
+from_same N F a ready new same puts = record {
+  end = puts.end ∙ same.end;
+  sealed = puts.sealed ∙ same.sealed;
+  rows =
+      subst (λ (r : List Triple). GivesRows a.end (N a.end) (F a.end r) r new.rows) same.rows
+      (subst (λ (e : End). GivesRows e (N e) (F e ready.rows) ready.rows new.rows) same.end puts.rows);
+}
+
+-- what is so of the rows of a node is so of them when they were made ready
+pub of_ready : (P : End → List Triple → Type 0) (a ready : Incidence) (end : End) → a.end ≡ end → HasSameRows a ready → P end a.rows → P ready.end ready.rows
+of_ready P a ready end is same h =
+    subst (λ (e : End). P e ready.rows) (sym (same.end ∙ is)) (subst (P end) (sym same.rows) h)
+
+-- those that are no self-loops
+abbrev nl : Triple → Bool
+nl t = not (is_loop t)
+
+others_sorted : (terms : List Term) (us rows others : List Triple) → rows ≡ sorted_by (by_texts Object terms) us → others ≡ filter nl rows → others ≡ sorted_by (by_texts Object terms) (filter nl us)
+others_sorted terms us rows others is e = e ∙ ap (filter nl) is ∙ filter_sorted_by (by_texts Object terms) (texts_total Object terms) nl us
+
+pub others_in_texts : (terms : List Term) (n : TermId) (ts rows others : List Triple) → rows ≡ sorted_by (by_texts Object terms) (ins ts n) → others ≡ filter nl rows → AreInTextsOf terms Object n others
+others_in_texts terms n ts rows others is e =
+    (filter nl ts, others_sorted terms (ins ts n) rows others is e ∙ ap (sorted_by (by_texts Object terms)) (filter_comm nl (λ t. same_id t.o n) ts))
+
+pub others_more : (terms : List Term) (t : Triple) (us rows others : List Triple) → rows ≡ sorted_by (by_texts Object terms) us → others ≡ filter nl rows
+    → (if is_loop t then others else insert_by (by_texts Object terms) t others) ≡ filter nl (insert_by (by_texts Object terms) t rows)
+others_more terms t us rows others is e =
+    by (is_loop t) (others_sorted terms us rows others is e)
+    ∙ sym (filter_sorted_by (by_texts Object terms) (texts_total Object terms) nl (t ∷ us)) ∙ ap (filter nl) (ap (insert_by (by_texts Object terms) t) (sym is))
+  where
+    by : (b : Bool) → others ≡ sorted_by (by_texts Object terms) (filter nl us)
+        → (if b then others else insert_by (by_texts Object terms) t others) ≡ sorted_by (by_texts Object terms) (cond (not b) (t ∷ filter nl us) (filter nl us))
+    by true h = h
+    by false h = ap (insert_by (by_texts Object terms) t) h
+
+-- with a triple that is one of them, or a self-loop
+pub others_one : (terms : List Term) (t : Triple) (left rows others : List Triple) → rows ≡ sorted_by (by_texts Object terms) (t ∷ ins left t.o) → others ≡ filter nl rows
+    → others ≡ sorted_by (by_texts Object terms) (if is_loop t then ins (filter nl left) t.o else t ∷ ins (filter nl left) t.o)
+others_one terms t left rows others is e =
+    others_sorted terms (t ∷ ins left t.o) rows others is e ∙ by (is_loop t) (filter_comm nl (λ u. same_id u.o t.o) left)
+  where
+    by : (b : Bool) → filter nl (ins left t.o) ≡ ins (filter nl left) t.o
+        → sorted_by (by_texts Object terms) (cond (not b) (t ∷ filter nl (ins left t.o)) (filter nl (ins left t.o)))
+        ≡ sorted_by (by_texts Object terms) (if b then ins (filter nl left) t.o else t ∷ ins (filter nl left) t.o)
+    by true h = ap (sorted_by (by_texts Object terms)) h
+    by false h = ap (λ (v : List Triple). sorted_by (by_texts Object terms) (t ∷ v)) h
+
+pub others_less : (terms : List Term) (t : Triple) (left : List Triple) → sorted_by (by_texts Object terms) (ins (filter nl left) t.o) ≡ filter nl (sorted_by (by_texts Object terms) (ins left t.o))
+others_less terms t left =
+    ap (sorted_by (by_texts Object terms)) (sym (filter_comm nl (λ u. same_id u.o t.o) left)) ∙ sym (filter_sorted_by (by_texts Object terms) (texts_total Object terms) nl (ins left t.o))
 
 -- rows that are lent as they were put in order
 pub lent_arranged :

@@ -1,3 +1,4 @@
+mod Amid
 pub mod Blocks
 pub mod Firsts
 pub mod Grouped

@@ -5,7 +5,7 @@ use Rattle.std.proofs.lemmas.List.{append-nil}
 use Rattle.std.proofs.lemmas.List.Elements.{filter-append}
 use Rattle.std.specs.Global.{Vec}
 use Rattle.std.specs.List.{AllByRecursion, IsDistinct}
-use Rattle.std.specs.Map.{keys_of, lookup}
+use Rattle.std.specs.Map.{keys_of, lookup, set_value}
 use Rattle.rdf_terms.specs.declared.terms.TermId.{TermId}
 use Rattle.rdf_terms.specs.declared.terms.Triple.{Triple}
 use Rattle.rdf_terms.specs.Graphs.{same_id}
@@ -48,6 +48,32 @@ itself n = eq-eqb n.0 n.0 refl
 no_key : (n : TermId) (es : List (TermId × Vec Triple)) → AllByRecursion (λ k. same_id n k ≡ false) (keys_of es) → lookup (same_id n) es ≡ None
 no_key n [] h = refl
 no_key n (e ∷ es) h = ap (λ b. cond b (Some e.1) (lookup (same_id n) es)) h.0 ∙ no_key n es h.1
+
+-- a value that is written over another with the same items
+flat_set : (test : TermId → Bool) (w v : Vec Triple) → w.items ≡ v.items → (es : List (TermId × Vec Triple)) → lookup test es ≡ Some v
+    → flat_map (λ e. e.1.items) (set_value test es w) ≡ flat_map (λ e. e.1.items) es
+flat_set test w v same [] is = refl
+flat_set test w v same (e ∷ es) is = by (test e.0) is (flat_set test w v same es)
+  where
+    by : (b : Bool) → cond b (Some e.1) (lookup test es) ≡ Some v → (lookup test es ≡ Some v → flat_map (λ e. e.1.items) (set_value test es w) ≡ flat_map (λ e. e.1.items) es)
+        → flat_map (λ e. e.1.items) (cond b ((e.0, w) ∷ es) (e ∷ set_value test es w)) ≡ e.1.items ++ flat_map (λ e. e.1.items) es
+    by true f rest =
+        let here : e.1 ≡ v = cc in
+        ap (λ (zs : List Triple). zs ++ flat_map (λ e. e.1.items) es) (same ∙ ap (λ (x : Vec Triple). x.items) (sym here))
+    by false f rest = ap (λ (zs : List Triple). e.1.items ++ zs) (rest f)
+
+has_set : (test : TermId → Bool) (w : Vec Triple) (q : TermId) (es : List (TermId × Vec Triple)) → is_some (lookup (same_id q) (set_value test es w)) ≡ is_some (lookup (same_id q) es)
+has_set test w q [] = refl
+has_set test w q (e ∷ es) = by (test e.0) (has_set test w q es)
+  where
+    either : (b : Bool) (x y : Vec Triple) (o p : Option (Vec Triple)) → is_some o ≡ is_some p → is_some (cond b (Some x) o) ≡ is_some (cond b (Some y) p)
+    either true x y o p h = refl
+    either false x y o p h = h
+
+    by : (b : Bool) → is_some (lookup (same_id q) (set_value test es w)) ≡ is_some (lookup (same_id q) es)
+        → is_some (lookup (same_id q) (cond b ((e.0, w) ∷ es) (e ∷ set_value test es w))) ≡ is_some (cond (same_id q e.0) (Some e.1) (lookup (same_id q) es))
+    by true rest = either (same_id q e.0) w e.1 (lookup (same_id q) es) (lookup (same_id q) es) refl
+    by false rest = either (same_id q e.0) e.1 e.1 (lookup (same_id q) (set_value test es w)) (lookup (same_id q) es) rest
 
 abbrev items_of : Option (Vec Triple) → List Triple
 items_of None = []
@@ -145,6 +171,13 @@ module _ (end : End) where
   pub no_edits : (es : List (TermId × Vec Triple)) → es ≡ [] → AreEdits end es
   no_edits es is = subst (AreEdits end) (sym is) (record { once = nothing; in_texts = λ n v e. absurd (let bad : ⊥ = cc in bad) })
 
+  -- other room in a node's own rows
+  rows_set : (sealed : List Triple) (es : List (TermId × Vec Triple)) (n : TermId) (w v : Vec Triple) → lookup (same_id n) es ≡ Some v → w.items ≡ v.items
+      → rows_of end sealed (set_value (same_id n) es w) ≡ rows_of end sealed es
+  rows_set sealed es n w v is same =
+      ap (λ (zs : List Triple). zs ++ flat_map (λ e. e.1.items) (set_value (same_id n) es w)) (λ i. filter (λ t. not (has_set (same_id n) w (node_at end t) es i)) sealed)
+      ∙ ap (λ (zs : List Triple). filter (λ t. not (is_some (lookup (same_id (node_at end t)) es))) sealed ++ zs) (flat_set (same_id n) w v same es is)
+
   -- rows are put for a node
   module _ (es new : List (TermId × Vec Triple)) (n : TermId) (own : Vec Triple) (updates : (m : TermId) → lookup (same_id m) new ≡ cond (same_id n m) (Some own) (lookup (same_id m) es)) where
     pub put_edits : AreEdits end es → AreInTexts end n own.items → IsDistinct same_id (keys_of new) → AreEdits end new
@@ -182,6 +215,22 @@ module _ (end : End) (sealed : List Triple) (es : List (TermId × Vec Triple)) (
     rows = ap (rows_of end sealed) same;
     sealed = refl;
   })
+
+  pub copied : (own : List Triple) (n : TermId) → lookup (same_id n) es ≡ None → own ≡ arcs_at end sealed n → (new : List (TermId × Vec Triple)) → new ≡ es → own ≡ arcs_at end (rows_of end sealed new) n
+  copied own n none here new same = here ∙ sym (sealed_at end sealed es n edits none) ∙ ap (λ (v : List (TermId × Vec Triple)). arcs_at end (rows_of end sealed v) n) (sym same)
+
+  pub room_in : (new : List (TermId × Vec Triple)) (more : ℕ) (n : TermId) (w v : Vec Triple) → lookup (same_id n) es ≡ Some v → w.items ≡ v.items → new ≡ set_value (same_id n) es w
+      → HasSameRows a (incidence_of end sealed new more)
+  room_in new more n w v is same set = subst (λ (x : Incidence). HasSameRows x (incidence_of end sealed new more)) view (record {
+    end = refl;
+    rows = ap (rows_of end sealed) set ∙ rows_set end sealed es n w v is same;
+    sealed = refl;
+  })
+
+  pub room_edits : (new : List (TermId × Vec Triple)) (n : TermId) (w v : Vec Triple) → lookup (same_id n) es ≡ Some v → w.items ≡ v.items
+      → ((m : TermId) → lookup (same_id m) new ≡ cond (same_id n m) (Some w) (lookup (same_id m) es)) → keys_of new ≡ keys_of es → AreEdits end new
+  room_edits new n w v is same updates keys =
+      put_edits end es new n w updates edits (subst (AreInTexts end n) (sym same) (edits.in_texts n v is)) (subst (IsDistinct same_id) (sym keys) edits.once)
 
   pub rows_put : (new : List (TermId × Vec Triple)) (more : ℕ) (n : TermId) (own : Vec Triple) → ((m : TermId) → lookup (same_id m) new ≡ cond (same_id n m) (Some own) (lookup (same_id m) es))
       → AreInTexts a.end n own.items → IsDistinct same_id (keys_of new) → PutsRows n own.items a (incidence_of end sealed new more)

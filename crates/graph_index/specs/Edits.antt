@@ -1,5 +1,5 @@
 -- Rows of nodes whose triples were edited since they were sealed.
-use Rattle.std.specs.Prelude.{ℕ, List, ◌≡◌, ◌≢◌, ◌≤◌, ◌<◌, ◌++◌, Some, length, slice_index_or, filter, flat_map, not, is_some, cond, All}
+use Rattle.std.specs.Prelude.{ℕ, List, ◌≡◌, ◌≢◌, ◌≤◌, ◌<◌, ◌++◌, Option, IsSomeAnd, Some, None, vec_capacity, vec_len, length, slice_index_or, filter, flat_map, not, is_some, cond, All}
 use Rattle.std.specs.Global.{Vec}
 use Rattle.std.specs.List.{IsDistinct}
 use Rattle.std.specs.Map.{keys_of, lookup}
@@ -13,11 +13,13 @@ use Rattle.graph_index.specs.Rows.{IsByPredicate, arcs_at, by_texts, node_at}
 use Rattle.graph_index.specs.declared.ends.End.{End}
 use Rattle.graph_index.specs.declared.ends.End.TheVariants.{Subject, Object}
 
--- triples by the nodes at one end: those that are there now, those that were sealed, and for how many more nodes there is room
+-- triples by the nodes at one end: those that are there now, those that were sealed, the rows of nodes' own, and for how many
+-- more nodes there is room
 pub record Incidence : Type 0 where
   pub end : End
   pub rows : List Triple
   pub sealed : List Triple
+  pub edited : List (TermId × Vec Triple)
   pub room : ℕ
 
 -- the sealed rows of the nodes that have no rows of their own, and all rows of their own
@@ -26,9 +28,18 @@ rows_of end sealed edited = filter (λ t. not (is_some (lookup (same_id (node_at
 
 -- sealed triples with rows of nodes' own, and with room for so many nodes more
 abbrev pub incidence_of : End → List Triple → List (TermId × Vec Triple) → ℕ → Incidence
-incidence_of end sealed edited room = record { end = end; rows = rows_of end sealed edited; sealed = sealed; room = room }
+incidence_of end sealed edited room = record { end = end; rows = rows_of end sealed edited; sealed = sealed; edited = edited; room = room }
 
--- the rows of one node, in the order of the texts of some table
+-- there is room for one row more of a node: in its own rows where it has them, and else in a copy of those that it has
+abbrev pub IsReady : TermId → Option (Vec Triple) → Incidence → Type 0
+IsReady n None arcs = IsSomeAnd (lookup (same_id n) arcs.edited) (λ own. vec_len own < vec_capacity own)
+IsReady n (Some own) arcs = (own.items ≡ arcs_at arcs.end arcs.rows n) × (vec_len own < vec_capacity own) × (0 < arcs.room)
+
+-- the rows of one node, in the order of the texts of a table
+abbrev pub AreInTextsOf : List Term → End → TermId → List Triple → Type 0
+AreInTextsOf terms end n rows = (ts : List Triple) × (rows ≡ sorted_by (by_texts end terms) (arcs_at end ts n))
+
+-- of some table
 abbrev pub AreInTexts : End → TermId → List Triple → Type 0
 AreInTexts end n rows = (terms : List Term) × (ts : List Triple) × (rows ≡ sorted_by (by_texts end terms) (arcs_at end ts n))
 

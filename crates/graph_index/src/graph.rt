@@ -177,9 +177,9 @@ impl Graph {
     }
 
     /// Adds a triple to a graph that is sealed with the table, answers whether it is new, and keeps the graph sealed; the
-    /// triple's numbers are to be of the table. It takes as long as the triples of the subject and those of the object,
-    /// however many the graph has. It fails as `Full` where the triple is new and the graph holds 4,000,000; a refusal
-    /// changes nothing.
+    /// triple's numbers are to be of the table. The triples of the subject and those of the object are moved in place (and
+    /// copied at the first edit of each), however many the graph has. It fails as `Full` where the triple is new and the
+    /// graph holds 4,000,000; a refusal changes nothing.
     pub fn insert_sealed(&mut self, t: Triple, terms: &TermTable) -> Result<bool, AddError>
         requires { IsSealedWith terms.now self.old }
         ensures new { IfOk result (λ new. IsTrue new ↔ (¬ Contains self.old.triples t)) }
@@ -204,8 +204,8 @@ impl Graph {
     }
 
     /// Removes a triple from a graph that is sealed with the table, answers whether it was held, and keeps the graph
-    /// sealed. It takes as long as the triples of the subject and those of the object, however many the graph has. A
-    /// refusal changes nothing.
+    /// sealed. The triples of the subject and those of the object are moved in place (and copied at the first edit of each),
+    /// however many the graph has. A refusal changes nothing.
     pub fn remove_sealed(&mut self, t: Triple, terms: &TermTable) -> Result<bool, AllocError>
         requires { IsSealedWith terms.now self.old }
         ensures held { IfOk result (λ held. IsTrue held ↔ Contains self.old.triples t) }

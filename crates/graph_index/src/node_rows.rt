@@ -1,6 +1,6 @@
 //! The rows of one node, in the order of the texts of a table.
 
-ghost use Rattle.std.specs.Prelude.{List, ◌≡◌, ◌∷◌, ◌≤◌, IfOk, length, filter, false, true, ◌<◌};
+ghost use Rattle.std.specs.Prelude.{List, ◌≡◌, ◌∷◌, ◌≤◌, length, filter, false, true, ◌<◌, vec_capacity, vec_len};
 ghost use Rattle.std.specs.List.Sorted.{IsPartitionPoint};
 ghost use Rattle.std.specs.Ordering.{is_lt};
 ghost use Rattle.lists.specs.Sorting.{insert_by, sorted_by};
@@ -13,42 +13,28 @@ use crate::ends::End;
 use rdf_terms::order::compare_ids;
 use rdf_terms::table::TermTable;
 use rdf_terms::terms::{TermId, Triple};
-use std::alloc::{AllocError, Global};
 use std::cmp::Ordering;
 
-/// The rows of a node with one more, which goes before the first that is not below it.
-pub(crate) fn with_row(
-    alloc: Global,
-    end: End,
-    terms: &TermTable,
-    rows: &[Triple],
-    t: Triple,
-) -> Result<Vec<Triple>, AllocError>
-    requires { (ts : List Row) × (rows.now ≡ sorted_by (by_texts end terms.now) ts) }
-    ensures { IfOk result (λ more. more.items ≡ insert_by (by_texts end terms.now) t rows.now) }
+/// Puts a row before the first that is not below it, in room that the rows have for it.
+pub(crate) fn put_among(end: End, terms: &TermTable, rows: &mut Vec<Triple>, t: Triple)
+    requires sorted { (ts : List Row) × (rows.old.items ≡ sorted_by (by_texts end terms.now) ts) }
+    requires room { vec_len rows.old < vec_capacity rows.old }
+    ensures { rows.new.items ≡ insert_by (by_texts end terms.now) t rows.old.items }
 {
-    let place = place_among(end, terms, rows, &t);
-    let mut more = Vec::from_slice(alloc, &rows[..place])?;
-    more.push(t)?;
-    more.extend_from_slice(&rows[place..])?;
-    Ok(more)
+    let place = place_among(end, terms, rows.as_slice(), &t);
+    match rows.insert(place, t) {
+        Ok(()) => (),
+        Err(_) => unreachable!(),
+    }
 }
 
-/// The rows of a node without one of them.
-pub(crate) fn without_row(
-    alloc: Global,
-    end: End,
-    terms: &TermTable,
-    rows: &[Triple],
-    t: Triple,
-) -> Result<Vec<Triple>, AllocError>
-    requires { (ts : List Row) × (rows.now ≡ sorted_by (by_texts end terms.now) (t ∷ ts)) }
-    ensures { IfOk result (λ left. (ts : List Row) → rows.now ≡ sorted_by (by_texts end terms.now) (t ∷ ts) → left.items ≡ sorted_by (by_texts end terms.now) ts) }
+/// Takes a row out that is one of the rows.
+pub(crate) fn take_from(end: End, terms: &TermTable, rows: &mut Vec<Triple>, t: Triple)
+    requires { (ts : List Row) × (rows.old.items ≡ sorted_by (by_texts end terms.now) (t ∷ ts)) }
+    ensures { (ts : List Row) → rows.old.items ≡ sorted_by (by_texts end terms.now) (t ∷ ts) → rows.new.items ≡ sorted_by (by_texts end terms.now) ts }
 {
-    let place = place_among(end, terms, rows, &t);
-    let mut left = Vec::from_slice(alloc, &rows[..place])?;
-    left.extend_from_slice(&rows[place + 1..])?;
-    Ok(left)
+    let place = place_among(end, terms, rows.as_slice(), &t);
+    rows.remove(place);
 }
 
 /// How many of the rows are below a triple, found by halving.

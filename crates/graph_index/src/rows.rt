@@ -2,17 +2,21 @@
 
 ghost use Rattle.std.specs.Prelude.{List, ◌≡◌, ◌∷◌, All, IfOk, IsSomeAnd, OnErr, OnOk, filter, nat_eq};
 ghost use Rattle.std.specs.List.Sorted.{IsPermutation};
-ghost use Rattle.rdf_terms.specs.Graphs.{same_id};
+ghost use Rattle.rdf_terms.specs.Graphs.{is_loop, same_id};
 ghost use Rattle.rdf_terms.specs.declared.terms.Triple.{Triple as Row};
 ghost use Rattle.graph_index.specs.Contents.{IsArranged};
 ghost use Rattle.graph_index.specs.Places.{AreApart, IsPlaced, place_of};
-ghost use Rattle.graph_index.specs.Rows.{IsByPredicate, arcs_at};
+ghost use Rattle.graph_index.specs.Rows.{IsByPredicate, arcs_at, by_texts};
+ghost use Rattle.graph_index.specs.Edits.{AreInTextsOf, IsReady, PutsRows};
+ghost use Rattle.graph_index.specs.declared.ends.End.TheVariants.{Object};
+ghost use Rattle.lists.specs.Sorting.{insert_by, sorted_by};
+ghost use Rattle.std.specs.Prelude.{if◌then◌else◌};
 
-use crate::arcs::{Arcs, without_loops};
+use crate::arcs::Arcs;
 use crate::edited::EditedArcs;
 use crate::ends::End;
 use crate::neighbours::Neigh;
-use crate::node_rows::{block_of, with_row, without_row};
+use crate::node_rows::block_of;
 use crate::places::{place_of, places_in};
 use rdf_terms::table::TermTable;
 use rdf_terms::terms::{TermId, Triple};
@@ -46,8 +50,6 @@ impl Rows {
     ghost use Rattle.rdf_terms.specs.Graphs.{ins, is_loop, outs, same_id};
     ghost use Rattle.rdf_terms.specs.declared.terms.Triple.{Triple as Row};
     ghost use Rattle.graph_index.specs.Contents.{IsArranged};
-    ghost use Rattle.graph_index.specs.Edits.{AreInTexts, GivesRows};
-    ghost use Rattle.graph_index.specs.declared.ends.End.TheVariants.{Object, Subject};
 
     /// The triples in both orders, by the texts of the table.
     pub fn arranged(
@@ -104,8 +106,8 @@ impl Rows {
         Neigh::of(self.outward.of_node(n), self.into_others.of_node(n))
     }
 
-    /// Takes a triple up at its place by the texts of the table, by which the rows stand. It takes as long as the triples
-    /// of its subject and those of its object. A refusal changes nothing.
+    /// Takes a triple up at its place by the texts of the table, by which the rows stand. It takes as long as it takes to
+    /// move the triples of its subject and those of its object. A refusal changes nothing.
     pub(crate) fn insert(
         &mut self,
         alloc: Global,
@@ -116,13 +118,17 @@ impl Rows {
         ensures arranged { OnOk result ((triples more : List Row) → IsPermutation more (t ∷ triples) → IsArranged terms.now triples self.old → IsArranged terms.now more self.new) }
         ensures err { OnErr result (self.new ≡ self.old) }
     {
-        let outward = with_row(alloc, End::Subject, terms, self.outs(t.s), t)?;
-        let inward = with_row(alloc, End::Object, terms, self.ins(t.o), t)?;
-        self.replace(alloc, t, outward, inward)
+        let outward = self.outward.readied(alloc, t.s)?;
+        let inward = self.inward.readied(alloc, t.o)?;
+        let into_others = self.into_others.readied(alloc, t.o)?;
+        self.outward.insert(terms, outward, t);
+        self.inward.insert(terms, inward, t);
+        insert_other(&mut self.into_others, terms, into_others, t);
+        Ok(())
     }
 
-    /// Takes a triple out, which is one of the rows. It takes as long as the triples of its subject and those of its
-    /// object. A refusal changes nothing.
+    /// Takes a triple out, which is one of the rows. It takes as long as it takes to move the triples of its subject and
+    /// those of its object. A refusal changes nothing.
     pub(crate) fn remove(
         &mut self,
         alloc: Global,
@@ -133,33 +139,37 @@ impl Rows {
         ensures arranged { OnOk result ((triples left : List Row) → IsPermutation triples (t ∷ left) → IsArranged terms.now triples self.old → IsArranged terms.now left self.new) }
         ensures err { OnErr result (self.new ≡ self.old) }
     {
-        let outward = without_row(alloc, End::Subject, terms, self.outs(t.s), t)?;
-        let inward = without_row(alloc, End::Object, terms, self.ins(t.o), t)?;
-        self.replace(alloc, t, outward, inward)
-    }
-
-    /// Puts the rows of the triple's subject and those of its object in place of those that they have. A refusal changes
-    /// nothing.
-    fn replace(
-        &mut self,
-        alloc: Global,
-        t: Triple,
-        outward: Vec<Triple>,
-        inward: Vec<Triple>,
-    ) -> Result<(), AllocError>
-        requires outward { AreInTexts Subject t.s outward.items }
-        requires inward { AreInTexts Object t.o inward.items }
-        ensures rows { OnOk result (GivesRows Subject t.s outward.items self.old.outward self.new.outward × GivesRows Object t.o inward.items self.old.inward self.new.inward) }
-        ensures err { OnErr result (self.new ≡ self.old) }
-    {
-        let into_others = without_loops(alloc, inward.as_slice())?;
-        self.outward.make_room()?;
-        self.inward.make_room()?;
-        self.into_others.make_room()?;
-        self.outward.put(t.s, outward);
-        self.inward.put(t.o, inward);
-        self.into_others.put(t.o, into_others);
+        let outward = self.outward.readied(alloc, t.s)?;
+        let inward = self.inward.readied(alloc, t.o)?;
+        let into_others = self.into_others.readied(alloc, t.o)?;
+        self.outward.remove(terms, outward, t);
+        self.inward.remove(terms, inward, t);
+        remove_other(&mut self.into_others, terms, into_others, t);
         Ok(())
+    }
+}
+
+/// Takes a triple up into the rows that are no self-loops, where it is none.
+fn insert_other(arcs: &mut EditedArcs, terms: &TermTable, fresh: Option<Vec<Triple>>, t: Triple)
+    requires object { arcs.old.end ≡ Object }
+    requires ready { IsReady t.o fresh arcs.old }
+    requires sorted { AreInTextsOf terms.now Object t.o (arcs_at Object arcs.old.rows t.o) }
+    ensures { PutsRows t.o (if is_loop t then arcs_at Object arcs.old.rows t.o else insert_by (by_texts Object terms.now) t (arcs_at Object arcs.old.rows t.o)) arcs.old arcs.new }
+{
+    if t.s != t.o {
+        arcs.insert(terms, fresh, t);
+    }
+}
+
+/// Takes a triple out of the rows that are no self-loops, where it is none.
+fn remove_other(arcs: &mut EditedArcs, terms: &TermTable, fresh: Option<Vec<Triple>>, t: Triple)
+    requires object { arcs.old.end ≡ Object }
+    requires ready { IsReady t.o fresh arcs.old }
+    requires sorted { (ts : List Row) × (arcs_at Object arcs.old.rows t.o ≡ sorted_by (by_texts Object terms.now) (if is_loop t then arcs_at Object ts t.o else t ∷ arcs_at Object ts t.o)) }
+    ensures { (ts : List Row) → arcs_at Object arcs.old.rows t.o ≡ sorted_by (by_texts Object terms.now) (if is_loop t then arcs_at Object ts t.o else t ∷ arcs_at Object ts t.o) → PutsRows t.o (sorted_by (by_texts Object terms.now) (arcs_at Object ts t.o)) arcs.old arcs.new }
+{
+    if t.s != t.o {
+        arcs.remove(terms, fresh, t);
     }
 }
 
