@@ -1,7 +1,7 @@
 """Schemas in ShExC (ShEx 2.1, section 6), read as the documents in ShExJ (appendix A) that they stand for.
 
 What the project leaves out of ShExC, and how it reads what the standard leaves open, docs/DECISIONS.md says. The number of a
-range facet is a decimal here, which ShExJ does not have.
+range facet is a decimal here.
 """
 
 import re

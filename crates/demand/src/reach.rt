@@ -148,7 +148,7 @@ fn in_order(alloc: Global, terms: &TermTable, pairs: &[Pair]) -> Result<Vec<Pair
 }
 
 /// The pairs that the roots reach, each once, in the order of the texts of their nodes and then of their Shapes. It is
-/// refused as `Pairs` exactly where these are more than 4,194,304.
+/// refused as `Pairs` exactly where these are more than 4,194,304, want of memory aside.
 pub fn close(
     alloc: Global,
     schema: &Schema,

@@ -1,4 +1,5 @@
--- The text of a term: its canonical spelling in N-Triples, but for characters that N-Triples lets stand as they are.
+-- The text of a term: its canonical spelling in N-Triples (section 4), but that the characters of an IRI and of a label stand as
+-- they are, also those that N-Triples does not allow there.
 use Rattle.std.specs.Prelude.{ℕ, List, [], ◌++◌, ◌==◌, if◌then◌else◌, Option, Some, None, codes, nat_eq, encode_utf8, encode_utf8_all}
 use Rattle.std.specs.List.{starts_with, flat_map}
 use Rattle.std.specs.Fmt.{decimal}

@@ -1,4 +1,4 @@
-//! Schemas that are read and loaded, their strata, the pairs that roots reach, and refinements, called as the crates above call them. The crates themselves have no tests, since one with tests is proved twice.
+//! Schemas that are read and loaded, their strata, the pairs that roots reach, refinements, and sessions, called as the crates above call them. The crates themselves have no tests, since one with tests is proved twice.
 #![tactic(auto)]
 
 #[cfg(test)]

@@ -1,4 +1,4 @@
--- When a node satisfies a shape expression under a typing (ShEx 2.1, section 5.2, `satisfies`).
+-- When a node satisfies a shape expression under a typing (ShEx 2.1, section 5.3, `satisfies`).
 use Rattle.std.specs.Prelude.{ℕ, suc, zero, List, slice_get, Option, Some, None, Contains}
 use Rattle.std.specs.List.{AllByRecursion}
 use Rattle.rdf_terms.specs.declared.terms.TermId.{TermId}

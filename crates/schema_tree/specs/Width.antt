@@ -1,4 +1,5 @@
--- How many ways there are to give the triples of a node to a Shape's occurrences, at most (own: what the budget is held against).
+-- To how many different counts of triples a Shape's occurrences can come, at most, as the triples of a node are given to them (own:
+-- what the budget is held against).
 use Rattle.std.specs.Prelude.{ℕ, zero, suc, Bool, true, false, ◌≡◌, ◌≤◌, Contains, List, [], ◌∷◌, ◌+◌, ◌*◌, ◌&&◌, ◌||◌, not, if◌then◌else◌, filter, map, count_by, max, min, slice_get, Option, Some, None}
 use Rattle.std.specs.Bool.{beq}
 use Rattle.std.specs.List.{list_all, list_any}

@@ -1,4 +1,4 @@
-//! Schemas as they are loaded, and what it means that a node satisfies one (ShEx 2.1, sections 4 and 5).
+//! Schemas as they are loaded, and what it means that a node satisfies one (ShEx 2.1, section 5).
 #![tactic(auto)]
 
 pub mod body;

@@ -26,7 +26,7 @@ pub record HoldsDocument (told : Told) (c : Converting) (doc : Document) : Type 
   pub file : IsFile told c.schema bytes
   pub spelled : Spells (format_of c.schema) c.schema_base doc bytes
 
--- each range facet of the document is a whole number that ShExJ can have, and nothing in it nests too deep
+-- each range facet of the document is a whole number that is written, and nothing in it nests too deep
 pub record HasText (doc : Document) : Type 0 where
   pub whole : is_whole_document doc ≡ true
   pub flat : ¬ IsDeep doc

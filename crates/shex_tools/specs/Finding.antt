@@ -1,4 +1,4 @@
--- What the functions that list extents promise one another.
+-- What is found of the extents of a schema, and what the functions that list them promise one another.
 use Rattle.std.specs.Prelude.{ℕ, false, ◌≡◌, ⊤}
 use Rattle.label_extents.specs.declared.finding.Extents.{Extents}
 use Rattle.label_extents.specs.Demanded.{AreTooMany}

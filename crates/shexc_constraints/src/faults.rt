@@ -12,7 +12,7 @@ use xs_pattern::PatternError;
 pub enum Fault {
     /// No document has this token there, or the text may not end there.
     Syntax,
-    /// A shape expression that is kept elsewhere (ShEx 2.1, section 5.2, ShapeExternal).
+    /// A shape expression that is kept elsewhere (ShEx 2.1, section 5.3, ShapeExternal).
     External,
     /// Brackets nest too deep.
     Deep,

@@ -1,4 +1,4 @@
--- The trees that rules make of their parts (ShEx 2.1, sections 5.2 to 5.5).
+-- The trees that rules make of their parts (ShEx 2.1, sections 5.3 to 5.5).
 use Rattle.std.specs.Prelude.{ℕ, Bool, true, false, List, [], ◌∷◌, Option, Some, None, if◌then◌else◌}
 use Rattle.schema_documents.specs.declared.label.Label.{Label}
 use Rattle.schema_documents.specs.Tree.{ShapeExpr, TripleExpr, TripleBody, conj, disj, shape, no_triple, triple, each, one, arc, include, exprs, triples}

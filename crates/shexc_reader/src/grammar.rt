@@ -1,4 +1,4 @@
-//! Shape expressions and triple expressions (ShEx 2.1, sections 5.2 and 5.5). Each function has a bound on how many brackets may
+//! Shape expressions and triple expressions (ShEx 2.1, sections 5.3 and 5.5). Each function has a bound on how many brackets may
 //! still open.
 
 ghost use Rattle.std.specs.Prelude.{◌≡◌, map, option_map, [], ◌∷◌, true, false};

@@ -1,4 +1,4 @@
-//! Shapes and shape expressions (ShEx 2.1, sections 5.2 and 5.5).
+//! Shapes and shape expressions (ShEx 2.1, sections 5.3 and 5.5).
 
 ghost use Rattle.std.specs.Prelude.{◌≡◌, ℕ, IfOk, true, false};
 ghost use Rattle.rdf_cursor.specs.Cursors.{ahead, source_in};

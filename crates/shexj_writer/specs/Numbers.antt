@@ -1,4 +1,5 @@
--- The numbers of range facets, which ShExJ has as whole numbers of JSON (ShEx 2.1, appendix A). Texts are bytes.
+-- The numbers of range facets, which are written as whole numbers of JSON alone (own; ShEx 2.1, appendix A, has decimals and
+-- doubles too). Texts are bytes.
 use Rattle.std.specs.Prelude.{ℕ, ◌^◌, ◌==◌, ◌&&◌, ◌≡◌, nat_lt, Bool, true, if◌then◌else◌, List, Option, Some, None, ℤ, pos, negsuc}
 use Rattle.std.specs.Fmt.{signed_decimal}
 use Rattle.std.specs.List.{list_all}

@@ -1,4 +1,4 @@
--- Documents whose range facets are whole numbers that ShExJ can have.
+-- Documents whose range facets are whole numbers from -2^63 to 2^64 - 1 (own).
 use Rattle.std.specs.Prelude.{Bool, true, ◌&&◌, ℕ, List, [], ◌∷◌, Option, Some, None, encode_utf8_all}
 use Rattle.std.specs.List.{list_all}
 use Rattle.node_constraint.specs.Constraint.{Constraint}
