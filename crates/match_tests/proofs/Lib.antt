@@ -1,2 +1,1 @@
 mod CheckedSchemas
-mod SampledMatches

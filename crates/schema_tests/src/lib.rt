@@ -1,12 +1,6 @@
-//! Schemas that are read and loaded, their strata, the pairs that roots reach, refinements, and sessions, called as the crates above call them. The crates themselves have no tests, since one with tests is proved twice.
+//! Refinements and sessions, called as the crates above call them. The crates themselves have no tests, since one with tests is proved twice.
 #![tactic(auto)]
 
-#[cfg(test)]
-mod demands;
-#[cfg(test)]
-mod levels;
-#[cfg(test)]
-mod loading;
 #[cfg(test)]
 mod refinements;
 #[cfg(test)]

@@ -1,4 +1,4 @@
-//! Verdicts of refinement and their records over small schemas, with ample memory.
+//! How often a refinement asks for what is kept, along a row of nodes.
 
 ghost use Rattle.std.specs.Prelude.{◌≡◌, ◌<◌, IfOk, filter, nat_eq};
 ghost use Rattle.std.specs.List.Sorted.{IsStrictlySortedBy};
@@ -8,10 +8,9 @@ ghost use Rattle.schema_tree.specs.Edges.{IsStratified};
 ghost use Rattle.schema_tree.specs.Loaded.{IsLoaded};
 ghost use Rattle.schema_tree.specs.Needs.{HoldNeeds};
 
-use crate::samples::{CIRCLE, FALLING, MUTUAL, SUCCESSORS, add, arcs, put, put_nodes, schema_of};
+use crate::samples::{SUCCESSORS, add, put, schema_of};
 use demand::{Pairs, Root, close};
 use graph_index::graph::Graph;
-use proof_file::{Record, RecordKind};
 use rdf_terms::table::TermTable;
 use rdf_terms::terms::TermId;
 use schema_tree::schema::{ExprId, Pair, Schema};
@@ -19,7 +18,6 @@ use schema_tree::sure::View;
 use schema_tree::verdicts::Verdict;
 use std::alloc::{AllocError, Global};
 use std::cell::Cell;
-use std::fmt::Write;
 use std::marker::Brand;
 use std::sync::ledger::{Blank, Ledger};
 use std::test::Fail;
@@ -28,7 +26,7 @@ use strata::strata::strata;
 use strata::valid::is_stratified;
 use tally::Steps;
 use typing_refiner::found::Nothing;
-use typing_refiner::{Refined, Wanted, refine, refine_from};
+use typing_refiner::{Refined, Wanted, refine_from};
 
 /// The number of nodes of the row.
 const ROW: u32 = 1000;
@@ -45,123 +43,12 @@ pub fn levels_of(alloc: Global, schema: &Schema) -> Result<Strata, Fail>
     Ok(levels)
 }
 
-/// The verdicts on what the node reaches with the expression, and their records.
-fn refined(
-    alloc: Global,
-    schema: &Schema,
-    graph: &Graph,
-    terms: &TermTable,
-    root: Root,
-    budget: u32,
-) -> Result<Refined, Fail>
-    requires loaded { IsLoaded schema.now }
-    requires sealed { IsSealedWith terms.now graph.now }
-{
-    let pairs = close(alloc, schema, graph, terms, [root].as_slice())?;
-    let levels = levels_of(alloc, schema)?;
-    let budget = u64::from(budget);
-    let found = refine(
-        alloc,
-        schema,
-        graph,
-        terms,
-        &levels,
-        &pairs,
-        budget,
-        Wanted::Records,
-    )?;
-    Ok(found)
-}
-
-/// Writes a record: its mark, the numbers of its node and Shape, and its rank.
-fn write_record(text: &mut String, record: &Record) -> Result<(), Fail> {
-    match &record.kind {
-        RecordKind::Plus(_) => write!(text, " +{}/{}", record.node, record.shape)?,
-        RecordKind::Minus(rank, _) => write!(text, " -{}/{}:{}", record.node, record.shape, rank)?,
-    }
-    Ok(())
-}
-
-/// The records of each stratum.
-fn shown(alloc: Global, found: &Refined) -> Result<String, Fail> {
-    let mut text = String::new(alloc);
-    for section in found.sections() {
-        write!(text, " s{}", section.stratum)?;
-        for record in section.records.as_slice() {
-            write_record(&mut text, record)?;
-        }
-    }
-    Ok(text)
-}
-
-/// The records of a node with an expression of a schema over these arcs.
-fn records_of(
-    alloc: Global,
-    schema: &Schema,
-    terms: &TermTable,
-    ends: &[(u32, u32)],
-    root: Root,
-    budget: u32,
-) -> Result<String, Fail>
-    requires { IsLoaded schema.now }
-{
-    let graph = arcs(alloc, terms, ends)?;
-    let found = refined(alloc, schema, &graph, terms, root, budget)?;
-    shown(alloc, &found)
-}
-
-/// Whether these are the records of the schema of a text.
-fn has_records(
-    alloc: Global,
-    text: &str,
-    ends: &[(u32, u32)],
-    root: Root,
-    budget: u32,
-    wanted: &str,
-) -> Result<bool, Fail> {
-    let mut terms = TermTable::new(alloc);
-    let schema = schema_of(alloc, text, &mut terms)?;
-    put_nodes(alloc, &mut terms)?;
-    let found = records_of(alloc, &schema, &terms, ends, root, budget)?;
-    Ok(found.as_str() == wanted)
-}
-
 /// The node and the expression of these numbers.
 fn root(node: u32, expr: u32) -> Root {
     Root {
         node: TermId(node),
         expr: ExprId(expr),
     }
-}
-
-/// Whether these are the records of the first node of the circle with S0, where S0 and S1 need each other, over these arcs.
-fn follows(alloc: Global, ends: &[(u32, u32)], wanted: &str) -> Result<bool, Fail> {
-    has_records(alloc, MUTUAL, ends, root(1, 0), 1, wanted)
-}
-
-/// Round a circle each pair confirms the others, and along a path that ends each goes after the one it needs.
-#[test]
-fn circles_hold_and_paths_fall_from_their_end(rt: HostRuntime) -> Result<(), Fail> {
-    let alloc = rt.alloc();
-    assert!(rt; follows(alloc, &[(1, 2), (2, 3), (3, 2)], " s0 +0/1 +1/0 +2/0")?);
-    assert!(rt; follows(alloc, &[(1, 2), (2, 3)], " s0 -0/1:2 -1/0:1 -2/0:3")?);
-    Ok(())
-}
-
-/// Whether these are the records of the last node of the circle with S1 that a budget allows, where strata fall.
-fn falls(alloc: Global, budget: u32, wanted: &str) -> Result<bool, Fail> {
-    has_records(alloc, FALLING, &CIRCLE, root(4, 1), budget, wanted)
-}
-
-/// A Shape under EXTRA is refined on a stratum below. A triple that the occurrence or EXTRA may take makes the Width of its
-/// pair 2, so with a budget of 1 this pair has no record, and with none no pair has one.
-#[test]
-fn strata_have_records_of_their_own(rt: HostRuntime) -> Result<(), Fail> {
-    let alloc = rt.alloc();
-    assert!(rt; falls(alloc, 2, " s0 +0/2 +1/2 +2/2 s1 +3/1")?);
-    assert!(rt; falls(alloc, 1, " s0 +0/2 +1/2 +2/2")?);
-    assert!(rt; falls(alloc, 0, "")?);
-    Ok(())
 }
 
 /// A view that counts how often it is asked.

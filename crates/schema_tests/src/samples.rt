@@ -19,26 +19,6 @@ use shexj_reader::laws::documents_are_ordered;
 use std::alloc::Global;
 use std::test::Fail;
 
-/// S0 = `{ <p> NOT @<S0> }`.
-pub const NEGATED_SELF: &str = r#"{"type":"Schema","shapes":[{"type":"Shape","id":"S0","expression":
- {"type":"TripleConstraint","predicate":"http://d/p","valueExpr":{"type":"ShapeNot","shapeExpr":"S0"}}}]}"#;
-
-/// S0 = `EXTRA <p> { <p> @<S0> }`.
-pub const EXCUSED_SELF: &str =
-    r#"{"type":"Schema","shapes":[{"type":"Shape","id":"S0","extra":["http://d/p"],"expression":
- {"type":"TripleConstraint","predicate":"http://d/p","valueExpr":"S0"}}]}"#;
-
-/// S0 = `{ <p> NOT @<S1> }`, S1 = `EXTRA <p> { <p> @<S2> }`, S2 = `{ <p> @<S2> }`.
-pub const FALLING: &str = r#"{"type":"Schema","shapes":[
- {"type":"Shape","id":"S0","expression":{"type":"TripleConstraint","predicate":"http://d/p","valueExpr":{"type":"ShapeNot","shapeExpr":"S1"}}},
- {"type":"Shape","id":"S1","extra":["http://d/p"],"expression":{"type":"TripleConstraint","predicate":"http://d/p","valueExpr":"S2"}},
- {"type":"Shape","id":"S2","expression":{"type":"TripleConstraint","predicate":"http://d/p","valueExpr":"S2"}}]}"#;
-
-/// S0 = `{ <p> @<S1> }`, S1 = `{ <p> @<S0> }`.
-pub const MUTUAL: &str = r#"{"type":"Schema","shapes":[
- {"type":"Shape","id":"S0","expression":{"type":"TripleConstraint","predicate":"http://d/p","valueExpr":"S1"}},
- {"type":"Shape","id":"S1","expression":{"type":"TripleConstraint","predicate":"http://d/p","valueExpr":"S0"}}]}"#;
-
 /// S0 = `{ <next> @<S0> ; <out> @<S1> }`, S1 = `{ }`.
 pub const SUCCESSORS: &str = r#"{"type":"Schema","shapes":[
  {"type":"Shape","id":"S0","expression":{"type":"EachOf","expressions":[
@@ -52,11 +32,8 @@ pub const KNOWN: &str = r#"{"type":"Schema","shapes":[
   {"type":"TripleConstraint","predicate":"http://d/name"},
   {"type":"TripleConstraint","predicate":"http://d/knows","valueExpr":"S0"}]}}]}"#;
 
-/// The arcs c to a, a to b, b to a, and d to c.
-pub const CIRCLE: [(u32, u32); 4] = [(1, 2), (2, 3), (3, 2), (4, 1)];
-
 /// The document that a text spells.
-pub fn document(alloc: Global, text: &str) -> Result<Doc, Fail>
+fn document(alloc: Global, text: &str) -> Result<Doc, Fail>
     ensures { IfOk result (λ d. IsOrderedDocument (document_of d)) }
 {
     documents_are_ordered();
@@ -67,7 +44,7 @@ pub fn document(alloc: Global, text: &str) -> Result<Doc, Fail>
 }
 
 /// The documents with that of a text behind them.
-pub fn with_document(alloc: Global, docs: Vec<Doc>, text: &str) -> Result<Vec<Doc>, Fail>
+fn with_document(alloc: Global, docs: Vec<Doc>, text: &str) -> Result<Vec<Doc>, Fail>
     requires { AllByRecursion IsOrderedDocument (map document_of docs.items) }
     ensures { IfOk result (λ all. (0 < length all.items) × AllByRecursion IsOrderedDocument (map document_of all.items)) }
 {
@@ -112,16 +89,4 @@ pub fn add(graph: &mut Graph, from: u32, predicate: u32, to: u32) -> Result<(), 
         o: TermId(to),
     })?;
     Ok(())
-}
-
-/// The graph of these arcs with the predicate 0, sealed.
-pub fn arcs(alloc: Global, terms: &TermTable, ends: &[(u32, u32)]) -> Result<Graph, Fail>
-    ensures { IfOk result (IsSealedWith terms.now) }
-{
-    let mut graph = Graph::new(alloc);
-    for (from, to) in ends {
-        add(&mut graph, *from, 0, *to)?;
-    }
-    graph.seal(terms)?;
-    Ok(graph)
 }

@@ -1,9 +1,7 @@
-//! Patterns, documents in ShExC, files and sinks, called as the crates above call them, where no row of `shex_rows` can. The crates themselves have no tests, since one with tests is proved twice.
+//! Patterns, files and sinks, called as the crates above call them, where no row of `shex_rows` can. The crates themselves have no tests, since one with tests is proved twice.
 #![tactic(auto)]
 
 #[cfg(test)]
 mod files;
 #[cfg(test)]
 mod patterns;
-#[cfg(test)]
-mod shexc;
