@@ -1,6 +1,6 @@
 //! The answers to `validate`, their text, what is noted beside them, and their proof.
 
-ghost use Rattle.std.specs.Prelude.{◌≡◌, ◌<◌, ℕ, Contains, IfOk, IfSome, List, is_some, length, map, true};
+ghost use Rattle.std.specs.Prelude.{◌≡◌, ◌<◌, ℕ, Contains, IfOk, IfSome, List, false, is_some, length, map, true};
 ghost use Rattle.std.specs.Bool.{beq};
 ghost use Rattle.std.specs.List.{AllByRecursion};
 ghost use Rattle.rdf_terms.specs.declared.terms.Triple.{Triple};
@@ -116,7 +116,8 @@ fn text_of(alloc: Global, terms: &TermTable, answers: &[Answer]) -> Result<Vec<u
 
 /// What a refinement is to give.
 fn wanted(with_proof: bool) -> Wanted
-    ensures { with_proof ≡ true → result ≡ Wanteds.Records }
+    ensures records { with_proof ≡ true → result ≡ Wanteds.Records }
+    ensures verdicts { with_proof ≡ false → result ≡ Wanteds.Verdicts }
 {
     if with_proof {
         Wanted::Records

@@ -28,7 +28,7 @@ proof_if-requires-clause-range c = λ on.
     subst (λ xs. AreSureAnswers h.schema h.terms (known_by_it r) c.args.asked.associations.items xs) (sym c.as_slice-answers.ensures.value) c.in_ok-given.ensures in
     in_range h.schema h.terms h.graph.triples h.strata c.args.asked.pairs c.args.budget (known_by_it r) r.nodes r.sections c.as_slice-answers.result.now
     (shown h c.args.asked.associations.items c.args.asked.pairs c.args.budget c.args.head c.requires (known_by_it r) r.nodes r.sections c.as_slice-answers.result.now
-    (c.in_ok-refined.ensures.records (c.wanted-wanted.ensures (c.is_some.ensures ∙ on))) (c.in_ok-refined.ensures.fine (c.wanted-wanted.ensures (c.is_some.ensures ∙ on))) (c.in_ok-refined.ensures.accepted (c.wanted-wanted.ensures (c.is_some.ensures ∙ on))) sure)
+    (c.in_ok-refined.ensures.records (c.wanted-wanted.ensures.records (c.is_some.ensures ∙ on))) (c.in_ok-refined.ensures.fine (c.wanted-wanted.ensures.records (c.is_some.ensures ∙ on))) (c.in_ok-refined.ensures.accepted (c.wanted-wanted.ensures.records (c.is_some.ensures ∙ on))) sure)
 
 pub returns : goal.returns
 returns c =
@@ -48,7 +48,7 @@ returns c =
       replies = answered h xs c.args.asked.pairs c.args.budget c.args.head c.requires c.sure_answers_are_true.ensures (known_by_it r) known refined same answers sure;
       proof = c.in_ok-proof.ensures.proof h.schema h.graph.triples h.strata c.args.asked.pairs c.args.budget (known_by_it r) (λ on. (
           shown h xs c.args.asked.pairs c.args.budget c.args.head c.requires (known_by_it r) r.nodes r.sections answers
-          (c.in_ok-refined.ensures.records (c.wanted-wanted.ensures (c.is_some.ensures ∙ on))) (c.in_ok-refined.ensures.fine (c.wanted-wanted.ensures (c.is_some.ensures ∙ on))) (c.in_ok-refined.ensures.accepted (c.wanted-wanted.ensures (c.is_some.ensures ∙ on))) sure
+          (c.in_ok-refined.ensures.records (c.wanted-wanted.ensures.records (c.is_some.ensures ∙ on))) (c.in_ok-refined.ensures.fine (c.wanted-wanted.ensures.records (c.is_some.ensures ∙ on))) (c.in_ok-refined.ensures.accepted (c.wanted-wanted.ensures.records (c.is_some.ensures ∙ on))) sure
           ));
       headed = c.in_ok-proof.ensures.headed;
       wanted = c.in_ok-proof.ensures.wanted;
