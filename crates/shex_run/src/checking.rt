@@ -15,6 +15,40 @@ use shape_map::write_result;
 use shex_inputs::Holding;
 use std::alloc::Global;
 
+/// The result map of the claims of a proof that is current and accepted, or why it is not. The graph is sealed, and the table
+/// takes up the nodes of the proof.
+fn confirm_held(alloc: Global, holding: &mut Holding, proof: &[u8]) -> Result<Vec<u8>, Stop>
+    requires loaded { IsLoaded holding.old.schema }
+    requires strata { IsStratum holding.old.schema holding.old.strata }
+    requires distinct { AreDistinct holding.old.terms }
+    requires of_table { All (IsOfTable holding.old.terms) holding.old.graph.triples }
+    ensures confirmed { IfOk result (λ text. Confirms (held_by holding.old) proof.now text.items) }
+    ensures stops { IfErr result (ConfirmStops (held_by holding.old) proof.now) }
+{
+    // The law by which there is a complete typing.
+    typing_is_one();
+    holding.graph.seal(&holding.terms)?;
+    let checked = check(
+        alloc,
+        &holding.schema,
+        &holding.graph,
+        &mut holding.terms,
+        &holding.files,
+        proof,
+    );
+    // The length of a table tells contracts that it is within the limit.
+    let _count = holding.terms.len();
+    let claims = match checked {
+        Ok(claims) => claims,
+        Err(error) => return Err(check_stop(error)),
+    };
+    let mut text = Vec::new(alloc);
+    match write_result(alloc, &holding.terms, claims.list(), &mut text) {
+        Ok(()) => Ok(text),
+        Err(_) => Err(Stop::Memory),
+    }
+}
+
 /// The result map of the claims of a proof that is current and accepted, or why it is not.
 pub fn confirm(alloc: Global, holding: Holding, proof: &[u8]) -> Result<Vec<u8>, Stop>
     requires loaded { IsLoaded holding.schema }
@@ -24,28 +58,6 @@ pub fn confirm(alloc: Global, holding: Holding, proof: &[u8]) -> Result<Vec<u8>,
     ensures confirmed { IfOk result (λ text. Confirms (held_by holding) proof.now text.items) }
     ensures stops { IfErr result (ConfirmStops (held_by holding) proof.now) }
 {
-    let Holding {
-        mut terms,
-        schema,
-        strata: _,
-        labels: _,
-        mut graph,
-        names: _,
-        files,
-    } = holding;
-    // The law by which there is a complete typing.
-    typing_is_one();
-    graph.seal(&terms)?;
-    let checked = check(alloc, &schema, &graph, &mut terms, &files, proof);
-    // The length of a table tells contracts that it is within the limit.
-    let _count = terms.len();
-    let claims = match checked {
-        Ok(claims) => claims,
-        Err(error) => return Err(check_stop(error)),
-    };
-    let mut text = Vec::new(alloc);
-    match write_result(alloc, &terms, claims.list(), &mut text) {
-        Ok(()) => Ok(text),
-        Err(_) => Err(Stop::Memory),
-    }
+    let mut holding = holding;
+    confirm_held(alloc, &mut holding, proof)
 }
