@@ -1,6 +1,6 @@
 //! The commands as `clap` takes them.
 
-ghost use Rattle.std.specs.Prelude.{◌≡◌, IfOk, [], false};
+ghost use Rattle.std.specs.Prelude.{◌≡◌, ◌∷◌, IfOk, [], codes, false};
 ghost use Rattle.clap.specs.Words.{app_of, rule_of, with_rule};
 ghost use Rattle.command_words.specs.Commands.{check, command, needed, option, rest, upgrade, validate};
 ghost use Rattle.command_words.specs.Drills.{drill, word};
@@ -60,57 +60,71 @@ pub fn with<'a>(command: Command<'a>, arg: Arg<'a>) -> Result<Command<'a>, Alloc
     Ok(wider)
 }
 
+/// A command of this name with the options for the schema and the data.
+fn with_files<'a>(alloc: Global, name: &'a str) -> Result<Command<'a>, AllocError>
+    ensures { IfOk result (λ c. app_of c ≡ command name.entry.now (needed (option (codes "schema")) ∷ needed (option (codes "data")) ∷ [])) }
+{
+    let command = with(bare(alloc, name), needed(option(alloc, "schema")))?;
+    with(command, needed(option(alloc, "data")))
+}
+
+/// The command with the options for both bases and with the import words behind its arguments.
+fn with_bases<'a>(alloc: Global, command: Command<'a>) -> Result<Command<'a>, AllocError>
+    ensures { IfOk result (λ c. app_of c ≡ with_rule (with_rule (with_rule (app_of command.entry) (option (codes "schema-base"))) (option (codes "data-base"))) (rest (codes "imports"))) }
+{
+    let command = with(command, option(alloc, "schema-base"))?;
+    let command = with(command, option(alloc, "data-base"))?;
+    with(command, rest(alloc, "imports"))
+}
+
+/// The command with the options for the map, for the proof that is to be stored and for the budget behind its arguments.
+fn with_map<'a>(alloc: Global, command: Command<'a>) -> Result<Command<'a>, AllocError>
+    ensures { IfOk result (λ c. app_of c ≡ with_rule (with_rule (with_rule (app_of command.entry) (needed (option (codes "map")))) (option (codes "proof"))) (option (codes "budget"))) }
+{
+    let command = with(command, needed(option(alloc, "map")))?;
+    let command = with(command, option(alloc, "proof"))?;
+    with(command, option(alloc, "budget"))
+}
+
+/// The command with the options for the proof and for the name under which it is to be stored behind its arguments.
+fn with_proofs<'a>(alloc: Global, command: Command<'a>) -> Result<Command<'a>, AllocError>
+    ensures { IfOk result (λ c. app_of c ≡ with_rule (with_rule (app_of command.entry) (needed (option (codes "proof")))) (needed (option (codes "to")))) }
+{
+    let command = with(command, needed(option(alloc, "proof")))?;
+    with(command, needed(option(alloc, "to")))
+}
+
 /// The command `validate`.
 pub(crate) fn validate<'a>(alloc: Global) -> Result<Command<'a>, AllocError>
     ensures { IfOk result (λ c. app_of c ≡ validate) }
 {
-    let mut command = bare(alloc, "validate");
-    command = with(command, needed(option(alloc, "schema")))?;
-    command = with(command, needed(option(alloc, "data")))?;
-    command = with(command, needed(option(alloc, "map")))?;
-    command = with(command, option(alloc, "proof"))?;
-    command = with(command, option(alloc, "budget"))?;
-    command = with(command, option(alloc, "schema-base"))?;
-    command = with(command, option(alloc, "data-base"))?;
-    let whole = with(command, rest(alloc, "imports"))?;
-    Ok(whole)
+    let command = with_files(alloc, "validate")?;
+    let command = with_map(alloc, command)?;
+    with_bases(alloc, command)
 }
 
 /// The command `check`.
 pub(crate) fn check<'a>(alloc: Global) -> Result<Command<'a>, AllocError>
     ensures { IfOk result (λ c. app_of c ≡ check) }
 {
-    let mut command = bare(alloc, "check");
-    command = with(command, needed(option(alloc, "schema")))?;
-    command = with(command, needed(option(alloc, "data")))?;
-    command = with(command, needed(option(alloc, "proof")))?;
-    command = with(command, option(alloc, "schema-base"))?;
-    command = with(command, option(alloc, "data-base"))?;
-    let whole = with(command, rest(alloc, "imports"))?;
-    Ok(whole)
+    let command = with_files(alloc, "check")?;
+    let command = with(command, needed(option(alloc, "proof")))?;
+    with_bases(alloc, command)
 }
 
 /// The command `upgrade`.
 pub(crate) fn upgrade<'a>(alloc: Global) -> Result<Command<'a>, AllocError>
     ensures { IfOk result (λ c. app_of c ≡ upgrade) }
 {
-    let mut command = bare(alloc, "upgrade");
-    command = with(command, needed(option(alloc, "schema")))?;
-    command = with(command, needed(option(alloc, "data")))?;
-    command = with(command, needed(option(alloc, "proof")))?;
-    command = with(command, needed(option(alloc, "to")))?;
-    command = with(command, option(alloc, "schema-base"))?;
-    command = with(command, option(alloc, "data-base"))?;
-    let whole = with(command, rest(alloc, "imports"))?;
-    Ok(whole)
+    let command = with_files(alloc, "upgrade")?;
+    let command = with_proofs(alloc, command)?;
+    with_bases(alloc, command)
 }
 
 /// The command `drill`.
 pub(crate) fn drill<'a>(alloc: Global) -> Result<Command<'a>, AllocError>
     ensures { IfOk result (λ c. app_of c ≡ drill) }
 {
-    let mut command = bare(alloc, "drill");
-    command = with(command, needed(word(alloc, "items")))?;
-    let whole = with(command, option(alloc, "proof"))?;
-    Ok(whole)
+    let command = with(bare(alloc, "drill"), needed(word(alloc, "items")))?;
+    with(command, option(alloc, "proof"))
 }
