@@ -12,7 +12,7 @@ ghost use Rattle.shexc_constraints.specs.Values.{constraint};
 ghost use Rattle.shexc_constraints.specs.declared.faults.Stop.TheVariants as stop;
 
 use crate::classes::{at_iri, at_node_kind};
-use crate::facets::{FacetKind, facet_of, facets};
+use crate::facets::{FacetKind, all_facets, facet_of, facets};
 use crate::faults::Stop;
 use crate::parts::iri;
 use crate::tokens::{take, take_one};
@@ -64,8 +64,7 @@ fn of_kind(c: &mut Cursor<'_>, names: &Names<'_>) -> Result<DocExpr, Stop>
     ensures source { source_in c.new ≡ source_in c.old }
 {
     let symbol = take_one(c, &[Symbol::Iri, Symbol::Bnode, Symbol::NonLiteral])?;
-    let mut fs = Vec::new(names.alloc);
-    facets(c, names, FacetKind::Text, None, &mut fs)?;
+    let fs = all_facets(c, names, FacetKind::Text, None)?;
     made(names.alloc, Some(kind_of(symbol)), None, fs, None)
 }
 
@@ -101,8 +100,7 @@ fn any_literal(c: &mut Cursor<'_>, names: &Names<'_>) -> Result<DocExpr, Stop>
     ensures source { source_in c.new ≡ source_in c.old }
 {
     take(c, Symbol::Literal)?;
-    let mut fs = Vec::new(names.alloc);
-    facets(c, names, FacetKind::Any, None, &mut fs)?;
+    let fs = all_facets(c, names, FacetKind::Any, None)?;
     made(names.alloc, Some(Kind4::Literal), None, fs, None)
 }
 
@@ -113,8 +111,7 @@ fn of_datatype(c: &mut Cursor<'_>, names: &Names<'_>) -> Result<DocExpr, Stop>
     ensures source { source_in c.new ≡ source_in c.old }
 {
     let datatype = Text::from_string(iri(c, names)?);
-    let mut fs = Vec::new(names.alloc);
-    facets(c, names, FacetKind::Any, Some(&datatype), &mut fs)?;
+    let fs = all_facets(c, names, FacetKind::Any, Some(&datatype))?;
     made(names.alloc, None, Some(datatype), fs, None)
 }
 
@@ -125,8 +122,7 @@ fn of_values(c: &mut Cursor<'_>, names: &Names<'_>) -> Result<DocExpr, Stop>
     ensures source { source_in c.new ≡ source_in c.old }
 {
     let xs = value_set(c, names)?;
-    let mut fs = Vec::new(names.alloc);
-    facets(c, names, FacetKind::Any, None, &mut fs)?;
+    let fs = all_facets(c, names, FacetKind::Any, None)?;
     let set = ValueSet::of(names.alloc, xs)?;
     made(names.alloc, None, None, fs, Some(set))
 }

@@ -2,7 +2,7 @@
 
 ghost use Rattle.std.specs.Prelude.{◌≡◌, ◌∷◌, ◌++◌, [], IfErr, IfOk, OnOk, true};
 ghost use Rattle.std.specs.Option.{option_copied};
-ghost use Rattle.node_constraint.specs.Making.{IsSound};
+ghost use Rattle.node_constraint.specs.Making.{Causes, IsSound};
 ghost use Rattle.rdf_cursor.specs.Ahead.{next_is};
 ghost use Rattle.rdf_cursor.specs.Cursors.{ahead, source_in};
 ghost use Rattle.rdf_cursor.specs.Lent.{spelled};
@@ -157,20 +157,51 @@ fn single(alloc: Global, facet: &Facet) -> Result<Vec<Facet>, Stop>
     Ok(facets)
 }
 
-/// The facet, if it may stand beside the datatype.
-#[tactic(auto, unfolding(crate::specs::Facets::judged_facet))]
-fn judge(alloc: Global, datatype: Option<&Text>, facet: Facet) -> Result<Facet, Stop>
-    ensures answer { Answers (λ f. f) result (judged_facet true (option_copied datatype.entry) facet) }
-    ensures sound { IfOk result (λ f. IsSound (option_copied datatype.entry) (f ∷ [])) }
+/// Fails where no constraint is made of these, and says why.
+fn check(alloc: Global, datatype: Option<Text>, facets: Vec<Facet>) -> Result<(), MakeError>
+    ensures sound { OnOk result (IsSound datatype facets.items) }
+    ensures cause { IfErr result (Causes datatype facets.items) }
 {
-    let facets = single(alloc, &facet)?;
-    match NodeConstraint::make(alloc, None, cloned(alloc, datatype)?, facets, None) {
-        Ok(_) => Ok(facet),
+    match NodeConstraint::make(alloc, None, datatype, facets, None) {
+        Ok(constraint) => {
+            drop(constraint);
+            Ok(())
+        }
+        Err(error) => Err(error),
+    }
+}
+
+/// Fails where the facet may not stand beside the datatype.
+#[tactic(auto, unfolding(crate::specs::Facets::judged_facet))]
+fn admit(alloc: Global, datatype: Option<&Text>, facet: &Facet) -> Result<(), Stop>
+    ensures answer { Answers (λ _. facet.now) result (judged_facet true (option_copied datatype.entry) facet.now) }
+    ensures sound { OnOk result (IsSound (option_copied datatype.entry) (facet.now ∷ [])) }
+{
+    let facets = single(alloc, facet)?;
+    match check(alloc, cloned(alloc, datatype)?, facets) {
+        Ok(()) => Ok(()),
         Err(MakeError::FloatFacet) => Err(Stop::Fault(Fault::FloatFacet)),
         Err(MakeError::FacetNumber) => Err(Stop::Fault(Fault::FacetNumber)),
         Err(MakeError::Pattern(error)) => Err(Stop::Fault(Fault::Pattern(error))),
         Err(MakeError::Memory) => Err(Stop::Memory),
     }
+}
+
+/// Puts a facet behind others, if it may stand beside the datatype.
+fn add(
+    alloc: Global,
+    datatype: Option<&Text>,
+    facet: Facet,
+    fs: &mut Vec<Facet>,
+) -> Result<(), Stop>
+    requires so_far { IsSound (option_copied datatype) fs.old.items }
+    ensures answer { Answers (λ _. facet) result (judged_facet true (option_copied datatype.entry) facet) }
+    ensures behind { OnOk result (fs.new.items ≡ fs.old.items ++ facet ∷ []) }
+    ensures sound { OnOk result (IsSound (option_copied datatype.entry) fs.new.items) }
+{
+    admit(alloc, datatype, &facet)?;
+    fs.push(facet)?;
+    Ok(())
 }
 
 /// The facet of a word and a number.
@@ -206,9 +237,9 @@ fn counted_facet_behind(
     let Some(token) = c.peek() else {
         return Err(Stop::Fault(Fault::Syntax));
     };
-    let facet = judge(names.alloc, datatype, counted(symbol, token)?)?;
+    let facet = counted(symbol, token)?;
+    add(names.alloc, datatype, facet, fs)?;
     c.advance();
-    fs.push(facet)?;
     Ok(())
 }
 
@@ -229,9 +260,9 @@ fn range_facet_behind(
     let Some(token) = c.peek() else {
         return Err(Stop::Fault(Fault::Syntax));
     };
-    let facet = judge(names.alloc, datatype, ranged(names.alloc, symbol, token)?)?;
+    let facet = ranged(names.alloc, symbol, token)?;
+    add(names.alloc, datatype, facet, fs)?;
     c.advance();
-    fs.push(facet)?;
     Ok(())
 }
 
@@ -251,13 +282,9 @@ fn pattern_behind(
     let Some(token) = c.peek() else {
         return Err(Stop::Fault(Fault::Syntax));
     };
-    let facet = judge(
-        names.alloc,
-        datatype,
-        patterns::pattern(names.alloc, fs.as_slice(), token)?,
-    )?;
+    let facet = patterns::pattern(names.alloc, fs.as_slice(), token)?;
+    add(names.alloc, datatype, facet, fs)?;
     c.advance();
-    fs.push(facet)?;
     Ok(())
 }
 
@@ -412,4 +439,20 @@ pub fn facets(
         facet_of(c, names, kind, datatype, fs)?;
     }
     Ok(())
+}
+
+/// All facets of this kind.
+pub fn all_facets(
+    c: &mut Cursor<'_>,
+    names: &Names<'_>,
+    kind: FacetKind,
+    datatype: Option<&Text>,
+) -> Result<Vec<Facet>, Stop>
+    ensures gives { Gives (λ fs. fs.items) result (ahead c.new) (loop (is_among (firsts kind)) (facet_of true (option_copied datatype.entry) kind) [] (ahead c.old)) }
+    ensures sound { IfOk result (λ fs. IsSound (option_copied datatype.entry) fs.items) }
+    ensures source { source_in c.new ≡ source_in c.old }
+{
+    let mut fs = Vec::new(names.alloc);
+    facets(c, names, kind, datatype, &mut fs)?;
+    Ok(fs)
 }

@@ -160,8 +160,8 @@ fn annotation(c: &mut Cursor<'_>, names: &Names<'_>) -> Result<(), Stop>
     ensures source { source_in c.new ≡ source_in c.old }
 {
     take(c, Symbol::Slashes)?;
-    predicate(c, names)?;
-    object(c, names)?;
+    drop(predicate(c, names)?);
+    drop(object(c, names)?);
     Ok(())
 }
 

@@ -57,6 +57,15 @@ fn form(alloc: Global, term: &Term) -> Result<Text, AllocError>
     }
 }
 
+/// The lexical form of a literal that is then dropped; of another term none.
+fn into_form(alloc: Global, term: Term) -> Result<Text, AllocError>
+    ensures { IfOk result (λ t. t ≡ form_of term) }
+{
+    let form = form(alloc, &term);
+    drop(term);
+    form
+}
+
 /// The stem of a text.
 fn stem(kind: TextKind, text: Text) -> Value
     ensures { result ≡ stem_of kind text }
@@ -124,7 +133,7 @@ fn text(c: &mut Cursor<'_>, names: &Names<'_>, kind: TextKind) -> Result<Text, S
         }
         TextKind::Literal => {
             let term = literal(c, names)?;
-            Ok(form(names.alloc, &term)?)
+            Ok(into_form(names.alloc, term)?)
         }
         TextKind::Tag => tag(c, names),
     }
@@ -217,7 +226,7 @@ fn literal_value(c: &mut Cursor<'_>, names: &Names<'_>) -> Result<Value, Stop>
 {
     let term = literal(c, names)?;
     if c.is_at(Symbol::Tilde) {
-        let text = form(names.alloc, &term)?;
+        let text = into_form(names.alloc, term)?;
         stemmed(c, names, TextKind::Literal, text)
     } else {
         Ok(Value::Term(term))
