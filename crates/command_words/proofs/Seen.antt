@@ -1,12 +1,13 @@
 -- What words ask for behind a command's name.
-use Rattle.std.proofs.Common.{◌≡◌, ◌≢◌, ◌∙◌, ◌≤◌, ◌-◌, List, [], ◌∷◌, arith, codes, drop, get_or, length, map, refl, sym, ap, subst, take}
-use Rattle.std.specs.Prelude.{Result, Ok, Err, IfErr, IfOk, IsErrAnd}
+use Rattle.std.proofs.Common.{◌≡◌, ◌≢◌, ◌⊎◌, inl, inr, ◌∙◌, ◌≤◌, ◌-◌, List, [], ◌∷◌, arith, codes, drop, get_or, length, map, refl, sym, ap, subst, take}
+use Rattle.std.specs.Prelude.{Option, Some, Result, Ok, Err, IfErr, IfOk, IfSome, IsNone}
 use Rattle.clap.specs.Words.{App, Row, Text}
 use Rattle.command_words.specs.declared.error.WordsError.{WordsError}
 use Rattle.command_words.specs.declared.requests.Request.{Request as LentRequest}
-use Rattle.command_words.specs.Checks.{arguments}
-use Rattle.command_words.specs.Lent.{Because, request_of, task_of}
-use Rattle.command_words.proofs.Exact.{because, handed_on}
+use Rattle.command_words.specs.declared.requests.Task.{Task as LentTask}
+use Rattle.command_words.specs.Checks.{Fault, arguments}
+use Rattle.command_words.specs.Lent.{Because, given_of, request_of, task_of}
+use Rattle.command_words.proofs.Exact.{because}
 use Rattle.command_words.specs.Commands.{check, faults, rows, upgrade, validate}
 use Rattle.command_words.specs.Requests.{Asks, Given, IsFound, IsGiven, IsTask, Request, Task, checking, command_for, name_of, upgrading, validation}
 use Rattle.command_words.proofs.Requested.{no_check, no_upgrade, upgrade_no_check}
@@ -53,12 +54,27 @@ module _ (n : Text) (a b : App) (owns : (t : Task) → name_of t ≡ n → comma
   not_given : (seen : List Row) → seen ≡ rows b words → ((g : Given) → ¬ IsGiven seen g) → (r : Request) → name_of r.task ≡ n → ¬ IsFound words r
   not_given seen same none r named h = none r.given (subst (λ (s : List Row). IsGiven s r.given) (same_seen seen r same named) h.given)
 
-  -- an error that is handed on
-  pub not_requested : (seen : List Row) (r : Result LentRequest WordsError) (x : WordsError) → IsErrAnd r (λ y. y ≡ x) → seen ≡ rows b words
-      → Because (λ f. (f ≡ arguments) × ((g : Given) → ¬ IsGiven seen g)) x → IfErr r (Because (λ f. (f ≡ arguments) × ((q : Request) → name_of q.task ≡ n → ¬ IsFound words q)))
-  not_requested seen r x h same =
-      handed_on (λ f. (f ≡ arguments) × ((g : Given) → ¬ IsGiven seen g)) (λ f. (f ≡ arguments) × ((q : Request) → name_of q.task ≡ n → ¬ IsFound words q)) r x h
-      (λ f (is, none). (is, not_given seen same none))
+  -- what is given and what is asked, if it is, put together
+  pub found_with : (seen : List Row) (o : Option LentTask) (r : Result LentRequest WordsError) → faults b words ≡ [] → seen ≡ rows b words → IfSome o (λ t. IsTask seen (task_of t))
+      → IfSome o (λ t. name_of (task_of t) ≡ n) → IfOk r (λ q. IsGiven seen (given_of q.given)) → IfOk r (λ q. o ≡ Some q.task) → IfOk r (λ q. IsFound words (request_of q))
+  found_with seen o (Ok q) taken same asked named given is =
+      found_for seen (given_of q.given) (task_of q.task) taken same given (subst (λ (p : Option LentTask). IfSome p (λ t. IsTask seen (task_of t))) is asked)
+      (subst (λ (p : Option LentTask). IfSome p (λ t. name_of (task_of t) ≡ n)) is named)
+  found_with seen o (Err e) taken same asked named given is = tt
+
+  pub named_with : (o : Option LentTask) (r : Result LentRequest WordsError) → IfSome o (λ t. name_of (task_of t) ≡ n) → IfOk r (λ q. o ≡ Some q.task) → IfOk r (λ q. name_of (task_of q.task) ≡ n)
+  named_with o (Ok q) named is = subst (λ (p : Option LentTask). IfSome p (λ t. name_of (task_of t) ≡ n)) is named
+  named_with o (Err e) named is = tt
+
+  not_found : (seen : List Row) (o : Option LentTask) → seen ≡ rows b words → (IsNone o → (t : Task) → name_of t ≡ n → ¬ IsTask seen t) → (f : Fault)
+      → (f ≡ arguments) × (IsNone o ⊎ ((g : Given) → ¬ IsGiven seen g)) → (f ≡ arguments) × ((q : Request) → name_of q.task ≡ n → ¬ IsFound words q)
+  not_found seen o same missed f (is, inl none) = (is, no_task seen same (missed none))
+  not_found seen o same missed f (is, inr none) = (is, not_given seen same none)
+
+  pub not_with : (seen : List Row) (o : Option LentTask) (r : Result LentRequest WordsError) → seen ≡ rows b words → (IsNone o → (t : Task) → name_of t ≡ n → ¬ IsTask seen t)
+      → IfErr r (Because (λ f. (f ≡ arguments) × (IsNone o ⊎ ((g : Given) → ¬ IsGiven seen g)))) → IfErr r (Because (λ f. (f ≡ arguments) × ((q : Request) → name_of q.task ≡ n → ¬ IsFound words q)))
+  not_with seen o (Ok q) same missed fault = tt
+  not_with seen o (Err e) same missed fault = because _ _ e (not_found seen o same missed) fault
 
 -- no words, or a first word that is no command's name
 pub no_words : (r : Request) → ¬ Asks [] r

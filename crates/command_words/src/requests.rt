@@ -1,6 +1,6 @@
 //! What words ask for, before it is checked.
 
-ghost use Rattle.std.specs.Prelude.{◌≡◌, IfErr, IfOk, IfSome, IsNone, codes, map, string_bytes};
+ghost use Rattle.std.specs.Prelude.{◌≡◌, ◌⊎◌, IfErr, IfOk, IfSome, IsNone, Some, codes, map, string_bytes};
 ghost use Rattle.clap.specs.Words.{found_of, rows_of};
 ghost use Rattle.command_words.specs.Checks.{arguments};
 ghost use Rattle.command_words.specs.Lent.{Because, given_of, request_of, task_of};
@@ -118,6 +118,24 @@ fn upgrading<'a>(matches: &ArgMatches<'a>) -> Option<Task<'a>>
     Some(Task::Upgrade { proof, to })
 }
 
+/// What is given, by what `clap` finds, and this task. It fails with `Arguments` where there is no task, or the schema or the
+/// data have no file.
+fn with_task<'a>(
+    alloc: Global,
+    matches: &ArgMatches<'a>,
+    task: Option<Task<'a>>,
+) -> Result<Request<'a>, WordsError<'a>>
+    ensures given { IfOk result (λ r. IsGiven (rows_of (found_of matches.now)) (given_of r.given)) }
+    ensures task { IfOk result (λ r. task.entry ≡ Some r.task) }
+    ensures fault { IfErr result (Because (λ f. (f ≡ arguments) × (IsNone task.entry ⊎ ((g : Giving) → ¬ IsGiven (rows_of (found_of matches.now)) g)))) }
+{
+    let Some(task) = task else {
+        return Err(WordsError::Arguments);
+    };
+    let given = read_given(alloc, matches)?;
+    Ok(Request { given, task })
+}
+
 /// What the words behind `validate` ask for.
 fn read_to_validate<'a>(alloc: Global, words: &'a [String]) -> Result<Request<'a>, WordsError<'a>>
     ensures ok { IfOk result (λ r. IsFound (map string_bytes words.entry.now) (request_of r)) }
@@ -128,11 +146,9 @@ fn read_to_validate<'a>(alloc: Global, words: &'a [String]) -> Result<Request<'a
     let Some(matches) = matches_of(command, words)? else {
         return Err(WordsError::Arguments);
     };
-    let Some(task) = validation(&matches) else {
-        return Err(WordsError::Arguments);
-    };
-    let given = read_given(alloc, &matches)?;
-    Ok(Request { given, task })
+    let request = with_task(alloc, &matches, validation(&matches));
+    drop(matches);
+    request
 }
 
 /// What the words behind `check` ask for.
@@ -145,11 +161,9 @@ fn read_to_check<'a>(alloc: Global, words: &'a [String]) -> Result<Request<'a>, 
     let Some(matches) = matches_of(command, words)? else {
         return Err(WordsError::Arguments);
     };
-    let Some(task) = checking(&matches) else {
-        return Err(WordsError::Arguments);
-    };
-    let given = read_given(alloc, &matches)?;
-    Ok(Request { given, task })
+    let request = with_task(alloc, &matches, checking(&matches));
+    drop(matches);
+    request
 }
 
 /// What the words behind `upgrade` ask for.
@@ -162,11 +176,9 @@ fn read_to_upgrade<'a>(alloc: Global, words: &'a [String]) -> Result<Request<'a>
     let Some(matches) = matches_of(command, words)? else {
         return Err(WordsError::Arguments);
     };
-    let Some(task) = upgrading(&matches) else {
-        return Err(WordsError::Arguments);
-    };
-    let given = read_given(alloc, &matches)?;
-    Ok(Request { given, task })
+    let request = with_task(alloc, &matches, upgrading(&matches));
+    drop(matches);
+    request
 }
 
 /// What the words ask for.

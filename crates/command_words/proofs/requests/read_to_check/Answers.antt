@@ -2,12 +2,17 @@ use Rattle.std.proofs.Common.{◌≡◌, codes, map, rules}
 use Rattle.std.specs.Prelude.{string_bytes}
 use Rattle.clap.specs.Words.{app_of, found_of, rows_of}
 use Rattle.command_words.specs.Commands.{check, rows}
-use Rattle.command_words.proofs.Seen.{not_requested, to_check}
+use Rattle.command_words.proofs.Seen.{found_with, named_with, not_with, to_check}
 use Rattle.command_words.proofs.requests.read_to_check.Goals as goal
 
-pub returns-in_err-given-clause-fault : goal.returns-in_err-given-clause-fault
-returns-in_err-given-clause-fault c =
+pub returns : goal.returns
+returns c =
     let words = map string_bytes c.args.words.now in
-    let same : rows_of (found_of c.in-Some.matches) ≡ rows (app_of c.in_ok-command.command) words = search rules in
-    not_requested (codes "check") check (app_of c.in_ok-command.command) to_check c.in_ok-command.ensures words (rows_of (found_of c.in-Some.matches))
-    c.from_residual-in_err-given.result c.in_err-given.field-0.0 c.from_residual-in_err-given.ensures.1 same c.in_err-given.ensures.fault
+    let app = app_of c.in_ok-command.command in
+    let seen = rows_of (found_of c.in-Some.matches) in
+    let same : seen ≡ rows app words = search rules in
+    record {
+      ok = found_with (codes "check") check app to_check c.in_ok-command.ensures words seen c.checking.result c.with_task-request.result (search rules) same c.checking.ensures.found c.checking.ensures.named c.with_task-request.ensures.given c.with_task-request.ensures.task;
+      named = named_with (codes "check") check app to_check c.in_ok-command.ensures words c.checking.result c.with_task-request.result c.checking.ensures.named c.with_task-request.ensures.task;
+      fault = not_with (codes "check") check app to_check c.in_ok-command.ensures words seen c.checking.result c.with_task-request.result same c.checking.ensures.missed c.with_task-request.ensures.fault;
+    }
