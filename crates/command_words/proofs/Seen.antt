@@ -1,13 +1,13 @@
 -- What words ask for behind a command's name.
 use Rattle.std.proofs.Common.{◌≡◌, ◌≢◌, ◌⊎◌, inl, inr, ◌∙◌, ◌≤◌, ◌-◌, List, [], ◌∷◌, arith, codes, drop, get_or, length, map, refl, sym, ap, subst, take}
-use Rattle.std.specs.Prelude.{Option, Some, Result, Ok, Err, IfErr, IfOk, IfSome, IsNone}
+use Rattle.std.specs.Prelude.{Option, Some, Result, Ok, Err, IfErr, IfOk, IfSome, IsErrAnd, IsNone}
 use Rattle.clap.specs.Words.{App, Row, Text}
 use Rattle.command_words.specs.declared.error.WordsError.{WordsError}
 use Rattle.command_words.specs.declared.requests.Request.{Request as LentRequest}
 use Rattle.command_words.specs.declared.requests.Task.{Task as LentTask}
 use Rattle.command_words.specs.Checks.{Fault, arguments}
 use Rattle.command_words.specs.Lent.{Because, given_of, request_of, task_of}
-use Rattle.command_words.proofs.Exact.{because}
+use Rattle.command_words.proofs.Exact.{because, handed_on}
 use Rattle.command_words.specs.Commands.{check, faults, rows, upgrade, validate}
 use Rattle.command_words.specs.Requests.{Asks, Given, IsFound, IsGiven, IsTask, Request, Task, checking, command_for, name_of, upgrading, validation}
 use Rattle.command_words.proofs.Requested.{no_check, no_upgrade, upgrade_no_check}
@@ -53,6 +53,11 @@ module _ (n : Text) (a b : App) (owns : (t : Task) → name_of t ≡ n → comma
 
   not_given : (seen : List Row) → seen ≡ rows b words → ((g : Given) → ¬ IsGiven seen g) → (r : Request) → name_of r.task ≡ n → ¬ IsFound words r
   not_given seen same none r named h = none r.given (subst (λ (s : List Row). IsGiven s r.given) (same_seen seen r same named) h.given)
+
+  -- an error that is handed on, where `clap` refuses the words
+  pub not_accepted : (r : Result LentRequest WordsError) (x : WordsError) → IsErrAnd r (λ y. y ≡ x) → Because (λ f. (f ≡ arguments) × (faults b words ≢ [])) x
+      → IfErr r (Because (λ f. (f ≡ arguments) × ((q : Request) → name_of q.task ≡ n → ¬ IsFound words q)))
+  not_accepted r x h = handed_on (λ f. (f ≡ arguments) × (faults b words ≢ [])) (λ f. (f ≡ arguments) × ((q : Request) → name_of q.task ≡ n → ¬ IsFound words q)) r x h (λ f (is, refused). (is, not_taken refused))
 
   -- what is given and what is asked, if it is, put together
   pub found_with : (seen : List Row) (o : Option LentTask) (r : Result LentRequest WordsError) → faults b words ≡ [] → seen ≡ rows b words → IfSome o (λ t. IsTask seen (task_of t))

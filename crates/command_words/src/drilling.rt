@@ -9,7 +9,7 @@ ghost use Rattle.command_words.specs.Lent.{Because, drill_of};
 use crate::command::Drilling;
 use crate::commands::drill;
 use crate::error::WordsError;
-use crate::matches::{matches_of, value_of};
+use crate::matches::{accepted, value_of};
 use crate::numbers::items;
 use clap::ArgMatches;
 use std::alloc::Global;
@@ -33,11 +33,11 @@ pub fn read_drill<'a>(alloc: Global, words: &'a [String]) -> Result<Drilling<'a>
     ensures fault { IfErr result (Because (λ f. (f ≡ arguments) × ((d : Drill) → ¬ IsFoundDrill (map string_bytes words.entry.now) d))) }
 {
     let command = drill(alloc)?;
-    let Some(matches) = matches_of(command, words)? else {
-        return Err(WordsError::Arguments);
-    };
-    let Some(drilling) = drilling(&matches) else {
-        return Err(WordsError::Arguments);
-    };
-    Ok(drilling)
+    let matches = accepted(command, words)?;
+    let asked = drilling(&matches);
+    drop(matches);
+    match asked {
+        Some(drilling) => Ok(drilling),
+        None => Err(WordsError::Arguments),
+    }
 }

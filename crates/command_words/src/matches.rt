@@ -2,7 +2,9 @@
 
 ghost use Rattle.std.specs.Prelude.{◌≡◌, ◌≢◌, ◌∷◌, IfErr, IfOk, IfSome, IsNone, List, [], map, option_map, string_bytes, unwrap_or};
 ghost use Rattle.clap.specs.Words.{Text, all_of, app_of, first_of, found_of, rows_of};
+ghost use Rattle.command_words.specs.Checks.{arguments};
 ghost use Rattle.command_words.specs.Commands.{IsCovered, faults, rows};
+ghost use Rattle.command_words.specs.Lent.{Because};
 
 use crate::error::WordsError;
 use clap::error::ErrorKind;
@@ -40,6 +42,21 @@ pub fn matches_of<'a>(
             ErrorKind::OutOfMemory => Err(WordsError::Memory),
             _ => Ok(None),
         },
+    }
+}
+
+/// What the command finds in the words. It fails with `Arguments` where `clap` refuses them.
+pub(crate) fn accepted<'a>(
+    command: Command<'a>,
+    words: &'a [String],
+) -> Result<ArgMatches<'a>, WordsError<'a>>
+    requires { IsCovered (app_of command) }
+    ensures ok { IfOk result (λ m. (faults (app_of command.entry) (map string_bytes words.entry.now) ≡ []) × (rows_of (found_of m) ≡ rows (app_of command.entry) (map string_bytes words.entry.now))) }
+    ensures fault { IfErr result (Because (λ f. (f ≡ arguments) × (faults (app_of command.entry) (map string_bytes words.entry.now) ≢ []))) }
+{
+    match matches_of(command, words)? {
+        Some(matches) => Ok(matches),
+        None => Err(WordsError::Arguments),
     }
 }
 

@@ -8,7 +8,7 @@ ghost use Rattle.command_words.specs.Requests.{Asks, Given as Giving, IsFound, I
 
 use crate::commands::{check, upgrade, validate};
 use crate::error::WordsError;
-use crate::matches::{matches_of, value_of, value_or, values_of};
+use crate::matches::{accepted, value_of, value_or, values_of};
 use crate::numbers::budget;
 use clap::ArgMatches;
 use std::alloc::Global;
@@ -143,9 +143,7 @@ fn read_to_validate<'a>(alloc: Global, words: &'a [String]) -> Result<Request<'a
     ensures fault { IfErr result (Because (λ f. (f ≡ arguments) × ((r : Requested) → name_of r.task ≡ codes "validate" → ¬ IsFound (map string_bytes words.entry.now) r))) }
 {
     let command = validate(alloc)?;
-    let Some(matches) = matches_of(command, words)? else {
-        return Err(WordsError::Arguments);
-    };
+    let matches = accepted(command, words)?;
     let request = with_task(alloc, &matches, validation(&matches));
     drop(matches);
     request
@@ -158,9 +156,7 @@ fn read_to_check<'a>(alloc: Global, words: &'a [String]) -> Result<Request<'a>, 
     ensures fault { IfErr result (Because (λ f. (f ≡ arguments) × ((r : Requested) → name_of r.task ≡ codes "check" → ¬ IsFound (map string_bytes words.entry.now) r))) }
 {
     let command = check(alloc)?;
-    let Some(matches) = matches_of(command, words)? else {
-        return Err(WordsError::Arguments);
-    };
+    let matches = accepted(command, words)?;
     let request = with_task(alloc, &matches, checking(&matches));
     drop(matches);
     request
@@ -173,9 +169,7 @@ fn read_to_upgrade<'a>(alloc: Global, words: &'a [String]) -> Result<Request<'a>
     ensures fault { IfErr result (Because (λ f. (f ≡ arguments) × ((r : Requested) → name_of r.task ≡ codes "upgrade" → ¬ IsFound (map string_bytes words.entry.now) r))) }
 {
     let command = upgrade(alloc)?;
-    let Some(matches) = matches_of(command, words)? else {
-        return Err(WordsError::Arguments);
-    };
+    let matches = accepted(command, words)?;
     let request = with_task(alloc, &matches, upgrading(&matches));
     drop(matches);
     request
