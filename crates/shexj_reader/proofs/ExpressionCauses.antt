@@ -1,6 +1,6 @@
 -- How the fault of a part is the fault of an expression.
 use Rattle.std.proofs.Common.{◌≡◌, ◌≢◌, ◌+◌, ◌-◌, ◌<◌, ℕ, suc, Bool, false, List, arith, get_or, length, subst, sym}
-use Rattle.std.specs.Prelude.{IfErr, IsErrAnd, None, Result, Some, codes}
+use Rattle.std.specs.Prelude.{Err, IfErr, IsErrAnd, IsOkAnd, MatchResult, None, Result, Some, codes}
 use Rattle.serde_json.specs.Data.{Data}
 use Rattle.serde_json.specs.Find.{as_str, get}
 use Rattle.serde_json.specs.View.{items_view, view}
@@ -8,13 +8,13 @@ use Rattle.serde_json.specs.declared.value.Value.{Value}
 use Rattle.schema_documents.specs.declared.error.SchemaError.{SchemaError}
 use Rattle.shexj_reader.specs.ExpressionFaults.{ArcFault, ExprFault, GroupFault, IsItem, IsNoExpr, IsNoTriple, JoinFault, NegationFault, ShapeFault, TripleFault}
 use Rattle.shexj_reader.specs.ExpressionFaults as faults
-use Rattle.shexj_reader.specs.Faults.{Because, Fault, form}
+use Rattle.shexj_reader.specs.Faults.{Because, Fault, PlainFault, form}
 use Rattle.shexj_reader.specs.Keys.{members, type_of}
 use Rattle.shexj_reader.specs.Labels.{reference}
 use Rattle.shexj_reader.specs.Types.{IsGroupType, IsJoin, expr_type, triple_type}
 use Rattle.shexj_reader.specs.declared.kinds.ExprKind.{ExprKind}
 use Rattle.shexj_reader.specs.declared.kinds.TripleKind.{TripleKind}
-use Rattle.shexj_reader.proofs.Causes.{passed}
+use Rattle.shexj_reader.proofs.Causes.{made, passed}
 use Rattle.shexj_reader.proofs.ValueParts.{item_at}
 
 one_up : (n : ℕ) → n + 1 ≡ suc n
@@ -39,6 +39,20 @@ group_passed P n d r e same t w h = passed P (λ f. TripleFault f n d) r e same 
 
 pub arc_passed : {T : Type 0} (P : Fault → Type 0) (n : ℕ) (d : Data) (r : Result T SchemaError) (e : SchemaError) → IsErrAnd r (λ x. x ≡ e) → type_of d ≡ Some (codes "TripleConstraint") → ((f : Fault) → P f → ArcFault f d) → Because P e → IfErr r (Because (λ f. TripleFault f n d))
 arc_passed P n d r e same t w h = passed P (λ f. TripleFault f n d) r e same (λ f k. faults.bad_arc t (w f k)) h
+
+-- ---- a fault of the object itself, at the last step
+
+pub shape_made : {T U : Type 0} (labelled : Bool) (n : ℕ) (d : Data) (made_of : T → U → Type 0) (r : Result T SchemaError) (s : Result U SchemaError) → MatchResult r (λ x. IsOkAnd s (made_of x)) (λ e. s ≡ Err e) → type_of d ≡ Some (codes "Shape") → IfErr r (Because (λ f. PlainFault f d)) → IfErr s (Because (λ f. ExprFault f labelled n d))
+shape_made labelled n d made_of r s m t h =
+    made (λ f. PlainFault f d) (λ f. ExprFault f labelled n d) made_of r s m (λ f k. faults.bad_shape t (ShapeFault.not_plain k)) h
+
+pub group_made : {T U : Type 0} (n : ℕ) (d : Data) (made_of : T → U → Type 0) (r : Result T SchemaError) (s : Result U SchemaError) → MatchResult r (λ x. IsOkAnd s (made_of x)) (λ e. s ≡ Err e) → IsGroupType d → IfErr r (Because (λ f. PlainFault f d)) → IfErr s (Because (λ f. TripleFault f n d))
+group_made n d made_of r s m t h =
+    made (λ f. PlainFault f d) (λ f. TripleFault f n d) made_of r s m (λ f k. faults.bad_group t (GroupFault.not_plain k)) h
+
+pub arc_made : {T U : Type 0} (n : ℕ) (d : Data) (made_of : T → U → Type 0) (r : Result T SchemaError) (s : Result U SchemaError) → MatchResult r (λ x. IsOkAnd s (made_of x)) (λ e. s ≡ Err e) → type_of d ≡ Some (codes "TripleConstraint") → IfErr r (Because (λ f. PlainFault f d)) → IfErr s (Because (λ f. TripleFault f n d))
+arc_made n d made_of r s m t h =
+    made (λ f. PlainFault f d) (λ f. TripleFault f n d) made_of r s m (λ f k. faults.bad_arc t (ArcFault.not_plain k)) h
 
 -- ---- a fault of an expression inside it, passed on by a `?`
 
@@ -70,16 +84,16 @@ value_passed n d v r e same t there h =
 pub expr_handed : {T : Type 0} (labelled : Bool) (n : ℕ) (d : Data) (r : Result T SchemaError) → n ≢ 0 → IfErr r (Because (λ f. ExprFault f labelled ((n - 1) + 1) d)) → IfErr r (Because (λ f. ExprFault f labelled n d))
 expr_handed labelled n d r up h = subst (λ (k : ℕ). IfErr r (Because (λ f. ExprFault f labelled k d))) (back_up n up) h
 
-pub expr_back : {T : Type 0} (labelled : Bool) (n : ℕ) (d : Data) (r : Result T SchemaError) (e : SchemaError) → IsErrAnd r (λ x. x ≡ e) → n ≢ 0 → Because (λ f. ExprFault f labelled ((n - 1) + 1) d) e → IfErr r (Because (λ f. ExprFault f labelled n d))
-expr_back labelled n d r e same up h =
-    passed (λ f. ExprFault f labelled ((n - 1) + 1) d) (λ f. ExprFault f labelled n d) r e same (λ f k. subst (λ (j : ℕ). ExprFault f labelled j d) (back_up n up) k) h
+pub expr_made : {T U : Type 0} (labelled : Bool) (n : ℕ) (d : Data) (made_of : T → U → Type 0) (r : Result T SchemaError) (s : Result U SchemaError) → MatchResult r (λ x. IsOkAnd s (made_of x)) (λ e. s ≡ Err e) → n ≢ 0 → IfErr r (Because (λ f. ExprFault f labelled ((n - 1) + 1) d)) → IfErr s (Because (λ f. ExprFault f labelled n d))
+expr_made labelled n d made_of r s m up h =
+    made (λ f. ExprFault f labelled ((n - 1) + 1) d) (λ f. ExprFault f labelled n d) made_of r s m (λ f k. subst (λ (j : ℕ). ExprFault f labelled j d) (back_up n up) k) h
 
 pub triple_handed : {T : Type 0} (n : ℕ) (d : Data) (r : Result T SchemaError) → n ≢ 0 → IfErr r (Because (λ f. TripleFault f ((n - 1) + 1) d)) → IfErr r (Because (λ f. TripleFault f n d))
 triple_handed n d r up h = subst (λ (k : ℕ). IfErr r (Because (λ f. TripleFault f k d))) (back_up n up) h
 
-pub triple_back : {T : Type 0} (n : ℕ) (d : Data) (r : Result T SchemaError) (e : SchemaError) → IsErrAnd r (λ x. x ≡ e) → n ≢ 0 → Because (λ f. TripleFault f ((n - 1) + 1) d) e → IfErr r (Because (λ f. TripleFault f n d))
-triple_back n d r e same up h =
-    passed (λ f. TripleFault f ((n - 1) + 1) d) (λ f. TripleFault f n d) r e same (λ f k. subst (λ (j : ℕ). TripleFault f j d) (back_up n up) k) h
+pub triple_made : {T U : Type 0} (n : ℕ) (d : Data) (made_of : T → U → Type 0) (r : Result T SchemaError) (s : Result U SchemaError) → MatchResult r (λ x. IsOkAnd s (made_of x)) (λ e. s ≡ Err e) → n ≢ 0 → IfErr r (Because (λ f. TripleFault f ((n - 1) + 1) d)) → IfErr s (Because (λ f. TripleFault f n d))
+triple_made n d made_of r s m up h =
+    made (λ f. TripleFault f ((n - 1) + 1) d) (λ f. TripleFault f n d) made_of r s m (λ f k. subst (λ (j : ℕ). TripleFault f j d) (back_up n up) k) h
 
 -- ---- no type that belongs there
 

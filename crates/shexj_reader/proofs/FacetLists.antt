@@ -1,5 +1,5 @@
 -- Facets in the order of their keys.
-use Rattle.std.proofs.Common.{◌≡◌, ◌≢◌, ◌∙◌, ap, refl, sym, subst, ℕ, zero, suc, ◌<◌, arith, List, [], ◌∷◌, ◌++◌, length, map, Option, Some, None}
+use Rattle.std.proofs.Common.{◌≡◌, ◌≢◌, ◌∙◌, ap, refl, sym, subst, ℕ, zero, suc, ◌<◌, arith, List, [], ◌∷◌, ◌++◌, length, Option, Some, None}
 use Rattle.std.proofs.lemmas.List.{append-nil, append_assoc}
 use Rattle.std.specs.List.{AllByRecursion}
 use Rattle.std.specs.Fmt.{signed_decimal}
@@ -9,68 +9,90 @@ use Rattle.serde_json.specs.Find.{as_integer, as_number, get}
 use Rattle.node_constraint.specs.Making.{HasOtherNumber, IsDecimal, range_value}
 use Rattle.node_constraint.specs.declared.facet.Facet.{Facet}
 use Rattle.node_constraint.specs.declared.facet.Facet.TheVariants as Facets
-use Rattle.shexj_reader.specs.Constraints.{all_of, bound, bounded, count, counted, facet_values, facets_of, listed, patterned, with_flags}
+use Rattle.shexj_reader.specs.Constraints.{all_of, behind, bound, bounded, count, counted, digit_values, facet_values, facets_of, length_values, listed, patterned, range_values, with_flags}
 use Rattle.shexj_reader.specs.Keys.{text_if_any}
 use Rattle.shexj_reader.proofs.Decimals.{whole_is_decimal}
 
 -- ---- facets that are added one by one
 
-abbrev pub added : List Facet → List (Option Facet) → List Facet
-added fs [] = fs
-added fs (o ∷ os) = added (fs ++ listed o) os
-
 regrouped : (fs gs : List Facet) (r : Option (List Facet)) → option_map (λ hs. fs ++ hs) (option_map (λ hs. gs ++ hs) r) ≡ option_map (λ hs. (fs ++ gs) ++ hs) r
 regrouped fs gs None = refl
 regrouped fs gs (Some hs) = ap (λ (x : List Facet). Some x) (sym (append_assoc fs gs hs))
 
-all_behind : (fs : List Facet) (os : List (Option Facet)) → option_map (λ hs. fs ++ hs) (all_of (map Some os)) ≡ Some (added fs os)
-all_behind fs [] = ap (λ (x : List Facet). Some x) (append-nil fs)
-all_behind fs (o ∷ os) = regrouped fs (listed o) (all_of (map Some os)) ∙ all_behind (fs ++ listed o) os
+none_behind : (fs : List Facet) → behind fs [] ≡ Some fs
+unfolding behind
+none_behind fs = ap (λ (x : List Facet). Some x) (append-nil fs)
 
-whole : (r : Option (List Facet)) → r ≡ option_map (λ hs. [] ++ hs) r
-whole None = refl
-whole (Some hs) = refl
+one_behind : (fs : List Facet) (a : Option Facet) (os : List (Option (Option Facet))) → behind fs (Some a ∷ os) ≡ behind (fs ++ listed a) os
+unfolding behind
+one_behind fs a os = regrouped fs (listed a) (all_of os)
 
-pub all_added : (os : List (Option Facet)) → all_of (map Some os) ≡ Some (added [] os)
-all_added os = whole (all_of (map Some os)) ∙ all_behind [] os
+grown : (fs gs : List Facet) (o : Option (Option Facet)) (a : Option Facet) (os : List (Option (Option Facet))) → o ≡ Some a → gs ≡ fs ++ listed a → behind fs (o ∷ os) ≡ behind gs os
+grown fs gs o a os read more =
+    ap (λ (x : Option (Option Facet)). behind fs (x ∷ os)) read
+    ∙ (one_behind fs a os ∙ ap (λ (x : List Facet). behind x os) (sym more))
 
-grown : (fs gs : List Facet) (o : Option Facet) (os : List (Option Facet)) → gs ≡ fs ++ listed o → added gs os ≡ added fs (o ∷ os)
-grown fs gs o os e = ap (λ (x : List Facet). added x os) e
+missed : (fs gs : List Facet) (os : List (Option (Option Facet))) → behind fs (None ∷ os) ≢ Some gs
+unfolding behind
+missed fs gs os h = cc
 
-pub chained : (f0 f1 f2 f3 f4 f5 f6 f7 f8 f9 f10 : List Facet) (a b c d e f g h i j : Option Facet) → f0 ≡ [] →
-    f1 ≡ f0 ++ listed a → f2 ≡ f1 ++ listed b → f3 ≡ f2 ++ listed c → f4 ≡ f3 ++ listed d → f5 ≡ f4 ++ listed e → f6 ≡ f5 ++ listed f → f7 ≡ f6 ++ listed g → f8 ≡ f7 ++ listed h → f9 ≡ f8 ++ listed i → f10 ≡ f9 ++ listed j →
-    f10 ≡ added [] (a ∷ b ∷ c ∷ d ∷ e ∷ f ∷ g ∷ h ∷ i ∷ j ∷ [])
-chained f0 f1 f2 f3 f4 f5 f6 f7 f8 f9 f10 a b c d e f g h i j p0 p1 p2 p3 p4 p5 p6 p7 p8 p9 p10 =
-    grown f9 f10 j ([]) p10
-    ∙ (grown f8 f9 i (j ∷ []) p9
-    ∙ (grown f7 f8 h (i ∷ j ∷ []) p8
-    ∙ (grown f6 f7 g (h ∷ i ∷ j ∷ []) p7
-    ∙ (grown f5 f6 f (g ∷ h ∷ i ∷ j ∷ []) p6
-    ∙ (grown f4 f5 e (f ∷ g ∷ h ∷ i ∷ j ∷ []) p5
-    ∙ (grown f3 f4 d (e ∷ f ∷ g ∷ h ∷ i ∷ j ∷ []) p4
-    ∙ (grown f2 f3 c (d ∷ e ∷ f ∷ g ∷ h ∷ i ∷ j ∷ []) p3
-    ∙ (grown f1 f2 b (c ∷ d ∷ e ∷ f ∷ g ∷ h ∷ i ∷ j ∷ []) p2
-    ∙ (grown f0 f1 a (b ∷ c ∷ d ∷ e ∷ f ∷ g ∷ h ∷ i ∷ j ∷ []) p1
-    ∙ ap (λ (x : List Facet). added x (a ∷ b ∷ c ∷ d ∷ e ∷ f ∷ g ∷ h ∷ i ∷ j ∷ [])) p0)))))))))
+rest_behind : (fs gs : List Facet) (os ps : List (Option (Option Facet))) → behind fs os ≡ Some gs → behind fs (os ++ ps) ≡ behind gs ps
+rest_behind fs gs [] ps h =
+    let same : fs ≡ gs = cc (none_behind fs, h) in ap (λ (x : List Facet). behind x ps) same
+rest_behind fs gs (None ∷ os) ps h = absurd (missed fs gs os h)
+rest_behind fs gs (Some a ∷ os) ps h =
+    one_behind fs a (os ++ ps) ∙ rest_behind (fs ++ listed a) gs os ps (sym (one_behind fs a os) ∙ h)
 
--- what stands under each key gives the list of facets
-pub facets_are : (v : Data) (a b c d e f g h i j : Option Facet) (facets : List Facet) →
+pub lengths_behind : (v : Data) (f0 f1 f2 f3 : List Facet) (a b c : Option Facet) →
     counted Facets.Length (codes "length") v ≡ Some a →
     counted Facets.MinLength (codes "minlength") v ≡ Some b →
     counted Facets.MaxLength (codes "maxlength") v ≡ Some c →
-    patterned v ≡ Some d →
-    bounded Facets.MinInclusive (codes "mininclusive") v ≡ Some e →
-    bounded Facets.MinExclusive (codes "minexclusive") v ≡ Some f →
-    bounded Facets.MaxInclusive (codes "maxinclusive") v ≡ Some g →
-    bounded Facets.MaxExclusive (codes "maxexclusive") v ≡ Some h →
-    counted Facets.TotalDigits (codes "totaldigits") v ≡ Some i →
-    counted Facets.FractionDigits (codes "fractiondigits") v ≡ Some j →
-    facets ≡ added [] (a ∷ b ∷ c ∷ d ∷ e ∷ f ∷ g ∷ h ∷ i ∷ j ∷ []) →
-    facets_of v ≡ Some facets
+    f1 ≡ f0 ++ listed a → f2 ≡ f1 ++ listed b → f3 ≡ f2 ++ listed c → behind f0 (length_values v) ≡ Some f3
+unfolding length_values
+lengths_behind v f0 f1 f2 f3 a b c pa pb pc qa qb qc =
+    grown f0 f1 _ a _ pa qa ∙ (grown f1 f2 _ b _ pb qb ∙ (grown f2 f3 _ c _ pc qc ∙ none_behind f3))
+
+pub ranges_behind : (v : Data) (f0 f1 f2 f3 f4 : List Facet) (a b c d : Option Facet) →
+    bounded Facets.MinInclusive (codes "mininclusive") v ≡ Some a →
+    bounded Facets.MinExclusive (codes "minexclusive") v ≡ Some b →
+    bounded Facets.MaxInclusive (codes "maxinclusive") v ≡ Some c →
+    bounded Facets.MaxExclusive (codes "maxexclusive") v ≡ Some d →
+    f1 ≡ f0 ++ listed a → f2 ≡ f1 ++ listed b → f3 ≡ f2 ++ listed c → f4 ≡ f3 ++ listed d → behind f0 (range_values v) ≡ Some f4
+unfolding range_values
+ranges_behind v f0 f1 f2 f3 f4 a b c d pa pb pc pd qa qb qc qd =
+    grown f0 f1 _ a _ pa qa ∙ (grown f1 f2 _ b _ pb qb ∙ (grown f2 f3 _ c _ pc qc ∙ (grown f3 f4 _ d _ pd qd ∙ none_behind f4)))
+
+pub digits_behind : (v : Data) (f0 f1 f2 : List Facet) (a b : Option Facet) →
+    counted Facets.TotalDigits (codes "totaldigits") v ≡ Some a →
+    counted Facets.FractionDigits (codes "fractiondigits") v ≡ Some b →
+    f1 ≡ f0 ++ listed a → f2 ≡ f1 ++ listed b → behind f0 (digit_values v) ≡ Some f2
+unfolding digit_values
+digits_behind v f0 f1 f2 a b pa pb qa qb = grown f0 f1 _ a _ pa qa ∙ (grown f1 f2 _ b _ pb qb ∙ none_behind f2)
+
+whole : (os : List (Option (Option Facet))) → all_of os ≡ behind [] os
+unfolding behind
+whole os = same (all_of os)
+  where
+    same : (r : Option (List Facet)) → r ≡ option_map (λ hs. [] ++ hs) r
+    same None = refl
+    same (Some hs) = refl
+
+in_sorts : (v : Data) → facet_values v ≡ length_values v ++ patterned v ∷ (range_values v ++ digit_values v)
+unfolding length_values range_values digit_values
+in_sorts v = refl
+
+-- what stands under each key gives the list of facets
+pub facets_are : (v : Data) (f0 f1 f2 f3 f4 : List Facet) (a : Option Facet) → f0 ≡ [] →
+    behind f0 (length_values v) ≡ Some f1 → patterned v ≡ Some a → f2 ≡ f1 ++ listed a → behind f2 (range_values v) ≡ Some f3 → behind f3 (digit_values v) ≡ Some f4 →
+    facets_of v ≡ Some f4
 unfolding facets_of
-facets_are v a b c d e f g h i j facets pa pb pc pd pe pf pg ph pi pj all =
-    let same : facet_values v ≡ map Some (a ∷ b ∷ c ∷ d ∷ e ∷ f ∷ g ∷ h ∷ i ∷ j ∷ []) = cc in
-    ap all_of same ∙ (all_added (a ∷ b ∷ c ∷ d ∷ e ∷ f ∷ g ∷ h ∷ i ∷ j ∷ []) ∙ ap (λ (x : List Facet). Some x) (sym all))
+facets_are v f0 f1 f2 f3 f4 a none lengths pattern more ranges digits =
+    ap all_of (in_sorts v)
+    ∙ (whole _
+    ∙ (ap (λ (x : List Facet). behind x (length_values v ++ patterned v ∷ (range_values v ++ digit_values v))) (sym none)
+    ∙ (rest_behind f0 f1 (length_values v) _ lengths
+    ∙ (grown f1 f2 _ a _ pattern more
+    ∙ (rest_behind f2 f3 (range_values v) _ ranges ∙ digits)))))
 
 -- ---- where all are there, each is
 

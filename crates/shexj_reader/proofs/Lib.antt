@@ -13,6 +13,7 @@ pub mod Orders
 pub mod ReadParts
 pub mod Readings
 pub mod Refusals
+pub mod Restrictions
 pub mod TextLists
 pub mod TypeLaws
 pub mod ValueLaws

@@ -87,6 +87,29 @@ facet_values d =
 unfoldable pub facets_of : Data → Option (List Facet)
 facets_of d = all_of (facet_values d)
 
+-- the facets of one sort, in that order: those on the length, on the range and on the digits of a value
+unfoldable pub length_values : Data → List (Option (Option Facet))
+length_values d =
+    counted Facets.Length (codes "length") d ∷
+    counted Facets.MinLength (codes "minlength") d ∷
+    counted Facets.MaxLength (codes "maxlength") d ∷ []
+
+unfoldable pub range_values : Data → List (Option (Option Facet))
+range_values d =
+    bounded Facets.MinInclusive (codes "mininclusive") d ∷
+    bounded Facets.MinExclusive (codes "minexclusive") d ∷
+    bounded Facets.MaxInclusive (codes "maxinclusive") d ∷
+    bounded Facets.MaxExclusive (codes "maxexclusive") d ∷ []
+
+unfoldable pub digit_values : Data → List (Option (Option Facet))
+digit_values d =
+    counted Facets.TotalDigits (codes "totaldigits") d ∷
+    counted Facets.FractionDigits (codes "fractiondigits") d ∷ []
+
+-- the facets that are there, behind others
+unfoldable pub behind : List Facet → List (Option (Option Facet)) → Option (List Facet)
+behind facets os = option_map (λ own. facets ++ own) (all_of os)
+
 -- the keys of a node constraint
 abbrev pub constraint_keys : List (List ℕ)
 constraint_keys =
@@ -103,4 +126,12 @@ pub record IsConstraint (keys : List (List ℕ)) (c : Constraint) (d : Data) : T
   pub facets : facets_of d ≡ Some c.facets
   pub values : SpellsValueSet c.values (get (codes "values") d)
   pub plain : IsPlain d
+  pub sound : IsSound c.datatype c.facets
+
+-- an object without other keys than these asks for this, a value set apart
+pub record HasRestrictions (keys : List (List ℕ)) (c : Constraint) (d : Data) : Type 0 where
+  pub object : IsObject (codes "NodeConstraint") keys d
+  pub kind : IsKindWord c.kind (get (codes "nodeKind") d)
+  pub datatype : text_if_any (get (codes "datatype") d) ≡ Some c.datatype
+  pub facets : facets_of d ≡ Some c.facets
   pub sound : IsSound c.datatype c.facets

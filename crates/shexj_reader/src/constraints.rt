@@ -1,6 +1,6 @@
 //! Node constraints.
 
-ghost use Rattle.std.specs.Prelude.{ℕ, List, ◌≡◌, ◌≢◌, ◌++◌, IfErr, IfOk, MatchOption, OnOk, None, Some, codes, map, true};
+ghost use Rattle.std.specs.Prelude.{ℕ, List, ◌≡◌, ◌≢◌, ◌++◌, ◌⊎◌, IfErr, IfOk, MatchOption, OnOk, None, Some, codes, map, true};
 ghost use Rattle.std.specs.List.{list_any};
 ghost use Rattle.std.specs.Str.{bytes_eq};
 ghost use Rattle.serde_json.specs.Find.{as_integer, get};
@@ -8,9 +8,11 @@ ghost use Rattle.serde_json.specs.View.{view};
 ghost use Rattle.node_constraint.specs.Making.{HasOtherNumber, IsSound};
 ghost use Rattle.node_constraint.specs.declared.Kind4.{Kind4};
 ghost use Rattle.shexj_reader.specs.ConstraintFaults.{ConstraintFault, FacetFault, IsNoKind, NumberFault, PartsFault, PatternFault, count_keys, range_keys, small_count};
-ghost use Rattle.shexj_reader.specs.Constraints.{IsConstraint, IsKindWord, bound, constraint_keys, count, facets_of, kind_word, listed, patterned};
-ghost use Rattle.shexj_reader.specs.Faults.{Because};
-ghost use Rattle.shexj_reader.specs.Keys.{type_of, with_id};
+ghost use Rattle.shexj_reader.specs.Constraints.{HasRestrictions, IsConstraint, IsKindWord, behind, bound, constraint_keys, count, digit_values, facets_of, kind_word, length_values, listed, patterned, range_values};
+ghost use Rattle.shexj_reader.specs.Faults.{Because, PlainFault};
+ghost use Rattle.shexj_reader.specs.Keys.{IsPlain, type_of, with_id};
+ghost use Rattle.shexj_reader.specs.ValueFaults.{ValueSetFault};
+ghost use Rattle.shexj_reader.specs.Values.{SpellsValueSet};
 
 use crate::objects::{bad_form, only_own_keys, only_plain, text_if_any};
 use crate::values::read_value_set;
@@ -19,6 +21,7 @@ use rdf_terms::text::Text;
 use schema_documents::SchemaError;
 use serde_json::Value;
 use std::alloc::Global;
+use value_sets::ValueSet;
 
 /// The greatest length and the greatest number of digits that are read.
 const MAX_COUNT: u64 = 4294967295;
@@ -139,32 +142,59 @@ fn add(facets: &mut Vec<Facet>, facet: Option<Facet>) -> Result<(), SchemaError>
     Ok(())
 }
 
+/// Appends the facets on the length of a value that are asked for.
+fn add_lengths(alloc: Global, value: &Value, facets: &mut Vec<Facet>) -> Result<(), SchemaError>
+    ensures ok { OnOk result (behind facets.old.items (length_values (view value.now)) ≡ Some facets.new.items) }
+    ensures cause { IfErr result (Because (λ f. NumberFault count_keys small_count f (view value.now))) }
+{
+    let length = count_at(alloc, value, "length")?;
+    add(facets, length.map(Facet::Length))?;
+    let min_length = count_at(alloc, value, "minlength")?;
+    add(facets, min_length.map(Facet::MinLength))?;
+    let max_length = count_at(alloc, value, "maxlength")?;
+    add(facets, max_length.map(Facet::MaxLength))?;
+    Ok(())
+}
+
+/// Appends the facets on the range of a value that are asked for.
+fn add_ranges(alloc: Global, value: &Value, facets: &mut Vec<Facet>) -> Result<(), SchemaError>
+    ensures ok { OnOk result (behind facets.old.items (range_values (view value.now)) ≡ Some facets.new.items) }
+    ensures cause { IfErr result (Because (λ f. NumberFault range_keys as_integer f (view value.now))) }
+{
+    let least = bound_at(alloc, value, "mininclusive")?;
+    add(facets, least.map(Facet::MinInclusive))?;
+    let above = bound_at(alloc, value, "minexclusive")?;
+    add(facets, above.map(Facet::MinExclusive))?;
+    let most = bound_at(alloc, value, "maxinclusive")?;
+    add(facets, most.map(Facet::MaxInclusive))?;
+    let below = bound_at(alloc, value, "maxexclusive")?;
+    add(facets, below.map(Facet::MaxExclusive))?;
+    Ok(())
+}
+
+/// Appends the facets on the digits of a value that are asked for.
+fn add_digits(alloc: Global, value: &Value, facets: &mut Vec<Facet>) -> Result<(), SchemaError>
+    ensures ok { OnOk result (behind facets.old.items (digit_values (view value.now)) ≡ Some facets.new.items) }
+    ensures cause { IfErr result (Because (λ f. NumberFault count_keys small_count f (view value.now))) }
+{
+    let digits = count_at(alloc, value, "totaldigits")?;
+    add(facets, digits.map(Facet::TotalDigits))?;
+    let fraction = count_at(alloc, value, "fractiondigits")?;
+    add(facets, fraction.map(Facet::FractionDigits))?;
+    Ok(())
+}
+
 /// The facets that are asked for.
 fn read_facets(alloc: Global, value: &Value) -> Result<Vec<Facet>, SchemaError>
     ensures ok { IfOk result (λ facets. facets_of (view value.now) ≡ Some facets.items) }
     ensures cause { IfErr result (Because (λ f. FacetFault f (view value.now))) }
 {
     let mut facets = Vec::new(alloc);
-    let length = count_at(alloc, value, "length")?;
-    add(&mut facets, length.map(Facet::Length))?;
-    let min_length = count_at(alloc, value, "minlength")?;
-    add(&mut facets, min_length.map(Facet::MinLength))?;
-    let max_length = count_at(alloc, value, "maxlength")?;
-    add(&mut facets, max_length.map(Facet::MaxLength))?;
+    add_lengths(alloc, value, &mut facets)?;
     let pattern = pattern_at(alloc, value)?;
     add(&mut facets, pattern)?;
-    let least = bound_at(alloc, value, "mininclusive")?;
-    add(&mut facets, least.map(Facet::MinInclusive))?;
-    let above = bound_at(alloc, value, "minexclusive")?;
-    add(&mut facets, above.map(Facet::MinExclusive))?;
-    let most = bound_at(alloc, value, "maxinclusive")?;
-    add(&mut facets, most.map(Facet::MaxInclusive))?;
-    let below = bound_at(alloc, value, "maxexclusive")?;
-    add(&mut facets, below.map(Facet::MaxExclusive))?;
-    let digits = count_at(alloc, value, "totaldigits")?;
-    add(&mut facets, digits.map(Facet::TotalDigits))?;
-    let fraction = count_at(alloc, value, "fractiondigits")?;
-    add(&mut facets, fraction.map(Facet::FractionDigits))?;
+    add_ranges(alloc, value, &mut facets)?;
+    add_digits(alloc, value, &mut facets)?;
     Ok(facets)
 }
 
@@ -189,6 +219,33 @@ fn make(
     }
 }
 
+/// The node constraint without its value set; only where it is labelled it may have an `id`.
+fn read_restrictions(
+    alloc: Global,
+    value: &Value,
+    labelled: bool,
+) -> Result<NodeConstraint, SchemaError>
+    requires { type_of (view value.now) ≡ Some (codes "NodeConstraint") }
+    ensures ok { IfOk result (λ c. HasRestrictions (with_id labelled constraint_keys) c (view value.now)) }
+    ensures cause { IfErr result (Because (λ f. ConstraintFault (with_id labelled constraint_keys) f (view value.now))) }
+{
+    only_own_keys(alloc, value, labelled, &CONSTRAINT_KEYS)?;
+    let kind = read_kind(alloc, value)?;
+    let datatype = text_if_any(alloc, value, "datatype")?;
+    let facets = read_facets(alloc, value)?;
+    make(alloc, kind, datatype, facets)
+}
+
+/// The value set of a node constraint, if there is one, where it has no actions.
+fn read_values(alloc: Global, value: &Value) -> Result<Option<ValueSet>, SchemaError>
+    ensures ok { IfOk result (λ s. SpellsValueSet s (get (codes "values") (view value.now))) }
+    ensures plain { OnOk result (IsPlain (view value.now)) }
+    ensures cause { IfErr result (Because (λ f. ValueSetFault f (get (codes "values") (view value.now)) ⊎ PlainFault f (view value.now))) }
+{
+    let values = read_value_set(alloc, value.get("values"))?;
+    only_plain(alloc, value).map(move |()| values)
+}
+
 /// The node constraint that the value, an object of that type, stands for; only where it is labelled it may have an `id`
 /// (ShEx 2.1, section 5.4).
 pub(crate) fn read_constraint(
@@ -200,12 +257,6 @@ pub(crate) fn read_constraint(
     ensures ok { IfOk result (λ c. IsConstraint (with_id labelled constraint_keys) c (view value.now)) }
     ensures cause { IfErr result (Because (λ f. ConstraintFault (with_id labelled constraint_keys) f (view value.now))) }
 {
-    only_own_keys(alloc, value, labelled, &CONSTRAINT_KEYS)?;
-    let kind = read_kind(alloc, value)?;
-    let datatype = text_if_any(alloc, value, "datatype")?;
-    let facets = read_facets(alloc, value)?;
-    let constraint = make(alloc, kind, datatype, facets)?;
-    let values = read_value_set(alloc, value.get("values"))?;
-    only_plain(alloc, value)?;
-    Ok(constraint.with_values(values))
+    let constraint = read_restrictions(alloc, value, labelled)?;
+    read_values(alloc, value).map(move |values| constraint.with_values(values))
 }

@@ -6,7 +6,7 @@ ghost use Rattle.serde_json.specs.View.{view};
 ghost use Rattle.schema_documents.specs.Tree.{decl_of, document_of, expr_of, maybe_expr};
 ghost use Rattle.shexj_reader.specs.DocumentFaults.{DeclarationFault, DocumentFault, HasExprFault, IsAbstract, SchemaFault, ShapeDeclFault, ShapesFault};
 ghost use Rattle.shexj_reader.specs.Documents.{IsDocument};
-ghost use Rattle.shexj_reader.specs.Within.{AreShapes, IsDeclaration, IsStart};
+ghost use Rattle.shexj_reader.specs.Within.{AreShapes, IsDeclaration, IsDeclared, IsHead, IsStart};
 ghost use Rattle.shexj_reader.specs.Faults.{Because};
 ghost use Rattle.shexj_reader.specs.Keys.{flag, type_of};
 
@@ -14,6 +14,7 @@ use crate::expressions::read_expr;
 use crate::labels::label_at;
 use crate::objects::{bad_form, flag_at, has_type, no_acts, only_keys, texts_at};
 use rdf_terms::items::Items;
+use rdf_terms::text::Text;
 use schema_documents::{Decl, Doc, DocExpr, SchemaError};
 use serde_json::Value;
 use std::alloc::Global;
@@ -32,6 +33,18 @@ fn only_concrete(alloc: Global, value: &Value) -> Result<(), SchemaError>
     Ok(())
 }
 
+/// The shape expression that a ShapeDecl declares, which is not abstract.
+fn read_declared(alloc: Global, value: &Value) -> Result<DocExpr, SchemaError>
+    ensures ok { IfOk result (λ e. IsDeclared (expr_of e) (view value.now)) }
+    ensures cause { IfErr result (Because (λ f. ShapeDeclFault f (view value.now))) }
+{
+    let Some(child) = value.get("shapeExpr") else {
+        return Err(bad_form(alloc, "shapeExpr"));
+    };
+    let expr = read_expr(alloc, child, false, MAX_NESTING)?;
+    only_concrete(alloc, value).map(move |()| expr)
+}
+
 /// The declaration that a ShapeDecl is.
 fn read_shape_decl(alloc: Global, value: &Value) -> Result<Decl, SchemaError>
     requires { type_of (view value.now) ≡ Some (codes "ShapeDecl") }
@@ -40,12 +53,7 @@ fn read_shape_decl(alloc: Global, value: &Value) -> Result<Decl, SchemaError>
 {
     only_keys(alloc, value, &["abstract", "id", "shapeExpr", "type"])?;
     let label = label_at(alloc, value)?;
-    let Some(child) = value.get("shapeExpr") else {
-        return Err(bad_form(alloc, "shapeExpr"));
-    };
-    let expr = read_expr(alloc, child, false, MAX_NESTING)?;
-    only_concrete(alloc, value)?;
-    Ok(Decl { label, expr })
+    read_declared(alloc, value).map(move |expr| Decl { label, expr })
 }
 
 /// A declaration: a ShapeDecl, or a shape expression with a label.
@@ -57,8 +65,7 @@ fn read_declaration(alloc: Global, value: &Value) -> Result<Decl, SchemaError>
         return read_shape_decl(alloc, value);
     }
     let expr = read_expr(alloc, value, true, MAX_NESTING)?;
-    let label = label_at(alloc, value)?;
-    Ok(Decl { label, expr })
+    label_at(alloc, value).map(move |label| Decl { label, expr })
 }
 
 /// The start expression, if there is one.
@@ -69,8 +76,7 @@ fn read_start(alloc: Global, value: Option<&Value>) -> Result<Option<DocExpr>, S
     let Some(value) = value else {
         return Ok(None);
     };
-    let expr = read_expr(alloc, value, false, MAX_NESTING)?;
-    Ok(Some(expr))
+    read_expr(alloc, value, false, MAX_NESTING).map(Some)
 }
 
 /// The declarations of a list, none where there is no list.
@@ -92,10 +98,10 @@ fn read_shapes(alloc: Global, value: Option<&Value>) -> Result<Vec<Decl>, Schema
     Ok(all)
 }
 
-/// A Schema.
-fn read_schema(alloc: Global, value: &Value) -> Result<Doc, SchemaError>
+/// The imports of a Schema that has no actions at its start.
+fn read_imports(alloc: Global, value: &Value) -> Result<Vec<Text>, SchemaError>
     requires { type_of (view value.now) ≡ Some (codes "Schema") }
-    ensures ok { IfOk result (λ d. IsDocument (document_of d) (view value.now)) }
+    ensures ok { IfOk result (λ v. IsHead v.items (view value.now)) }
     ensures cause { IfErr result (Because (λ f. SchemaFault f (view value.now))) }
 {
     only_keys(
@@ -111,10 +117,18 @@ fn read_schema(alloc: Global, value: &Value) -> Result<Doc, SchemaError>
         ],
     )?;
     let imports = texts_at(alloc, value, "imports")?;
-    no_acts(alloc, value, "startActs")?;
+    no_acts(alloc, value, "startActs").map(move |()| imports)
+}
+
+/// A Schema.
+fn read_schema(alloc: Global, value: &Value) -> Result<Doc, SchemaError>
+    requires { type_of (view value.now) ≡ Some (codes "Schema") }
+    ensures ok { IfOk result (λ d. IsDocument (document_of d) (view value.now)) }
+    ensures cause { IfErr result (Because (λ f. SchemaFault f (view value.now))) }
+{
+    let imports = read_imports(alloc, value)?;
     let start = read_start(alloc, value.get("start"))?;
-    let decls = read_shapes(alloc, value.get("shapes"))?;
-    Ok(Doc {
+    read_shapes(alloc, value.get("shapes")).map(move |decls| Doc {
         imports: Items::of(imports),
         start,
         decls: Items::of(decls),

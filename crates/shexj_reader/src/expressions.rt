@@ -50,19 +50,10 @@ pub(crate) fn read_expr(
         return Err(SchemaError::Deep);
     }
     match kind {
-        ExprKind::Or => {
-            let all = read_join(alloc, value, labelled, depth - 1)?;
-            Ok(DocExpr::Or(all))
-        }
-        ExprKind::And => {
-            let all = read_join(alloc, value, labelled, depth - 1)?;
-            Ok(DocExpr::And(all))
-        }
+        ExprKind::Or => read_join(alloc, value, labelled, depth - 1).map(DocExpr::Or),
+        ExprKind::And => read_join(alloc, value, labelled, depth - 1).map(DocExpr::And),
         ExprKind::Not => read_not(alloc, value, labelled, depth - 1),
-        ExprKind::Node => {
-            let constraint = read_constraint(alloc, value, labelled)?;
-            Ok(DocExpr::Node(constraint))
-        }
+        ExprKind::Node => read_constraint(alloc, value, labelled).map(DocExpr::Node),
         ExprKind::Shape => read_shape(alloc, value, labelled, depth - 1),
     }
 }
@@ -144,12 +135,13 @@ fn read_shape(
         }
         None => None,
     };
-    only_plain(alloc, value)?;
-    Ok(DocExpr::Shape(DocShape {
-        closed,
-        extra: Items::of(extra),
-        expression,
-    }))
+    only_plain(alloc, value).map(move |()| {
+        DocExpr::Shape(DocShape {
+            closed,
+            extra: Items::of(extra),
+            expression,
+        })
+    })
 }
 
 /// The triple expression that the value stands for, where `depth` objects may stand in one another. A text is an inclusion.
@@ -174,14 +166,8 @@ fn read_triple(alloc: Global, value: &Value, depth: u32) -> Result<DocTriple, Sc
         return Err(SchemaError::Deep);
     }
     match kind {
-        TripleKind::Each => {
-            let group = read_group(alloc, value, depth - 1)?;
-            Ok(each_of(group))
-        }
-        TripleKind::One => {
-            let group = read_group(alloc, value, depth - 1)?;
-            Ok(one_of(group))
-        }
+        TripleKind::Each => read_group(alloc, value, depth - 1).map(each_of),
+        TripleKind::One => read_group(alloc, value, depth - 1).map(one_of),
         TripleKind::Arc => read_arc(alloc, value, depth - 1),
     }
 }
@@ -209,8 +195,7 @@ fn read_group(alloc: Global, value: &Value, depth: u32) -> Result<Group, SchemaE
     let label = label_if_any(alloc, value)?;
     let members = read_triples(alloc, value, depth)?;
     let (min, max) = cardinality_of(alloc, value)?;
-    only_plain(alloc, value)?;
-    Ok(Group {
+    only_plain(alloc, value).map(move |()| Group {
         label,
         min,
         max,
@@ -268,8 +253,7 @@ fn read_arc(alloc: Global, value: &Value, depth: u32) -> Result<DocTriple, Schem
         None => None,
     };
     let (min, max) = cardinality_of(alloc, value)?;
-    only_plain(alloc, value)?;
-    Ok(DocTriple {
+    only_plain(alloc, value).map(move |()| DocTriple {
         label,
         min,
         max,

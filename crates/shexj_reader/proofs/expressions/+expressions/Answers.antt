@@ -4,14 +4,14 @@ use Rattle.serde_json.specs.View.{view}
 use Rattle.shexj_reader.specs.ConstraintFaults.{ConstraintFault}
 use Rattle.shexj_reader.specs.Constraints.{constraint_keys}
 use Rattle.shexj_reader.specs.ExpressionFaults.{ArcFault, CardinalityFault, ExprFault, GroupFault, JoinFault, NegationFault, ShapeFault, TripleFault, bad_constraint, bad_negation, outside, too_deep, triple_too_deep}
-use Rattle.shexj_reader.specs.Faults.{IsBad, IsUnknownKey, PlainFault, form}
+use Rattle.shexj_reader.specs.Faults.{IsBad, IsUnknownKey, form}
 use Rattle.shexj_reader.specs.Keys.{flag, members, text, texts, type_of, with_id}
 use Rattle.shexj_reader.specs.Labels.{label_if_any}
 use Rattle.shexj_reader.specs.Types.{arc_keys, expr_type, group_keys, join_keys, not_keys, shape_keys, triple_type}
 use Rattle.shexj_reader.specs.declared.kinds.ExprKind.{ExprKind}
 use Rattle.shexj_reader.specs.declared.kinds.TripleKind.{TripleKind}
-use Rattle.shexj_reader.proofs.Causes.{because, passed}
-use Rattle.shexj_reader.proofs.ExpressionCauses.{arc_passed, expr_back, expr_handed, expression_passed, group_passed, join_passed, member_passed, negated_passed, negation_passed, shape_passed, triple_back, triple_handed, triple_passed, untyped, untyped_triple, value_passed}
+use Rattle.shexj_reader.proofs.Causes.{because, made}
+use Rattle.shexj_reader.proofs.ExpressionCauses.{arc_made, arc_passed, expr_handed, expr_made, expression_passed, group_made, group_passed, join_passed, member_passed, negated_passed, negation_passed, shape_made, shape_passed, triple_handed, triple_made, triple_passed, untyped, untyped_triple, value_passed}
 use Rattle.shexj_reader.proofs.ReadParts.{exprs_more, exprs_within, triples_more, triples_within}
 use Rattle.shexj_reader.proofs.expressions.+expressions.Goals as goal
 
@@ -32,20 +32,20 @@ read_expr-returns-then-depth-eq0-clause-cause t c =
     let typed : type_of (view c.args.value.now) ≡ Some (expr_type c.in-Some-expr_kind.kind) = search rules in
     too_deep c.in-Some-expr_kind.kind (search rules) c.if-depth-eq0.true typed
 
-pub read_expr-returns-in_err-all-in-Or-clause-cause : goal.read_expr-returns-in_err-all-in-Or-clause-cause
-read_expr-returns-in_err-all-in-Or-clause-cause t c =
-    expr_back c.args.labelled c.args.depth _ c.from_residual-in_err-all-in-Or.result c.in_err-all-in-Or.field-0.0 c.from_residual-in_err-all-in-Or.ensures.1 c.if-depth-eq0.false c.in_err-all-in-Or.ensures.cause
+pub read_expr-returns-in-Or-clause-cause : goal.read_expr-returns-in-Or-clause-cause
+read_expr-returns-in-Or-clause-cause t c =
+    expr_made c.args.labelled c.args.depth _ _ c.read_join.result c.map.result c.map.ensures.cases c.if-depth-eq0.false c.read_join.ensures.cause
 
-pub read_expr-returns-in_err-all-in-And-clause-cause : goal.read_expr-returns-in_err-all-in-And-clause-cause
-read_expr-returns-in_err-all-in-And-clause-cause t c =
-    expr_back c.args.labelled c.args.depth _ c.from_residual-in_err-all-in-And.result c.in_err-all-in-And.field-0.0 c.from_residual-in_err-all-in-And.ensures.1 c.if-depth-eq0.false c.in_err-all-in-And.ensures.cause
+pub read_expr-returns-in-And-clause-cause : goal.read_expr-returns-in-And-clause-cause
+read_expr-returns-in-And-clause-cause t c =
+    expr_made c.args.labelled c.args.depth _ _ c.read_join-in-And.result c.map-in-And.result c.map-in-And.ensures.cases c.if-depth-eq0.false c.read_join-in-And.ensures.cause
 
-pub read_expr-returns-in_err-constraint-in-Node-clause-cause : goal.read_expr-returns-in_err-constraint-in-Node-clause-cause
-read_expr-returns-in_err-constraint-in-Node-clause-cause t c =
+pub read_expr-returns-in-Node-clause-cause : goal.read_expr-returns-in-Node-clause-cause
+read_expr-returns-in-Node-clause-cause t c =
     let d = view c.args.value.now in
     let typed : type_of d ≡ Some (codes "NodeConstraint") = search rules in
-    passed (λ f. ConstraintFault (with_id c.args.labelled constraint_keys) f d) (λ f. ExprFault f c.args.labelled c.args.depth d) c.from_residual-in_err-constraint-in-Node.result c.in_err-constraint-in-Node.field-0.0 c.from_residual-in_err-constraint-in-Node.ensures.1
-    (λ f h. bad_constraint typed h) c.in_err-constraint-in-Node.ensures.cause
+    made (λ f. ConstraintFault (with_id c.args.labelled constraint_keys) f d) (λ f. ExprFault f c.args.labelled c.args.depth d) _ c.read_constraint.result c.map-in-Node.result c.map-in-Node.ensures.cases
+    (λ f h. bad_constraint typed h) c.read_constraint.ensures.cause
 
 pub read_expr-returns-in-Not-clause-cause : goal.read_expr-returns-in-Not-clause-cause
 read_expr-returns-in-Not-clause-cause t c =
@@ -107,10 +107,9 @@ read_shape-returns-in_err-extra-clause-cause t c =
     let d = view c.args.value.now in
     shape_passed (λ f. IsBad (codes "extra") texts f d) c.args.labelled (c.args.depth + 1) d c.from_residual-in_err-extra.result c.in_err-extra.field-0.0 c.from_residual-in_err-extra.ensures.1 c.requires (λ f h. ShapeFault.bad_extra h) c.in_err-extra.ensures.cause
 
-pub read_shape-returns-in_err-only_plain-clause-cause : goal.read_shape-returns-in_err-only_plain-clause-cause
-read_shape-returns-in_err-only_plain-clause-cause t c =
-    let d = view c.args.value.now in
-    shape_passed (λ f. PlainFault f d) c.args.labelled (c.args.depth + 1) d c.from_residual-in_err-only_plain.result c.in_err-only_plain.field-0.0 c.from_residual-in_err-only_plain.ensures.1 c.requires (λ f h. ShapeFault.not_plain h) c.in_err-only_plain.ensures.cause
+pub read_shape-returns-clause-cause : goal.read_shape-returns-clause-cause
+read_shape-returns-clause-cause t c =
+    shape_made c.args.labelled (c.args.depth + 1) _ _ c.only_plain.result c.map.result c.map.ensures.cases c.requires c.only_plain.ensures.cause
 
 pub read_shape-returns-in_err-inner-in-Some-clause-cause : goal.read_shape-returns-in_err-inner-in-Some-clause-cause
 read_shape-returns-in_err-inner-in-Some-clause-cause t c =
@@ -128,13 +127,13 @@ read_triple-returns-then-depth-eq0-clause-cause t c =
     let typed : type_of (view c.args.value.now) ≡ Some (triple_type c.in-Some-triple_kind.kind) = search rules in
     triple_too_deep c.in-Some-triple_kind.kind (search rules) c.if-depth-eq0.true typed
 
-pub read_triple-returns-in_err-group-in-Each-clause-cause : goal.read_triple-returns-in_err-group-in-Each-clause-cause
-read_triple-returns-in_err-group-in-Each-clause-cause t c =
-    triple_back c.args.depth _ c.from_residual-in_err-group-in-Each.result c.in_err-group-in-Each.field-0.0 c.from_residual-in_err-group-in-Each.ensures.1 c.if-depth-eq0.false c.in_err-group-in-Each.ensures.cause
+pub read_triple-returns-in-Each-clause-cause : goal.read_triple-returns-in-Each-clause-cause
+read_triple-returns-in-Each-clause-cause t c =
+    triple_made c.args.depth _ _ c.read_group.result c.map.result c.map.ensures.cases c.if-depth-eq0.false c.read_group.ensures.cause
 
-pub read_triple-returns-in_err-group-in-One-clause-cause : goal.read_triple-returns-in_err-group-in-One-clause-cause
-read_triple-returns-in_err-group-in-One-clause-cause t c =
-    triple_back c.args.depth _ c.from_residual-in_err-group-in-One.result c.in_err-group-in-One.field-0.0 c.from_residual-in_err-group-in-One.ensures.1 c.if-depth-eq0.false c.in_err-group-in-One.ensures.cause
+pub read_triple-returns-in-One-clause-cause : goal.read_triple-returns-in-One-clause-cause
+read_triple-returns-in-One-clause-cause t c =
+    triple_made c.args.depth _ _ c.read_group-in-One.result c.map-in-One.result c.map-in-One.ensures.cases c.if-depth-eq0.false c.read_group-in-One.ensures.cause
 
 pub read_triple-returns-in-Arc-clause-cause : goal.read_triple-returns-in-Arc-clause-cause
 read_triple-returns-in-Arc-clause-cause t c =
@@ -155,10 +154,9 @@ read_group-returns-in_err-min-clause-cause t c =
     let d = view c.args.value.now in
     group_passed (λ f. CardinalityFault f d) (c.args.depth + 1) d c.from_residual-in_err-min.result c.in_err-min.field-0.0 c.from_residual-in_err-min.ensures.1 c.requires (λ f h. GroupFault.bad_count h) c.in_err-min.ensures.cause
 
-pub read_group-returns-in_err-only_plain-clause-cause : goal.read_group-returns-in_err-only_plain-clause-cause
-read_group-returns-in_err-only_plain-clause-cause t c =
-    let d = view c.args.value.now in
-    group_passed (λ f. PlainFault f d) (c.args.depth + 1) d c.from_residual-in_err-only_plain.result c.in_err-only_plain.field-0.0 c.from_residual-in_err-only_plain.ensures.1 c.requires (λ f h. GroupFault.not_plain h) c.in_err-only_plain.ensures.cause
+pub read_group-returns-clause-cause : goal.read_group-returns-clause-cause
+read_group-returns-clause-cause t c =
+    group_made (c.args.depth + 1) _ _ c.only_plain.result c.map.result c.map.ensures.cases c.requires c.only_plain.ensures.cause
 
 pub read_triples-returns-in_err-items-clause-cause : goal.read_triples-returns-in_err-items-clause-cause
 read_triples-returns-in_err-items-clause-cause t c =
@@ -202,10 +200,9 @@ read_arc-returns-in_err-min-clause-cause t c =
     let d = view c.args.value.now in
     arc_passed (λ f. CardinalityFault f d) (c.args.depth + 1) d c.from_residual-in_err-min.result c.in_err-min.field-0.0 c.from_residual-in_err-min.ensures.1 c.requires (λ f h. ArcFault.bad_count h) c.in_err-min.ensures.cause
 
-pub read_arc-returns-in_err-only_plain-clause-cause : goal.read_arc-returns-in_err-only_plain-clause-cause
-read_arc-returns-in_err-only_plain-clause-cause t c =
-    let d = view c.args.value.now in
-    arc_passed (λ f. PlainFault f d) (c.args.depth + 1) d c.from_residual-in_err-only_plain.result c.in_err-only_plain.field-0.0 c.from_residual-in_err-only_plain.ensures.1 c.requires (λ f h. ArcFault.not_plain h) c.in_err-only_plain.ensures.cause
+pub read_arc-returns-clause-cause : goal.read_arc-returns-clause-cause
+read_arc-returns-clause-cause t c =
+    arc_made (c.args.depth + 1) _ _ c.only_plain.result c.map.result c.map.ensures.cases c.requires c.only_plain.ensures.cause
 
 pub read_arc-returns-in_err-inner-in-Some-clause-cause : goal.read_arc-returns-in_err-inner-in-Some-clause-cause
 read_arc-returns-in_err-inner-in-Some-clause-cause t c =
