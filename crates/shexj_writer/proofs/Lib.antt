@@ -1,4 +1,5 @@
 mod CompactBack
+mod ConstraintParts
 mod Digits
 mod Exact
 mod ExpressionsBack

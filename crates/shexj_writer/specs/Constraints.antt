@@ -1,10 +1,12 @@
 -- Node constraints as JSON (ShEx 2.1, appendix A, and section 5.4).
-use Rattle.std.specs.Prelude.{ℕ, List, [], ◌∷◌, Option, Some, None, codes, encode_utf8_all, find, option_map, option_and_then}
+use Rattle.std.specs.Prelude.{ℕ, List, [], ◌∷◌, Option, Some, None, codes, encode_utf8_all, find, map, option_map, option_and_then}
 use Rattle.std.specs.Str.{bytes_eq}
 use Rattle.serde_json.specs.Data.{Data, Num, null, number, string, unsigned}
 use Rattle.node_constraint.specs.Constraint.{Constraint}
+use Rattle.node_constraint.specs.declared.Kind4.{Kind4}
 use Rattle.node_constraint.specs.declared.facet.Facet.{Facet}
 use Rattle.node_constraint.specs.declared.facet.Facet.TheVariants as Facets
+use Rattle.value_sets.specs.Values.{ValueList}
 use Rattle.shexj_reader.specs.Constraints.{kind_word}
 use Rattle.shexj_writer.specs.Numbers.{whole_number}
 use Rattle.shexj_writer.specs.Objects.{Field, object_of}
@@ -86,3 +88,21 @@ constraint_fields id c =
 
 unfoldable pub constraint_data : Option Data → Constraint → Data
 constraint_data id c = object_of (constraint_fields id c)
+
+-- the last of these fields
+abbrev pub last_fields : Option Kind4 → List Facet → Option ValueList → List Field
+last_fields kind facets values =
+    (codes "nodeKind", option_map (λ kind. string (kind_word kind)) kind) ∷
+    (codes "pattern", under (codes "pattern") facets) ∷
+    (codes "totaldigits", under (codes "totaldigits") facets) ∷
+    (codes "type", Some (string (codes "NodeConstraint"))) ∷
+    (codes "values", option_map value_set_data values) ∷ []
+
+-- those before them that bound the length and the value
+abbrev pub bound_keys : List (List ℕ)
+bound_keys =
+    codes "length" ∷ codes "maxexclusive" ∷ codes "maxinclusive" ∷ codes "maxlength" ∷ codes "minexclusive" ∷
+    codes "mininclusive" ∷ codes "minlength" ∷ []
+
+abbrev pub bound_fields : List Facet → List Field
+bound_fields facets = map (λ key. (key, under key facets)) bound_keys

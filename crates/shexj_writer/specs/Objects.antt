@@ -16,6 +16,11 @@ abbrev pub members : List Field → Members
 members [] = no_members
 members (f ∷ fs) = put_if f.0 f.1 (members fs)
 
+-- members, and the values of these fields among them
+abbrev pub put_all : List Field → Members → Members
+put_all [] ms = ms
+put_all (f ∷ fs) ms = put_if f.0 f.1 (put_all fs ms)
+
 -- the object of these fields
 abbrev pub object_of : List Field → Data
 object_of fs = object (members fs)

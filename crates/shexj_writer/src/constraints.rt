@@ -1,15 +1,16 @@
 //! Node constraints (ShEx 2.1, appendix A, and section 5.4).
 
 ghost use Rattle.std.specs.Prelude.{◌≡◌, IfOk, IfSome, OnOk, codes, option_and_then, option_map};
+ghost use Rattle.std.specs.List.{AllByRecursion};
 ghost use Rattle.std.specs.Option.{option_copied};
 ghost use Rattle.std.specs.Str.{chars};
 ghost use Rattle.serde_json.specs.Data.{string};
 ghost use Rattle.serde_json.specs.View.{view};
 ghost use Rattle.shexj_reader.specs.Constraints.{kind_word};
-ghost use Rattle.shexj_writer.specs.Constraints.{bound_number, constraint_data, facet_data, facet_key, facet_under, flags_data, under};
+ghost use Rattle.shexj_writer.specs.Constraints.{bound_fields, bound_keys, bound_number, constraint_data, facet_data, facet_key, facet_under, flags_data, last_fields, under};
 ghost use Rattle.shexj_writer.specs.Built.{members_of};
 ghost use Rattle.shexj_writer.specs.Held.{AreHeldValuesIfAny, HasTextFlags, IsHeldConstraint, IsHeldFacet, IsHeldUnder, IsTextIfAny};
-ghost use Rattle.shexj_writer.specs.Objects.{put_if};
+ghost use Rattle.shexj_writer.specs.Objects.{put_all, put_if};
 ghost use Rattle.shexj_writer.specs.Texts.{text_data};
 ghost use Rattle.shexj_writer.specs.Values.{value_set_data};
 
@@ -158,6 +159,42 @@ fn put_values(
     }
 }
 
+/// Puts what stands under the keys from `nodeKind` on.
+fn put_last_keys(
+    alloc: Global,
+    object: &mut Object,
+    kind: Option<Kind4>,
+    facets: &[Facet],
+    values: Option<&ValueSet>,
+) -> Result<(), AllocError>
+    ensures put { OnOk result (members_of object.new ≡ put_all (last_fields kind facets.now (option_copied values.entry)) (members_of object.old)) }
+    ensures values { OnOk result (AreHeldValuesIfAny (option_copied values.entry)) }
+    ensures digits { OnOk result (IsHeldUnder facets.now (codes "totaldigits")) }
+    ensures pattern { OnOk result (IsHeldUnder facets.now (codes "pattern")) }
+{
+    put_values(alloc, object, values)?;
+    object.put_word("type", "NodeConstraint")?;
+    put_facet(alloc, object, "totaldigits", facets)?;
+    put_facet(alloc, object, "pattern", facets)?;
+    put_kind(object, kind)?;
+    Ok(())
+}
+
+/// Puts the bounds of the length and of the value: what stands under the keys from `length` to `minlength`.
+fn put_bounds(alloc: Global, object: &mut Object, facets: &[Facet]) -> Result<(), AllocError>
+    ensures put { OnOk result (members_of object.new ≡ put_all (bound_fields facets.now) (members_of object.old)) }
+    ensures held { OnOk result (AllByRecursion (IsHeldUnder facets.now) bound_keys) }
+{
+    put_facet(alloc, object, "minlength", facets)?;
+    put_facet(alloc, object, "mininclusive", facets)?;
+    put_facet(alloc, object, "minexclusive", facets)?;
+    put_facet(alloc, object, "maxlength", facets)?;
+    put_facet(alloc, object, "maxinclusive", facets)?;
+    put_facet(alloc, object, "maxexclusive", facets)?;
+    put_facet(alloc, object, "length", facets)?;
+    Ok(())
+}
+
 /// A node constraint, with its label under `id` where it is declared.
 #[tactic(auto, unfolding(crate::specs::Constraints::constraint_data))]
 pub(crate) fn constraint_value(
@@ -170,18 +207,14 @@ pub(crate) fn constraint_value(
 {
     let facets = constraint.facets();
     let mut object = Object::new(alloc);
-    put_values(alloc, &mut object, constraint.values())?;
-    object.put_word("type", "NodeConstraint")?;
-    put_facet(alloc, &mut object, "totaldigits", facets)?;
-    put_facet(alloc, &mut object, "pattern", facets)?;
-    put_kind(&mut object, constraint.kind())?;
-    put_facet(alloc, &mut object, "minlength", facets)?;
-    put_facet(alloc, &mut object, "mininclusive", facets)?;
-    put_facet(alloc, &mut object, "minexclusive", facets)?;
-    put_facet(alloc, &mut object, "maxlength", facets)?;
-    put_facet(alloc, &mut object, "maxinclusive", facets)?;
-    put_facet(alloc, &mut object, "maxexclusive", facets)?;
-    put_facet(alloc, &mut object, "length", facets)?;
+    put_last_keys(
+        alloc,
+        &mut object,
+        constraint.kind(),
+        facets,
+        constraint.values(),
+    )?;
+    put_bounds(alloc, &mut object, facets)?;
     object.put_if("id", id)?;
     put_facet(alloc, &mut object, "fractiondigits", facets)?;
     object.put_text_if("flags", flags_of(facet_under(facets, "pattern")))?;
