@@ -1,8 +1,8 @@
 -- The outcome of a pair, from that of its relevant triples.
-use Rattle.std.proofs.Common.{◌≡◌, ℕ, List, length, ◌<◌, ◌≤◌, ◌^◌, arith, ap, sym, subst, ◌∙◌, refl, get_or, Bool, true, false, true≢false}
-use Rattle.std.proofs.lemmas.Bool.{ltb-true}
+use Rattle.std.proofs.Common.{◌≡◌, ℕ, List, length, ◌<◌, ◌≤◌, ◌^◌, arith, ap, sym, subst, ◌∙◌, refl, get_or, [], Bool, true, false, true≢false}
+use Rattle.std.proofs.lemmas.Bool.{ltb-false, ltb-true}
 use Rattle.std.proofs.Math.Dec.{ltb}
-use Rattle.std.proofs.lemmas.Option.{slice_get_read}
+use Rattle.std.proofs.lemmas.Option.{slice_get_past, slice_get_read}
 use Rattle.graph_index.specs.Contents.{max_triples}
 use Rattle.schema_tree.specs.Entries.{shape_at}
 use Rattle.schema_tree.specs.declared.schema.ShapeId.{ShapeId}
@@ -14,6 +14,7 @@ use Rattle.rdf_terms.specs.declared.terms.Triple.{Triple}
 use Rattle.schema_tree.specs.declared.schema.Schema.{Schema}
 use Rattle.schema_tree.specs.declared.schema.Shape.{Shape}
 use Rattle.schema_tree.specs.declared.verdicts.Lean.{Lean}
+use Rattle.schema_tree.specs.declared.verdicts.State.{State}
 use Rattle.schema_tree.specs.Places.{CanMatch, IsShut, MayFail, MayHold}
 use Rattle.schema_tree.specs.Relevant.{relevant_in_order}
 use Rattle.schema_tree.specs.Width.{HasWidth, width_of}
@@ -40,6 +41,21 @@ module _ (s : Schema) (terms : List Term) (g : List Triple) (view : Known) (lean
       go (Placed ps) h = (open_to, h)
       go (Never states) h = listed (MayHold s terms view lean) (MayFail s terms view lean) sh n ts states h.0 h.1 g open_to
 
+  -- nothing is listed where there is no such Shape
+  pub missing_of : (shape : Option Shape) (states : List State) → shape ≡ None → states ≡ [] → IsOutcomeOf s terms g view lean n shape (Never states)
+  missing_of shape states none empty = subst (λ o. IsOutcomeOf s terms g view lean n o (Never states)) (sym none) empty
+
+  -- nor where the pair is shut
+  pub shut_of : (shape : Option Shape) (sh : Shape) (states : List State) → shape ≡ Some sh → IsShut g sh n → states ≡ [] → IsOutcomeOf s terms g view lean n shape (Never states)
+  shut_of shape sh states is shut empty = subst (λ o. IsOutcomeOf s terms g view lean n o (Never states)) (sym is) (record {
+    refused = λ places. places.open_to shut;
+    shut = λ h. empty;
+    reached = λ open_to. absurd (open_to shut);
+    closed = λ open_to. absurd (open_to shut);
+    counted = λ open_to. absurd (open_to shut);
+    opened = λ open_to. absurd (open_to shut);
+  })
+
   -- places are given exactly where the pair can match
   pub placed_can : (shape : Option Shape) (r : Outcome) → IsOutcomeOf s terms g view lean n shape r → IsPlaced r ↔ CanMatch s terms g view lean n shape
   placed_can None (Placed ps) h = absurd h
@@ -59,6 +75,9 @@ is_open g sh n b told not_so shut = true≢false (sym (told.1 shut) ∙ not_so)
 pub shape_read : (s : Schema) (i : ShapeId) (shapes : List Shape) (sh : Shape) → shapes ≡ s.shapes → true ≡ ltb i.0 (length shapes) → sh ≡ get_or shapes i.0 sh → shape_at s i ≡ Some sh
 shape_read s i shapes sh same within at =
     ap (λ l. slice_get l i.0) (sym same) ∙ slice_get_read shapes (length shapes) i.0 sh refl (ltb-true i.0 (length shapes) (sym within)) at
+
+pub shape_missing : (s : Schema) (i : ShapeId) (shapes : List Shape) → shapes ≡ s.shapes → false ≡ ltb i.0 (length shapes) → shape_at s i ≡ None
+shape_missing s i shapes same past = ap (λ l. slice_get l i.0) (sym same) ∙ slice_get_past shapes i.0 (ltb-false i.0 (length shapes) (sym past))
 
 pub few_relevant : (terms : List Term) (g : List Triple) (sh : Shape) (n : TermId) (ts : List Triple) (held : ℕ) → ts ≡ relevant_in_order terms g sh n → held ≡ length g → held ≤ max_triples → length ts < 2 ^ 31
 few_relevant terms g sh n ts held is count few =

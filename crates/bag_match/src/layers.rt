@@ -1,6 +1,6 @@
 //! The states of a match, layer by layer.
 
-ghost use Rattle.std.specs.Prelude.{◌≡◌, ◌↔◌, ◌<◌, ◌≤◌, ◌+◌, ◌*◌, ◌^◌, ℕ, List, Contains, IfOk, Some, drop, length, slice_get};
+ghost use Rattle.std.specs.Prelude.{◌≡◌, ◌↔◌, ◌<◌, ◌≤◌, ◌+◌, ◌*◌, ◌^◌, ℕ, List, Contains, IfOk, OnOk, Some, drop, length, slice_get};
 ghost use Rattle.std.specs.List.{flat_map};
 ghost use Rattle.rdf_terms.specs.declared.terms.TermId.{TermId};
 ghost use Rattle.rdf_terms.specs.declared.terms.Triple.{Triple};
@@ -157,6 +157,35 @@ impl<J: Judge> Question<'_, J> {
         Ok(lists)
     }
 
+    /// Puts the layer that allowed places for the next triple reach behind those that are there, where the numbers say how
+    /// many of the triples after it each occurrence fits.
+    fn add_next<L: Ledger>(
+        &self,
+        alloc: Global,
+        offered: &[Items<Place>],
+        done: usize,
+        left: &[u32],
+        layers: &mut Vec<Items<State>>,
+        steps: &mut Steps<L>,
+    ) -> Result<(), AllocError>
+        requires offered { AreOffered (J.hold self.now.judge.now) (J.fail self.now.judge.now) self.now.shape.now self.now.node self.now.triples.now (length self.now.triples.now) offered.now }
+        requires body { BodyOk self.now.shape.now.occs self.now.shape.now.body }
+        requires few { length self.now.triples.now < 2 ^ 31 }
+        requires few_occurrences { length self.now.shape.now.occs ≤ 256 }
+        requires within { done < length self.now.triples.now }
+        requires layers { AreLayers (J.hold self.now.judge.now) (J.fail self.now.judge.now) self.now.shape.now self.now.node self.now.triples.now done layers.old.items }
+        requires left { AreLeft self.now.shape.now.occs self.now.node (drop (done + 1) self.now.triples.now) left.now }
+        ensures layers { OnOk result (AreLayers (J.hold self.now.judge.now) (J.fail self.now.judge.now) self.now.shape.now self.now.node self.now.triples.now (done + 1) layers.new.items) }
+        ensures least { OnOk result (steps.old + length (flat_map (λ xs. xs) layers.new.items) ≤ steps.new + length (flat_map (λ xs. xs) layers.old.items)) }
+        ensures most { (bound : ℕ) → IsBound (J.hold self.now.judge.now) (J.fail self.now.judge.now) self.now.shape.now self.now.node self.now.triples.now bound → steps.new ≤ steps.old + bound }
+    {
+        let layer = layer_at(layers.as_slice(), done);
+        let places = places_at(offered, done);
+        let next = self.next(alloc, done, layer, places, left, steps)?;
+        layers.push(Items::of(next))?;
+        Ok(())
+    }
+
     /// The layers, one for each number of triples done, where the lists are the places that are allowed for each triple.
     pub fn layers<L: Ledger>(
         &self,
@@ -179,10 +208,7 @@ impl<J: Judge> Question<'_, J> {
         layers.push(Items::of(first))?;
         for done in 0..self.triples.len() {
             pass_next(&mut left, occs, self.node, self.triples, done);
-            let layer = layer_at(layers.as_slice(), done);
-            let places = places_at(offered, done);
-            let next = self.next(alloc, done, layer, places, left.as_slice(), steps)?;
-            layers.push(Items::of(next))?;
+            self.add_next(alloc, offered, done, left.as_slice(), &mut layers, steps)?;
         }
         Ok(layers)
     }
