@@ -29,15 +29,15 @@ push_gone P (o ∷ os) x all one (suc r) y at = push_gone (λ ps z. P (o.pair �
 -- the pair that goes has the states of this moment
 pub one_more_gone :
     (h : Ground) (elsewhere lower : Known) (k : ℕ) (marks : List Verdict) (gone new : List Removed) (Todo : ℕ → Type 0) (x : Removed) (o : Outcome) →
-    IsRemoving h elsewhere lower k marks (pairs_gone gone) Todo → HaveStates h lower gone →
-    ((p : Pair) → slice_get h.table.now x.at ≡ Some p → IsOutcome h.schema.now h.terms.now h.graph.now.triples (known_of h elsewhere marks) Possible p o) →
-    slice_get h.table.now x.at ≡ Some x.pair → (states : List State) → o ≡ Never states → ((h.wanted ≡ Wanteds.Records) → x.states ≡ states) → x.rank ≡ suc (length gone) → new ≡ gone ++ x ∷ [] → HaveStates h lower new
-one_more_gone h elsewhere lower k marks gone new Todo x o removing all outcome at states never held rank is =
+    IsRemoving h elsewhere lower k marks (pairs_gone gone) Todo → HaveStates h lower gone → (at : ℕ) → x.at ≡ at →
+    ((p : Pair) → slice_get h.table.now at ≡ Some p → IsOutcome h.schema.now h.terms.now h.graph.now.triples (known_of h elsewhere marks) Possible p o) →
+    slice_get h.table.now at ≡ Some x.pair → (states : List State) → o ≡ Never states → ((h.wanted ≡ Wanteds.Records) → x.states ≡ states) → x.rank ≡ suc (length gone) → new ≡ gone ++ x ∷ [] → HaveStates h lower new
+one_more_gone h elsewhere lower k marks gone new Todo x o removing all at there outcome here states never held rank is =
     subst (HaveStates h lower) (sym is) (push_gone (λ ps y. HasStates h lower ps y) gone x all (
       rank ∙ ap suc (sym (length-map gone (λ y. y.pair))),
-      at,
+      subst (λ i. slice_get h.table.now i ≡ Some x.pair) (sym there) here,
       (λ wanted. subst (λ z. AreStatesFor h.schema.now h.terms.now h.graph.now.triples (known_without lower (pairs_gone gone)) x.pair.node (shape_at h.schema.now x.pair.shape) z) (sym (held wanted)) (states_same h.schema.now h.terms.now h.graph.now.triples (known_of h elsewhere marks) (known_without lower (pairs_gone gone)) x.pair states removing.knows
-          (subst (λ z. IsOutcome h.schema.now h.terms.now h.graph.now.triples (known_of h elsewhere marks) Possible x.pair z) never (outcome x.pair at)))),
+          (subst (λ z. IsOutcome h.schema.now h.terms.now h.graph.now.triples (known_of h elsewhere marks) Possible x.pair z) never (outcome x.pair here)))),
     ))
 
 -- none went yet

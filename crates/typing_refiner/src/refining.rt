@@ -88,6 +88,66 @@ fn refine_in<K: View, L: Ledger>(
     ground.refine_shown(alloc, kept, steps)
 }
 
+/// For each pair of the table the numbers of those that need it.
+fn needing_in(
+    alloc: Global,
+    schema: &Schema,
+    graph: &Graph,
+    terms: &TermTable,
+    table: &PairTable,
+) -> Result<Vec<Vec<u32>>, AllocError>
+    requires loaded { IsLoaded schema.now }
+    requires sealed { IsSealedWith terms.now graph.now }
+    ensures { IfOk result (λ v. AreNeeds schema.now graph.now.triples table.now (map (λ l. l.items) v.items)) }
+{
+    let links = links(alloc, schema)?;
+    needing(alloc, schema, graph, terms, links.as_slice(), table)
+}
+
+/// The verdicts on the pairs of a table, where it is told which of them are within the budget, and records of them where
+/// these are wanted.
+fn refine_told<K: View, L: Ledger>(
+    alloc: Global,
+    schema: &Schema,
+    graph: &Graph,
+    terms: &TermTable,
+    strata: &[u32],
+    table: &PairTable,
+    narrow: &[bool],
+    kept: &K,
+    budget: u64,
+    wanted: Wanted,
+    steps: &mut Steps<L>,
+) -> Result<Verdicts, AllocError>
+    requires loaded { IsLoaded schema.now }
+    requires sealed { IsSealedWith terms.now graph.now }
+    requires sorted { IsStrictlySortedBy (compare_pairs terms.now) table.now }
+    requires budget { budget < 2 ^ 64 - 1 }
+    requires narrow { (width : Held → ℕ) → AreWidths schema.now terms.now graph.now.triples width → narrow.now ≡ map (is_within width budget) table.now }
+    ensures refined { IfOk result (λ v. IsRefinedOn schema.now terms.now graph.now.triples strata.now table.now budget (K.known kept.now) (known_by (K.known kept.now) table.now v.marks.items)) }
+    ensures shown { (wanted ≡ Wanteds.Records) → HoldNeeds schema.now graph.now.triples table.now → IfOk result (λ v. AreShownBy schema.now terms.now graph.now.triples strata.now table.now budget (verdicts_of table.now v.marks.items) v.records.nodes.items v.records.sections.items) }
+    ensures unrecorded { (wanted ≡ Wanteds.Verdicts) →
+        IfOk result (λ v. (v.records.nodes.items ≡ []) × (v.records.sections.items ≡ [])) }
+    ensures bounded { (width count : Held → ℕ) → AreWidths schema.now terms.now graph.now.triples width → CountNeeds schema.now graph.now.triples table.now count →
+        steps.new ≤ steps.old + most_of schema.now terms.now graph.now.triples budget width count table.now }
+{
+    let needing = needing_in(alloc, schema, graph, terms, table)?;
+    refine_in(
+        alloc,
+        schema,
+        graph,
+        terms,
+        strata,
+        table,
+        narrow,
+        needing.as_slice(),
+        kept,
+        budget,
+        wanted,
+        steps,
+    )
+}
+
 /// Refines pairs over what is kept of others.
 fn refine_over<K: View, L: Ledger>(
     alloc: Global,
@@ -117,9 +177,7 @@ fn refine_over<K: View, L: Ledger>(
 {
     let told = tell_widths(alloc, schema, graph, terms, pairs, budget)?;
     let table = table_of(alloc, pairs)?;
-    let all_links = links(alloc, schema)?;
-    let needing = needing(alloc, schema, graph, terms, all_links.as_slice(), &table)?;
-    let found = refine_in(
+    let found = refine_told(
         alloc,
         schema,
         graph,
@@ -127,7 +185,6 @@ fn refine_over<K: View, L: Ledger>(
         strata,
         &table,
         told.narrow.as_slice(),
-        needing.as_slice(),
         kept,
         budget,
         wanted,

@@ -71,6 +71,23 @@ impl Ground<'_> {
         }
     }
 
+    /// The pair of a number, which goes next after these, and the states that showed that it cannot match.
+    fn removed(&self, alloc: Global, at: u32, gone: &[Removed], states: Items<State>) -> Removed
+        requires there { at < length self.now.table.now }
+        requires few { length gone.now < 4294967295 }
+        ensures at { result.at ≡ at }
+        ensures pair { slice_get self.now.table.now at ≡ Some result.pair }
+        ensures rank { result.rank ≡ length gone.now + 1 }
+        ensures states { (self.now.wanted ≡ Wanteds.Records) → result.states ≡ states }
+    {
+        Removed {
+            at,
+            pair: self.pair_of(at),
+            rank: next_rank(gone),
+            states: self.kept(alloc, states),
+        }
+    }
+
     /// Looks at the pair of a number, the least of those that are to be looked at: where it cannot match, it goes.
     fn remove_next<K: View, L: Ledger>(
         &self,
@@ -105,15 +122,8 @@ impl Ground<'_> {
         match self.look(alloc, kept, marks, Lean::Possible, at, steps)? {
             Outcome::Placed(_) => Ok(()),
             Outcome::Never(states) => {
-                let pair = self.pair_of(at);
-                let states = self.kept(alloc, states);
-                let rank = next_rank(gone.as_slice());
-                gone.push(Removed {
-                    at,
-                    pair,
-                    rank,
-                    states,
-                })?;
+                let removed = self.removed(alloc, at, gone.as_slice(), states);
+                gone.push(removed)?;
                 set_mark(marks, at, Verdict::No);
                 self.put_back(stratum, at, marks, Verdict::Unknown, agenda)?;
                 let _count = agenda.len();

@@ -151,6 +151,36 @@ impl Ground<'_> {
         Ok(gone)
     }
 
+    /// Refines the strata, from the lowest on, and gives for each the pairs that went; the lists are the numbers of the open
+    /// pairs of each stratum, and at first no pair has a verdict.
+    fn refine_each<K: View, L: Ledger>(
+        &self,
+        alloc: Global,
+        kept: &K,
+        members: &[Vec<u32>],
+        marks: &mut [Verdict],
+        steps: &mut Steps<L>,
+    ) -> Result<Vec<Vec<Removed>>, AllocError>
+        requires ready { IsReady self.now }
+        requires each { length members.now ≡ suc (top_of self.now.strata.now) }
+        requires few { length members.now ≤ 4294967296 }
+        requires members { (k i : ℕ) → HasAt (map (λ l. l.items) members.now) k i ↔ IsOpen self.now k i }
+        requires marked { length marks.old ≡ length self.now.table.now }
+        requires unknown { (i : ℕ) → i < length marks.old → slice_get marks.old i ≡ Some Unknown }
+        ensures spent { (width : Held → ℕ) → GiveWidths self.now width → steps.new ≤ steps.old + total (λ k. 2 * phase_ticks self.now width k) (suc (top_of self.now.strata.now)) }
+        ensures refined { IfOk result (λ all. IsRefinedOver self.now (K.known kept.now) (known_of self.now (K.known kept.now) marks.old) (suc (top_of self.now.strata.now)) marks.new) }
+        ensures shown { IfOk result (λ all. IsShownOver self.now (K.known kept.now) (known_of self.now (K.known kept.now) marks.old) (suc (top_of self.now.strata.now)) marks.new (map (λ v. v.items) all.items)) }
+    {
+        let mut all = Vec::new(alloc);
+        let count = members.len();
+        for stratum in 0..count {
+            let members = list_at(members, stratum);
+            let gone = self.refine_stratum(alloc, kept, stratum as u32, members, marks, steps)?;
+            all.push(gone)?;
+        }
+        Ok(all)
+    }
+
     /// Refines all strata, and gives for each the pairs that went; at first no pair has a verdict.
     pub fn refine_strata<K: View, L: Ledger>(
         &self,
@@ -166,15 +196,9 @@ impl Ground<'_> {
         ensures refined { IfOk result (λ all. IsRefinedOver self.now (K.known kept.now) (known_of self.now (K.known kept.now) marks.old) (suc (top_of self.now.strata.now)) marks.new) }
         ensures shown { IfOk result (λ all. IsShownOver self.now (K.known kept.now) (known_of self.now (K.known kept.now) marks.old) (suc (top_of self.now.strata.now)) marks.new (map (λ v. v.items) all.items)) }
     {
-        let mut all = Vec::new(alloc);
         let count = u64::from(top(self.strata)) + 1;
         let members = self.members(alloc, count as usize)?;
-        for stratum in 0..count {
-            let members = list_at(members.as_slice(), stratum as usize);
-            let gone = self.refine_stratum(alloc, kept, stratum as u32, members, marks, steps)?;
-            all.push(gone)?;
-        }
-        Ok(all)
+        self.refine_each(alloc, kept, members.as_slice(), marks, steps)
     }
 
     /// The pairs that are Yes, with their least places.

@@ -15,14 +15,14 @@ returns-clause-refined g c =
 pub returns-clause-bounded : goal.returns-clause-bounded
 returns-clause-bounded g c = λ width count widths counts.
     subst (λ ps. CountNeeds c.args.schema.now c.args.graph.now.triples ps count →
-    c.refine_in.new.steps ≤ c.args.steps.now + most_of c.args.schema.now c.args.terms.now c.args.graph.now.triples c.args.budget width count ps)
-    c.in_ok-table.ensures (c.refine_in.ensures.bounded width count widths) counts
+    c.refine_told.new.steps ≤ c.args.steps.now + most_of c.args.schema.now c.args.terms.now c.args.graph.now.triples c.args.budget width count ps)
+    c.in_ok-table.ensures (c.refine_told.ensures.bounded width count widths) counts
 
 pub returns-in_err-found-clause-bounded : goal.returns-in_err-found-clause-bounded
 returns-in_err-found-clause-bounded g c = λ width count widths counts.
     subst (λ ps. CountNeeds c.args.schema.now c.args.graph.now.triples ps count →
-    c.refine_in.new.steps ≤ c.args.steps.now + most_of c.args.schema.now c.args.terms.now c.args.graph.now.triples c.args.budget width count ps)
-    c.in_ok-table.ensures (c.refine_in.ensures.bounded width count widths) counts
+    c.refine_told.new.steps ≤ c.args.steps.now + most_of c.args.schema.now c.args.terms.now c.args.graph.now.triples c.args.budget width count ps)
+    c.in_ok-table.ensures (c.refine_told.ensures.bounded width count widths) counts
 
 pub returns-clause-shown : goal.returns-clause-shown
 returns-clause-shown g c = λ wanted.

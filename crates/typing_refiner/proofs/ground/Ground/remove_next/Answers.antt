@@ -21,7 +21,7 @@ returns-in-Placed-clause-nearer g c = inl (refl, refl)
 pub returns-clause-looked : goal.returns-clause-looked
 returns-clause-looked g c =
     λ lower r. further_as c.args.self.now c.requires.ready _ lower c.args.stratum c.args.marks.now _ c.args.at c.args.agenda.now r c.in_ok-look.field-0
-    c.in_ok-look.ensures.outcome c.in-Never.states c.in-Never.is c.requires.least c.pair_of-pair.result c.pair_of-pair.ensures
+    c.in_ok-look.ensures.outcome c.in-Never.states c.in-Never.is c.requires.least c.removed-removed.result.pair c.removed-removed.ensures.pair
     c.set_mark.new.marks c.set_mark.ensures _ (ap (λ rs. map (λ r. r.pair) rs) c.in_ok-push-in-Never.ensures.items ∙ map-append (λ r. r.pair) c.args.gone.now.items _)
     c.put_back.new.agenda c.in_ok-put_back-in-Never.ensures
 
@@ -44,8 +44,8 @@ returns-clause-paid g c = λ width give.
 pub returns-in-Placed-clause-states : goal.returns-in-Placed-clause-states
 returns-in-Placed-clause-states g c = λ lower r all. all
 
-pub next_rank-rank-requires : goal.next_rank-rank-requires
-next_rank-rank-requires g c =
+pub removed-removed-requires-clause-few : goal.removed-removed-requires-clause-few
+removed-removed-requires-clause-few g c =
     let e = ap length c.as_slice.ensures.value in let f = c.requires.ready.few in let l = c.requires.few in omega (arith, e, f, l)
 
 pub returns-clause-few : goal.returns-clause-few
@@ -55,5 +55,5 @@ returns-clause-few g c =
 pub returns-clause-states : goal.returns-clause-states
 returns-clause-states g c =
     λ lower r all. one_more_gone c.args.self.now _ lower c.args.stratum c.args.marks.now c.args.gone.now.items c.push.new.self.items _
-    (record { at = c.args.at; pair = c.pair_of-pair.result; rank = c.next_rank-rank.result; states = c.kept-states.result }) c.in_ok-look.field-0 r all c.in_ok-look.ensures.outcome c.pair_of-pair.ensures c.in-Never.states c.in-Never.is
-    c.kept-states.ensures (let e = ap length c.as_slice.ensures.value in let n = c.next_rank-rank.ensures in omega (arith, e, n)) c.in_ok-push-in-Never.ensures.items
+    c.removed-removed.result c.in_ok-look.field-0 r all c.args.at c.removed-removed.ensures.at c.in_ok-look.ensures.outcome c.removed-removed.ensures.pair c.in-Never.states c.in-Never.is
+    c.removed-removed.ensures.states (let e = ap length c.as_slice.ensures.value in let n = c.removed-removed.ensures.rank in omega (arith, e, n)) c.in_ok-push-in-Never.ensures.items

@@ -5,7 +5,7 @@ use Rattle.typing_refiner.specs.Spent.{GiveWidths, phase_ticks}
 use Rattle.typing_refiner.specs.Ready.{known_of}
 use Rattle.typing_refiner.specs.Records.{IsShownOver}
 use Rattle.typing_refiner.specs.Refined.{IsRefinedOver}
-use Rattle.typing_refiner.proofs.ground.Ground.refine_strata.Given as goal
+use Rattle.typing_refiner.proofs.ground.Ground.refine_each.Given as goal
 
 abbrev pub invariant-loop-stratum : goal.invariant-loop-stratum
 invariant-loop-stratum g l = record {
