@@ -1,14 +1,12 @@
 -- What refinement records is accepted.
-use Rattle.std.proofs.Common.{◌≡◌, ◌∙◌, ℕ, zero, suc, ◌<◌, ◌≤◌, ◌⊎◌, inl, inr, List, [], ◌∷◌, arith, refl, sym, ap, subst, length}
+use Rattle.std.proofs.Common.{◌≡◌, ℕ, ◌≤◌, inl, inr, List, refl, sym, subst}
 use Rattle.std.proofs.lemmas.Option.{slice_get_within}
-use Rattle.std.specs.Prelude.{◌↔◌, Contains, Option, Some, None, ⊤, slice_get}
-use Rattle.rdf_terms.specs.declared.terms.Term.{Term}
+use Rattle.std.specs.Prelude.{◌↔◌, Some, ⊤, slice_get}
 use Rattle.rdf_terms.specs.declared.terms.TermId.{TermId}
 use Rattle.rdf_terms.specs.declared.terms.Triple.{Triple}
 use Rattle.schema_tree.specs.declared.schema.Pair.{Pair}
-use Rattle.schema_tree.specs.declared.schema.Schema.{Schema}
 use Rattle.schema_tree.specs.declared.schema.Shape.{Shape}
-use Rattle.schema_tree.specs.declared.verdicts.Lean.TheVariants.{Possible, Impossible}
+use Rattle.schema_tree.specs.declared.verdicts.Lean.TheVariants.{Impossible}
 use Rattle.schema_tree.specs.declared.verdicts.Place.{Place}
 use Rattle.schema_tree.specs.declared.verdicts.State.{State}
 use Rattle.schema_tree.specs.declared.verdicts.Verdict.{Verdict}
@@ -21,12 +19,11 @@ use Rattle.schema_tree.proofs.Leans.{all_weaker_allowed}
 use Rattle.lists.proofs.Decided.{Decided}
 use Rattle.typing_refiner.proofs.Shut.{decide_shut}
 use Rattle.proof_file.specs.declared.Proof.{Proof}
-use Rattle.proof_file.specs.declared.Record.{Record}
 use Rattle.proof_file.specs.declared.RecordKind.{RecordKind}
 use Rattle.proof_file.specs.declared.Why.{Why}
 use Rattle.proof_file.specs.declared.Why.TheVariants as Whys
 use Rattle.proof_file.specs.declared.RecordKind.TheVariants.{Plus, Minus}
-use Rattle.proof_file.specs.Accepts.{AreStates, IsAccepted, PassesKind, PassesMinus, Setting, in_section, no_of, yes_of}
+use Rattle.proof_file.specs.Accepts.{IsAccepted, PassesKind, PassesMinus, Setting, in_section, no_of, yes_of}
 use Rattle.proof_file.specs.Views.{minus_view, plus_view, whole_view}
 use Rattle.removal_laws.proofs.Allowed.{places_hold, states_hold}
 use Rattle.removal_laws.proofs.Views.{plus_no, plus_yes}

@@ -1,11 +1,10 @@
 -- The records of a refinement are accepted.
-use Rattle.std.proofs.Common.{◌≡◌, ◌≢◌, ◌∙◌, ℕ, zero, suc, ◌<◌, ◌≤◌, ◌+◌, ◌⊎◌, inl, inr, List, [], ◌∷◌, ◌++◌, arith, refl, sym, ap, subst, get_or, length, map, take}
+use Rattle.std.proofs.Common.{◌≡◌, ◌∙◌, ℕ, zero, suc, ◌<◌, ◌+◌, ◌⊎◌, inl, inr, List, [], ◌∷◌, ◌++◌, arith, refl, sym, ap, subst, length, map, take}
 use Rattle.std.proofs.lemmas.Bool.{cases_lt}
 use Rattle.std.proofs.lemmas.List.{map-append}
-use Rattle.std.proofs.lemmas.List.Elements.{Contains-append_cases, Contains-append_left, Contains-append_right}
-use Rattle.std.proofs.lemmas.Option.{slice_get-get_or}
-use Rattle.std.specs.Prelude.{◌↔◌, Contains, Option, Some, None, option_map, slice_get}
-use Rattle.std.specs.List.{AllZip, flat_map}
+use Rattle.std.proofs.lemmas.List.Elements.{Contains-append_cases}
+use Rattle.std.specs.Prelude.{Contains, Option, Some, None, option_map, slice_get}
+use Rattle.std.specs.List.{AllZip}
 use Rattle.lists.proofs.Beside.{beside, beside_back}
 use Rattle.lists.proofs.Members.{from_flat_map, from_map, got_in, in_flat_map, in_map, in_one, is_first, not_in_none}
 use Rattle.rdf_terms.specs.declared.terms.Term.{Term}
@@ -18,7 +17,6 @@ use Rattle.schema_tree.specs.declared.verdicts.Place.{Place}
 use Rattle.schema_tree.specs.declared.verdicts.State.{State}
 use Rattle.schema_tree.specs.Edges.{IsStratified, level}
 use Rattle.schema_tree.specs.Entries.{shape_at}
-use Rattle.schema_tree.specs.Removal.{IsRefinedAt}
 use Rattle.schema_tree.specs.Sure.{Known}
 use Rattle.schema_tree.specs.Typings.{HaveSame, top_of}
 use Rattle.proof_file.specs.declared.Proof.{Proof}
@@ -27,10 +25,10 @@ use Rattle.proof_file.specs.declared.RecordKind.{RecordKind}
 use Rattle.proof_file.specs.declared.RecordKind.TheVariants.{Minus, Plus}
 use Rattle.proof_file.specs.declared.Section.{Section}
 use Rattle.proof_file.specs.Accepts.{IsAccepted, Setting, in_section, no_of, setting_of, yes_of}
-use Rattle.proof_file.specs.Views.{Refuted, minus_of, no_pairs, pair_at, pair_with, pairs_of, plus_of, records_of, whole_view, yes_pairs}
+use Rattle.proof_file.specs.Views.{Refuted, minus_of, pair_at, pair_with, pairs_of, plus_of, records_of, whole_view}
 use Rattle.removal_laws.proofs.Known.{held_at}
 use Rattle.removal_laws.specs.Marks.{KnowSame}
-use Rattle.typing_refiner.specs.Evidence.{AreInTurn, AreRecordsOf, AreRemovals, AreRenumbered, HaveShapes, IsListed, IsRecordOf, IsSameRecord, Removal, Shows, pairs_removed}
+use Rattle.typing_refiner.specs.Evidence.{AreRecordsOf, AreRemovals, AreRenumbered, HaveShapes, IsListed, IsSameRecord, Removal, Shows, pairs_removed}
 use Rattle.typing_refiner.specs.Laws.{AreRanked, AreRecordsAt, HasRecordsAt, ranked_from}
 use Rattle.typing_refiner.specs.Records.{AreLeastFor, AreStatesFor, known_without}
 use Rattle.typing_refiner.proofs.Accepted.{minus_accepted, plus_accepted}

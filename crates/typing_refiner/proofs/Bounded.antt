@@ -1,19 +1,18 @@
 -- What refinement of a list ticks is at most the sum over its narrow pairs.
-use Rattle.std.proofs.Common.{◌≡◌, ◌∙◌, ℕ, zero, suc, ◌<◌, ◌≤◌, ◌+◌, ◌*◌, List, [], ◌∷◌, refl, arith, sym, ap, subst, length, map, Bool, true, false, cond, true≢false}
+use Rattle.std.proofs.Common.{◌≡◌, ◌∙◌, ℕ, suc, ◌<◌, ◌≤◌, ◌+◌, ◌*◌, List, [], ◌∷◌, refl, arith, sym, ap, subst, length, map, Bool, true, false, cond, true≢false}
 use Rattle.std.proofs.Math.Dec.{leb}
 use Rattle.std.proofs.lemmas.Bool.{eqb-true, le-leb, leb-true}
 use Rattle.std.proofs.lemmas.List.Sums.{sum_by-cons}
 use Rattle.std.proofs.lemmas.Option.{slice_get-map}
-use Rattle.std.specs.Cmp.Derive.{both_true}
 use Rattle.std.specs.List.{sum_by}
-use Rattle.std.specs.Prelude.{◌↔◌, ◌&&◌, ◌-◌, ◌^◌, Contains, Option, Some, None, min, nat_eq, option_map, slice_get}
+use Rattle.std.specs.Prelude.{◌&&◌, ◌-◌, ◌^◌, Option, Some, None, min, option_map, slice_get}
 use Rattle.lists.specs.Distinct.{AreDistinct}
 use Rattle.lists.proofs.Members.{got_in}
 use Rattle.schema_tree.specs.declared.schema.Pair.{Pair}
 use Rattle.schema_tree.specs.Edges.{level}
 use Rattle.schema_tree.specs.Needs.{Needs}
 use Rattle.bag_match.specs.Bounds.{most_ticks}
-use Rattle.removal_laws.specs.Costs.{needs_count, phase_cost, total, whole_cost}
+use Rattle.removal_laws.specs.Costs.{needs_count, phase_cost, total}
 use Rattle.removal_laws.proofs.Bound.{on_true, total_le, true_on}
 use Rattle.locality_laws.specs.Bounds.{AreNeedTests, IsOpenTest, NeedsAreCounted, StrataAreBounded, cost_where}
 use Rattle.locality_laws.proofs.Counting.{total_first}

@@ -1,8 +1,8 @@
 -- Where pairs need none but themselves, what is kept of others changes nothing.
-use Rattle.std.proofs.Common.{◌≡◌, ◌∙◌, ℕ, zero, suc, ◌⊎◌, inl, inr, List, [], ◌∷◌, ◌++◌, refl, sym, subst, take}
+use Rattle.std.proofs.Common.{◌∙◌, ℕ, zero, suc, ◌⊎◌, inl, inr, List, [], ◌++◌, refl, sym, subst, take}
 use Rattle.std.proofs.lemmas.List.{append-nil}
 use Rattle.std.proofs.lemmas.List.Elements.{Contains-append_cases, Contains-append_left, Contains-append_right}
-use Rattle.std.specs.Prelude.{◌↔◌, Contains, Some, slice_get}
+use Rattle.std.specs.Prelude.{◌↔◌, Contains}
 use Rattle.lists.proofs.Members.{got_in, not_in_none}
 use Rattle.schema_tree.specs.declared.schema.Pair.{Pair}
 use Rattle.schema_tree.specs.declared.verdicts.Lean.{Lean}

@@ -1,17 +1,17 @@
 -- Records are put behind those of their strata, one after another.
-use Rattle.std.proofs.Common.{◌≡◌, ◌≢◌, ◌∙◌, ℕ, zero, suc, ◌<◌, ◌≤◌, ◌+◌, ◌⊎◌, inl, inr, List, [], ◌∷◌, ◌++◌, arith, refl, sym, ap, subst, get_or, length, map, append_assoc, true}
+use Rattle.std.proofs.Common.{◌≡◌, ◌≢◌, ◌∙◌, ℕ, zero, suc, ◌<◌, ◌+◌, ◌⊎◌, inl, inr, List, [], ◌∷◌, ◌++◌, arith, refl, sym, ap, subst, get_or, length, map, append_assoc}
 use Rattle.std.proofs.lemmas.Bool.{cases_eq}
 use Rattle.std.proofs.lemmas.Bool.Decides.{nat_tests}
 use Rattle.std.proofs.lemmas.List.{append-nil, length-append, map-append}
 use Rattle.std.proofs.lemmas.List.Elements.{Contains-append_cases, Contains-append_left, Contains-append_right}
-use Rattle.std.proofs.lemmas.Map.Keys.{Less-from_sorted, ge_from_not_lt}
+use Rattle.std.proofs.lemmas.Map.Keys.{Less-from_sorted}
 use Rattle.std.proofs.lemmas.Option.{get_or_from_slice_get, slice_get-get_or, slice_get-map, slice_get_within}
 use Rattle.std.specs.List.Sorted.{IsStrictlySortedBy}
-use Rattle.std.specs.Ordering.{is_eq, is_lt, nat_cmp, ordering_reverse, ordering_then}
+use Rattle.std.specs.Ordering.{is_eq, nat_cmp, ordering_reverse, ordering_then}
 use Rattle.std.specs.declared.cmp.Ordering.{Ordering}
 use Rattle.std.specs.declared.cmp.Ordering.TheVariants.{Less, Equal, Greater}
-use Rattle.std.specs.Prelude.{◌↔◌, Contains, Option, Some, None, nat_eq, option_map, slice_get, slice_set}
-use Rattle.lists.proofs.Members.{got_in, in_one, is_first, is_later, not_in_none}
+use Rattle.std.specs.Prelude.{Contains, Option, Some, None, option_map, slice_get, slice_set}
+use Rattle.lists.proofs.Members.{in_one, is_first, is_later, not_in_none}
 use Rattle.lists.proofs.Quantifiers.{all_append}
 use Rattle.rdf_terms.proofs.Orders.{id_itself, id_total, ids_tie}
 use Rattle.rdf_terms.proofs.SameTerms.{same_is}

@@ -1,16 +1,12 @@
 -- Records are within the limits of a proof's lines.
-use Rattle.std.proofs.Common.{◌≡◌, ◌∙◌, ℕ, zero, suc, ◌<◌, ◌≤◌, ◌⊎◌, inl, inr, List, [], ◌∷◌, arith, refl, sym, ap, subst, get_or, length, remove, take}
+use Rattle.std.proofs.Common.{◌≡◌, ℕ, suc, ◌≤◌, inl, inr, List, [], ◌∷◌, arith, refl, sym, subst, length, take}
 use Rattle.std.proofs.lemmas.Bool.{cases_lt}
-use Rattle.std.proofs.lemmas.List.Edits.{length-remove}
-use Rattle.std.proofs.lemmas.List.Sorted.{Contains-permutation, IsPermutation-remove}
-use Rattle.std.proofs.lemmas.Option.{get_or_from_slice_get, slice_get-get_or, slice_get_within}
+use Rattle.std.proofs.lemmas.Option.{get_or_from_slice_get, slice_get_within}
 use Rattle.std.specs.List.{AllByRecursion}
-use Rattle.std.specs.List.Sorted.{IsPermutation}
 use Rattle.std.specs.Prelude.{Contains, Option, Some, None, slice_get, slice_index}
 use Rattle.bag_match.proofs.Neighbours.{relevant_few}
 use Rattle.lists.proofs.Among.{few_among}
 use Rattle.lists.proofs.Decided.{Decided}
-use Rattle.lists.proofs.Members.{in_rest, is_first, is_later, not_in_none}
 use Rattle.lists.proofs.Quantifiers.{all_of}
 use Rattle.lists.specs.Distinct.{AreDistinct}
 use Rattle.rdf_terms.specs.declared.terms.Term.{Term}
@@ -35,12 +31,11 @@ use Rattle.schema_tree.specs.States.{IsStateBefore}
 use Rattle.schema_tree.specs.Sure.{Known}
 use Rattle.schema_tree.specs.Typings.{top_of}
 use Rattle.bag_match.specs.Outcomes.{AreListed}
-use Rattle.proof_file.specs.declared.Record.{Record}
 use Rattle.proof_file.specs.declared.RecordKind.{RecordKind}
 use Rattle.proof_file.specs.declared.RecordKind.TheVariants.{Minus, Plus}
 use Rattle.proof_file.specs.declared.Section.{Section}
 use Rattle.proof_file.specs.Text.{IsKind, IsNumber, IsPlace, IsState}
-use Rattle.typing_refiner.specs.Evidence.{AreFine, AreRecordsOf, AreRemovals, AreShownBy, IsListed, Removal, Shows}
+use Rattle.typing_refiner.specs.Evidence.{AreFine, AreRecordsOf, AreRemovals, Removal, Shows}
 use Rattle.typing_refiner.specs.Laws.{HasRecordsAt}
 use Rattle.typing_refiner.specs.Records.{AreLeastFor, AreStatesFor, known_without}
 use Rattle.typing_refiner.proofs.Accepting.{found, ranks_of}

@@ -1,11 +1,11 @@
 -- The records that are put together show the verdicts.
-use Rattle.std.proofs.Common.{◌≡◌, ◌≢◌, ◌∙◌, ℕ, zero, suc, ◌<◌, ◌≤◌, ◌+◌, ◌⊎◌, inl, inr, List, [], ◌∷◌, ◌++◌, arith, refl, sym, ap, subst, length, map, take}
+use Rattle.std.proofs.Common.{◌≡◌, ◌≢◌, ◌∙◌, ℕ, zero, suc, ◌<◌, ◌⊎◌, inl, inr, List, [], ◌∷◌, ◌++◌, arith, refl, sym, ap, subst, length, map, take}
 use Rattle.std.proofs.lemmas.Grind.{flat_map-append}
 use Rattle.std.proofs.lemmas.List.{append-nil, length-map, length-take}
 use Rattle.std.proofs.lemmas.Option.{slice_get_within}
 use Rattle.std.specs.List.{flat_map}
 use Rattle.std.specs.Prelude.{◌↔◌, Contains, Option, Some, None, slice_get}
-use Rattle.lists.proofs.Members.{from_flat_map, from_map, got_in, in_flat_map, in_map, in_rest, is_first, is_later, not_in_none}
+use Rattle.lists.proofs.Members.{from_flat_map, from_map, in_flat_map, in_map, in_rest, is_first, is_later, not_in_none}
 use Rattle.schema_tree.specs.declared.schema.Pair.{Pair}
 use Rattle.schema_tree.specs.declared.verdicts.Verdict.{Verdict}
 use Rattle.schema_tree.specs.declared.verdicts.Verdict.TheVariants.{Yes, No}
@@ -15,10 +15,9 @@ use Rattle.schema_tree.specs.Removal.{IsRefinedAt}
 use Rattle.schema_tree.specs.Sure.{Known}
 use Rattle.schema_tree.specs.Typings.{top_of}
 use Rattle.proof_file.specs.declared.RecordKind.{RecordKind}
-use Rattle.proof_file.specs.declared.RecordKind.TheVariants.{Minus, Plus}
 use Rattle.proof_file.specs.declared.Section.{Section}
-use Rattle.removal_laws.proofs.Known.{held_at, is_yes, know_turned, yes_at}
-use Rattle.removal_laws.specs.Marks.{KnowSame, known_by, marked, outside}
+use Rattle.removal_laws.proofs.Known.{held_at, is_yes, yes_at}
+use Rattle.removal_laws.specs.Marks.{KnowSame, known_by, marked}
 use Rattle.typing_refiner.specs.declared.ground.Ground.{Ground}
 use Rattle.typing_refiner.specs.declared.removal.Removed.{Removed}
 use Rattle.typing_refiner.specs.declared.strata_loop.Confirmed.{Confirmed}
@@ -27,7 +26,7 @@ use Rattle.typing_refiner.specs.Confirmed.{HavePlaces, numbers_of}
 use Rattle.typing_refiner.specs.Evidence.{AreInTurn, AreRecordsOf, AreRemovals, AreShownBy, Removal, Shows, pairs_removed}
 use Rattle.typing_refiner.specs.Filing.{AreFiled}
 use Rattle.typing_refiner.specs.Ready.{IsReady, known_of}
-use Rattle.typing_refiner.specs.Records.{AreLeastFor, AreShown, AreStatesFor, HaveStates, IsShownOver, known_without, pairs_gone}
+use Rattle.typing_refiner.specs.Records.{AreShown, AreStatesFor, HaveStates, IsShownOver, known_without, pairs_gone}
 use Rattle.typing_refiner.specs.Refined.{verdicts_of}
 use Rattle.typing_refiner.proofs.Accepting.{of_list, removed_are}
 use Rattle.typing_refiner.proofs.Said.{IsSaid, Kinds, SaysConfirmed, SaysGoneIn, all_said, confirmed_is_said, final, gone_is_said}

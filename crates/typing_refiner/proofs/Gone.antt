@@ -1,7 +1,7 @@
 -- Pairs that went, and the states of those moments.
-use Rattle.std.proofs.Common.{◌≡◌, ◌∙◌, ℕ, zero, suc, List, [], ◌∷◌, ◌++◌, refl, sym, ap, subst, take, length, map}
+use Rattle.std.proofs.Common.{◌≡◌, ◌∙◌, ℕ, zero, suc, List, [], ◌∷◌, ◌++◌, sym, ap, subst, take, length}
 use Rattle.std.proofs.lemmas.List.{length-map}
-use Rattle.std.specs.Prelude.{Option, Some, None, slice_get}
+use Rattle.std.specs.Prelude.{Some, None, slice_get}
 use Rattle.schema_tree.specs.declared.schema.Pair.{Pair}
 use Rattle.schema_tree.specs.declared.verdicts.Lean.TheVariants.{Possible}
 use Rattle.schema_tree.specs.declared.verdicts.State.{State}
@@ -11,7 +11,6 @@ use Rattle.schema_tree.specs.Sure.{Known}
 use Rattle.bag_match.specs.Outcomes.{IsOutcome}
 use Rattle.bag_match.specs.declared.outcome.Outcome.{Outcome}
 use Rattle.bag_match.specs.declared.outcome.Outcome.TheVariants.{Never}
-use Rattle.removal_laws.specs.Marks.{KnowSame}
 use Rattle.typing_refiner.specs.declared.ground.Ground.{Ground}
 use Rattle.typing_refiner.specs.declared.removal.Removed.{Removed}
 use Rattle.typing_refiner.specs.Ready.{IsRemoving, known_of}

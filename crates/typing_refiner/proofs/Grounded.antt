@@ -1,17 +1,17 @@
 -- What is put together is what a refinement asks for.
-use Rattle.std.proofs.Common.{◌≡◌, ◌∙◌, ℕ, Bool, true, ◌<◌, ◌≤◌, List, refl, arith, sym, ap, subst, length, map, ◌++◌, [], ◌∷◌, take, drop}
+use Rattle.std.proofs.Common.{◌≡◌, ◌∙◌, ℕ, Bool, true, ◌<◌, ◌≤◌, List, arith, sym, ap, subst, length, map, ◌++◌, take, drop}
 use Rattle.std.proofs.Math.Dec.{leb}
 use Rattle.std.proofs.lemmas.Bool.{le-leb, leb-true}
-use Rattle.std.proofs.lemmas.List.{append-nil, length-map, take-append-le, take_all}
+use Rattle.std.proofs.lemmas.List.{length-map, take-append-le, take_all}
 use Rattle.std.proofs.lemmas.Option.{slice_get-map}
-use Rattle.std.specs.Prelude.{◌↔◌, ◌-◌, ◌^◌, IsTrue, Option, Some, None, min, option_map, slice_get}
+use Rattle.std.specs.Prelude.{◌↔◌, ◌-◌, ◌^◌, IsTrue, Some, min, option_map, slice_get}
 use Rattle.rdf_terms.specs.declared.terms.Triple.{Triple}
 use Rattle.schema_tree.specs.declared.schema.Pair.{Pair}
 use Rattle.schema_tree.specs.declared.schema.Schema.{Schema}
 use Rattle.schema_tree.specs.Needs.{Needs}
 use Rattle.rdf_terms.specs.declared.terms.Term.{Term}
 use Rattle.schema_tree.specs.Laws.{WidthIsOne}
-use Rattle.schema_tree.specs.Width.{HasWidth, IsWithinWidth}
+use Rattle.schema_tree.specs.Width.{IsWithinWidth}
 use Rattle.typing_refiner.specs.Building.{AreNeeds, AreWidths, HasAt, is_within}
 use Rattle.typing_refiner.specs.Ready.{IsAmong}
 

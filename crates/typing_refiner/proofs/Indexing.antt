@@ -4,7 +4,7 @@ use Rattle.std.proofs.lemmas.Bool.{cases_lt}
 use Rattle.std.proofs.lemmas.List.{length-append, length-take-le, map-append, take_more}
 use Rattle.std.proofs.lemmas.List.Elements.{Contains-append_cases, Contains-append_left, Contains-append_right}
 use Rattle.std.proofs.lemmas.Option.{slice_get-get_or, slice_get_within}
-use Rattle.std.specs.Prelude.{◌↔◌, Contains, Option, Some, None, slice_get, slice_set}
+use Rattle.std.specs.Prelude.{◌↔◌, Contains, Some, slice_get, slice_set}
 use Rattle.lists.specs.Distinct.{AreDistinct}
 use Rattle.lists.specs.Additions.{Adds}
 use Rattle.rdf_terms.specs.declared.terms.Triple.{Triple}
@@ -15,7 +15,6 @@ use Rattle.schema_tree.specs.declared.schema.Schema.{Schema}
 use Rattle.schema_tree.specs.Needs.{Needs}
 use Rattle.demand.specs.Orders.{max_pairs}
 use Rattle.typing_refiner.specs.Building.{AreAddedAt, AreEmpty, AreNeeds, AreNeedsBelow, HasAt, IsAddedAt, IsNeedAt, IsPlacedIn}
-use Rattle.typing_refiner.specs.Ready.{IsAmong}
 
 -- ---- one list gets a number more
 

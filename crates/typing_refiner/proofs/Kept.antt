@@ -1,7 +1,7 @@
 -- Pairs that are confirmed match under all that is known in the end.
-use Rattle.std.proofs.Common.{◌≡◌, ◌∙◌, ℕ, zero, suc, ◌<◌, ◌≤◌, ◌⊎◌, inl, inr, List, [], ◌∷◌, ◌++◌, arith, refl, sym, ap, subst}
-use Rattle.std.proofs.lemmas.List.Elements.{Contains-append_cases, Contains-append_left, Contains-append_right}
-use Rattle.std.specs.Prelude.{Contains, Some, slice_get}
+use Rattle.std.proofs.Common.{◌≡◌, ℕ, zero, suc, ◌<◌, ◌⊎◌, inl, inr, List, ◌++◌, arith, sym, subst}
+use Rattle.std.proofs.lemmas.List.Elements.{Contains-append_cases, Contains-append_left}
+use Rattle.std.specs.Prelude.{Contains}
 use Rattle.rdf_terms.specs.declared.terms.Term.{Term}
 use Rattle.rdf_terms.specs.declared.terms.Triple.{Triple}
 use Rattle.schema_tree.specs.declared.schema.Pair.{Pair}
@@ -13,7 +13,6 @@ use Rattle.schema_tree.specs.Needs.{Needs}
 use Rattle.schema_tree.specs.Places.{PairCanMatch}
 use Rattle.schema_tree.specs.Removal.{IsRefinedAt}
 use Rattle.schema_tree.specs.Sure.{Known, PairIs}
-use Rattle.lists.proofs.Members.{got_in}
 use Rattle.removal_laws.proofs.Carried.{match_up}
 use Rattle.removal_laws.proofs.Known.{held_at}
 use Rattle.locality_laws.specs.Local.{AreRefinedOn}

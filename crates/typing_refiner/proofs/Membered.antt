@@ -1,8 +1,8 @@
 -- The open pairs of each stratum are told in one pass.
-use Rattle.std.proofs.Common.{◌≡◌, ◌∙◌, ℕ, ◌<◌, ◌≤◌, ◌+◌, ◌⊎◌, inl, inr, List, [], arith, sym, ap, subst, get_or, length, map}
+use Rattle.std.proofs.Common.{◌≡◌, ◌∙◌, ℕ, ◌<◌, ◌+◌, ◌⊎◌, inl, inr, List, arith, sym, ap, subst, get_or, length, map}
 use Rattle.std.proofs.lemmas.Bool.{cases_eq}
 use Rattle.std.proofs.lemmas.Option.{slice_get-get_or, slice_get-map}
-use Rattle.std.specs.Prelude.{◌↔◌, Contains, Option, Some, None, option_map, slice_get}
+use Rattle.std.specs.Prelude.{◌↔◌, Contains, Some, option_map, slice_get}
 use Rattle.typing_refiner.specs.declared.ground.Ground.{Ground}
 use Rattle.typing_refiner.specs.Building.{AreEmpty, HasAt, IsAddedAt}
 use Rattle.typing_refiner.specs.Ready.{IsAmong, IsOpen}

@@ -1,11 +1,10 @@
 -- What refinement of a list over what is kept of others claims of an answer.
-use Rattle.std.proofs.Common.{◌≡◌, ℕ, inl, inr, List, [], ◌++◌, subst, sym, Result, Ok, Err}
+use Rattle.std.proofs.Common.{◌≡◌, ℕ, inl, inr, List, ◌++◌, subst, sym, Result, Ok, Err}
 use Rattle.std.proofs.lemmas.List.Elements.{Contains-append_cases, Contains-append_left}
 use Rattle.std.specs.Prelude.{◌↔◌, Contains, IfOk}
 use Rattle.lists.specs.Distinct.{AreDistinct}
 use Rattle.lists.proofs.Decided.{Decided, decide_member}
 use Rattle.rdf_terms.specs.declared.terms.Term.{Term}
-use Rattle.rdf_terms.specs.declared.terms.TermId.{TermId}
 use Rattle.rdf_terms.specs.declared.terms.Triple.{Triple}
 use Rattle.schema_tree.specs.declared.schema.Pair.{Pair}
 use Rattle.schema_tree.specs.declared.schema.Schema.{Schema}
@@ -15,12 +14,11 @@ use Rattle.schema_tree.specs.Edges.{IsStratified}
 use Rattle.schema_tree.specs.Laws.{StrataGiveOneTyping, TypingExists}
 use Rattle.schema_tree.specs.Loaded.{IsLoaded}
 use Rattle.schema_tree.specs.Sure.{Known, PairIs}
-use Rattle.schema_tree.specs.Typings.{HoldsEnds, IsTheTyping}
 use Rattle.schema_tree.proofs.Decide.{same_pairs}
 use Rattle.removal_laws.specs.Marks.{known_by, marked, outside}
 use Rattle.removal_laws.proofs.Known.{same_alike, to_outside}
 use Rattle.locality_laws.specs.Laws.{RefinementOverKeptIsLocal, UnknownIsWide, VerdictIsIndependent, VerdictIsTrue}
-use Rattle.locality_laws.specs.Local.{AreKept, IsVerdict}
+use Rattle.locality_laws.specs.Local.{AreKept}
 use Rattle.locality_laws.proofs.Alike.{by_members, one_verdict}
 use Rattle.typing_refiner.specs.Refined.{IsRefinedOn, verdicts_of}
 use Rattle.typing_refiner.specs.Refinement.{Refinement, known_by_it}

@@ -1,6 +1,6 @@
 -- What an outcome says of a match.
-use Rattle.std.proofs.Common.{◌≡◌, ◌∙◌, ◌⊎◌, inl, inr, List, refl, sym, subst}
-use Rattle.std.specs.Prelude.{◌↔◌, Option, Some, None}
+use Rattle.std.proofs.Common.{◌≡◌, List, subst}
+use Rattle.std.specs.Prelude.{Option, Some, None}
 use Rattle.rdf_terms.specs.declared.terms.Term.{Term}
 use Rattle.rdf_terms.specs.declared.terms.TermId.{TermId}
 use Rattle.rdf_terms.specs.declared.terms.Triple.{Triple}
@@ -13,7 +13,7 @@ use Rattle.schema_tree.specs.declared.verdicts.State.{State}
 use Rattle.schema_tree.specs.Entries.{shape_at}
 use Rattle.schema_tree.specs.Places.{CanMatch, PairCanMatch}
 use Rattle.schema_tree.specs.Sure.{Known}
-use Rattle.bag_match.specs.Outcomes.{IsOutcome, IsOutcomeOf, IsPlaced}
+use Rattle.bag_match.specs.Outcomes.{IsOutcome, IsOutcomeOf}
 use Rattle.bag_match.specs.declared.outcome.Outcome.{Outcome}
 use Rattle.bag_match.specs.declared.outcome.Outcome.TheVariants.{Placed, Never}
 

@@ -1,6 +1,6 @@
 -- What is listed of a pair under a view is so under one that answers alike on each pair that it needs.
 use Rattle.std.proofs.Common.{◌≡◌, ℕ, zero, suc, List, [], ◌∷◌, refl, subst}
-use Rattle.std.specs.Prelude.{◌↔◌, Contains, Option, Some, None, slice_get}
+use Rattle.std.specs.Prelude.{◌↔◌, Contains, Option, Some, None}
 use Rattle.lists.proofs.Members.{got_in, in_one}
 use Rattle.rdf_terms.specs.declared.terms.Term.{Term}
 use Rattle.rdf_terms.specs.declared.terms.Triple.{Triple}

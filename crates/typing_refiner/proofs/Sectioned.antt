@@ -1,9 +1,9 @@
 -- Sections of records, and what they show.
-use Rattle.std.proofs.Common.{◌≡◌, ◌≢◌, ◌∙◌, ℕ, zero, suc, ◌<◌, ◌≤◌, ◌+◌, ◌⊎◌, inl, inr, List, [], ◌∷◌, ◌++◌, arith, refl, sym, ap, subst, length}
-use Rattle.std.proofs.lemmas.List.Elements.{Contains-append_cases, Contains-append_left, Contains-append_right}
+use Rattle.std.proofs.Common.{◌≡◌, ◌∙◌, ℕ, zero, suc, ◌<◌, ◌+◌, ◌⊎◌, inl, inr, List, [], ◌∷◌, ◌++◌, arith, refl, sym, subst, length}
+use Rattle.std.proofs.lemmas.List.Elements.{Contains-append_cases, Contains-append_right}
 use Rattle.std.proofs.lemmas.Option.{slice_get_within}
-use Rattle.std.specs.Prelude.{◌↔◌, Contains, Option, Some, None, slice_get}
-use Rattle.lists.proofs.Members.{got_in, in_one, is_first, is_later, not_in_none}
+use Rattle.std.specs.Prelude.{Contains, Option, Some, None, slice_get}
+use Rattle.lists.proofs.Members.{in_one, is_first, not_in_none}
 use Rattle.rdf_terms.specs.declared.terms.Term.{Term}
 use Rattle.rdf_terms.specs.declared.terms.TermId.{TermId}
 use Rattle.schema_tree.specs.declared.schema.Pair.{Pair}
@@ -12,9 +12,9 @@ use Rattle.schema_tree.specs.Rising.{Rises, RisesFrom}
 use Rattle.proof_file.specs.declared.Record.{Record}
 use Rattle.proof_file.specs.declared.RecordKind.{RecordKind}
 use Rattle.proof_file.specs.declared.Section.{Section}
-use Rattle.proof_file.specs.Text.{IsRecordBefore, IsSectionBefore}
+use Rattle.proof_file.specs.Text.{IsSectionBefore}
 use Rattle.removal_laws.proofs.Known.{held_at}
-use Rattle.typing_refiner.specs.Evidence.{IsListed, IsRecordOf}
+use Rattle.typing_refiner.specs.Evidence.{IsListed}
 use Rattle.typing_refiner.specs.Filing.{AreFiled, HasRecord, IsFiled, section_of, sections_from}
 
 -- a section is that of a list that has records

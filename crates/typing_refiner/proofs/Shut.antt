@@ -1,5 +1,5 @@
 -- Whether a pair is shut is decided.
-use Rattle.std.proofs.Common.{List, true}
+use Rattle.std.proofs.Common.{List}
 use Rattle.std.specs.Prelude.{not}
 use Rattle.std.specs.List.{list_any}
 use Rattle.rdf_terms.specs.Graphs.{outs}

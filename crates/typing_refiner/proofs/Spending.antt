@@ -1,15 +1,15 @@
 -- Looks are paid.
-use Rattle.std.proofs.Common.{◌≡◌, ◌≢◌, ◌∙◌, ℕ, zero, suc, ◌<◌, ◌≤◌, ◌+◌, ◌*◌, ◌⊎◌, inl, inr, List, refl, sym, ap, subst, arith, length, Bool, true, false, cond}
+use Rattle.std.proofs.Common.{◌≡◌, ◌≢◌, ◌∙◌, ℕ, zero, suc, ◌<◌, ◌≤◌, ◌+◌, ◌⊎◌, inl, inr, List, refl, sym, ap, subst, arith, length, Bool, true, false, cond}
 use Rattle.std.proofs.lemmas.Bool.{cases_eq, eq-eqb}
 use Rattle.std.proofs.lemmas.Option.{slice_get-get_or, slice_get_within}
-use Rattle.std.specs.Prelude.{◌↔◌, ◌&&◌, Contains, Option, Some, None, option_map, slice_get, slice_set}
+use Rattle.std.specs.Prelude.{◌↔◌, Contains, Option, Some, None, slice_get, slice_set}
 use Rattle.schema_tree.specs.declared.schema.Pair.{Pair}
 use Rattle.schema_tree.specs.declared.verdicts.Verdict.{Verdict}
 use Rattle.std.specs.Cmp.Derive.{both_true}
 use Rattle.removal_laws.proofs.Bound.{begin, mark, on_true, pop}
 use Rattle.removal_laws.specs.Costs.{potential, total}
 use Rattle.typing_refiner.specs.declared.ground.Ground.{Ground}
-use Rattle.typing_refiner.specs.Ready.{AllWait, GoesBack, IsAmong, IsOpen, IsReady, Waits}
+use Rattle.typing_refiner.specs.Ready.{GoesBack, IsAmong, IsOpen, IsReady, Waits}
 use Rattle.schema_tree.specs.Width.{IsWithinWidth}
 use Rattle.typing_refiner.specs.Spent.{cost_of_pair, is_among, is_of, is_some_true, look_cost, narrow_test, need_test, open_cost, open_test, phase_ticks, record_ticks, record_ticks_below, still_to_tick}
 use Rattle.typing_refiner.proofs.Steps.{within}

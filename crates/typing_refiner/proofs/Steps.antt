@@ -1,16 +1,16 @@
 -- What a new mark and what is put on the agenda leave of those that wait, and that a stratum comes to an end.
-use Rattle.std.proofs.Common.{◌≡◌, ◌≢◌, ◌∙◌, ℕ, zero, suc, ◌<◌, ◌≤◌, ◌+◌, ◌*◌, ◌⊎◌, inl, inr, List, [], ◌∷◌, ◌++◌, refl, sym, ap, subst, arith, length, cond, Bool, true, false, true≢false}
+use Rattle.std.proofs.Common.{◌≡◌, ◌≢◌, ◌∙◌, ℕ, zero, suc, ◌<◌, ◌≤◌, ◌+◌, ◌*◌, ◌⊎◌, inl, inr, List, [], ◌∷◌, ◌++◌, sym, ap, arith, length, cond, Bool, true, false}
 use Rattle.std.proofs.Math.Nat.{mul-le-mul_right}
 use Rattle.std.proofs.lemmas.List.{length-append}
 use Rattle.std.proofs.lemmas.Option.{slice_get_within}
-use Rattle.std.specs.Prelude.{◌↔◌, Contains, Option, Some, None, slice_get, slice_set}
+use Rattle.std.specs.Prelude.{◌↔◌, Contains, Some, slice_get, slice_set}
 use Rattle.schema_tree.specs.declared.verdicts.Verdict.{Verdict}
 use Rattle.schema_tree.specs.declared.verdicts.Verdict.TheVariants.{Yes, No, Unknown}
 use Rattle.removal_laws.specs.Marks.{same_verdict}
 use Rattle.removal_laws.proofs.Known.{set_other}
 use Rattle.removal_laws.proofs.Verdicts.{verdict_apart, verdict_same}
 use Rattle.typing_refiner.specs.declared.ground.Ground.{Ground}
-use Rattle.typing_refiner.specs.Ready.{AllWait, GoesBack, IsNearer, IsOpen, IsReady, Waits, count_of}
+use Rattle.typing_refiner.specs.Ready.{AllWait, GoesBack, IsNearer, IsOpen, Waits, count_of}
 
 -- another mark in the place of one that counts
 pub count_less : (v w : Verdict) → v ≢ w → (marks : List Verdict) (at : ℕ) → slice_get marks at ≡ Some v → count_of v (slice_set marks at w) + 1 ≡ count_of v marks

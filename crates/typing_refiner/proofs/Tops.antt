@@ -1,6 +1,6 @@
 -- What the calls at the top claim of an answer.
 use Rattle.std.proofs.Common.{◌≡◌, ◌≤◌, ℕ, List, arith, length, subst, sym, Result, Ok, Err}
-use Rattle.std.specs.Prelude.{Contains, IfOk}
+use Rattle.std.specs.Prelude.{IfOk}
 use Rattle.rdf_terms.specs.declared.terms.Term.{Term}
 use Rattle.rdf_terms.specs.declared.terms.Triple.{Triple}
 use Rattle.schema_tree.specs.declared.schema.Pair.{Pair}

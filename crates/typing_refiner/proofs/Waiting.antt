@@ -2,7 +2,7 @@
 use Rattle.std.proofs.Common.{◌≡◌, ℕ, ◌<◌, ◌+◌, ◌⊎◌, inl, inr, List, [], ◌∷◌, ◌++◌, sym, subst, length, take, get_or}
 use Rattle.std.proofs.lemmas.List.{take_more}
 use Rattle.std.proofs.lemmas.List.Elements.{Contains-append_cases, Contains-append_left, Contains-append_right}
-use Rattle.std.specs.Prelude.{◌↔◌, Contains, Option, Some, None, option_map, slice_get}
+use Rattle.std.specs.Prelude.{◌↔◌, Contains, Some, None, option_map, slice_get}
 use Rattle.lists.proofs.Members.{in_one, is_first}
 use Rattle.schema_tree.specs.declared.verdicts.Verdict.{Verdict}
 use Rattle.typing_refiner.specs.declared.ground.Ground.{Ground}

@@ -1,5 +1,5 @@
 -- What is told of Widths, pair by pair.
-use Rattle.std.proofs.Common.{◌≡◌, ◌∙◌, ℕ, suc, arith, ◌<◌, ◌+◌, ◌++◌, ◌∷◌, [], List, sym, ap, subst, length, map, take, get_or, refl}
+use Rattle.std.proofs.Common.{◌≡◌, ◌∙◌, ℕ, suc, arith, ◌<◌, ◌+◌, ◌++◌, ◌∷◌, [], List, sym, ap, subst, length, map, take, get_or}
 use Rattle.std.proofs.Math.Seq.{take-suc}
 use Rattle.std.proofs.lemmas.Grind.{flat_map-append}
 use Rattle.std.proofs.lemmas.List.{append-nil, map-append}

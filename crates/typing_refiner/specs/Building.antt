@@ -1,5 +1,5 @@
 -- How what a refinement reads is put together (own).
-use Rattle.std.specs.Prelude.{ℕ, Bool, true, false, List, [], ◌∷◌, ◌++◌, ◌-◌, ◌^◌, ◌≡◌, ◌<◌, ◌⊎◌, ◌↔◌, Contains, Option, Some, None, slice_get, length, min, nat_le, map, if◌then◌else◌}
+use Rattle.std.specs.Prelude.{ℕ, Bool, true, false, List, [], ◌∷◌, ◌-◌, ◌^◌, ◌≡◌, ◌<◌, ◌⊎◌, ◌↔◌, Contains, Some, slice_get, min, nat_le}
 use Rattle.std.specs.List.{flat_map}
 use Rattle.rdf_terms.specs.declared.terms.Triple.{Triple}
 use Rattle.schema_tree.specs.declared.schema.Pair.{Pair}

@@ -1,11 +1,9 @@
 -- What shows that pairs are confirmed (own).
-use Rattle.std.specs.Prelude.{ℕ, List, ◌≡◌, ◌<◌, ◌↔◌, Contains, length, map, slice_get, Some}
+use Rattle.std.specs.Prelude.{ℕ, List, ◌≡◌, map, slice_get, Some}
 use Rattle.rdf_terms.specs.declared.terms.Term.{Term}
 use Rattle.rdf_terms.specs.declared.terms.Triple.{Triple}
 use Rattle.schema_tree.specs.declared.schema.Pair.{Pair}
 use Rattle.schema_tree.specs.declared.schema.Schema.{Schema}
-use Rattle.schema_tree.specs.declared.verdicts.Verdict.{Verdict}
-use Rattle.schema_tree.specs.declared.verdicts.Verdict.TheVariants.{Yes}
 use Rattle.schema_tree.specs.Entries.{shape_at}
 use Rattle.schema_tree.specs.Sure.{Known}
 use Rattle.typing_refiner.specs.declared.ground.Ground.{Ground}

@@ -1,5 +1,5 @@
 -- What shows the verdicts of refinement (own): a record for each pair that has one.
-use Rattle.std.specs.Prelude.{ℕ, zero, suc, List, [], ◌++◌, ◌≡◌, ◌<◌, ◌⊎◌, length, map, take, slice_get, Option, Some, Contains}
+use Rattle.std.specs.Prelude.{ℕ, zero, suc, List, [], ◌++◌, ◌≡◌, ◌<◌, ◌⊎◌, length, map, take, slice_get, Some, Contains}
 use Rattle.std.specs.List.{AllZip}
 use Rattle.std.specs.List.Sorted.{IsStrictlySortedBy}
 use Rattle.rdf_terms.specs.declared.terms.Term.{Term}
@@ -20,7 +20,7 @@ use Rattle.proof_file.specs.declared.Record.{Record}
 use Rattle.proof_file.specs.declared.RecordKind.{RecordKind}
 use Rattle.proof_file.specs.declared.RecordKind.TheVariants.{Minus, Plus}
 use Rattle.proof_file.specs.declared.Section.{Section}
-use Rattle.proof_file.specs.Accepts.{IsAccepted, Setting, in_section, setting_of}
+use Rattle.proof_file.specs.Accepts.{IsAccepted, in_section, setting_of}
 use Rattle.proof_file.specs.Text.{IsKind, IsRecordBefore, IsSectionBefore}
 use Rattle.removal_laws.specs.Marks.{KnowSame}
 use Rattle.typing_refiner.specs.Records.{AreLeastFor, AreStatesFor, known_without}

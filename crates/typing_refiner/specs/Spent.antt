@@ -1,5 +1,5 @@
 -- How often looks at pairs tick (own).
-use Rattle.std.specs.Prelude.{ℕ, Bool, true, false, List, ◌+◌, ◌*◌, ◌&&◌, Option, Some, None, option_map, slice_get, length, nat_eq, if◌then◌else◌}
+use Rattle.std.specs.Prelude.{ℕ, Bool, false, List, ◌&&◌, Option, Some, None, option_map, slice_get, length, nat_eq, if◌then◌else◌}
 use Rattle.schema_tree.specs.declared.schema.Pair.{Pair}
 use Rattle.schema_tree.specs.declared.verdicts.Verdict.{Verdict}
 use Rattle.schema_tree.specs.Edges.{level}

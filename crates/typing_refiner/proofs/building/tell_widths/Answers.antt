@@ -1,4 +1,4 @@
-use Rattle.std.proofs.Common.{◌≡◌, ap, get_or}
+use Rattle.std.proofs.Common.{ap, get_or}
 use Rattle.std.specs.Prelude.{nat_le}
 use Rattle.schema_tree.specs.declared.schema.Pair.{Pair}
 use Rattle.typing_refiner.specs.Building.{is_within, told_width, wide_by, wide_one}

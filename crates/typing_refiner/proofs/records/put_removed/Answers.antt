@@ -1,4 +1,4 @@
-use Rattle.std.proofs.Common.{rules, ◌≡◌, ◌∙◌, ◌<◌, arith, ap, length, subst, sym, Some}
+use Rattle.std.proofs.Common.{rules, ◌∙◌, ◌<◌, arith, ap, length, subst, sym}
 use Rattle.std.proofs.lemmas.List.{nil_from_length}
 use Rattle.std.specs.List.{AllByRecursion}
 use Rattle.typing_refiner.specs.declared.removal.Removed.{Removed}

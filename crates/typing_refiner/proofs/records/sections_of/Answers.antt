@@ -1,4 +1,4 @@
-use Rattle.std.proofs.Common.{rules, ◌≡◌, ◌∙◌, ◌∷◌, [], ◌+◌, ◌<◌, ◌≤◌, arith, ap, length, map}
+use Rattle.std.proofs.Common.{rules, ◌∷◌, [], arith, map}
 use Rattle.std.proofs.lemmas.List.{length-append, nil_from_length}
 use Rattle.lists.proofs.Members.{yields_on}
 use Rattle.typing_refiner.specs.Filing.{sections_from}

@@ -1,4 +1,4 @@
-use Rattle.std.proofs.Common.{◌≡◌, ◌∙◌, ◌≤◌, suc, ap, arith, length, refl, subst, sym}
+use Rattle.std.proofs.Common.{◌≤◌, suc, arith, refl, subst}
 use Rattle.demand.specs.Orders.{max_pairs}
 use Rattle.schema_tree.specs.Typings.{top_of}
 use Rattle.typing_refiner.specs.declared.ground.Ground.{Ground}

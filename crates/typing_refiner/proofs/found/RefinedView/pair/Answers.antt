@@ -1,4 +1,4 @@
-use Rattle.std.proofs.Common.{◌≡◌, ◌≤◌, refl, subst, sym, length, ltb-false}
+use Rattle.std.proofs.Common.{◌≡◌, refl, subst, sym, length, ltb-false}
 use borrow.Author.Tests.{ltb-true}
 use Rattle.std.proofs.lemmas.Option.{slice_get_past, slice_get_read}
 use Rattle.std.specs.Prelude.{Some, None, slice_get}

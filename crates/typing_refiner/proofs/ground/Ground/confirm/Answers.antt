@@ -1,4 +1,4 @@
-use Rattle.std.proofs.Common.{◌+◌, ◌≤◌, ◌≡◌, ◌⊎◌, inl, inr, refl, arith, Contains}
+use Rattle.std.proofs.Common.{◌≡◌, ◌⊎◌, inl, inr, refl, arith, Contains}
 use Rattle.typing_refiner.proofs.Confirmations.{started, todo_same, waiting}
 use Rattle.typing_refiner.proofs.Removals.{none_left}
 use Rattle.schema_tree.specs.declared.verdicts.Verdict.TheVariants.{Yes}

@@ -1,4 +1,4 @@
-use Rattle.std.proofs.Common.{ℕ, [], ◌≡◌, ◌∙◌, ◌<◌, arith, ap, length, map, subst, suc}
+use Rattle.std.proofs.Common.{[], ◌∙◌, ◌<◌, arith, ap, length, map, subst, suc}
 use Rattle.std.proofs.lemmas.Option.{slice_get_within}
 use Rattle.lists.proofs.Members.{in_map}
 use Rattle.lists.proofs.Quantifiers.{all_of}
@@ -6,7 +6,7 @@ use Rattle.schema_tree.specs.Typings.{top_of}
 use Rattle.removal_laws.specs.Marks.{known_by}
 use Rattle.typing_refiner.specs.declared.removal.Removed.{Removed}
 use Rattle.typing_refiner.specs.declared.strata_loop.Confirmed.{Confirmed}
-use Rattle.typing_refiner.specs.Filing.{AreFiled, put_confirmed, put_strata}
+use Rattle.typing_refiner.specs.Filing.{AreFiled, put_confirmed}
 use Rattle.typing_refiner.proofs.CutOff.{cut_off, places_cut}
 use Rattle.typing_refiner.proofs.Gathered.{gathered, gone_there}
 use Rattle.typing_refiner.proofs.Shown.{all_narrow, none_inside}

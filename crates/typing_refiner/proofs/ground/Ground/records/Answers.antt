@@ -1,4 +1,4 @@
-use Rattle.std.proofs.Common.{◌≡◌, ◌∙◌, ◌+◌, ◌<◌, ◌≤◌, [], arith, ap, length, map}
+use Rattle.std.proofs.Common.{arith, map}
 use Rattle.schema_tree.proofs.Below.{level_top}
 use Rattle.typing_refiner.proofs.Filed.{filed_first}
 use Rattle.typing_refiner.proofs.Sectioned.{filed_end}

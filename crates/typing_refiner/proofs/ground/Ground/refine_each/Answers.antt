@@ -1,12 +1,11 @@
-use Rattle.std.proofs.Common.{◌≡◌, subst, ◌+◌, ◌*◌, ◌<◌, ◌≤◌, ◌∙◌, ap, arith, map, suc}
+use Rattle.std.proofs.Common.{◌*◌, ◌∙◌, ap, arith, map, suc}
 use Rattle.schema_tree.specs.Typings.{top_of}
-use Rattle.std.specs.Prelude.{Some, slice_get}
 use Rattle.typing_refiner.proofs.Membered.{members_at}
 use Rattle.typing_refiner.specs.Ready.{known_of}
 use Rattle.typing_refiner.specs.Spent.{phase_ticks}
 use Rattle.std.proofs.lemmas.List.{map-append}
 use Rattle.typing_refiner.proofs.Showing.{shown_first, shown_more}
-use Rattle.typing_refiner.proofs.Strata.{at_first, fresh, one_more_at}
+use Rattle.typing_refiner.proofs.Strata.{at_first, one_more_at}
 use Rattle.typing_refiner.proofs.Spending.{spent_all, spent_next, total_more}
 use Rattle.typing_refiner.proofs.ground.Ground.refine_each.Goals as goal
 

@@ -1,5 +1,4 @@
-use Rattle.std.proofs.Common.{ℕ, ◌↔◌, subst, sym, map, Contains}
-use Rattle.typing_refiner.specs.Ready.{IsOpen}
+use Rattle.std.proofs.Common.{map}
 use Rattle.typing_refiner.proofs.Strata.{done, is_low}
 use Rattle.typing_refiner.proofs.ground.Ground.refine_stratum.Goals as goal
 

@@ -1,11 +1,11 @@
-use Rattle.std.proofs.Common.{◌+◌, ◌≤◌, arith, ◌≡◌, ◌∙◌, ◌⊎◌, [], inl, inr, map, sym, ap, refl, subst, length, Contains}
+use Rattle.std.proofs.Common.{arith, ◌≡◌, ◌⊎◌, inl, inr, map, sym, ap, refl, subst, length, Contains}
 use Rattle.schema_tree.specs.declared.verdicts.Verdict.TheVariants.{No, Unknown}
 use Rattle.typing_refiner.specs.Records.{HaveStates}
 use Rattle.typing_refiner.proofs.Gone.{none_gone}
-use Rattle.typing_refiner.specs.Ready.{IsBefore, IsOpen, IsRemoving}
+use Rattle.typing_refiner.specs.Ready.{IsOpen}
 use Rattle.typing_refiner.proofs.Removals.{begun, none_left, on_agenda, todo_same}
 use Rattle.typing_refiner.proofs.Spending.{opened, taken}
-use Rattle.typing_refiner.proofs.Steps.{count_most, count_some, falls, unknown_no, within}
+use Rattle.typing_refiner.proofs.Steps.{count_most, count_some, unknown_no, within}
 use Rattle.typing_refiner.proofs.ground.Ground.remove.Goals as goal
 
 pub loop-at-init : goal.loop-at-init

@@ -1,4 +1,4 @@
-use Rattle.std.proofs.Common.{◌≡◌, ◌≢◌, ◌∙◌, ◌++◌, ◌∷◌, [], inl, map, sym, ap, refl, subst, suc, length, Contains, arith}
+use Rattle.std.proofs.Common.{◌∙◌, inl, map, ap, refl, length, arith}
 use Rattle.std.proofs.lemmas.List.{map-append}
 use Rattle.schema_tree.specs.declared.verdicts.Verdict.TheVariants.{No, Unknown}
 use Rattle.typing_refiner.proofs.Removals.{further_as, still}
