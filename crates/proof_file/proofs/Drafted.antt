@@ -7,7 +7,7 @@ use Rattle.proof_file.specs.declared.lines.Next.TheVariants as Nexts
 use Rattle.proof_file.specs.declared.read.Draft.{Draft}
 use Rattle.proof_file.specs.Text.{ProofText, IsFault}
 use Rattle.proof_file.specs.Reader.{Grows, Heading, Leads, Where, heading, opened, behind, ended, failed, Stands, Goes, no_lines, Opens}
-use Rattle.proof_file.specs.Drafts.{IsDraft, IsDraftAt, IsHeadingDraft}
+use Rattle.proof_file.specs.Drafts.{IsDraft, IsDraftAt, IsDraftOf, IsHeadingDraft}
 
 pub draft_begins : (r : Reader) (d : Draft) (bytes : List ℕ) → Opens r bytes → IsDraft d no_lines → IsHeadingDraft d opened → (w : Where) × (Stands r w × IsDraftAt d w)
 draft_begins r d bytes (same, inl past) h k = (behind no_lines, (past, h))
@@ -21,11 +21,15 @@ draft_grows (behind p) old new l d e (q, (grows, past)) h lead add = (behind q, 
 draft_grows (ended p) old new l d e goes h lead add = absurd h
 draft_grows (failed at) old new l d e goes h lead add = absurd goes
 
-pub draft_ends : (w : Where) (old new : Reader) (d : Draft) (x : Proof) (bytes : List ℕ) → Goes w old new Nexts.End → IsDraftAt d w → ((p : Proof) → IsDraft d p → x ≡ p) → new.whole.now ≡ bytes → ProofText x bytes
-draft_ends (heading k) old new d x bytes goes h same whole = absurd goes
-draft_ends (behind p) old new d x bytes goes h same whole = subst (ProofText x) whole (subst (λ z. ProofText z new.whole.now) (sym (same p h)) goes.1)
-draft_ends (ended p) old new d x bytes goes h same whole = absurd h
-draft_ends (failed at) old new d x bytes goes h same whole = absurd goes
+pub draft_ends : (w : Where) (old new : Reader) (d : Draft) (bytes : List ℕ) → Goes w old new Nexts.End → IsDraftAt d w → new.whole.now ≡ bytes → IsDraftOf d bytes
+draft_ends (heading k) old new d bytes goes h whole = absurd goes
+draft_ends (behind p) old new d bytes goes h whole = (p, (h, subst (ProofText p) whole goes.1))
+draft_ends (ended p) old new d bytes goes h whole = absurd h
+draft_ends (failed at) old new d bytes goes h whole = absurd goes
+
+-- what is made of the draft is the proof of which the bytes are the text
+pub draft_made : (d : Draft) (x : Proof) (bytes : List ℕ) → IsDraftOf d bytes → ((p : Proof) → IsDraft d p → x ≡ p) → ProofText x bytes
+draft_made d x bytes (p, (h, text)) same = subst (λ z. ProofText z bytes) (sym (same p h)) text
 
 pub draft_fails : (w : Where) (old new : Reader) (d : Draft) (at : ℕ) (bytes : List ℕ) → Goes w old new (Nexts.Bad at) → IsDraftAt d w → new.whole.now ≡ bytes → IsFault bytes at
 draft_fails (heading k) old new d at bytes goes h whole = subst (λ z. IsFault z at) whole goes.1.1

@@ -9,6 +9,7 @@ use Rattle.proof_file.specs.declared.head.Digest256.{Digest256}
 use Rattle.proof_file.specs.declared.head.Head.{Head}
 use Rattle.proof_file.specs.declared.read.Draft.{Draft}
 use Rattle.proof_file.specs.declared.read.HeadDraft.{HeadDraft}
+use Rattle.proof_file.specs.Text.{ProofText}
 use Rattle.proof_file.specs.Reader.{Heading, opened, importing, filed, Where, heading, behind, ended, failed, no_lines}
 
 -- the last section, if there is one
@@ -43,6 +44,10 @@ IsHeadDraft d (filed files) = (d.schema ≡ Some files.schema) × ((d.imports.it
 pub record IsDraft (d : Draft) (p : Proof) : Type 0 where
   pub head : head_of d.head.schema d.head.imports.items d.head.graph d.head.strata ≡ p.head
   pub parts : ArePartsOf d.nodes.items d.sections.items d.stratum d.records.items d.claims.items p
+
+-- the draft is that of the proof of which the bytes are the text
+abbrev pub IsDraftOf : Draft → List ℕ → Type 0
+IsDraftOf d bytes = (p : Proof) × (IsDraft d p × ProofText p bytes)
 
 -- the draft has what is read of a head, and no line behind it
 pub record IsHeadingDraft (d : Draft) (h : Heading) : Type 0 where

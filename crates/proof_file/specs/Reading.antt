@@ -79,6 +79,11 @@ IsHeadLine (Lines.Digest part d) = IsDigest d
 IsHeadLine (Lines.Strata numbers) = AllByRecursion IsNumber numbers
 IsHeadLine line = ⊥
 
+-- a line of a claim within its limits, with a target of Unicode characters, or one of a head
+abbrev pub IsClaimOrHeadLine : Line → Type 0
+IsClaimOrHeadLine (Lines.Claim c) = IsNumber c.node × IsTextTarget c.target
+IsClaimOrHeadLine line = IsHeadLine line
+
 -- a line within its limits, with texts of Unicode characters
 abbrev pub IsWholeLine : Line → Type 0
 IsWholeLine l = IsLine l × IsUnicode l

@@ -6,7 +6,7 @@ ghost use Rattle.schema_tree.specs.Targets.{IsTextTarget, target_text};
 ghost use Rattle.proof_file.specs.Text.{record_fields, line_text, IsNumber};
 ghost use Rattle.rdf_terms.specs.Values.{IsWholeTerm};
 ghost use Rattle.rdf_terms.specs.Written.{term_text};
-ghost use Rattle.proof_file.specs.Reading.{Reads, fields, strata_fields, IsPlus, IsMinus, IsClaim, IsHeadLine, IsWholeLine, IsScalars, claim_rest};
+ghost use Rattle.proof_file.specs.Reading.{Reads, fields, strata_fields, IsPlus, IsMinus, IsClaim, IsClaimOrHeadLine, IsHeadLine, IsWholeLine, IsScalars, claim_rest};
 
 use crate::fields::{Stop, are_rising, cut, digest, number, numbers, places, states};
 use crate::head::{Digest256, Part};
@@ -52,6 +52,13 @@ pub(crate) fn read_line(alloc: Global, text: &str) -> Result<Line, Stop>
     if let Some(fields) = text.strip_prefix("- ") {
         return Ok(Line::Record(refuting(alloc, fields)?));
     }
+    read_claim_or_head_line(alloc, text)
+}
+
+/// The line of a claim, or of a head, of this text.
+fn read_claim_or_head_line(alloc: Global, text: &str) -> Result<Line, Stop>
+    ensures { Reads line_text IsClaimOrHeadLine text.now result }
+{
     if let Some(claim) = text.strip_prefix("c + ") {
         return Ok(Line::Claim(read_claim(alloc, true, claim)?));
     }

@@ -1,9 +1,10 @@
 //! The lines of a proof's text, one by one.
 
-ghost use Rattle.std.specs.Prelude.{◌≡◌, ◌==◌, ◌-◌, ◌↔◌, IsTrue, length, position};
+ghost use Rattle.std.specs.Prelude.{◌≡◌, ◌==◌, ◌-◌, ◌↔◌, IsTrue, List, ℕ, length, position};
 ghost use Rattle.proof_file.specs.Text.{line_text};
 ghost use Rattle.proof_file.specs.Reading.{Reads};
 ghost use Rattle.proof_file.specs.declared.Proof.{Proof};
+ghost use Rattle.proof_file.specs.declared.lines.Stage.TheVariants as Stages;
 ghost use Rattle.proof_file.specs.Reader.{Follows, IsBehind, IsNext, HasNoEnd, IsFirstLine, IsHeading, IsPast, IsFew, IsLast, IsOpening, MayEnd, Steps, IsEndBefore, Heading, Where, heading, behind, Stands, Goes, Opens, Shortens, next_stage, next_last};
 
 use crate::Record;
@@ -86,18 +87,49 @@ fn follows(stage: Stage, last: &[u8], line: &Line, text: &[u8]) -> bool
     requires { line_text line.now ≡ text.now }
     ensures { IsTrue result ↔ Follows stage last.now line.now }
 {
-    match (stage, line) {
-        (Stage::Head, Line::Digest(Part::Schema, _)) => true,
-        (Stage::Imports, Line::Digest(Part::Import | Part::Data, _)) => true,
-        (Stage::Files, Line::Strata(_)) => true,
-        (Stage::Head | Stage::Imports | Stage::Files, _) => false,
-        (Stage::Nodes(n), Line::Node(_)) => n < 16_777_216 && last.cmp(&text) == Ordering::Less,
-        (Stage::Nodes(_), Line::Section(_)) => true,
-        (Stage::Section(k) | Stage::Record(k, _, _), Line::Section(next)) => k < *next,
-        (Stage::Section(_), Line::Record(_)) => true,
-        (Stage::Record(_, node, shape), Line::Record(next)) => is_behind(node, shape, next),
-        (Stage::Ended | Stage::Failed, _) => false,
-        (_, Line::Claim(_)) => true,
+    match stage {
+        Stage::Head => matches!(line, Line::Digest(Part::Schema, _)),
+        Stage::Imports => matches!(line, Line::Digest(Part::Import | Part::Data, _)),
+        Stage::Files => matches!(line, Line::Strata(_)),
+        Stage::Nodes(n) => follows_nodes(n, last, line, text),
+        Stage::Section(k) => follows_section(k, line),
+        Stage::Record(k, node, shape) => follows_record(k, node, shape, line),
+        Stage::Claims => matches!(line, Line::Claim(_)),
+        Stage::Ended | Stage::Failed => false,
+    }
+}
+
+/// Whether the line, whose text this is, may follow this many node lines, the last of which has the text `last`.
+fn follows_nodes(n: u32, last: &[u8], line: &Line, text: &[u8]) -> bool
+    requires { line_text line.now ≡ text.now }
+    ensures { IsTrue result ↔ Follows (Stages.Nodes n) last.now line.now }
+{
+    match line {
+        Line::Node(_) => n < 16_777_216 && last.cmp(&text) == Ordering::Less,
+        Line::Section(_) | Line::Claim(_) => true,
+        _ => false,
+    }
+}
+
+/// Whether the line may follow that of a section of this stratum.
+fn follows_section(stratum: u32, line: &Line) -> bool
+    ensures { (last : List ℕ) → IsTrue result ↔ Follows (Stages.Section stratum) last line.now }
+{
+    match line {
+        Line::Section(next) => stratum < *next,
+        Line::Record(_) | Line::Claim(_) => true,
+        _ => false,
+    }
+}
+
+/// Whether the line may follow a record of this node and this Shape, in a section of this stratum.
+fn follows_record(stratum: u32, node: u32, shape: u32, line: &Line) -> bool
+    ensures { (last : List ℕ) → IsTrue result ↔ Follows (Stages.Record stratum node shape) last line.now }
+{
+    match line {
+        Line::Section(next) => stratum < *next,
+        Line::Record(next) => is_behind(node, shape, next),
+        Line::Claim(_) => true,
         _ => false,
     }
 }

@@ -5,7 +5,7 @@ ghost use Rattle.proof_file.specs.declared.Proof.{Proof};
 ghost use Rattle.proof_file.specs.Text.{ProofText};
 ghost use Rattle.proof_file.specs.Faults.{FaultsAs};
 ghost use Rattle.proof_file.specs.Reader.{AddsDigest, Grows, Heading, Leads, Where, no_lines, opened};
-ghost use Rattle.proof_file.specs.Drafts.{IsDraft, IsDraftAt, IsHeadDraft, IsHeadingDraft, head_of, last_section};
+ghost use Rattle.proof_file.specs.Drafts.{IsDraft, IsDraftAt, IsDraftOf, IsHeadDraft, IsHeadingDraft, head_of, last_section};
 
 use crate::head::{Digest256, Digests, Head, Part};
 use crate::line::Line;
@@ -214,20 +214,31 @@ fn close(
     }
 }
 
+/// Adds the lines of the bytes behind a draft without lines, where they are the text of a proof.
+fn add_lines(alloc: Global, bytes: &[u8], draft: &mut Draft) -> Result<(), ReadError>
+    requires plain { IsDraft draft.old no_lines }
+    requires head { IsHeadingDraft draft.old opened }
+    ensures found { OnOk result (IsDraftOf draft.new bytes.now) }
+    ensures fault { IfErr result (FaultsAs bytes.now) }
+{
+    let mut lines = Lines::new(bytes);
+    'lines: loop {
+        match lines.next(alloc) {
+            Next::Line(line) => draft.add(alloc, line)?,
+            Next::End => return Ok(()),
+            Next::Bad(at) => return Err(ReadError::Syntax(at)),
+            Next::Memory => return Err(ReadError::Memory),
+        }
+    }
+}
+
 /// The proof of which the bytes are the text, in time linear in their number. Fails with `Syntax` where they are the text of
 /// none, at the start of the first line with which they begin none, and with `Memory` where memory is wanting.
 pub fn read(alloc: Global, bytes: &[u8]) -> Result<Proof, ReadError>
     ensures found { IfOk result (λ p. ProofText p bytes.now) }
     ensures fault { IfErr result (FaultsAs bytes.now) }
 {
-    let mut lines = Lines::new(bytes);
     let mut draft = Draft::new(alloc);
-    'lines: loop {
-        match lines.next(alloc) {
-            Next::Line(line) => draft.add(alloc, line)?,
-            Next::End => return Ok(draft.finish()?),
-            Next::Bad(at) => return Err(ReadError::Syntax(at)),
-            Next::Memory => return Err(ReadError::Memory),
-        }
-    }
+    add_lines(alloc, bytes, &mut draft)?;
+    Ok(draft.finish()?)
 }

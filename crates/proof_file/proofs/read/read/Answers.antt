@@ -1,19 +1,5 @@
-use Rattle.std.proofs.Common.{◌∙◌}
-use Rattle.proof_file.proofs.Drafted.{draft_begins, draft_grows, draft_ends}
+use Rattle.proof_file.proofs.Drafted.{draft_made}
 use Rattle.proof_file.proofs.read.read.Goals as goal
 
-pub lines-init : goal.lines-init
-lines-init c = (c.new-lines.ensures.0, draft_begins c.new-lines.result c.new-draft.result c.args.bytes.now c.new-lines.ensures c.new-draft.ensures.plain c.new-draft.ensures.head)
-
-pub lines-preserved : goal.lines-preserved
-lines-preserved c =
-    let w = c.lines.invariant.1.0 in (
-      c.in-Line.ensures.whole ∙ c.lines.invariant.0,
-      draft_grows w c.lines.lines c.next.new.self c.in-Line.line c.lines.draft c.add.new.self (c.in-Line.ensures.goes w c.lines.invariant.1.1.0) c.lines.invariant.1.1.1 c.in_ok-add-in-Line.ensures.head c.in_ok-add-in-Line.ensures.body,
-    )
-
-pub returns-in-End-clause-found : goal.returns-in-End-clause-found
-returns-in-End-clause-found c =
-    let w = c.lines.invariant.1.0 in
-    draft_ends w c.lines.lines c.next.new.self c.lines.draft c.in_ok-finish-in-End.field-0 c.args.bytes.now (c.in-End.ensures.goes w c.lines.invariant.1.1.0) c.lines.invariant.1.1.1
-    c.in_ok-finish-in-End.ensures (c.in-End.ensures.whole ∙ c.lines.invariant.0)
+pub returns-clause-found : goal.returns-clause-found
+returns-clause-found c = draft_made c.add_lines.new.draft c.in_ok-finish.field-0 c.args.bytes.now c.in_ok-add_lines.ensures.found c.in_ok-finish.ensures
