@@ -3,7 +3,7 @@ use Rattle.std.proofs.Common.{◌≡◌, ◌-◌, Bool, false, Option, None, ℕ
 use Rattle.std.specs.Option.{option_to_list}
 use Rattle.std.specs.Prelude.{Contains, Err, IfOk, IsTrue, Ok, Result, ◌↔◌, slice_get}
 use Rattle.std.proofs.lemmas.Bool.{cases_eq, cases_lt}
-use Rattle.std.proofs.lemmas.List.{append-nil, append_assoc, get_or_past, length-replicate}
+use Rattle.std.proofs.lemmas.List.{append-nil, append_assoc, get_or_past, length-replicate, take_more}
 use Rattle.std.proofs.lemmas.Option.{get_or_from_slice_get, slice_get-get_or, slice_get_read, slice_get_within}
 use Rattle.lists.proofs.Members.{in_rest, not_in_none}
 use Rattle.schema_load.specs.declared.groups.Standing.{Standing}
@@ -102,6 +102,19 @@ numbers_more s w groups g e before = record {
       ]
       );
 }
+
+pub numbers_next : (s : List Standing) (i : ℕ) (groups after : List ℕ) (g : ℕ) → i < length s → get_or s i Unseen ≡ Grouped g → after ≡ groups ++ g ∷ [] → AreNumbers (take i s) groups → AreNumbers (take (i + 1) s) after
+numbers_next s i groups after g lt is pushed before =
+    subst (λ z. AreNumbers z after) (sym (take_more s i Unseen lt)) (subst (AreNumbers (take i s ++ get_or s i Unseen ∷ [])) (sym pushed) (numbers_more (take i s) (get_or s i Unseen) groups g is before))
+
+pub numbers_all : (s : List Standing) (i : ℕ) (groups : List ℕ) → length s ≤ i → AreNumbers (take i s) groups → AreNumbers s groups
+numbers_all s i groups le are = subst (λ z. AreNumbers z groups) (take_all s i le) are
+  where
+    take_all : (xs : List Standing) (n : ℕ) → length xs ≤ n → take n xs ≡ xs
+    take_all [] zero h = refl
+    take_all [] (suc n) h = refl
+    take_all (x ∷ xs) zero h = absurd (omega arith)
+    take_all (x ∷ xs) (suc n) h = ap (λ us. x ∷ us) (take_all xs n (omega arith))
 
 -- none of the places that were looked at is of the group
 pub none_of_group : (groups places : List ℕ) (n group : ℕ) → length places ≤ n → ((k : ℕ) → k < n → ¬ (get_or groups (get_or places k 0) 0 ≡ group)) → IsTrue false ↔ ((q : ℕ) × Contains places q × (get_or groups q 0 ≡ group))

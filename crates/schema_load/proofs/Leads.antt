@@ -1,8 +1,8 @@
 -- The places to which parts lead, as lists.
-use Rattle.std.proofs.Common.{◌≡◌, ℕ, zero, suc, ◌+◌, ◌<◌, List, [], ◌∷◌, refl, sym, subst, arith, length, get_or, Some, Option, None, ◌++◌, true, inl, inr}
+use Rattle.std.proofs.Common.{◌≡◌, ℕ, zero, suc, ◌+◌, ◌<◌, ◌≤◌, ◌∙◌, ap, List, [], ◌∷◌, refl, sym, subst, arith, length, get_or, Some, Option, None, ◌++◌, true, inl, inr}
 use Rattle.std.specs.Prelude.{Contains, slice_get}
 use Rattle.std.proofs.lemmas.Option.{slice_get_within}
-use Rattle.std.proofs.lemmas.List.{get_or-append-add, get_or_append_left}
+use Rattle.std.proofs.lemmas.List.{get_or-append-add, get_or_append_left, length-append}
 use Rattle.std.proofs.lemmas.Bool.{cases_eq}
 use Rattle.schema_load.specs.Names.{MissesTarget}
 use Rattle.schema_load.proofs.Firsts.{missing_of, truly}
@@ -132,6 +132,25 @@ each_push R ts k v size each here q lt = elim (cases_eq q k) [
 
 pub target_at : (parts : List Part) (p t : ℕ) (x : Part) → IsAt parts p x → IsTarget parts x t → IsTargetAt parts p t
 target_at parts p t x at target y here = subst (λ z. IsTarget parts z t) (one_at parts p x y at here) target
+
+-- the targets of the first parts
+abbrev pub AreTargetsTo : List Part → List ℕ → ℕ → Type 0
+AreTargetsTo parts ts k = (length ts ≡ k) × ((q : ℕ) → q < k → IsTargetAt parts q (get_or ts q 0))
+
+pub targets_none : (parts : List Part) (ts : List ℕ) → ts ≡ [] → AreTargetsTo parts ts 0
+targets_none parts ts e = (ap length e, λ q lt. absurd (omega arith))
+
+pub targets_more : (parts : List Part) (ts after : List ℕ) (k v : ℕ) (x : Part) → IsAt parts k x → IsTarget parts x v → after ≡ ts ++ v ∷ [] → AreTargetsTo parts ts k → AreTargetsTo parts after (k + 1)
+targets_more parts ts after k v x at target pushed (size, each) = (
+  ap length pushed ∙ (let h = length-append ts (v ∷ []) in omega arith),
+  λ q lt. subst (λ us. IsTargetAt parts q (get_or us q 0)) (sym pushed) (each_push (IsTargetAt parts) ts k v size each (target_at parts k v x at target) q lt),
+)
+
+pub targets_all : (parts : List Part) (ts : List ℕ) (k : ℕ) → k ≤ length parts → length parts ≤ k → AreTargetsTo parts ts k → AreTargets parts ts
+targets_all parts ts k low le (size, each) = record {
+  size = omega arith;
+  each = λ p x at. each p (let w = slice_get_within parts p x at in omega arith) x at;
+}
 
 pub misses_none : (parts : List Part) (p : ℕ) (x : Part) → NoneIs (HasOne (IsMissing parts)) → IsAt parts p x → ¬ MissesTarget parts x
 misses_none parts p x none at m = none p ((missing_of parts p x true at (truly m)).0 refl)
