@@ -1,29 +1,32 @@
 //! Shape expressions and triple expressions (ShEx 2.1, sections 5.3 and 5.5). Each function has a bound on how many brackets may
 //! still open.
 
-ghost use Rattle.std.specs.Prelude.{◌≡◌, map, option_map, [], ◌∷◌, true, false};
+ghost use Rattle.std.specs.Prelude.{◌≡◌, map, unwrap_or, option_map, [], ◌∷◌, true, false};
 ghost use Rattle.rdf_cursor.specs.Cursors.{ahead, source_in};
 ghost use Rattle.rdf_cursor.specs.Readers.{loop};
 ghost use Rattle.rdf_cursor.specs.Symbols.{is_symbol};
 ghost use Rattle.rdf_cursor.specs.declared.symbols.Symbol.TheVariants.{And, Or, Semicolon, Bar};
-ghost use Rattle.schema_documents.specs.Tree.{expr_of, maybe_expr, maybe_triple, triple_of};
+ghost use Rattle.schema_documents.specs.Tree.{ShapeExpr, expr_of, maybe_expr, maybe_triple, triple_of};
 ghost use Rattle.term_tokens.specs.Scopes.{scope_in};
 ghost use Rattle.shexc_constraints.specs.Stops.{Gives};
 ghost use Rattle.shexc_reader.specs.Reading as reading;
 ghost use Rattle.shexc_reader.specs.Reading.{level};
-ghost use Rattle.shexc_reader.specs.Trees.{empty_shape};
+ghost use Rattle.shexc_reader.specs.Trees.{both, empty_shape};
 
 use crate::classes::{at_connective, at_shape, at_unbraced, at_unit};
+use crate::held::{annotated, followed_by, noted};
 use crate::members::{all_of, any_of, each_of, one_of, push, push_triple, single};
-use crate::shapes::{both, constraint_behind, dot, empty_shape, literal_only, opens, qualifiers};
-use crate::triples::{arc_of, bracketed, cardinality, cardinality_behind, direction, inclusion};
+use crate::shapes::{
+    constraint_behind, dot, empty_shape, joined, literal_only, negation, opens, qualifiers,
+};
+use crate::triples::{arc_of, boxed, bracketed, cardinality_behind, counted, direction, inclusion};
 use rdf_cursor::{Cursor, Symbol};
 use rdf_terms::items::Items;
 use rdf_terms::text::Text;
 use schema_documents::{DocExpr, DocShape, DocTriple, Label};
 use shexc_constraints::classes::{at_literal_constraint, at_non_literal, at_reference};
 use shexc_constraints::constraints::non_literal;
-use shexc_constraints::parts::{annotations, label, notes, predicate, reference};
+use shexc_constraints::parts::{annotations, label, predicate, reference};
 use shexc_constraints::tokens::take;
 use shexc_constraints::{Fault, Stop};
 use term_tokens::Names;
@@ -60,7 +63,7 @@ fn shape_behind(
     ensures source { source_in c.new ≡ source_in c.old }
 {
     let expression = maybe_triple(c, names, depth)?;
-    take(c, Symbol::CloseBrace)?;
+    let (expression, _) = followed_by(c, Symbol::CloseBrace, expression)?;
     Ok(DocExpr::Shape(DocShape {
         closed,
         extra: Items::of(ps),
@@ -79,8 +82,7 @@ fn a_shape(c: &mut Cursor<'_>, names: &Names<'_>, depth: u32, whole: bool) -> Re
     let closed = qualifiers(c, names, &mut ps)?;
     opens(c, Symbol::OpenBrace, depth)?;
     let shape = shape_behind(c, names, depth, closed, ps)?;
-    notes(c, names, whole)?;
-    Ok(shape)
+    noted(c, names, whole, shape)
 }
 
 /// A Shape or a reference.
@@ -109,20 +111,19 @@ fn braced(
     c: &mut Cursor<'_>,
     names: &Names<'_>,
     depth: u32,
-    constraint: DocExpr,
-) -> Result<(DocExpr, bool), Stop>
-    ensures gives { Gives (λ p. (expr_of p.0, p.1)) result (ahead c.new) (reading.braced true (scope_in names.now) depth (level true (scope_in names.now) depth) (expr_of constraint) (ahead c.old)) }
+) -> Result<(Option<DocExpr>, bool), Stop>
+    ensures gives { (first : ShapeExpr) → Gives (λ p. (unwrap_or (option_map (λ e. both first (expr_of e)) p.0) first, p.1)) result (ahead c.new) (reading.braced true (scope_in names.now) depth (level true (scope_in names.now) depth) first (ahead c.old)) }
     ensures source { source_in c.new ≡ source_in c.old }
 {
     opens(c, Symbol::OpenBrace, depth)?;
     if c.is_at(Symbol::Integer) {
-        return Ok((constraint, true));
+        return Ok((None, true));
     }
     let shape = shape_behind(c, names, depth, false, Vec::new(names.alloc))?;
-    Ok((both(names.alloc, constraint, shape)?, false))
+    Ok((Some(shape), false))
 }
 
-/// A constraint with the Shape or the reference behind it.
+/// The Shape or the reference behind a constraint.
 #[cycle(grammar)]
 #[tactic(auto, unfolding(crate::specs::Reading::joined_with))]
 fn joined_with(
@@ -130,13 +131,12 @@ fn joined_with(
     names: &Names<'_>,
     depth: u32,
     whole: bool,
-    constraint: DocExpr,
-) -> Result<(DocExpr, bool), Stop>
-    ensures gives { Gives (λ p. (expr_of p.0, p.1)) result (ahead c.new) (reading.joined_with true (scope_in names.now) depth (level true (scope_in names.now) depth) whole (expr_of constraint) (ahead c.old)) }
+) -> Result<(Option<DocExpr>, bool), Stop>
+    ensures gives { (first : ShapeExpr) → Gives (λ p. (unwrap_or (option_map (λ e. both first (expr_of e)) p.0) first, p.1)) result (ahead c.new) (reading.joined_with true (scope_in names.now) depth (level true (scope_in names.now) depth) whole first (ahead c.old)) }
     ensures source { source_in c.new ≡ source_in c.old }
 {
     let shape = shape_or_reference(c, names, depth, whole)?;
-    Ok((both(names.alloc, constraint, shape)?, false))
+    Ok((Some(shape), false))
 }
 
 /// What may stand behind a constraint.
@@ -147,24 +147,23 @@ fn behind_constraint(
     names: &Names<'_>,
     depth: u32,
     whole: bool,
-    constraint: DocExpr,
-) -> Result<(DocExpr, bool), Stop>
-    ensures gives { Gives (λ p. (expr_of p.0, p.1)) result (ahead c.new) (reading.behind_constraint true (scope_in names.now) depth (level true (scope_in names.now) depth) whole (expr_of constraint) (ahead c.old)) }
+) -> Result<(Option<DocExpr>, bool), Stop>
+    ensures gives { (first : ShapeExpr) → Gives (λ p. (unwrap_or (option_map (λ e. both first (expr_of e)) p.0) first, p.1)) result (ahead c.new) (reading.behind_constraint true (scope_in names.now) depth (level true (scope_in names.now) depth) whole first (ahead c.old)) }
     ensures source { source_in c.new ≡ source_in c.old }
 {
     if whole {
         if at_shape(c) {
-            return joined_with(c, names, depth, true, constraint);
+            return joined_with(c, names, depth, true);
         }
-        return Ok((constraint, false));
+        return Ok((None, false));
     }
     if c.is_at(Symbol::OpenBrace) {
-        return braced(c, names, depth, constraint);
+        return braced(c, names, depth);
     }
     if at_unbraced(c) {
-        return joined_with(c, names, depth, false, constraint);
+        return joined_with(c, names, depth, false);
     }
-    Ok((constraint, false))
+    Ok((None, false))
 }
 
 /// An atom that begins with a constraint.
@@ -180,8 +179,9 @@ fn constraint_first(
     ensures source { source_in c.new ≡ source_in c.old }
 {
     let constraint = non_literal(c, names)?;
-    notes(c, names, whole)?;
-    behind_constraint(c, names, depth, whole, constraint)
+    let constraint = noted(c, names, whole, constraint)?;
+    let (shape, counted) = behind_constraint(c, names, depth, whole)?;
+    joined(names.alloc, constraint, shape, counted)
 }
 
 /// An atom that begins with a Shape or a reference.
@@ -212,8 +212,8 @@ fn parenthesised(c: &mut Cursor<'_>, names: &Names<'_>, depth: u32) -> Result<(D
 {
     opens(c, Symbol::OpenParenthesis, depth)?;
     let inner = inside_expression(c, names, depth)?;
-    take(c, Symbol::CloseParenthesis)?;
-    Ok((inner.0, false))
+    let (inner, _) = followed_by(c, Symbol::CloseParenthesis, inner.0)?;
+    Ok((inner, false))
 }
 
 /// An atom.
@@ -258,7 +258,7 @@ fn negated(
     }
     take(c, Symbol::Not)?;
     let inner = atom(c, names, depth, whole)?;
-    Ok((DocExpr::Not(Box::new(names.alloc, inner.0)?), inner.1))
+    negation(names.alloc, inner)
 }
 
 /// AND and a further member.
@@ -471,7 +471,7 @@ fn dot_value(
         return Ok((None, false));
     }
     let all = further(c, names, depth, (empty_shape(names.alloc), false))?;
-    Ok((Some(Box::new(names.alloc, all.0)?), all.1))
+    boxed(names.alloc, all)
 }
 
 /// The value of an arc.
@@ -489,7 +489,7 @@ fn arc_value(
         return dot_value(c, names, depth);
     }
     let all = expression(c, names, depth, false)?;
-    Ok((Some(Box::new(names.alloc, all.0)?), all.1))
+    boxed(names.alloc, all)
 }
 
 /// An arc.
@@ -532,9 +532,9 @@ fn grouped(
 {
     opens(c, Symbol::OpenParenthesis, depth)?;
     let inner = inside_triple(c, names, depth)?;
-    take(c, Symbol::CloseParenthesis)?;
-    let cardinality = cardinality(c, depth)?;
-    annotations(c, names)?;
+    let (inner, _) = followed_by(c, Symbol::CloseParenthesis, inner)?;
+    let (inner, cardinality) = counted(c, depth, inner)?;
+    let inner = annotated(c, names, inner)?;
     bracketed(names.alloc, label, cardinality, inner)
 }
 

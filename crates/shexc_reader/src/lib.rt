@@ -6,6 +6,7 @@
 
 mod classes;
 mod grammar;
+mod held;
 mod laws;
 mod members;
 mod reader;

@@ -78,7 +78,10 @@ fn read_text(alloc: Global, text: &str, base: &str) -> Result<Parsed, SchemaErro
     let mut c = Cursor::new(text, Mode::Schema);
     match document(&mut c, &mut state, MAX_DEPTH) {
         Ok(()) => Ok(state.into_parsed()),
-        Err(stop) => Err(error(alloc, stop, &c, c.place())),
+        Err(stop) => {
+            drop(state);
+            Err(error(alloc, stop, &c, c.place()))
+        }
     }
 }
 

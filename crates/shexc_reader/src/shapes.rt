@@ -1,11 +1,12 @@
 //! Shapes and shape expressions (ShEx 2.1, sections 5.3 and 5.5).
 
-ghost use Rattle.std.specs.Prelude.{◌≡◌, ℕ, IfOk, true, false};
+ghost use Rattle.std.specs.Prelude.{◌≡◌, ℕ, unwrap_or, option_map, IfOk, IfErr, true, false};
 ghost use Rattle.rdf_cursor.specs.Cursors.{ahead, source_in};
 ghost use Rattle.rdf_cursor.specs.Readers.{loop};
 ghost use Rattle.rdf_cursor.specs.Symbols.{is_among, is_symbol};
-ghost use Rattle.schema_documents.specs.Tree.{expr_of};
+ghost use Rattle.schema_documents.specs.Tree.{expr_of, neg};
 ghost use Rattle.term_tokens.specs.Scopes.{scope_in};
+ghost use Rattle.shexc_constraints.specs.declared.faults.Stop.TheVariants as stop;
 ghost use Rattle.shexc_constraints.specs.Stops.{Gives};
 ghost use Rattle.shexc_constraints.specs.Symbols.{predicates};
 ghost use Rattle.shexc_reader.specs.Reading as reading;
@@ -14,13 +15,14 @@ ghost use Rattle.shexc_reader.specs.Symbols.{qualifiers};
 ghost use Rattle.shexc_reader.specs.Trees.{both, empty_shape};
 
 use crate::classes::at_qualifier;
+use crate::held::{noted, with_constraint};
 use rdf_cursor::{Cursor, Symbol};
 use rdf_terms::items::Items;
 use rdf_terms::text::Text;
 use schema_documents::{DocExpr, DocShape};
 use shexc_constraints::classes::at_predicate;
-use shexc_constraints::constraints::{literal_constraint, non_literal};
-use shexc_constraints::parts::{notes, predicate};
+use shexc_constraints::constraints::literal_constraint;
+use shexc_constraints::parts::predicate;
 use shexc_constraints::tokens::take;
 use shexc_constraints::{Fault, Stop};
 use std::alloc::{AllocError, Global};
@@ -30,10 +32,31 @@ use term_tokens::Names;
 pub fn both(alloc: Global, first: DocExpr, second: DocExpr) -> Result<DocExpr, AllocError>
     ensures { IfOk result (λ e. expr_of e ≡ both (expr_of first) (expr_of second)) }
 {
-    let mut members = Vec::new(alloc);
-    members.push(first)?;
-    members.push(second)?;
-    Ok(DocExpr::And(members))
+    Ok(DocExpr::And(vec![in alloc; first, second]?))
+}
+
+/// An expression with the one that stands beside it, where there is one.
+pub fn joined(
+    alloc: Global,
+    first: DocExpr,
+    second: Option<DocExpr>,
+    counted: bool,
+) -> Result<(DocExpr, bool), Stop>
+    ensures ok { IfOk result (λ p. (expr_of p.0 ≡ unwrap_or (option_map (λ e. both (expr_of first) (expr_of e)) second) (expr_of first)) × (p.1 ≡ counted)) }
+    ensures memory { IfErr result (λ e. e ≡ stop.Memory) }
+{
+    match second {
+        Some(second) => Ok((both(alloc, first, second)?, counted)),
+        None => Ok((first, counted)),
+    }
+}
+
+/// An expression that is not to be satisfied.
+pub fn negation(alloc: Global, inner: (DocExpr, bool)) -> Result<(DocExpr, bool), Stop>
+    ensures ok { IfOk result (λ p. (expr_of p.0 ≡ neg (expr_of inner.0)) × (p.1 ≡ inner.1)) }
+    ensures memory { IfErr result (λ e. e ≡ stop.Memory) }
+{
+    Ok((DocExpr::Not(Box::new(alloc, inner.0)?), inner.1))
 }
 
 /// A Shape with nothing.
@@ -139,12 +162,10 @@ pub fn literal_only(
     ensures source { source_in c.new ≡ source_in c.old }
 {
     let constraint = literal_constraint(c, names)?;
-    notes(c, names, whole)?;
-    Ok((constraint, false))
+    noted(c, names, whole, (constraint, false))
 }
 
 /// A constraint behind a Shape.
-#[tactic(auto, unfolding(crate::specs::Reading::constraint_behind))]
 pub fn constraint_behind(
     c: &mut Cursor<'_>,
     names: &Names<'_>,
@@ -154,9 +175,8 @@ pub fn constraint_behind(
     ensures gives { (depth : ℕ) → Gives (λ p. (expr_of p.0, p.1)) result (ahead c.new) (reading.constraint_behind true (scope_in names.now) depth (level true (scope_in names.now) depth) whole (expr_of shape) (ahead c.old)) }
     ensures source { source_in c.new ≡ source_in c.old }
 {
-    let constraint = non_literal(c, names)?;
-    notes(c, names, whole)?;
-    Ok((both(names.alloc, shape, constraint)?, false))
+    let (shape, constraint) = with_constraint(c, names, whole, shape)?;
+    joined(names.alloc, shape, Some(constraint), false)
 }
 
 /// `.`

@@ -87,7 +87,7 @@ impl State {
     pub fn begin(&mut self, start: DocExpr)
         ensures { state_of self.new ≡ started (expr_of start) (state_of self.old) }
     {
-        self.start = Some(start);
+        drop(self.start.replace(start));
     }
 
     /// Adds a declaration.

@@ -3,7 +3,7 @@
 ghost use Rattle.std.specs.Prelude.{◌≡◌, ℕ, unwrap_or, option_map, IfOk, IfErr, true};
 ghost use Rattle.rdf_cursor.specs.Cursors.{ahead, source_in};
 ghost use Rattle.rdf_cursor.specs.Readers.{one};
-ghost use Rattle.schema_documents.specs.Tree.{arc, expr_of, maybe_expr, triple_of};
+ghost use Rattle.schema_documents.specs.Tree.{arc, expr_of, maybe_expr, one_expr, triple_of};
 ghost use Rattle.term_tokens.specs.Scopes.{Scope, scope_in};
 ghost use Rattle.shexc_constraints.specs.declared.faults.Fault.TheVariants.{Syntax};
 ghost use Rattle.shexc_constraints.specs.declared.faults.Stop.TheVariants as stop;
@@ -158,23 +158,34 @@ fn limits(c: &mut Cursor<'_>) -> Result<(u32, Bound), Stop>
     Ok((least, Bound::Upto(least)))
 }
 
+/// A cardinality of one sign.
+#[tactic(auto, unfolding(crate::specs::Reading::short))]
+fn short(
+    c: &mut Cursor<'_>,
+    sign: Symbol,
+    limits: (u32, Bound),
+) -> Result<Option<(u32, Bound)>, Stop>
+    ensures gives { (scope : Scope) (depth : ℕ) → Gives (λ x. x) result (ahead c.new) (reading.short true scope depth (level true scope depth) sign limits (ahead c.old)) }
+    ensures source { source_in c.new ≡ source_in c.old }
+{
+    take(c, sign)?;
+    Ok(Some(limits))
+}
+
 /// A cardinality, or none.
-#[tactic(auto, unfolding(crate::specs::Reading::cardinality, crate::specs::Reading::short))]
+#[tactic(auto, unfolding(crate::specs::Reading::cardinality))]
 pub fn cardinality(c: &mut Cursor<'_>, depth: u32) -> Result<Option<(u32, Bound)>, Stop>
     ensures gives { (scope : Scope) → Gives (λ x. x) result (ahead c.new) (reading.cardinality true scope depth (level true scope depth) (ahead c.old)) }
     ensures source { source_in c.new ≡ source_in c.old }
 {
     if c.is_at(Symbol::Star) {
-        take(c, Symbol::Star)?;
-        return Ok(Some((0, Bound::Free)));
+        return short(c, Symbol::Star, (0, Bound::Free));
     }
     if c.is_at(Symbol::Plus) {
-        take(c, Symbol::Plus)?;
-        return Ok(Some((1, Bound::Free)));
+        return short(c, Symbol::Plus, (1, Bound::Free));
     }
     if c.is_at(Symbol::Question) {
-        take(c, Symbol::Question)?;
-        return Ok(Some((0, Bound::Upto(1))));
+        return short(c, Symbol::Question, (0, Bound::Upto(1)));
     }
     if c.is_at(Symbol::OpenBrace) {
         opens(c, Symbol::OpenBrace, depth)?;
@@ -199,6 +210,28 @@ pub fn cardinality_behind(
         return Ok(Some(limits));
     }
     cardinality(c, depth)
+}
+
+/// The value of an arc.
+pub fn boxed(alloc: Global, value: (DocExpr, bool)) -> Result<(Option<Box<DocExpr>>, bool), Stop>
+    ensures ok { IfOk result (λ p. (maybe_expr (option_map (λ b. expr_of b.value) p.0) ≡ one_expr (expr_of value.0)) × (p.1 ≡ value.1)) }
+    ensures memory { IfErr result (λ e. e ≡ stop.Memory) }
+{
+    Ok((Some(Box::new(alloc, value.0)?), value.1))
+}
+
+/// A value with a cardinality behind it, or none.
+pub fn counted<T: Drop>(
+    c: &mut Cursor<'_>,
+    depth: u32,
+    held: T,
+) -> Result<(T, Option<(u32, Bound)>), Stop>
+    ensures gives { (scope : Scope) → Gives (λ p. p.1) result (ahead c.new) (reading.cardinality true scope depth (level true scope depth) (ahead c.old)) }
+    ensures held { IfOk result (λ p. p.0 ≡ held) }
+    ensures source { source_in c.new ≡ source_in c.old }
+{
+    let cardinality = cardinality(c, depth)?;
+    Ok((held, cardinality))
 }
 
 /// `^`, or nothing.
