@@ -60,16 +60,17 @@ pub fn with<'a>(command: Command<'a>, arg: Arg<'a>) -> Result<Command<'a>, Alloc
     Ok(wider)
 }
 
-/// A command of this name with the options for the schema and the data.
-fn with_files<'a>(alloc: Global, name: &'a str) -> Result<Command<'a>, AllocError>
+/// A command of this name with the options for the schema and the data. It fails where memory runs out.
+pub fn with_files<'a>(alloc: Global, name: &'a str) -> Result<Command<'a>, AllocError>
     ensures { IfOk result (λ c. app_of c ≡ command name.entry.now (needed (option (codes "schema")) ∷ needed (option (codes "data")) ∷ [])) }
 {
     let command = with(bare(alloc, name), needed(option(alloc, "schema")))?;
     with(command, needed(option(alloc, "data")))
 }
 
-/// The command with the options for both bases and with the import words behind its arguments.
-fn with_bases<'a>(alloc: Global, command: Command<'a>) -> Result<Command<'a>, AllocError>
+/// The command with the options for both bases and with the import words behind its arguments. It fails where memory runs
+/// out.
+pub fn with_bases<'a>(alloc: Global, command: Command<'a>) -> Result<Command<'a>, AllocError>
     ensures { IfOk result (λ c. app_of c ≡ with_rule (with_rule (with_rule (app_of command.entry) (option (codes "schema-base"))) (option (codes "data-base"))) (rest (codes "imports"))) }
 {
     let command = with(command, option(alloc, "schema-base"))?;
