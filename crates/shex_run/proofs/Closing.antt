@@ -40,7 +40,7 @@ use Rattle.shex_run.proofs.Exclusive.{AreOne, asked_not_absent, asked_not_refuse
 use Rattle.shex_run.proofs.Settled.{accepted_not_full, accepted_not_rejected, rejected_not_full}
 
 -- what is printed has the status that is wanted, or printing was interrupted
-wanted_or : (sink : SinkSeen) (text : List ℕ) (wanted status : ℕ) → PrintsTo sink text wanted status → (status ≡ wanted) ⊎ IsInterrupted status
+pub wanted_or : (sink : SinkSeen) (text : List ℕ) (wanted status : ℕ) → PrintsTo sink text wanted status → (status ≡ wanted) ⊎ IsInterrupted status
 wanted_or sink text wanted status (inl h) = inl h.0
 wanted_or sink text wanted status (inr (inl h)) = inr (inr (inl h.0))
 wanted_or sink text wanted status (inr (inr h)) = inr (inr (inr h.0))
@@ -50,7 +50,7 @@ or_interrupted P wanted status to (inl h) = inl (to h)
 or_interrupted P wanted status to (inr h) = inr h
 
 -- a failed call interrupts
-five_interrupts : (status : ℕ) → (status ≡ 5) ⊎ IsInterrupted status → IsInterrupted status
+pub five_interrupts : (status : ℕ) → (status ≡ 5) ⊎ IsInterrupted status → IsInterrupted status
 five_interrupts status (inl h) = inl h
 five_interrupts status (inr h) = h
 
@@ -59,12 +59,12 @@ cut_interrupts : (sink : SinkSeen) (text : List ℕ) (status : ℕ) → IsCut si
 cut_interrupts sink text status (inl h) = inr (inl h.0)
 cut_interrupts sink text status (inr h) = inr (inr h.0)
 
-wanted_both : (out err : SinkSeen) (text notes : List ℕ) (wanted status : ℕ) → PrintsBoth out err text notes wanted status → (status ≡ wanted) ⊎ IsInterrupted status
+pub wanted_both : (out err : SinkSeen) (text notes : List ℕ) (wanted status : ℕ) → PrintsBoth out err text notes wanted status → (status ≡ wanted) ⊎ IsInterrupted status
 wanted_both out err text notes wanted status (inl h) = wanted_or err notes wanted status h.2
 wanted_both out err text notes wanted status (inr h) = inr (cut_interrupts out text status h.0)
 
 -- the status of answers
-answering : (status wanted : ℕ) → IsAnswering wanted → (status ≡ wanted) → IsAnswering status
+pub answering : (status wanted : ℕ) → IsAnswering wanted → (status ≡ wanted) → IsAnswering status
 answering status wanted low h = subst IsAnswering (sym h) low
 
 module _ (words : List Text) (c : Command) (is_asked : IsAsked words c) (law : AnswersAreOne) where
@@ -309,7 +309,7 @@ prefix_of_cut sink text status (inl h) = h.1
 prefix_of_cut sink text status (inr h) = h.1
 
 -- the status of a response is low
-low_wanted : (wanted : ℕ) → IsAnswering wanted → wanted < 5
+pub low_wanted : (wanted : ℕ) → IsAnswering wanted → wanted < 5
 low_wanted wanted (inl e) = omega (arith, e)
 low_wanted wanted (inr (inl e)) = omega (arith, e)
 low_wanted wanted (inr (inr e)) = omega (arith, e)
@@ -345,16 +345,16 @@ unprinted words files out err status ends at = elim (partly_printed words files 
 ]
 
 -- a status that is not wanted is 7 or 8
-other_status : (sink : SinkSeen) (text : List ℕ) (wanted status other : ℕ) → ¬ (wanted ≡ other) → other < 7 → PrintsTo sink text wanted status → status ≡ other → ⊥
+pub other_status : (sink : SinkSeen) (text : List ℕ) (wanted status other : ℕ) → ¬ (wanted ≡ other) → other < 7 → PrintsTo sink text wanted status → status ≡ other → ⊥
 other_status sink text wanted status other differs low (inl h) at = differs (sym h.0 ∙ at)
 other_status sink text wanted status other differs low (inr (inl h)) at = let e : status ≡ 7 = h.0 in absurd (omega (arith, e, at, low))
 other_status sink text wanted status other differs low (inr (inr h)) at = let e : status ≡ 8 = h.0 in absurd (omega (arith, e, at, low))
 
-other_cut : (sink : SinkSeen) (text : List ℕ) (status other : ℕ) → other < 7 → IsCut sink.got sink.got_after sink.faults sink.faults_after text status → status ≡ other → ⊥
+pub other_cut : (sink : SinkSeen) (text : List ℕ) (status other : ℕ) → other < 7 → IsCut sink.got sink.got_after sink.faults sink.faults_after text status → status ≡ other → ⊥
 other_cut sink text status other low (inl h) at = let e : status ≡ 7 = h.0 in absurd (omega (arith, e, at, low))
 other_cut sink text status other low (inr h) at = let e : status ≡ 8 = h.0 in absurd (omega (arith, e, at, low))
 
-other_both : (out err : SinkSeen) (text notes : List ℕ) (wanted status other : ℕ) → ¬ (wanted ≡ other) → other < 7 → PrintsBoth out err text notes wanted status → status ≡ other → ⊥
+pub other_both : (out err : SinkSeen) (text notes : List ℕ) (wanted status other : ℕ) → ¬ (wanted ≡ other) → other < 7 → PrintsBoth out err text notes wanted status → status ≡ other → ⊥
 other_both out err text notes wanted status other differs low (inl h) at = other_status err notes wanted status other differs low h.2 at
 other_both out err text notes wanted status other differs low (inr h) at = other_cut out text status other low h.0 at
 

@@ -13,6 +13,7 @@ pub mod Newest
 pub mod Noted
 pub mod Replies
 pub mod Risen
+pub mod Sayings
 pub mod Selected
 pub mod Settled
 pub mod Drilled

@@ -188,15 +188,15 @@ fn keep<F: Files>(
 fn validate<F: Files>(
     alloc: Global,
     files: &mut F,
-    holding: Holding,
+    holding: &mut Holding,
     validation: &Validation<'_>,
 ) -> Result<Response, Stop>
-    requires taken { IsTaken (F.told files.old) (inputs_of (command_of (Lent.Validate validation.now))) (held_by holding) }
+    requires taken { IsTaken (F.told files.old) (inputs_of (command_of (Lent.Validate validation.now))) (held_by holding.old) }
     requires fit { IsFit (command_of (Lent.Validate validation.now)) }
-    requires scheme { IsSome (scheme_of (base_of holding.names)) }
-    requires labels { IsSome (scheme_of (base_of holding.labels)) }
-    requires loaded { IsLoaded holding.schema }
-    requires of_table { All (IsOfTable holding.terms) holding.graph.triples }
+    requires scheme { IsSome (scheme_of (base_of holding.old.names)) }
+    requires labels { IsSome (scheme_of (base_of holding.old.labels)) }
+    requires loaded { IsLoaded holding.old.schema }
+    requires of_table { All (IsOfTable holding.old.terms) holding.old.graph.triples }
     ensures response { IfOk result (λ r. IsResponse (F.told files.old) (F.told files.new) (command_of (Lent.Validate validation.now)) r.status r.text.items r.notes.items) }
     ensures low { IfOk result (λ r. IsAnswering r.status) }
     ensures cause { IfErr result (Explains (F.told files.old) (command_of (Lent.Validate validation.now))) }
@@ -204,8 +204,7 @@ fn validate<F: Files>(
     ensures stored { IfErr result (LeavesStored (F.told files.old) (F.told files.new) (command_of (Lent.Validate validation.now))) }
     ensures faults_stay { OnOk result (F.faults files.new ≡ F.faults files.old) }
 {
-    let mut holding = holding;
-    let decided = decide_map(alloc, files, &mut holding, validation)?;
+    let decided = decide_map(alloc, files, holding, validation)?;
     keep(alloc, files, validation, decided)
 }
 
@@ -213,12 +212,12 @@ fn validate<F: Files>(
 fn check<F: Files>(
     alloc: Global,
     files: &mut F,
-    holding: Holding,
+    holding: &mut Holding,
     checking: &Checking<'_>,
 ) -> Result<Response, Stop>
-    requires taken { IsTaken (F.told files.old) (inputs_of (command_of (Lent.Check checking.now))) (held_by holding) }
-    requires loaded { IsLoaded holding.schema }
-    requires of_table { All (IsOfTable holding.terms) holding.graph.triples }
+    requires taken { IsTaken (F.told files.old) (inputs_of (command_of (Lent.Check checking.now))) (held_by holding.old) }
+    requires loaded { IsLoaded holding.old.schema }
+    requires of_table { All (IsOfTable holding.old.terms) holding.old.graph.triples }
     ensures response { IfOk result (λ r. IsResponse (F.told files.old) (F.told files.new) (command_of (Lent.Check checking.now)) r.status r.text.items r.notes.items) }
     ensures low { IfOk result (λ r. IsAnswering r.status) }
     ensures cause { IfErr result (Explains (F.told files.old) (command_of (Lent.Check checking.now))) }
@@ -239,12 +238,12 @@ fn check<F: Files>(
 fn upgrade<F: Files>(
     alloc: Global,
     files: &mut F,
-    holding: Holding,
+    holding: &mut Holding,
     upgrading: &Upgrading<'_>,
 ) -> Result<Response, Stop>
-    requires taken { IsTaken (F.told files.old) (inputs_of (command_of (Lent.Upgrade upgrading.now))) (held_by holding) }
-    requires loaded { IsLoaded holding.schema }
-    requires of_table { All (IsOfTable holding.terms) holding.graph.triples }
+    requires taken { IsTaken (F.told files.old) (inputs_of (command_of (Lent.Upgrade upgrading.now))) (held_by holding.old) }
+    requires loaded { IsLoaded holding.old.schema }
+    requires of_table { All (IsOfTable holding.old.terms) holding.old.graph.triples }
     ensures response { IfOk result (λ r. IsResponse (F.told files.old) (F.told files.new) (command_of (Lent.Upgrade upgrading.now)) r.status r.text.items r.notes.items) }
     ensures low { IfOk result (λ r. IsAnswering r.status) }
     ensures cause { IfErr result (Explains (F.told files.old) (command_of (Lent.Upgrade upgrading.now))) }
@@ -282,6 +281,33 @@ fn hold<F: Files>(alloc: Global, files: &mut F, command: &Command<'_>) -> Result
     }
 }
 
+/// What answers a command over what its files hold, or why nothing does.
+fn answer<F: Files>(
+    alloc: Global,
+    files: &mut F,
+    holding: &mut Holding,
+    command: &Command<'_>,
+) -> Result<Response, Stop>
+    requires taken { IsTaken (F.told files.old) (inputs_of (command_of command.now)) (held_by holding.old) }
+    requires fit { IsFit (command_of command.now) }
+    requires scheme { IsSome (scheme_of (base_of holding.old.names)) }
+    requires labels { IsSome (scheme_of (base_of holding.old.labels)) }
+    requires loaded { IsLoaded holding.old.schema }
+    requires of_table { All (IsOfTable holding.old.terms) holding.old.graph.triples }
+    ensures response { IfOk result (λ r. IsResponse (F.told files.old) (F.told files.new) (command_of command.now) r.status r.text.items r.notes.items) }
+    ensures low { IfOk result (λ r. IsAnswering r.status) }
+    ensures cause { IfErr result (Explains (F.told files.old) (command_of command.now)) }
+    ensures faults { IfErr result (FaultsAs (command_of command.now) (F.faults files.old) (F.faults files.new) (F.blame files.new) (F.act files.new)) }
+    ensures stored { IfErr result (LeavesStored (F.told files.old) (F.told files.new) (command_of command.now)) }
+    ensures faults_stay { OnOk result (F.faults files.new ≡ F.faults files.old) }
+{
+    match command {
+        Command::Validate(validation) => validate(alloc, files, holding, validation),
+        Command::Check(checking) => check(alloc, files, holding, checking),
+        Command::Upgrade(upgrading) => upgrade(alloc, files, holding, upgrading),
+    }
+}
+
 /// What answers a command, or why nothing does. A proof that is asked for is stored before.
 pub fn respond<F: Files>(
     alloc: Global,
@@ -296,10 +322,8 @@ pub fn respond<F: Files>(
     ensures stored { IfErr result (LeavesStored (F.told files.old) (F.told files.new) (command_of command.now)) }
     ensures faults_stay { OnOk result (F.faults files.new ≡ F.faults files.old) }
 {
-    let holding = hold(alloc, files, command)?;
-    match command {
-        Command::Validate(validation) => validate(alloc, files, holding, validation),
-        Command::Check(checking) => check(alloc, files, holding, checking),
-        Command::Upgrade(upgrading) => upgrade(alloc, files, holding, upgrading),
-    }
+    let mut holding = hold(alloc, files, command)?;
+    let response = answer(alloc, files, &mut holding, command);
+    drop(holding);
+    response
 }

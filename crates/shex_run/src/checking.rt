@@ -15,9 +15,9 @@ use shape_map::write_result;
 use shex_inputs::Holding;
 use std::alloc::Global;
 
-/// The result map of the claims of a proof that is current and accepted, or why it is not. The graph is sealed, and the table
-/// takes up the nodes of the proof.
-fn confirm_held(alloc: Global, holding: &mut Holding, proof: &[u8]) -> Result<Vec<u8>, Stop>
+/// The result map of the claims of a proof that is current and accepted, or why it is not. What is held is left with its graph
+/// sealed and with the nodes of the proof in its table.
+pub fn confirm(alloc: Global, holding: &mut Holding, proof: &[u8]) -> Result<Vec<u8>, Stop>
     requires loaded { IsLoaded holding.old.schema }
     requires strata { IsStratum holding.old.schema holding.old.strata }
     requires distinct { AreDistinct holding.old.terms }
@@ -47,17 +47,4 @@ fn confirm_held(alloc: Global, holding: &mut Holding, proof: &[u8]) -> Result<Ve
         Ok(()) => Ok(text),
         Err(_) => Err(Stop::Memory),
     }
-}
-
-/// The result map of the claims of a proof that is current and accepted, or why it is not.
-pub fn confirm(alloc: Global, holding: Holding, proof: &[u8]) -> Result<Vec<u8>, Stop>
-    requires loaded { IsLoaded holding.schema }
-    requires strata { IsStratum holding.schema holding.strata }
-    requires distinct { AreDistinct holding.terms }
-    requires of_table { All (IsOfTable holding.terms) holding.graph.triples }
-    ensures confirmed { IfOk result (λ text. Confirms (held_by holding) proof.now text.items) }
-    ensures stops { IfErr result (ConfirmStops (held_by holding) proof.now) }
-{
-    let mut holding = holding;
-    confirm_held(alloc, &mut holding, proof)
 }

@@ -122,8 +122,8 @@ fn check_texts(
 {
     // The law by which the texts hold one thing.
     inputs_are_one();
-    let holding = hold(alloc, files, validation)?;
-    match confirm(alloc, holding, proof) {
+    let mut holding = hold(alloc, files, validation)?;
+    match confirm(alloc, &mut holding, proof) {
         Ok(_) => Ok(()),
         Err(stop) => match stop {
             Stop::Memory => Err(Stop::Memory),

@@ -77,16 +77,20 @@ fn newest(alloc: Global, head: Head, bytes: Vec<u8>) -> Result<Vec<u8>, Stop>
 }
 
 /// The result map of the claims of a proof that is current and accepted, and the proof in format 2, or why it is not confirmed.
-pub fn confirm_newest(alloc: Global, holding: Holding, proof: Vec<u8>) -> Result<Upgraded, Stop>
-    requires loaded { IsLoaded holding.schema }
-    requires strata { IsStratum holding.schema holding.strata }
-    requires distinct { AreDistinct holding.terms }
-    requires of_table { All (IsOfTable holding.terms) holding.graph.triples }
-    requires fits { AllByRecursion IsLine (head_lines (head_if true (held_by holding))) }
-    ensures upgrades { IfOk result (λ u. Upgrades (held_by holding) proof.items u.text.items u.proof.items) }
-    ensures stops { IfErr result (ConfirmStops (held_by holding) proof.items) }
+pub fn confirm_newest(
+    alloc: Global,
+    holding: &mut Holding,
+    proof: Vec<u8>,
+) -> Result<Upgraded, Stop>
+    requires loaded { IsLoaded holding.old.schema }
+    requires strata { IsStratum holding.old.schema holding.old.strata }
+    requires distinct { AreDistinct holding.old.terms }
+    requires of_table { All (IsOfTable holding.old.terms) holding.old.graph.triples }
+    requires fits { AllByRecursion IsLine (head_lines (head_if true (held_by holding.old))) }
+    ensures upgrades { IfOk result (λ u. Upgrades (held_by holding.old) proof.items u.text.items u.proof.items) }
+    ensures stops { IfErr result (ConfirmStops (held_by holding.old) proof.items) }
 {
-    let head = head_of(alloc, &holding)?;
+    let head = head_of(alloc, holding)?;
     let text = confirm(alloc, holding, proof.as_slice())?;
     let proof = newest(alloc, head, proof)?;
     Ok(Upgraded { text, proof })

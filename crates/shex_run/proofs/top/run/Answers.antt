@@ -1,7 +1,44 @@
 use Rattle.shex_run.proofs.Closing.{absent_ends, accepted_ends, drill_ends, drill_stored, ends_kept, ends_partly, ends_quietly, faulty_ends, filled_ends, five_rose, five_unfetched, in_part, refused_ends, rejected_ends, seven_rose, taken_ends, unfaulted, unprinted, upgraded_ends, whole_ends}
 use Rattle.shex_run.proofs.Exclusive.{are_one}
 use Rattle.shex_run.proofs.Noted.{four_noted}
+use Rattle.shex_run.proofs.Sayings.{answers, fault_interrupts, five_says, is_status, nothing_out, sink_seven, six_says, three_says, two_says, unstored}
 use Rattle.shex_run.proofs.top.run.Goals as goal
+
+pub returns-clause-statuses : goal.returns-clause-statuses
+returns-clause-statuses g c = is_status _ _ _ _ _ c.end.ensures
+
+pub returns-clause-answered : goal.returns-clause-answered
+returns-clause-answered g c = λ at. answers _ _ _ _ _ at c.end.ensures
+
+pub returns-clause-arguments : goal.returns-clause-arguments
+returns-clause-arguments g c = λ at. two_says _ _ _ _ _ at c.end.ensures
+
+pub returns-clause-refused : goal.returns-clause-refused
+returns-clause-refused g c = λ at. three_says _ _ _ _ _ at c.end.ensures
+
+pub returns-clause-failed : goal.returns-clause-failed
+returns-clause-failed g c = λ at. five_says _ _ _ _ _ at c.end.ensures
+
+pub returns-clause-fault : goal.returns-clause-fault
+returns-clause-fault g c = λ at. five_rose _ _ _ _ _ c.end.ensures at
+
+pub returns-clause-rejected : goal.returns-clause-rejected
+returns-clause-rejected g c = λ at. six_says _ _ _ _ _ at c.end.ensures
+
+pub returns-clause-sink_failed : goal.returns-clause-sink_failed
+returns-clause-sink_failed g c = λ at. seven_rose _ _ _ _ _ c.end.ensures at
+
+pub returns-clause-nothing_out : goal.returns-clause-nothing_out
+returns-clause-nothing_out g c = λ at. nothing_out _ _ _ _ _ at c.end.ensures
+
+pub returns-clause-unstored : goal.returns-clause-unstored
+returns-clause-unstored g c = λ at. unstored _ _ _ _ _ at c.end.ensures
+
+pub returns-clause-files_fault : goal.returns-clause-files_fault
+returns-clause-files_fault g c = λ more. fault_interrupts _ _ _ _ _ more c.end.ensures
+
+pub returns-clause-sink_fault : goal.returns-clause-sink_fault
+returns-clause-sink_fault g c = λ fault. sink_seven _ _ _ _ _ fault c.end.ensures
 
 pub returns-clause-in_part : goal.returns-clause-in_part
 returns-clause-in_part g c = in_part _ _ _ _ _ c.end.ensures

@@ -11,7 +11,7 @@ use Rattle.shex_run.specs.Proofs.{Accepted}
 use Rattle.shex_run.proofs.Confirmed.{is_true, stops}
 use Rattle.shex_run.proofs.Settled.{answers_there}
 use Rattle.schema_tree.proofs.Strata.{stratified_no_cycle, stratum_stratified}
-use Rattle.shex_run.proofs.checking.confirm_held.Goals as goal
+use Rattle.shex_run.proofs.checking.confirm.Goals as goal
 
 pub check-checked-requires-clause-stratified : goal.check-checked-requires-clause-stratified
 check-checked-requires-clause-stratified c =
