@@ -64,15 +64,20 @@ fn arcs_of(alloc: Global, data: &Data, question: &str) -> anyhow::Result<Vec<Tri
     at_node(alloc, &data.graph, kind, node, predicate)
 }
 
-/// The arcs of data that a question is about, in their order.
-pub fn arcs(alloc: Global, name: &str, source: &[u8], question: &str) -> anyhow::Result<String> {
-    let Ok(mut data) = data_of(alloc, name, source) else {
-        bail!("the data are refused");
-    };
+/// The arcs of data that a question is about, in their order, once the graph is sealed.
+fn arcs_in(alloc: Global, data: &mut Data, question: &str) -> anyhow::Result<String> {
     data.graph.seal(&data.terms)?;
-    let triples = arcs_of(alloc, &data, question)?;
+    let triples = arcs_of(alloc, data, question)?;
     if triples.is_empty() {
         return Ok(String::from_str(alloc, "none")?);
     }
     Ok(written(alloc, &data.terms, triples.as_slice(), b", ")?)
+}
+
+/// The arcs of the data of a file that a question is about, in their order.
+pub fn arcs(alloc: Global, name: &str, source: &[u8], question: &str) -> anyhow::Result<String> {
+    match data_of(alloc, name, source) {
+        Ok(mut data) => arcs_in(alloc, &mut data, question),
+        Err(_) => bail!("the data are refused"),
+    }
 }

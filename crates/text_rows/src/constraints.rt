@@ -38,6 +38,11 @@ fn constraint_of(alloc: Global, lines: &str) -> anyhow::Result<Result<NodeConstr
     Ok(NodeConstraint::make(alloc, None, None, facets, None))
 }
 
+/// Whether a constraint holds for a literal.
+fn judged(alloc: Global, constraint: &NodeConstraint, literal: Literal) -> anyhow::Result<String> {
+    told(alloc, constraint.holds(alloc, &Term::Lit(literal))?)
+}
+
 /// Whether a constraint of one facet holds for the decimal of a text, or how it is refused.
 pub fn held(alloc: Global, facet: &str, text: &str) -> anyhow::Result<String> {
     let lex = Text::from_str(alloc, text)?;
@@ -45,7 +50,7 @@ pub fn held(alloc: Global, facet: &str, text: &str) -> anyhow::Result<String> {
         bail!("decimals are literals");
     };
     match constraint_of(alloc, facet)? {
-        Ok(constraint) => told(alloc, constraint.holds(alloc, &Term::Lit(literal))?),
+        Ok(constraint) => judged(alloc, &constraint, literal),
         Err(error) => Ok(format!(in alloc; "{error:?}")?),
     }
 }

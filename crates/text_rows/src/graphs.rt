@@ -34,12 +34,18 @@ pub fn data_of(alloc: Global, name: &str, source: &[u8]) -> Result<Data, ReadErr
     let mut terms = TermTable::new(alloc);
     let mut graph = Graph::new(alloc);
     let format = Format::of_name(name);
-    let names = read(alloc, format, BASE, source, &mut terms, &mut graph)?;
-    Ok(Data {
-        terms,
-        graph,
-        names,
-    })
+    match read(alloc, format, BASE, source, &mut terms, &mut graph) {
+        Ok(names) => Ok(Data {
+            terms,
+            graph,
+            names,
+        }),
+        Err(error) => {
+            drop(graph);
+            drop(terms);
+            Err(error)
+        }
+    }
 }
 
 /// Triples in N-Triples, with a separator between two.

@@ -26,11 +26,17 @@ fn target_names(alloc: Global) -> Result<Prefixes, AllocError>
     Ok(prefixes)
 }
 
-/// A schema with the labels `<http://s/S>` of expression 0 and `_:T` of expression 1, and the start 2.
-fn schema(alloc: Global) -> Result<Schema, AllocError> {
-    let mut labels = Labels::new(alloc);
+/// Declares the labels `<http://s/S>` of expression 0 and `_:T` of expression 1.
+fn declare(alloc: Global, labels: &mut Labels) -> Result<(), AllocError> {
     labels.declare(Label::Iri(Text::from_str(alloc, "http://s/S")?), ExprId(0))?;
     labels.declare(Label::Blank(Text::from_str(alloc, "T")?), ExprId(1))?;
+    Ok(())
+}
+
+/// A schema with these labels and the start 2.
+fn schema(alloc: Global) -> Result<Schema, AllocError> {
+    let mut labels = Labels::new(alloc);
+    declare(alloc, &mut labels)?;
     Ok(Schema {
         exprs: Items::of(Vec::new(alloc)),
         shapes: Items::of(Vec::new(alloc)),
@@ -109,6 +115,14 @@ fn told(
     }
 }
 
+/// What is asked of the map of some bytes over data.
+fn asked_of(alloc: Global, kind: &str, data: &mut Data, question: &[u8]) -> anyhow::Result<String>
+    requires { IsSome (scheme_of (base_of data.old.names)) }
+{
+    let map = read(alloc, question, &data.names, &target_names(alloc)?);
+    Ok(told(alloc, kind, map, data)?)
+}
+
 /// What is asked of the map of some bytes over the data of a file.
 pub fn asked(
     alloc: Global,
@@ -117,9 +131,8 @@ pub fn asked(
     source: &[u8],
     question: &[u8],
 ) -> anyhow::Result<String> {
-    let Ok(mut data) = data_of(alloc, name, source) else {
-        bail!("the data are refused");
-    };
-    let map = read(alloc, question, &data.names, &target_names(alloc)?);
-    Ok(told(alloc, kind, map, &mut data)?)
+    match data_of(alloc, name, source) {
+        Ok(mut data) => asked_of(alloc, kind, &mut data, question),
+        Err(_) => bail!("the data are refused"),
+    }
 }

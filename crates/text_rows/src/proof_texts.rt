@@ -1,5 +1,8 @@
 //! Texts of proofs, read and written again.
 
+ghost use Rattle.proof_file.specs.Text.{Keeps};
+
+use proof_file::Proof;
 use proof_file::read::read;
 use proof_file::write::write;
 use std::alloc::{AllocError, Global};
@@ -13,10 +16,17 @@ fn with_line_feeds(alloc: Global, text: &str) -> Result<String, AllocError> {
     Ok(out)
 }
 
+/// What is written of a proof.
+fn text_of(alloc: Global, proof: &Proof) -> Result<String, AllocError>
+    requires { Keeps proof.now }
+{
+    String::from_utf8_lossy(alloc, write(alloc, proof)?.as_slice())
+}
+
 /// What is written of the proof that bytes are read as, or why they are none.
 pub fn rewritten(alloc: Global, bytes: &[u8]) -> Result<String, AllocError> {
     match read(alloc, bytes) {
-        Ok(proof) => String::from_utf8_lossy(alloc, write(alloc, &proof)?.as_slice()),
+        Ok(proof) => text_of(alloc, &proof),
         Err(error) => format!(in alloc; "{error}"),
     }
 }

@@ -70,17 +70,22 @@ fn put_all(alloc: Global, texts: &str, terms: &mut TermTable) -> anyhow::Result<
     Ok(ids)
 }
 
-/// The numbers of terms in an empty table.
-pub fn numbers(alloc: Global, texts: &str) -> anyhow::Result<String> {
-    let mut terms = TermTable::new(alloc);
+/// The numbers that a table gives to the terms of texts, and how many terms it then has.
+fn numbered(alloc: Global, texts: &str, terms: &mut TermTable) -> anyhow::Result<String> {
     let mut out = String::new(alloc);
-    for id in put_all(alloc, texts, &mut terms)? {
+    for id in put_all(alloc, texts, terms)? {
         let number = id.0;
         write!(out, "{number} ")?;
     }
     let count = terms.len();
     write!(out, "of {count}")?;
     Ok(out)
+}
+
+/// The numbers of terms in an empty table.
+pub fn numbers(alloc: Global, texts: &str) -> anyhow::Result<String> {
+    let mut terms = TermTable::new(alloc);
+    numbered(alloc, texts, &mut terms)
 }
 
 /// Appends the term of a number, if it is of the table.
@@ -126,10 +131,15 @@ pub fn numbers_from(
     Ok(ids)
 }
 
+/// The terms of texts in their order, once a table has taken them up.
+fn in_order(alloc: Global, texts: &str, terms: &mut TermTable) -> anyhow::Result<String> {
+    let mut ids = put_all(alloc, texts, terms)?;
+    put_in_order(terms, &mut ids)?;
+    Ok(texts_of(alloc, terms, ids.as_slice(), b"\n")?)
+}
+
 /// Terms in their order, each once.
 pub fn sorted(alloc: Global, texts: &str) -> anyhow::Result<String> {
     let mut terms = TermTable::new(alloc);
-    let mut ids = put_all(alloc, texts, &mut terms)?;
-    put_in_order(&terms, &mut ids)?;
-    Ok(texts_of(alloc, &terms, ids.as_slice(), b"\n")?)
+    in_order(alloc, texts, &mut terms)
 }
