@@ -1,0 +1,3 @@
+mod AskedTwice
+mod CheckedSchemas
+mod SampledRefinements

@@ -1,2 +1,0 @@
-mod AskedTwice
-mod SampledRefinements
