@@ -61,15 +61,14 @@ pub fn with<'a>(command: Command<'a>, arg: Arg<'a>) -> Result<Command<'a>, Alloc
 }
 
 /// A command of this name with the options for the schema and the data. It fails where memory runs out.
-pub fn with_files<'a>(alloc: Global, name: &'a str) -> Result<Command<'a>, AllocError>
+pub fn over_files<'a>(alloc: Global, name: &'a str) -> Result<Command<'a>, AllocError>
     ensures { IfOk result (λ c. app_of c ≡ command name.entry.now (needed (option (codes "schema")) ∷ needed (option (codes "data")) ∷ [])) }
 {
     let command = with(bare(alloc, name), needed(option(alloc, "schema")))?;
     with(command, needed(option(alloc, "data")))
 }
 
-/// The command with the options for both bases and with the import words behind its arguments. It fails where memory runs
-/// out.
+/// The command with, behind its arguments, the options for both bases and the import words. It fails where memory runs out.
 pub fn with_bases<'a>(alloc: Global, command: Command<'a>) -> Result<Command<'a>, AllocError>
     ensures { IfOk result (λ c. app_of c ≡ with_rule (with_rule (with_rule (app_of command.entry) (option (codes "schema-base"))) (option (codes "data-base"))) (rest (codes "imports"))) }
 {
@@ -78,7 +77,7 @@ pub fn with_bases<'a>(alloc: Global, command: Command<'a>) -> Result<Command<'a>
     with(command, rest(alloc, "imports"))
 }
 
-/// The command with the options for the map, for the proof that is to be stored and for the budget behind its arguments.
+/// The command with, behind its arguments, the options for the map, for the proof that is to be stored and for the budget.
 fn with_map<'a>(alloc: Global, command: Command<'a>) -> Result<Command<'a>, AllocError>
     ensures { IfOk result (λ c. app_of c ≡ with_rule (with_rule (with_rule (app_of command.entry) (needed (option (codes "map")))) (option (codes "proof"))) (option (codes "budget"))) }
 {
@@ -87,7 +86,7 @@ fn with_map<'a>(alloc: Global, command: Command<'a>) -> Result<Command<'a>, Allo
     with(command, option(alloc, "budget"))
 }
 
-/// The command with the options for the proof and for the name under which it is to be stored behind its arguments.
+/// The command with, behind its arguments, the options for the proof and for the name under which it is to be stored.
 fn with_proofs<'a>(alloc: Global, command: Command<'a>) -> Result<Command<'a>, AllocError>
     ensures { IfOk result (λ c. app_of c ≡ with_rule (with_rule (app_of command.entry) (needed (option (codes "proof")))) (needed (option (codes "to")))) }
 {
@@ -99,7 +98,7 @@ fn with_proofs<'a>(alloc: Global, command: Command<'a>) -> Result<Command<'a>, A
 pub(crate) fn validate<'a>(alloc: Global) -> Result<Command<'a>, AllocError>
     ensures { IfOk result (λ c. app_of c ≡ validate) }
 {
-    let command = with_files(alloc, "validate")?;
+    let command = over_files(alloc, "validate")?;
     let command = with_map(alloc, command)?;
     with_bases(alloc, command)
 }
@@ -108,7 +107,7 @@ pub(crate) fn validate<'a>(alloc: Global) -> Result<Command<'a>, AllocError>
 pub(crate) fn check<'a>(alloc: Global) -> Result<Command<'a>, AllocError>
     ensures { IfOk result (λ c. app_of c ≡ check) }
 {
-    let command = with_files(alloc, "check")?;
+    let command = over_files(alloc, "check")?;
     let command = with(command, needed(option(alloc, "proof")))?;
     with_bases(alloc, command)
 }
@@ -117,7 +116,7 @@ pub(crate) fn check<'a>(alloc: Global) -> Result<Command<'a>, AllocError>
 pub(crate) fn upgrade<'a>(alloc: Global) -> Result<Command<'a>, AllocError>
     ensures { IfOk result (λ c. app_of c ≡ upgrade) }
 {
-    let command = with_files(alloc, "upgrade")?;
+    let command = over_files(alloc, "upgrade")?;
     let command = with_proofs(alloc, command)?;
     with_bases(alloc, command)
 }

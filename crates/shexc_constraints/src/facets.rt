@@ -158,7 +158,11 @@ fn single(alloc: Global, facet: &Facet) -> Result<Vec<Facet>, Stop>
 }
 
 /// Fails where no constraint is made of these, and says why.
-fn check(alloc: Global, datatype: Option<Text>, facets: Vec<Facet>) -> Result<(), MakeError>
+fn refuse_unsound(
+    alloc: Global,
+    datatype: Option<Text>,
+    facets: Vec<Facet>,
+) -> Result<(), MakeError>
     ensures sound { OnOk result (IsSound datatype facets.items) }
     ensures cause { IfErr result (Causes datatype facets.items) }
 {
@@ -178,7 +182,7 @@ fn admit(alloc: Global, datatype: Option<&Text>, facet: &Facet) -> Result<(), St
     ensures sound { OnOk result (IsSound (option_copied datatype.entry) (facet.now ∷ [])) }
 {
     let facets = single(alloc, facet)?;
-    match check(alloc, cloned(alloc, datatype)?, facets) {
+    match refuse_unsound(alloc, cloned(alloc, datatype)?, facets) {
         Ok(()) => Ok(()),
         Err(MakeError::FloatFacet) => Err(Stop::Fault(Fault::FloatFacet)),
         Err(MakeError::FacetNumber) => Err(Stop::Fault(Fault::FacetNumber)),
@@ -441,7 +445,8 @@ pub fn facets(
     Ok(())
 }
 
-/// All facets of this kind.
+/// The facets of this kind that stand next, in their order, or none where none stands there. It fails at the first that may not
+/// stand beside the datatype or beside the others (ShEx 2.1, section 5.4).
 pub fn all_facets(
     c: &mut Cursor<'_>,
     names: &Names<'_>,

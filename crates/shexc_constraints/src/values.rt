@@ -46,7 +46,7 @@ fn empty(alloc: Global) -> Result<Text, AllocError>
     Text::from_str(alloc, "")
 }
 
-/// The lexical form of a literal; of another term none.
+/// The lexical form of a literal, and the empty text for another term.
 fn form(alloc: Global, term: &Term) -> Result<Text, AllocError>
     ensures { IfOk result (λ t. t ≡ form_of term.now) }
 {
@@ -57,7 +57,7 @@ fn form(alloc: Global, term: &Term) -> Result<Text, AllocError>
     }
 }
 
-/// The lexical form of a literal that is then dropped; of another term none.
+/// The lexical form of a literal that is then dropped, and the empty text for another term.
 fn into_form(alloc: Global, term: Term) -> Result<Text, AllocError>
     ensures { IfOk result (λ t. t ≡ form_of term) }
 {

@@ -19,7 +19,9 @@ use crate::members::{all_of, any_of, each_of, one_of, push, push_triple, single}
 use crate::shapes::{
     constraint_behind, dot, empty_shape, joined, literal_only, negation, opens, qualifiers,
 };
-use crate::triples::{arc_of, boxed, bracketed, cardinality_behind, counted, direction, inclusion};
+use crate::triples::{
+    arc_of, boxed, bracketed, cardinality_behind, direction, inclusion, with_cardinality,
+};
 use rdf_cursor::{Cursor, Symbol};
 use rdf_terms::items::Items;
 use rdf_terms::text::Text;
@@ -533,7 +535,7 @@ fn grouped(
     opens(c, Symbol::OpenParenthesis, depth)?;
     let inner = inside_triple(c, names, depth)?;
     let (inner, _) = followed_by(c, Symbol::CloseParenthesis, inner)?;
-    let (inner, cardinality) = counted(c, depth, inner)?;
+    let (inner, cardinality) = with_cardinality(c, depth, inner)?;
     let inner = annotated(c, names, inner)?;
     bracketed(names.alloc, label, cardinality, inner)
 }

@@ -35,7 +35,7 @@ pub fn both(alloc: Global, first: DocExpr, second: DocExpr) -> Result<DocExpr, A
     Ok(DocExpr::And(vec![in alloc; first, second]?))
 }
 
-/// An expression with the one that stands beside it, where there is one.
+/// An expression with the one that stands beside it, where there is one, and whether a brace is open behind them, as it is given.
 pub fn joined(
     alloc: Global,
     first: DocExpr,

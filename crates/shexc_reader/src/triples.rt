@@ -212,7 +212,7 @@ pub fn cardinality_behind(
     cardinality(c, depth)
 }
 
-/// The value of an arc.
+/// An expression in a box, and the flag beside it. It fails where memory runs out.
 pub fn boxed(alloc: Global, value: (DocExpr, bool)) -> Result<(Option<Box<DocExpr>>, bool), Stop>
     ensures ok { IfOk result (λ p. (maybe_expr (option_map (λ b. expr_of b.value) p.0) ≡ one_expr (expr_of value.0)) × (p.1 ≡ value.1)) }
     ensures memory { IfErr result (λ e. e ≡ stop.Memory) }
@@ -220,8 +220,8 @@ pub fn boxed(alloc: Global, value: (DocExpr, bool)) -> Result<(Option<Box<DocExp
     Ok((Some(Box::new(alloc, value.0)?), value.1))
 }
 
-/// A value with a cardinality behind it, or none.
-pub fn counted<T: Drop>(
+/// A value that is held, with the cardinality behind it where there is one.
+pub fn with_cardinality<T: Drop>(
     c: &mut Cursor<'_>,
     depth: u32,
     held: T,

@@ -5,7 +5,7 @@ ghost use Rattle.clap.specs.Words.{app_of};
 ghost use Rattle.tool_words.specs.Commands.{convert, extents, session};
 
 use clap::Command;
-use command_words::commands::{bare, needed, option, with, with_bases, with_files};
+use command_words::commands::{bare, needed, option, over_files, with, with_bases};
 use std::alloc::{AllocError, Global};
 
 /// The command `convert`.
@@ -20,7 +20,7 @@ pub fn convert<'a>(alloc: Global) -> Result<Command<'a>, AllocError>
 pub fn extents<'a>(alloc: Global) -> Result<Command<'a>, AllocError>
     ensures { IfOk result (λ c. app_of c ≡ extents) }
 {
-    let command = with_files(alloc, "extents")?;
+    let command = over_files(alloc, "extents")?;
     let command = with(command, option(alloc, "budget"))?;
     with_bases(alloc, command)
 }
@@ -29,7 +29,7 @@ pub fn extents<'a>(alloc: Global) -> Result<Command<'a>, AllocError>
 pub fn session<'a>(alloc: Global) -> Result<Command<'a>, AllocError>
     ensures { IfOk result (λ c. app_of c ≡ session) }
 {
-    let command = with_files(alloc, "typing_session")?;
+    let command = over_files(alloc, "typing_session")?;
     let command = with(command, needed(option(alloc, "script")))?;
     let command = with(command, option(alloc, "budget"))?;
     with_bases(alloc, command)
