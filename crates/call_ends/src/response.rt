@@ -31,8 +31,8 @@ impl Response {
     ghost use Rattle.std.specs.Prelude.{◌<◌};
     ghost use Rattle.program_ends.specs.Printing.{PrintsBoth};
 
-    /// Prints the text to the output and then the notes to the error stream, and gives the status, or 7 or 8 where they are not
-    /// printed whole.
+    /// Prints the text to the output and then the notes to the error stream, and gives the status, or 7 where a sink failed and 8
+    /// where memory ran out before both were printed whole.
     pub fn print<O: Sink, E: Sink>(&self, out: &mut O, err: &mut E) -> u8
         requires { self.now.status < 7 }
         ensures { PrintsBoth

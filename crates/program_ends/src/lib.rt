@@ -19,7 +19,8 @@ pub fn print<S: Sink>(sink: &mut S, text: &[u8], status: u8) -> u8
     }
 }
 
-/// Prints a text that was made, and gives the status, or 7 or 8 where it is not printed whole.
+/// Prints a text, if it could be made, and gives the status, or 7 where the sink failed and 8 where memory ran out, be it before
+/// the text was made or before it was printed whole.
 pub fn say<S: Sink>(text: Result<String, AllocError>, status: u8, sink: &mut S) -> u8
     requires { status < 7 }
     ensures { (line : List ℕ) → IfOk text (λ s. string_bytes s ≡ line) → Prints (S.got sink.old) (S.got sink.new) (S.faults sink.old) (S.faults sink.new) line status result }
@@ -30,8 +31,8 @@ pub fn say<S: Sink>(text: Result<String, AllocError>, status: u8, sink: &mut S) 
     }
 }
 
-/// Prints a text to the output and then notes to the error stream, and gives the status, or 7 or 8 where they are not printed
-/// whole.
+/// Prints a text to the output and then notes to the error stream, and gives the status, or 7 where a sink failed and 8 where
+/// memory ran out before both were printed whole.
 pub fn print_both<O: Sink, E: Sink>(
     text: &[u8],
     notes: &[u8],

@@ -42,7 +42,7 @@ fn continued(line: &str) -> Option<&str> {
 }
 
 impl Document {
-    /// The entries that a further line is behind.
+    /// The entries behind which the next one goes: those of the last row, or those before the first row.
     fn last_entries(&mut self) -> &mut Vec<Entry> {
         match self.rows.last_mut() {
             Some(row) => &mut row.entries,
@@ -92,7 +92,7 @@ impl Document {
     }
 }
 
-/// The document of a text.
+/// The document of a text. It fails where a text stands behind no line, and for want of memory.
 pub fn read(alloc: Global, text: &str) -> anyhow::Result<Document> {
     let mut document = Document {
         common: Vec::new(alloc),

@@ -28,6 +28,16 @@ impl NamedFile {
     }
 }
 
+/// The bytes of the last file with this name, if there is one.
+pub fn bytes_named<'a>(files: &'a [NamedFile], name: &str) -> Option<&'a [u8]> {
+    for file in files.iter().rev() {
+        if file.name.as_str() == name {
+            return Some(file.bytes.as_slice());
+        }
+    }
+    None
+}
+
 /// Appends a text with a number in place of each `§`.
 fn push_numbered(
     alloc: Global,
@@ -59,16 +69,16 @@ fn repeated(alloc: Global, text: &str, times: u32) -> Result<Vec<u8>, AllocError
     Ok(bytes)
 }
 
-/// The file of a text that stands so many times in it: its number and its name stand in a line.
+/// The file of a text that stands in it as many times as the line says before the name.
 fn many_times(alloc: Global, line: &str, text: &str) -> anyhow::Result<NamedFile> {
     let Some((times, name)) = line.split_once(' ') else {
-        bail!("a file of many times has a number and a name");
+        bail!("a line `times` has a number and a name");
     };
     let bytes = repeated(alloc, text, times.parse::<u32>()?)?;
     Ok(NamedFile::new(alloc, name, bytes)?)
 }
 
-/// The file that an entry gives, if it gives one.
+/// The file that an entry gives, if it gives one. It fails where its digits or its number are none.
 pub fn file_of(alloc: Global, entry: &Entry) -> anyhow::Result<Option<NamedFile>> {
     let (name, text) = (entry.rest.as_str(), entry.text.as_str());
     let file = match entry.verb.as_str() {

@@ -2,8 +2,8 @@
 //! of its documents by this crate, tries each, and prints a line for it: `ok` or `DIFFERS` and its title, and behind the latter
 //! what differs.
 //!
-//! A document is lines. One that is empty or begins with `#` is passed over, and one that begins with `|` belongs to the
-//! text of the line before it: what follows the `|` and one space, ended by a line feed. The other lines begin with a word, and
+//! A document is lines. One that is empty or begins with `#` is passed over, and one that is `|` or begins with `| ` belongs to
+//! the text of the line before it: what follows the `| `, ended by a line feed. The other lines begin with a word, and
 //! these have one meaning in all documents:
 //!
 //! - `row TITLE` begins a row. What stands before the first row is for all rows of the document.
@@ -20,6 +20,6 @@ mod words;
 
 pub use differences::{compare, note};
 pub use document::Entry;
-pub use files::{NamedFile, file_of};
+pub use files::{NamedFile, bytes_named, file_of};
 pub use report::{Rows, print_reports};
 pub use words::{bytes_of, cut, first_word, numbers_of, words_of};

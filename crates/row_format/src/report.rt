@@ -8,10 +8,10 @@ use std::{env, fs};
 
 /// What the rows of a document share, over which each of them is tried.
 pub trait Rows {
-    /// What the entries before the first row say.
+    /// What the entries before the first row say. It fails where one cannot be obeyed.
     fn shared(alloc: Global, entries: &[Entry]) -> anyhow::Result<Self>;
 
-    /// What differs in the row of these entries.
+    /// What differs in the row of these entries. It fails where one cannot be obeyed.
     fn tried(&self, alloc: Global, entries: &[Entry]) -> anyhow::Result<String>;
 }
 
@@ -27,7 +27,8 @@ fn report<R: Rows + Drop>(alloc: Global, text: &str) -> anyhow::Result<String> {
     Ok(report)
 }
 
-/// Prints, for each document that a word names, its name and the lines for its rows.
+/// Prints, for each document that a word names, its name and the lines for its rows. It fails where a word is no UTF-8, a document
+/// cannot be read, or a line of it cannot be obeyed.
 pub fn print_reports<R: Rows + Drop>(
     rt: &(impl Env + Files + Print + AllocGlobal),
 ) -> anyhow::Result<()> {

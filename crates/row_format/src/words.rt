@@ -12,7 +12,7 @@ pub fn cut(text: &str) -> &str {
     text.strip_suffix('\n').unwrap_or(text)
 }
 
-/// The bytes that stand in a text as hexadecimal digits, two and two.
+/// The bytes that stand in a text as hexadecimal digits, two and two. It fails where a word is no such number.
 pub fn bytes_of(alloc: Global, text: &str) -> anyhow::Result<Vec<u8>> {
     let mut bytes = Vec::new(alloc);
     for digits in text.split_ascii_whitespace() {
@@ -21,7 +21,7 @@ pub fn bytes_of(alloc: Global, text: &str) -> anyhow::Result<Vec<u8>> {
     Ok(bytes)
 }
 
-/// The numbers in a text.
+/// The numbers in a text. It fails where a word is no such number.
 pub fn numbers_of(alloc: Global, text: &str) -> anyhow::Result<Vec<u64>> {
     let mut numbers = Vec::new(alloc);
     for digits in text.split_ascii_whitespace() {

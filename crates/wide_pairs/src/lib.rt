@@ -47,7 +47,8 @@ fn push_wide(
     out.extend_from_slice(rest.as_bytes())
 }
 
-/// Appends the lines for wide pairs.
+/// Appends a line `wide NODE #SHAPE width W budget N` for each wide pair, in their order. It fails for want of memory alone, and
+/// then some of the lines may be there.
 pub fn push_lines(
     alloc: Global,
     terms: &TermTable,
