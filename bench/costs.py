@@ -6,7 +6,7 @@
 F is the built program, by default that of crates/. Each family of inputs is made at the size, and validated under `callgrind`, which
 counts instructions: the counts are the same in each run, whatever else the machine does. Printed are the percents of the
 instructions that a function takes itself, without those that it calls, for each function that takes `--least` percent or more
-somewhere, and then the percents with all that is called. `--command` may be `proof` or `check` too. Counts are kept as files of
+somewhere, and then the percents with all that is called. `--command` may also be `load`, `proof` or `check`. Counts are kept as files of
 callgrind in the folder of `--keep`.
 """
 
