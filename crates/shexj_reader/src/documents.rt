@@ -98,8 +98,8 @@ fn read_shapes(alloc: Global, value: Option<&Value>) -> Result<Vec<Decl>, Schema
     Ok(all)
 }
 
-/// The imports of a Schema that has no actions at its start.
-fn read_imports(alloc: Global, value: &Value) -> Result<Vec<Text>, SchemaError>
+/// The imports of a Schema that has no actions at its start and no keys but its own.
+fn read_head(alloc: Global, value: &Value) -> Result<Vec<Text>, SchemaError>
     requires { type_of (view value.now) ≡ Some (codes "Schema") }
     ensures ok { IfOk result (λ v. IsHead v.items (view value.now)) }
     ensures cause { IfErr result (Because (λ f. SchemaFault f (view value.now))) }
@@ -126,7 +126,7 @@ fn read_schema(alloc: Global, value: &Value) -> Result<Doc, SchemaError>
     ensures ok { IfOk result (λ d. IsDocument (document_of d) (view value.now)) }
     ensures cause { IfErr result (Because (λ f. SchemaFault f (view value.now))) }
 {
-    let imports = read_imports(alloc, value)?;
+    let imports = read_head(alloc, value)?;
     let start = read_start(alloc, value.get("start"))?;
     read_shapes(alloc, value.get("shapes")).map(move |decls| Doc {
         imports: Items::of(imports),

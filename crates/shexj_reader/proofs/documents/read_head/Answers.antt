@@ -3,7 +3,7 @@ use Rattle.serde_json.specs.View.{view}
 use Rattle.shexj_reader.specs.DocumentFaults.{SchemaFault}
 use Rattle.shexj_reader.specs.Faults.{HasActs, IsNoList}
 use Rattle.shexj_reader.proofs.Causes.{made}
-use Rattle.shexj_reader.proofs.documents.read_imports.Goals as goal
+use Rattle.shexj_reader.proofs.documents.read_head.Goals as goal
 
 pub returns-clause-cause : goal.returns-clause-cause
 returns-clause-cause c =
