@@ -1,5 +1,5 @@
 -- The pairs on which extents depend (own).
-use Rattle.std.specs.Prelude.{ℕ, List, ◌≡◌, ◌<◌, ◌↔◌, Contains, length, ⊤}
+use Rattle.std.specs.Prelude.{List, ◌<◌, ◌↔◌, Contains, length, ⊤}
 use Rattle.std.specs.List.Sorted.{IsStrictlySortedBy}
 use Rattle.lists.specs.Distinct.{AreDistinct}
 use Rattle.rdf_terms.specs.declared.terms.Term.{Term}

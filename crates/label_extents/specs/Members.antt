@@ -27,6 +27,7 @@ root e n = record { node = n; expr = e }
 abbrev pub roots_of : List TermId → List (Label × ExprId) → List Root
 roots_of nodes labels = flat_map (λ d. map (root d.1) nodes) labels
 
+-- whether the verdict is Unknown
 abbrev pub is_unknown : Verdict → Bool
 is_unknown Yes = false
 is_unknown No = false

@@ -42,7 +42,7 @@ pub struct Extents {
 fn wide_of(alloc: Global, refined: &Refined) -> Result<Vec<WidePair>, AllocError>
     ensures { IfOk result (λ v. v.items ≡ refined.now.wide) }
 {
-    refined.wide().iter().copied().collect(alloc)
+    Vec::from_slice(alloc, refined.wide())
 }
 
 /// The extents of the labels of a schema in a graph (ShEx 2.1, section 5.2): with each declared label, in reading order, the subjects

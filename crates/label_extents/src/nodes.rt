@@ -1,6 +1,6 @@
 //! The nodes of a graph.
 
-ghost use Rattle.std.specs.Prelude.{◌≡◌, ◌↔◌, Contains, IfOk, OnOk};
+ghost use Rattle.std.specs.Prelude.{◌↔◌, Contains, IfOk, OnOk};
 ghost use Rattle.lists.specs.Additions.{Adds, AddsAll};
 ghost use Rattle.rdf_terms.specs.declared.terms.TermId.{TermId as Id};
 ghost use Rattle.label_extents.specs.Extents.{AreInOrder, IsNode};

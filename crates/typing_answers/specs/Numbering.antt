@@ -10,6 +10,7 @@ use Rattle.proof_file.specs.declared.Section.{Section}
 abbrev pub moved : List ℕ → Record → Record
 moved places r = record { node = get_or places r.node 0; shape = r.shape; kind = r.kind }
 
+-- the section, each of whose records has the number that its node has in the list
 abbrev pub moved_section : List ℕ → Section → Section
 moved_section places x = record { stratum = x.stratum; records = map (moved places) x.records }
 

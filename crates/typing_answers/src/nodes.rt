@@ -86,16 +86,17 @@ pub(crate) fn places_of(
 }
 
 /// A copy of the term.
-fn line(alloc: Global, term: &Term) -> Result<Term, AllocError>
+fn copied_term(alloc: Global, term: &Term) -> Result<Term, AllocError>
     ensures copy { IfOk result (λ t. t ≡ term.now) }
     ensures value { IsValue term.now }
 {
+    // What the type of a term tells contracts of it.
     term_is_value(term);
     term.try_clone(alloc)
 }
 
-/// The terms of nodes.
-pub(crate) fn lines(
+/// Copies of the terms of nodes, in their order.
+pub(crate) fn terms_of(
     alloc: Global,
     terms: &TermTable,
     nodes: &[TermId],
@@ -104,9 +105,9 @@ pub(crate) fn lines(
     ensures numbers { IfOk result (λ v. AreNumbers terms.now v.items nodes.now) }
     ensures values { IfOk result (λ v. AllByRecursion IsValue v.items) }
 {
-    let mut lines = Vec::new(alloc);
+    let mut copies = Vec::new(alloc);
     for node in nodes {
-        lines.push(line(alloc, terms.get(*node))?)?;
+        copies.push(copied_term(alloc, terms.get(*node))?)?;
     }
-    Ok(lines)
+    Ok(copies)
 }

@@ -56,8 +56,8 @@ fn reply(
     Ok(())
 }
 
-/// The answers to associations, in their order, by the verdicts of a view. Those on whose expressions the verdict is Unknown are
-/// left out.
+/// The answers to associations (ShapeMap Structure and Language, section 4), in their order, by the verdicts of a view. Those on
+/// whose expressions the verdict is Unknown are left out. It fails for want of memory alone.
 pub fn answers<V: View>(
     alloc: Global,
     schema: &Schema,

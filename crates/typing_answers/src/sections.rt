@@ -9,7 +9,7 @@ use proof_file::{Record, Section};
 use rdf_terms::items::Items;
 use std::alloc::{AllocError, Global};
 
-/// The records with the numbers that their nodes have in the list.
+/// The records, each with the number at its node's place in `places` in place of that node.
 fn moved_records(
     alloc: Global,
     records: Vec<Record>,
@@ -29,7 +29,7 @@ fn moved_records(
     Ok(renumbered)
 }
 
-/// The sections with the numbers that the nodes of their records have in the list.
+/// The sections, each of whose records has the number at its node's place in `places`.
 pub(crate) fn moved_sections(
     alloc: Global,
     sections: Vec<Section>,

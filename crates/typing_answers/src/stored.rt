@@ -2,9 +2,9 @@
 
 ghost use Rattle.std.specs.Prelude.{◌≡◌, ℕ, IfOk, List};
 ghost use Rattle.std.specs.List.{AllByRecursion};
-ghost use Rattle.rdf_terms.specs.declared.terms.Triple.{Triple as Arc};
-ghost use Rattle.schema_tree.specs.declared.schema.Pair.{Pair as Held};
-ghost use Rattle.schema_tree.specs.declared.schema.Schema.{Schema as Tree};
+ghost use Rattle.rdf_terms.specs.declared.terms.Triple.{Triple};
+ghost use Rattle.schema_tree.specs.declared.schema.Pair.{Pair};
+ghost use Rattle.schema_tree.specs.declared.schema.Schema.{Schema};
 ghost use Rattle.schema_tree.specs.Sure.{Known};
 ghost use Rattle.lists.specs.Distinct.{AreDistinct};
 ghost use Rattle.proof_file.specs.Text.{IsLine, head_lines};
@@ -12,7 +12,7 @@ ghost use Rattle.typing_answers.specs.Laws.{AreLaws};
 ghost use Rattle.typing_answers.specs.Proofs.{AreInRange, AreShownFor, IsProofOf};
 
 use crate::claims::claims_of;
-use crate::nodes::{lines, nodes_of, places_of};
+use crate::nodes::{nodes_of, places_of, terms_of};
 use crate::sections::moved_sections;
 use proof_file::Proof;
 use proof_file::head::Head;
@@ -29,15 +29,17 @@ fn laws(terms: &TermTable)
     ensures laws { AreLaws }
     ensures distinct { AreDistinct terms.now }
 {
+    // The length of a table tells contracts that its terms are distinct.
     let _count = terms.len();
     layers_are_meanings();
     strata_are_least();
     texts_are_distinct();
 }
 
-/// The proof, with this head, of answers that are sure by the verdicts which these records show. Its node lines are the nodes of the records
-/// and of the answers, each once in the order of their texts, its sections are those of the records, and its claims are the
-/// answers in their order. There are at most 4,194,304 nodes of records and 1,000,000 answers.
+/// The proof, with this head, of answers that are sure by the verdicts which these records show. Its node lines are the nodes of
+/// the records and of the answers, each once in the order of their texts, its sections are those of the records, and its claims are
+/// the answers in their order. There are at most 4,194,304 nodes of records and 1,000,000 answers. It fails for want of memory
+/// alone.
 pub fn proof_of(
     alloc: Global,
     terms: &TermTable,
@@ -48,7 +50,7 @@ pub fn proof_of(
     requires lines { AllByRecursion IsLine (head_lines head) }
     requires range { AreInRange terms.now records.nodes.items records.sections.items answers.now }
     ensures head { IfOk result (λ p. p.head ≡ head) }
-    ensures proof { IfOk result (λ p. (s : Tree) (g : List Arc) (f : List ℕ) (pairs : List Held) (budget : ℕ) (verdicts : Known) →
+    ensures proof { IfOk result (λ p. (s : Schema) (g : List Triple) (f : List ℕ) (pairs : List Pair) (budget : ℕ) (verdicts : Known) →
         AreShownFor s terms.now g f pairs budget verdicts records.nodes.items records.sections.items answers.now →
         IsProofOf f s terms.now g pairs budget answers.now p) }
 {
@@ -63,7 +65,7 @@ pub fn proof_of(
     let places = places_of(alloc, terms, nodes, recorded)?;
     let numbers = places.as_slice();
     let renumbered = moved_sections(alloc, sections, numbers)?;
-    let terms_of_nodes = lines(alloc, terms, nodes)?;
+    let terms_of_nodes = terms_of(alloc, terms, nodes)?;
     let claims = claims_of(alloc, terms, nodes, answers)?;
     Ok(Proof {
         head,

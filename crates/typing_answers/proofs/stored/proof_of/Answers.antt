@@ -11,8 +11,8 @@ moved_sections-requires c =
     counted_by c.args.terms.now c.args.records.nodes.items c.as_slice-recorded.result.now c.as_slice-nodes.result.now c.args.records.sections.items c.args.answers.now c.in_ok-places.places.items c.as_slice-numbers.result.now
     c.as_slice-recorded.ensures.value c.as_slice-numbers.ensures.value c.requires.range c.in_ok-places.ensures
 
-pub lines-requires : goal.lines-requires
-lines-requires c = λ n h. elim ((c.in_ok-distinct.ensures.exactly n).0 (subst (λ xs. Contains xs n) c.as_slice-nodes.ensures.value h)) [
+pub terms_of-requires : goal.terms_of-requires
+terms_of-requires c = λ n h. elim ((c.in_ok-distinct.ensures.exactly n).0 (subst (λ xs. Contains xs n) c.as_slice-nodes.ensures.value h)) [
   | inl own ↦ c.requires.range.recorded n (subst (λ xs. Contains xs n) c.as_slice-recorded.ensures.value own)
   | inr answered ↦ subst (λ m. m.0 < length c.args.terms.now) answered.2 (c.requires.range.answered answered.0 answered.1)
 ]
