@@ -72,7 +72,7 @@ impl Asking {
         wanted: &str,
     ) -> anyhow::Result<()> {
         let Some(found) = self.answer.take() else {
-            bail!("something is given before a question");
+            bail!("a line `gives` follows no question");
         };
         compare(
             alloc,
@@ -112,7 +112,7 @@ impl Asking {
     /// Notes the difference where the last answer was compared with nothing.
     fn end(&self, differences: &mut String) -> Result<(), AllocError> {
         if self.answer.is_some() {
-            note(differences, "it is not said what is given")?;
+            note(differences, "no line `gives` follows the question")?;
         }
         Ok(())
     }

@@ -21,7 +21,9 @@ fn facet_of(alloc: Global, line: &str) -> anyhow::Result<Facet> {
         "maxinclusive" => Ok(Facet::MaxInclusive(text)),
         "maxexclusive" => Ok(Facet::MaxExclusive(text)),
         "pattern" => {
-            let (flags, pattern) = value.split_once('/').unwrap_or(("", value));
+            let Some((flags, pattern)) = value.split_once('/') else {
+                bail!("a pattern stands behind its flags and a slash");
+            };
             let flags = Text::from_str(alloc, flags)?;
             Ok(Facet::Pattern(Text::from_str(alloc, pattern)?, flags))
         }

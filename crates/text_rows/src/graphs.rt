@@ -41,6 +41,7 @@ pub fn data_of(alloc: Global, name: &str, source: &[u8]) -> Result<Data, ReadErr
             names,
         }),
         Err(error) => {
+            // Each is dropped by one call, which is proved in less time.
             drop(graph);
             drop(terms);
             Err(error)
@@ -88,6 +89,7 @@ fn told(alloc: Global, kind: &str, data: &Data) -> Result<String, AllocError> {
             let ids = numbers_from(alloc, &data.terms, 0)?;
             texts_of(alloc, &data.terms, ids.as_slice(), b"\n")
         }
+        // `names`, the last of the kinds that `questions` hands on.
         _ => last_names(alloc, &data.names),
     }
 }

@@ -21,12 +21,13 @@
 //!   and `language-stem`, and for all IRIs, literals and tags but those with this stem `iris-but`, `literals-but` and
 //!   `languages-but`.
 //! - `term` says what the text of a term says, `numbers` numbers terms as a table does, `sorted` puts them in order.
-//! - `triples NAME`, `count NAME`, `table NAME` and `names NAME` read data as of a file with this name, and give their triples,
-//!   how many these are, the terms by number, or the last base and the prefix `e`.
+//! - `triples NAME`, `count NAME`, `table NAME` and `names NAME` read data under the base `http://localhost/`, as of a file with
+//!   this name, and give their triples, how many these are, the terms by number, or the last base and the prefix `e`.
 //! - `arcs FILE` gives the arcs in this file's data that a question asks for: `outs NODE`, `ins NODE`, either with a predicate,
 //!   or `neigh NODE`.
-//! - `shexc` reads a schema in ShExC, and gives `read` or why it is refused.
-//! - `items FILE` reads a map over this file's data, and `select FILE` gives what it selects.
+//! - `shexc` reads a schema in ShExC under the base `http://b.example/`, and gives `read` or why it is refused.
+//! - `items FILE` reads a map over this file's data, and `select FILE` gives what it selects. Targets have the base `http://s/` and
+//!   the prefix `ex` for `http://l/`; declared are `<S>`, `_:T` and a start.
 //! - `words` says what words ask for, `tool-words` what they ask of `shextool`, and `session-words` of `typing_session`.
 //! - `proof` writes the proof that is read of a text, and `proof-line` that of a line with `¶` for line feeds.
 //! - `script` gives the commands of an edit script, one a line.

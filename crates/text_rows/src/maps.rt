@@ -33,7 +33,7 @@ fn declare(alloc: Global, labels: &mut Labels) -> Result<(), AllocError> {
     Ok(())
 }
 
-/// A schema with these labels and the start 2.
+/// A schema that declares these two labels, without expressions, whose start is expression 2.
 fn schema(alloc: Global) -> Result<Schema, AllocError> {
     let mut labels = Labels::new(alloc);
     declare(alloc, &mut labels)?;

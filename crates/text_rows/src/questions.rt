@@ -5,7 +5,7 @@ use crate::{
     scripts, terms, tokens,
 };
 use anyhow::bail;
-use row_format::{NamedFile, first_word};
+use row_format::{NamedFile, bytes_named, first_word};
 use std::alloc::Global;
 
 /// The files that a question may name: those of all rows, and those of the row.
@@ -17,21 +17,10 @@ pub struct Named<'a> {
     pub own: &'a [NamedFile],
 }
 
-/// The bytes of the last file with this name, if there is one.
-fn found<'a>(files: &'a [NamedFile], name: &str) -> Option<&'a [u8]> {
-    let mut last = None;
-    for file in files {
-        if file.name.as_str() == name {
-            last = Some(file.bytes.as_slice());
-        }
-    }
-    last
-}
-
 impl<'a> Named<'a> {
     /// The bytes of the file with this name.
     fn bytes_of(self, name: &str) -> anyhow::Result<&'a [u8]> {
-        match found(self.own, name).or(found(self.common, name)) {
+        match bytes_named(self.own, name).or(bytes_named(self.common, name)) {
             Some(bytes) => Ok(bytes),
             None => bail!("a question names a file that is not there"),
         }

@@ -31,6 +31,7 @@ fn push_token(out: &mut String, token: Token<'_>) -> Result<(), AllocError> {
 fn listed(alloc: Global, mode: Mode, source: &str) -> Result<String, AllocError> {
     let mut cursor = Cursor::new(source, mode);
     let mut out = String::new(alloc);
+    // A token has a byte at least, so there are no more tokens than bytes.
     for _ in 0..source.len() {
         let Some(token) = cursor.peek() else {
             break;
