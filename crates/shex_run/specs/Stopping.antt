@@ -24,7 +24,7 @@ use Rattle.shex_run.specs.Outcomes.{IsRefused, Reaches}
 use Rattle.shex_run.specs.Storing.{MayStore}
 use Rattle.shex_run.specs.Tasks.{IsToValidate, act_of, name_of}
 
--- both bases of the command are ones, and its budget is from 1 to the greatest one
+-- both bases of the command pass the check of a base, and its budget is from 1 to the greatest one
 pub record IsFit (c : Command) : Type 0 where
   pub schema : is_base c.schema_base ≡ true
   pub data_file : is_base c.data_base ≡ true

@@ -48,8 +48,8 @@ impl Response {
     ghost use Rattle.program_ends.specs.Printing.{PrintsBoth};
     ghost use Rattle.shex_run.specs.Statuses.{IsAnswering};
 
-    /// Prints the text to the output and then the notes to the error stream, and gives the status, or 7 or 8 where they are not
-    /// printed whole.
+    /// Prints the text to the output and then the notes to the error stream, and gives the status, or 7 where a sink failed and 8
+    /// where memory ran out before both were printed whole.
     pub fn print<O: Sink, E: Sink>(&self, out: &mut O, err: &mut E) -> u8
         requires { IsAnswering self.now.status }
         ensures { PrintsBoth
@@ -82,7 +82,8 @@ fn fetch_proof<F: Files>(alloc: Global, files: &mut F, name: &str) -> Result<Vec
     }
 }
 
-/// Stores the text of a proof in this file, which has this name.
+/// Stores the text of a proof in this file, which has this name. It fails as `Failed` with the file, and as `Memory`; then the file
+/// may hold a beginning of the text.
 pub fn store<F: Files>(files: &mut F, file: File, name: &str, bytes: &[u8]) -> Result<(), Stop>
     ensures holds { OnOk result (Holds (F.told files.new) name.now (Some bytes.now)) }
     ensures part { OnErr result (HoldsPart (F.told files.old) (F.told files.new) name.now bytes.now) }
@@ -281,7 +282,7 @@ fn hold<F: Files>(alloc: Global, files: &mut F, command: &Command<'_>) -> Result
     }
 }
 
-/// What answers a command over what its files hold, or why nothing does.
+/// What answers a command over what its files hold, or why nothing does. A proof that is asked for is stored before.
 fn answer<F: Files>(
     alloc: Global,
     files: &mut F,
@@ -324,6 +325,7 @@ pub fn respond<F: Files>(
 {
     let mut holding = hold(alloc, files, command)?;
     let response = answer(alloc, files, &mut holding, command);
+    // What is held is dropped by one call, which is proved in less time.
     drop(holding);
     response
 }

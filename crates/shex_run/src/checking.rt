@@ -15,8 +15,8 @@ use shape_map::write_result;
 use shex_inputs::Holding;
 use std::alloc::Global;
 
-/// The result map of the claims of a proof that is current and accepted, or why it is not. What is held is left with its graph
-/// sealed and with the nodes of the proof in its table.
+/// The result map of the claims of a proof that is current and accepted; else it is refused for what the check finds, or fails as
+/// `Memory`. The graph is sealed first, and where the bytes are a proof of these files, the table takes up its nodes.
 pub fn confirm(alloc: Global, holding: &mut Holding, proof: &[u8]) -> Result<Vec<u8>, Stop>
     requires loaded { IsLoaded holding.old.schema }
     requires strata { IsStratum holding.old.schema holding.old.strata }

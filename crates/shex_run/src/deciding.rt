@@ -6,7 +6,7 @@ ghost use Rattle.std.specs.List.{AllByRecursion};
 ghost use Rattle.rdf_terms.specs.declared.terms.Triple.{Triple};
 ghost use Rattle.schema_tree.specs.declared.schema.Answer.{Answer as Given};
 ghost use Rattle.schema_tree.specs.declared.schema.Pair.{Pair};
-ghost use Rattle.schema_tree.specs.declared.schema.Schema.{Schema as Tree};
+ghost use Rattle.schema_tree.specs.declared.schema.Schema.{Schema};
 ghost use Rattle.schema_tree.specs.Sure.{Known};
 ghost use Rattle.proof_file.specs.Text.{IsLine, head_lines};
 ghost use Rattle.shape_map.specs.Results.{result_text};
@@ -138,7 +138,7 @@ fn proof_if(
     requires range { is_some head ≡ true → AreInRange terms.now refined.nodes refined.sections answers.now }
     ensures wanted { IfOk result (λ p. is_some p ≡ is_some head) }
     ensures headed { IfOk result (λ p. IfSome p (λ q. q.head ≡ head)) }
-    ensures proof { IfOk result (λ p. (s : Tree) (g : List Triple) (f : List ℕ) (pairs : List Pair) (budget : ℕ) (verdicts : Known) →
+    ensures proof { IfOk result (λ p. (s : Schema) (g : List Triple) (f : List ℕ) (pairs : List Pair) (budget : ℕ) (verdicts : Known) →
         (is_some head ≡ true → AreShownFor s terms.now g f pairs budget verdicts refined.nodes refined.sections answers.now) →
         IfSome p (IsProofOf f s terms.now g pairs budget answers.now)) }
 {

@@ -45,6 +45,7 @@ fn drill_validation<'a>(alloc: Global) -> Validation<'a>
             imports: Vec::new(alloc),
         },
         map: MAP_FILE,
+        // A proof is made where a name is given; nothing is stored under this one.
         proof: Some("proof"),
         budget: DEFAULT_BUDGET,
     }

@@ -10,7 +10,7 @@ use shex_inputs::Holding;
 use std::alloc::{AllocError, Global};
 
 /// A copy of digests.
-fn copied(alloc: Global, files: &Digests) -> Result<Digests, AllocError>
+fn copied_digests(alloc: Global, files: &Digests) -> Result<Digests, AllocError>
     ensures { IfOk result (λ d. d ≡ files.now) }
 {
     Ok(Digests {
@@ -25,12 +25,12 @@ pub fn head_of(alloc: Global, holding: &Holding) -> Result<Head, AllocError>
     ensures { IfOk result (λ h. h ≡ head_of (held_by holding.now)) }
 {
     Ok(Head {
-        files: copied(alloc, &holding.files)?,
+        files: copied_digests(alloc, &holding.files)?,
         strata: Items::of(Vec::from_slice(alloc, holding.strata.list())?),
     })
 }
 
-/// The same, if it is wanted.
+/// The head of a proof over what is held, if one is wanted.
 pub fn head_if(alloc: Global, holding: &Holding, wanted: bool) -> Result<Option<Head>, AllocError>
     ensures { IfOk result (λ h. h ≡ head_if wanted (held_by holding.now)) }
 {

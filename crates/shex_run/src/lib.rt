@@ -1,4 +1,4 @@
-//! The top call: from the words and the files to the answers that are printed and the proof that is stored.
+//! The top call of the program `shex`: from the words and the files to the answers that are printed and the proof that is stored.
 #![tactic(auto)]
 
 mod answers;

@@ -2,16 +2,14 @@
 
 ghost use Rattle.std.specs.Prelude.{◌≡◌, IfOk, IsSome, List, Some, string_bytes, ℕ};
 ghost use Rattle.command_words.specs.Lent.{Because, command_of, drill_of};
-ghost use Rattle.schema_files.specs.Named.{name_of as schema_name_of};
-ghost use Rattle.shex_inputs.specs.Named.{asked_of, source_name};
-ghost use Rattle.shex_run.specs.Tasks.{inputs_of, map_name, name_of};
+ghost use Rattle.shex_inputs.specs.Named.{source_name};
+ghost use Rattle.shex_run.specs.Tasks.{inputs_of, name_of};
 ghost use Rattle.shex_run.specs.Texts.{cause_text, failed_line, refusal_line, refused_name, words_line};
 ghost use Rattle.shex_run.specs.declared.stop.File.TheVariants as Files;
 
 use crate::stop::{File, Refusal};
 use command_words::{Command, Drilling, WordsError};
-use schema_files::{SchemaFile, file_name};
-use shex_inputs::{Source, error_line, refusal_text};
+use shex_inputs::{Source, error_line, input_name, refusal_text};
 use std::alloc::{AllocError, Global};
 
 /// The name of the program, with which its lines begin.
@@ -23,16 +21,6 @@ pub fn words(alloc: Global, error: WordsError<'_>) -> Result<String, AllocError>
 {
     let what = format!(in alloc; "{error}")?;
     error_line(alloc, PROGRAM, "words", what.as_str())
-}
-
-/// The name of the map, and the empty text where there is none.
-fn map_name<'a>(command: &Command<'a>) -> &'a str
-    ensures { result.now ≡ map_name (command_of command.now).task }
-{
-    match command {
-        Command::Validate(validation) => validation.map,
-        Command::Check(_) | Command::Upgrade(_) => "",
-    }
 }
 
 /// The name of the proof, and the empty text where there is none.
@@ -59,22 +47,14 @@ fn upgraded_name<'a>(command: &Command<'a>) -> &'a str
     }
 }
 
-/// The name of a file of the schema, and the empty text where no word names it.
-fn schema_name<'a>(command: &Command<'a>, file: SchemaFile) -> &'a str
-    ensures { result.now ≡ schema_name_of (asked_of (inputs_of (command_of command.now))) file }
-{
-    let inputs = command.inputs();
-    file_name(inputs.schema, inputs.imports.as_slice(), file)
-}
-
-/// The name of a file of the inputs.
-fn input_name<'a>(command: &Command<'a>, source: Source) -> &'a str
+/// The name of a file of the inputs, and the empty text where no word names it.
+fn source_name<'a>(command: &Command<'a>, source: Source) -> &'a str
     ensures { result.now ≡ source_name (inputs_of (command_of command.now)) source }
 {
-    match source {
-        Source::Schema(file) => schema_name(command, file),
-        Source::Data => command.inputs().data,
-        Source::Map => map_name(command),
+    match command {
+        Command::Validate(validation) => input_name(&validation.inputs, validation.map, source),
+        Command::Check(checking) => input_name(&checking.inputs, "", source),
+        Command::Upgrade(upgrading) => input_name(&upgrading.inputs, "", source),
     }
 }
 
@@ -83,7 +63,7 @@ fn name<'a>(command: &Command<'a>, file: File) -> &'a str
     ensures { result.now ≡ name_of (command_of command.now) file }
 {
     match file {
-        File::Input(source) => input_name(command, source),
+        File::Input(source) => source_name(command, source),
         File::Proof => proof_name(command),
         File::Upgraded => upgraded_name(command),
     }
@@ -112,7 +92,7 @@ fn place<'a>(command: &Command<'a>, refusal: &Refusal) -> &'a str
     ensures { result.now ≡ refused_name (command_of command.now) refusal.now }
 {
     match refusal {
-        Refusal::Input(refusal) => input_name(command, refusal.source()),
+        Refusal::Input(refusal) => source_name(command, refusal.source()),
         Refusal::Proof(_) => proof_name(command),
     }
 }

@@ -24,13 +24,14 @@ pub enum File {
 pub enum Refusal {
     /// A file of the inputs is not taken.
     Input(InputRefusal),
-    /// The proof that is checked is not current, or not accepted.
+    /// The bytes of the proof that is checked are none, or it is not current or not accepted, or the table of terms cannot take up
+    /// its nodes.
     Proof(CheckError),
 }
 
 impl Refusal {
-    /// The status of a call that ends with the refusal: 6 where the proof is none, or not current, or not accepted, and
-    /// else 3.
+    /// The status of a call that ends with the refusal: 3 for inputs, and for a current proof whose nodes the table of terms cannot
+    /// take up, and 6 for each other proof.
     pub fn status(&self) -> u8
         ensures status { result ≡ refusal_status self.now }
         ensures low { result < 7 }

@@ -1,6 +1,6 @@
 //! The top call.
 
-ghost use Rattle.std.specs.Prelude.{[], ◌≡◌, ◌≢◌, ◌<◌, ◌≤◌, ◌⊎◌, ℕ, List, Option, Some, IfOk, map, string_bytes};
+ghost use Rattle.std.specs.Prelude.{[], ◌≡◌, ◌≢◌, ◌<◌, ◌≤◌, ◌⊎◌, ℕ, List, Option, Some, map, string_bytes};
 ghost use Rattle.rdf_terms.specs.declared.terms.Term.{Term};
 ghost use Rattle.schema_tree.specs.declared.schema.Answer.{Answer};
 ghost use Rattle.clap.specs.Words.{Text};
@@ -121,23 +121,31 @@ fn end<F: Files, O: Sink, E: Sink>(
 
 /// Answers what the words ask.
 ///
-/// `validate --schema F --data F --map F [--proof F] [--budget N] [--schema-base I] [--data-base I] [IRI=FILE ..]` answers
-/// each association of the shape map over the schema and the data, and prints a result shape map to `out`. With `--proof` it
-/// first stores a proof of the answers under that name, which names the schema's files and the data file by their digests.
-/// `check --schema F --data F --proof F [--schema-base I] [--data-base I] [IRI=FILE ..]` asks whether the proof in the file
-/// of that name is current for these files and accepted, and prints its claims as a result shape map.
+/// `validate --schema F --data F --map F [--proof F] [--budget N] [--schema-base I] [--data-base I] [IRI=FILE ..]` answers each
+/// association of the shape map over the schema and the data (ShEx 2.1, section 5.2), and prints a result shape map to `out`
+/// (ShapeMap Structure and Language, section 4). With `--proof` it first stores a proof of the answers under that name, which
+/// names the schema's files and the data file by their digests.
+///
+/// `check --schema F --data F --proof F [--schema-base I] [--data-base I] [IRI=FILE ..]` asks whether the proof in the file of
+/// that name is current for these files and accepted, and prints its claims as a result shape map.
+///
 /// `upgrade --schema F --data F --proof F --to F [--schema-base I] [--data-base I] [IRI=FILE ..]` does the same, and where the
 /// proof is accepted it first stores it in format 2 under the name of `--to`: its own bytes where they are of that format, and
 /// else the same nodes, sections and claims behind a head that names these files and brings the strata of the schema.
+///
 /// `drill N [--proof F]` answers the map of made inputs with N items, from 1 to 100,000, checks the proof of the answers, and
-/// prints how many items are conformant and how many are not. With `--proof` it first stores the proof under that name. Where
-/// there is no answer, one line on `err` says why, unless memory ran out.
+/// prints how many items are conformant and how many are not. With `--proof` it first stores the proof under that name.
+///
+/// Words, inputs or a proof that are refused, and a file that is not fetched or stored, are told by one line on `err`, unless
+/// memory ran out. N of `--budget` is the greatest Width that is looked into, from 1 to 1,099,511,627,776, and 1,048,576 where
+/// none is given.
 ///
 /// The status is 0 where each association of `validate` is answered as it wants, or the proof is accepted, or the drill is
-/// answered; 1 where some association of `validate` is not answered as it wants; 4 where some association of it has no
-/// answer, since it depends on a pair that is wider than the budget; 2 where the words are refused, 3 where the inputs are
-/// refused, 5 where a file was not fetched or stored, 6 where the proof is rejected, 7 where a sink failed, 8 where memory
-/// ran out.
+/// answered; 1 where some association of `validate` is not answered as it wants; 4 where some association of it has no answer,
+/// since it depends on a pair that is wider than the budget, and then `err` gets a line for each such pair that the associations
+/// reach; 2 where the words are refused, 3 where the inputs are refused or the table of terms cannot take up the nodes of the proof
+/// that is checked, 5 where a file was not fetched or stored, 6 where the bytes of the proof are none, or it is not current or not
+/// accepted, 7 where a sink failed, 8 where memory ran out.
 pub fn run<F: Files, O: Sink, E: Sink>(
     alloc: Global,
     words: &[String],
@@ -145,6 +153,13 @@ pub fn run<F: Files, O: Sink, E: Sink>(
     out: &mut O,
     err: &mut E,
 ) -> u8
+    // How a call ends, with all that it has printed and stored then. The clauses below follow from it.
+    ensures ends { Ends
+        (map string_bytes words.now)
+        (record { told = F.told files.old; told_after = F.told files.new; faults = F.faults files.old; faults_after = F.faults files.new; blame = F.blame files.new; act = F.act files.new })
+        (record { got = O.got out.old; got_after = O.got out.new; faults = O.faults out.old; faults_after = O.faults out.new })
+        (record { got = E.got err.old; got_after = E.got err.new; faults = E.faults err.old; faults_after = E.faults err.new })
+        result }
     ensures statuses { IsStatus result }
 
     // An answer is the truth of what the files hold, by the complete typing over the graph, and the answers alone are
@@ -243,7 +258,7 @@ pub fn run<F: Files, O: Sink, E: Sink>(
     ensures misses { (contents : List ℕ → Option (List ℕ)) (c : Asking) (file : File) →
         F.told files.old ≡ Some contents → IsAsked (map string_bytes words.now) c →
         IsAbsent (F.told files.old) c file → IsInterrupted result }
-    ensures ends { (contents : List ℕ → Option (List ℕ)) (c : Asking) →
+    ensures completes { (contents : List ℕ → Option (List ℕ)) (c : Asking) →
         F.told files.old ≡ Some contents → IsAsked (map string_bytes words.now) c →
         AreTaken (F.told files.old) c → ¬ Rose (F.faults files.old) (F.faults files.new) →
         ¬ Rose (O.faults out.old) (O.faults out.new) → ¬ Rose (E.faults err.old) (E.faults err.new) →
@@ -257,7 +272,7 @@ pub fn run<F: Files, O: Sink, E: Sink>(
     ensures sink_fault { (O.faults out.old < O.faults out.new) ⊎ (E.faults err.old < E.faults err.new) →
         result ≡ 7 }
 {
-    // The laws by which words and files say one thing.
+    // The laws by which words and files say one thing, and pairs without a line are within the budget.
     answers_are_one();
     inputs_are_one();
     none_is_wide();

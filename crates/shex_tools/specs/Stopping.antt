@@ -26,7 +26,7 @@ use Rattle.shex_tools.specs.declared.stop.Stop.TheVariants as Stops
 use Rattle.shex_tools.specs.Outcomes.{IsRefused, Reaches}
 use Rattle.shex_tools.specs.Texts.{name_of}
 
--- each base that the call is given is one, and its budget is at most the greatest
+-- each base that the call is given passes the check of a base, and its budget is at most the greatest
 abbrev pub IsFit : ToolCall → Type 0
 IsFit (of_schema c) = is_base c.schema_base ≡ true
 IsFit (of_labels l) = (is_base l.inputs.schema_base ≡ true) × (is_base l.inputs.data_base ≡ true) × (l.budget ≤ max_budget)

@@ -30,7 +30,7 @@ use shexj_writer::write;
 use std::alloc::{AllocError, Global};
 use tool_words::Converting;
 
-/// Why there is no answer where the schema file was not fetched.
+/// Why there is no answer where the schema file was not fetched or is too long.
 fn fetch_stop(error: FetchError) -> Stop
     ensures { result ≡ fetch_stop error }
 {
@@ -43,7 +43,7 @@ fn fetch_stop(error: FetchError) -> Stop
     }
 }
 
-/// The bytes of the schema file.
+/// The bytes of the schema file, of which there may be 67,108,864. It is refused as `Size` where it has more.
 fn fetch_schema<F: Files>(
     alloc: Global,
     files: &mut F,
@@ -69,6 +69,7 @@ fn read_bytes(alloc: Global, format: Format, base: &str, source: &[u8]) -> Resul
     ensures refused { IfErr result (λ e. ReaderExplains format base.now e source.now) }
     ensures none { IfErr result (AreNone format base.now source.now) }
 {
+    // The law by which bytes that are refused as ShExJ spell no document.
     refused_are_none();
     match format {
         Format::Compact => {

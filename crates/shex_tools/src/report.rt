@@ -27,7 +27,7 @@ pub fn words(alloc: Global, error: WordsError<'_>) -> Result<String, AllocError>
     error_line(alloc, PROGRAM, "words", what.as_str())
 }
 
-/// The name of a file of `convert`, which has no imports, no data and no map.
+/// The name of the schema file of `convert`, and the empty text for a file that it has not: an import, the data, a map.
 fn converted_name<'a>(converting: &Converting<'a>, source: Source) -> &'a str
     ensures { result.now ≡ source_name (inputs_of (of_schema (converting_of converting.now))) source }
 {
@@ -37,7 +37,7 @@ fn converted_name<'a>(converting: &Converting<'a>, source: Source) -> &'a str
     }
 }
 
-/// The name of a file in the words, in which there is no map.
+/// The name of a file in the words, and the empty text where they name none, as for a map.
 fn name<'a>(call: &ToolCall<'a>, source: Source) -> &'a str
     ensures { result.now ≡ name_of (tool_call_of call.now) source }
 {

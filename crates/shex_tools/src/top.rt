@@ -1,6 +1,6 @@
 //! The top call.
 
-ghost use Rattle.std.specs.Prelude.{[], ◌≡◌, ◌≢◌, ◌<◌, ◌≤◌, ◌⊎◌, ℕ, List, Option, Some, IfErr, IfOk, OnOk, codes, map, string_bytes};
+ghost use Rattle.std.specs.Prelude.{[], ◌≡◌, ◌≢◌, ◌<◌, ◌⊎◌, ℕ, List, Option, Some, IfErr, IfOk, OnOk, codes, map, string_bytes};
 ghost use Rattle.schema_tree.specs.declared.schema.Pair.{Pair};
 ghost use Rattle.schema_tree.specs.Removal.{IsRefined};
 ghost use Rattle.schema_tree.specs.Sure.{Known};
@@ -111,15 +111,19 @@ fn end<F: Files, O: Sink, E: Sink>(
 /// Answers what the words ask of `shextool`. Nothing is stored.
 ///
 /// `convert --schema F [--schema-base I]` reads one schema document, of which it follows no import, and prints it to `out` in
-/// ShExJ, as compact JSON, with a line feed behind it.
-/// `extents --schema F --data F [--budget N] [--schema-base I] [--data-base I] [IRI=FILE ..]` prints a result shape map to `out`:
-/// for each label of the schema the nodes of the graph that satisfy its expression, but for those on which the verdict is
-/// Unknown, which comes only where it depends on a pair of a node and a Shape whose width is above the budget. Where there is no
-/// answer, one line on `err` says why, unless memory ran out.
+/// ShExJ (ShEx 2.1, appendix A), as compact JSON, with a line feed behind it.
 ///
-/// The status is 0 where there is an answer; 4 where the membership of some node in the extents is not told, since it depends on
-/// a pair that is wider than the budget; 2 where the words are refused, 3 where a file is refused, 5 where a file was not
-/// fetched, 7 where a sink failed, 8 where memory ran out.
+/// `extents --schema F --data F [--budget N] [--schema-base I] [--data-base I] [IRI=FILE ..]` prints a result shape map to
+/// `out`: for each label of the schema the nodes of the graph that satisfy its expression (ShEx 2.1, section 5.2), but for
+/// those on which the verdict is Unknown, which comes only where it depends on a pair of a node and a Shape whose Width is
+/// above the budget.
+///
+/// A refusal, and a file that is not fetched, are told by one line on `err`, unless memory ran out. N is from 1 to
+/// 1,099,511,627,776, and 1,048,576 where none is given.
+///
+/// The status is 0 where there is an answer; 4 where the membership of some node in the extents is not told, since it depends on a
+/// pair that is wider than the budget, and then `err` gets a line for each wide pair that the nodes with the labels reach; 2 where
+/// the words are refused, 3 where a file is refused, 5 where a file was not fetched, 7 where a sink failed, 8 where memory ran out.
 pub fn run_tool<F: Files, O: Sink, E: Sink>(
     alloc: Global,
     words: &[String],
@@ -218,7 +222,7 @@ pub fn run_tool<F: Files, O: Sink, E: Sink>(
     ensures sink_fault { (O.faults out.old < O.faults out.new) ⊎ (E.faults err.old < E.faults err.new) →
         result ≡ 7 }
 {
-    // The laws by which words and files say one thing.
+    // The laws by which words and files say one thing, refinement too, and pairs without a line are within the budget.
     answers_are_one();
     inputs_are_one();
     taken_is_loaded();

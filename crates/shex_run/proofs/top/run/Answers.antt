@@ -85,8 +85,8 @@ returns-clause-fills g c = λ contents k told is_asked full. filled_ends _ k is_
 pub returns-clause-misses : goal.returns-clause-misses
 returns-clause-misses g c = λ contents k file told is_asked absent. absent_ends _ k is_asked c.answers_are_one.ensures _ _ _ _ contents told (are_one c.inputs_are_one.ensures contents _ told k) file absent c.end.ensures
 
-pub returns-clause-ends : goal.returns-clause-ends
-returns-clause-ends g c = λ contents k told is_asked taken files out err.
+pub returns-clause-completes : goal.returns-clause-completes
+returns-clause-completes g c = λ contents k told is_asked taken files out err.
     unfaulted _ _ _ _ _ (five_rose _ _ _ _ _ c.end.ensures) (seven_rose _ _ _ _ _ c.end.ensures) files out err
     (taken_ends _ k is_asked c.answers_are_one.ensures _ _ _ _ contents told (are_one c.inputs_are_one.ensures contents _ told k) taken c.end.ensures)
 
