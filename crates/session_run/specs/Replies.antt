@@ -26,6 +26,7 @@ verdict_mark Unknown = codes "?"
 abbrev pub line_of : List ℕ → Verdict → Target → List ℕ
 line_of node verdict target = node ++ (codes "@" ++ (verdict_mark verdict ++ (target_text target ++ codes "\n")))
 
+-- the line for an answer
 abbrev pub reply_line : Reply → List ℕ
 reply_line r = line_of (term_text r.node) r.verdict r.target
 
@@ -37,6 +38,7 @@ text_of replies = flat_map reply_line replies
 abbrev pub notes_of : List Reply → List ℕ
 notes_of replies = flat_map (λ r. r.notes) replies
 
+-- whether the verdict is Unknown
 abbrev pub is_unknown : Verdict → Bool
 is_unknown Yes = false
 is_unknown No = false

@@ -79,6 +79,7 @@ abbrev pub refusal_of : Target → CommandError
 refusal_of Targets.Start = Errors.NoStart
 refusal_of (Targets.Label label) = Errors.Label label
 
+-- the target is not declared, and this is its refusal
 abbrev pub IsUndeclared : Schema → Target → CommandError → Type 0
 IsUndeclared s t e = (¬ HasTarget s t) × (e ≡ refusal_of t)
 

@@ -23,7 +23,7 @@ use Rattle.session_run.specs.Files.{name_of}
 use Rattle.session_run.specs.Outcomes.{EndsAs, IsRefused, Reaches}
 use Rattle.session_run.specs.Script.{refused}
 
--- each base that is given is one, and the budget is at most the greatest
+-- each base that is given passes the check of a base, and the budget is at most the greatest
 pub record IsFit (e : Editing) : Type 0 where
   pub schema : is_base e.inputs.schema_base ≡ true
   pub data_file : is_base e.inputs.data_base ≡ true

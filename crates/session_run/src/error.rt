@@ -15,11 +15,12 @@ use typing_session::AskError;
 /// Why a command of a script is refused. It shows the text that a program prints for it.
 #[derive(Debug, Drop)]
 pub enum CommandError {
-    /// This target is not declared.
+    /// A question names this label, which the schema does not declare.
     Label(Label),
     /// The start is asked for, and the schema has none.
     NoStart,
-    /// The table of terms or the graph cannot take up what the command names.
+    /// The table of terms, of at most 4,294,967,295, or the graph, of at most 4,000,000 triples, cannot take up what the command
+    /// names.
     Full,
     /// The question reaches more than 4,194,304 pairs.
     Pairs,

@@ -23,7 +23,7 @@ pub fn words(alloc: Global, error: WordsError<'_>) -> Result<String, AllocError>
     error_line(alloc, PROGRAM, "words", what.as_str())
 }
 
-/// The name of a file in the words, which name no map.
+/// The name of a file in the words, and the empty text where they name none, as for a map.
 fn name<'a>(editing: &Editing<'a>, file: File) -> &'a str
     ensures { result.now ≡ name_of (editing_of editing.now) file }
 {

@@ -110,7 +110,10 @@ fn answer(
     ensures stops { IfErr result (RunStops (held_by holding) budget commands.items) }
 {
     let mut session = session_of(alloc, holding, budget)?;
-    Ok(run(alloc, &mut session, commands)?)
+    let said = run(alloc, &mut session, commands);
+    // The session is dropped by one call, which is proved in less time.
+    drop(session);
+    Ok(said?)
 }
 
 /// The answers that are due for the words.

@@ -21,7 +21,7 @@ use schema_tree::laws::{strata_are_alike, strata_are_least, typing_is_one};
 use schema_tree::schema::{ExprId, Target};
 use schema_tree::verdicts::Verdict;
 use session_script::Command;
-use std::alloc::{AllocError, Global};
+use std::alloc::Global;
 use std::marker::Brand;
 use std::sync::ledger::{Blank, Ledger};
 use tally::Steps as Counter;
@@ -213,7 +213,7 @@ fn run_with<L: Ledger>(
 }
 
 /// The answers to the questions of a script, each over the graph that the edits before it left. The first command that is
-/// refused ends the script.
+/// refused ends the script with its error; it fails as `Memory` where memory ran out.
 pub fn run(
     alloc: Global,
     session: &mut Session,

@@ -1,4 +1,4 @@
-//! What is said to a script, as it is composed.
+//! The answers to the questions of a script, as they are printed.
 
 ghost use Rattle.std.specs.Prelude.{◌≡◌, ◌++◌, ◌<◌, OnOk, codes, length};
 ghost use Rattle.rdf_terms.specs.Order.{text_at};
@@ -60,7 +60,7 @@ impl Said {
     }
 }
 
-/// What stands before the target of an answer.
+/// What stands between the node and the target of an answer: `@`, and `!` for No or `?` for Unknown.
 fn mark(verdict: Verdict) -> &'static [u8]
     ensures { result.now ≡ codes "@" ++ verdict_mark verdict }
 {

@@ -87,16 +87,17 @@ fn end<F: Files, O: Sink, E: Sink>(
 
 /// Answers the questions of a script over a graph that the script edits.
 ///
-/// The words are `--schema F --data F --script F [--budget N] [--schema-base I] [--data-base I] [IRI=FILE ..]`. The schema and
-/// the data are read, then the script whole, and then its commands are run one after the other: `+` adds a triple to the graph
-/// and `-` removes one, and `?` asks whether a node satisfies a target over the graph that the edits before it left. For each
-/// question a line is printed to `out`: the text of the node, `@`, `!` where it does not satisfy the target and `?` where that
-/// depends on a pair that is wider than the budget, and the target. Nothing is stored. Where there are no answers, one line on
-/// `err` says why, unless memory ran out.
+/// The words are `--schema F --data F --script F [--budget N] [--schema-base I] [--data-base I] [IRI=FILE ..]`. The schema and the
+/// data are read, then the script whole, and then its commands are run one after the other: `+` adds a triple to the graph and `-`
+/// removes one, and `?` asks whether a node satisfies a target (ShEx 2.1, section 5.2) over the graph that the edits before it
+/// left. For each question a line is printed to `out`: the text of the node, `@`, `!` where it does not satisfy the target and `?`
+/// where that depends on a pair that is wider than the budget, and the target. Nothing is stored. Where a command is refused,
+/// nothing is printed for the questions before it. Where there are no answers, one line on `err` says why, unless memory ran out. N
+/// is from 1 to 1,099,511,627,776, and 1,048,576 where none is given.
 ///
-/// The status is 0 where each question is answered with yes or no; 4 where some answer is Unknown, and then `err` gets, for
-/// each such answer in turn, a line for each pair that the question reaches and whose Width is above the budget; 2 where the
-/// words are refused, 3 where a file is refused, 5 where a file was not fetched, 7 where a sink failed, 8 where memory ran out.
+/// The status is 0 where each question is answered with yes or no; 4 where some answer is Unknown, and then `err` gets, for each
+/// such answer in turn, a line for each pair that the question reaches and whose Width is above the budget; 2 where the words are
+/// refused, 3 where a file is refused, 5 where a file was not fetched, 7 where a sink failed, 8 where memory ran out.
 pub fn run_session<F: Files, O: Sink, E: Sink>(
     alloc: Global,
     words: &[String],
@@ -184,7 +185,7 @@ pub fn run_session<F: Files, O: Sink, E: Sink>(
     ensures sink_fault { (O.faults out.old < O.faults out.new) ⊎ (E.faults err.old < E.faults err.new) →
         result ≡ 7 }
 {
-    // The laws by which words and files say one thing, and a graph is a set.
+    // The laws by which words, files and scripts say one thing, a graph is a set, and pairs without a line are within the budget.
     answers_are_one();
     inputs_are_one();
     taken_is_loaded();

@@ -13,20 +13,20 @@ use Rattle.session_run.proofs.responding.answer.Goals as goal
 pub session_of-requires-clause-budget : goal.session_of-requires-clause-budget
 session_of-requires-clause-budget c = let le = c.requires.budget in omega (arith, le)
 
-pub run-requires : goal.run-requires
-run-requires c = record {
+pub run-said-requires : goal.run-said-requires
+run-said-requires c = record {
   loaded = subst (λ (x : Seen). IsLoaded x.schema) (sym c.in_ok-session.ensures.seen) c.requires.loaded;
   strata = subst (λ (x : Seen). IsStratum x.schema x.strata) (sym c.in_ok-session.ensures.seen) c.requires.strata;
   distinct = subst (λ (x : Seen). AreDistinct x.graph) (sym c.in_ok-session.ensures.seen) c.in_ok-session.ensures.distinct;
 }
 
-pub returns-in_err-run-clause-stops : goal.returns-in_err-run-clause-stops
-returns-in_err-run-clause-stops c =
-    let p = err_from_is_err_and c.from_residual-in_err-run.result c.from_residual-in_err-run.ensures.1 in
-    rw p.1 (command_stops (held_by c.args.holding) c.args.budget c.args.commands.items c.in_err-run.field-0.0 p.0
-    (subst (λ (x : Seen). StopsOr (λ e. Runs x.schema x.strata x.budget (state_of x) [] c.args.commands.items (refused e)) c.in_err-run.field-0.0) c.in_ok-session.ensures.seen c.in_err-run.ensures.stopped) p.2)
+pub returns-in_err-said-clause-stops : goal.returns-in_err-said-clause-stops
+returns-in_err-said-clause-stops c =
+    let p = err_from_is_err_and c.from_residual-in_err-said.result c.from_residual-in_err-said.ensures.1 in
+    rw p.1 (command_stops (held_by c.args.holding) c.args.budget c.args.commands.items c.in_err-said.field-0.0 p.0
+    (subst (λ (x : Seen). StopsOr (λ e. Runs x.schema x.strata x.budget (state_of x) [] c.args.commands.items (refused e)) c.in_err-said.field-0.0) c.in_ok-session.ensures.seen c.in_err-said.ensures.stopped) p.2)
 
 pub returns-clause-answers : goal.returns-clause-answers
 returns-clause-answers c =
-    let done = subst (λ (x : Seen). IsDone x c.args.commands.items c.in_ok-run.field-0) c.in_ok-session.ensures.seen c.in_ok-run.ensures.done in
+    let done = subst (λ (x : Seen). IsDone x c.args.commands.items c.in_ok-said.field-0) c.in_ok-session.ensures.seen c.in_ok-said.ensures.done in
     (done.replies, done.runs, done.says)
