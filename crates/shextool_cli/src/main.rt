@@ -11,7 +11,7 @@ fn main(rt: HostRuntime) -> ExitCode {
     let args = match env::args(&rt) {
         Ok(args) => args,
         Err(error) if error.kind() == ErrorKind::OutOfMemory => return ExitCode::from(8),
-        // A word that is no UTF-8 is no word of a command.
+        // A word that is no UTF-8 is no word of a command, so the call is refused as one without words is.
         Err(_) => Vec::new(rt.alloc()).into_iter(),
     };
     let Ok(words) = args.skip(1).collect::<Vec<String>>(rt.alloc()) else {
