@@ -1,6 +1,6 @@
 //! What all rows of a document have.
 
-use crate::bench::tried;
+use crate::attempt::tried;
 use crate::program::Call;
 use anyhow::bail;
 use row_format::{Entry, NamedFile, Rows, file_of};

@@ -1,20 +1,10 @@
-//! Files that are cut behind each of their bytes.
+//! Files in whose place each of their proper prefixes is put.
 
+use crate::outcome::{call, files_with};
 use crate::program::Call;
-use crate::trial::{call, files_with};
 use anyhow::bail;
-use row_format::{NamedFile, note};
+use row_format::{NamedFile, bytes_named, note};
 use std::alloc::{AllocError, Global};
-
-/// The bytes of the file of this name, of which the last one counts.
-fn bytes_of<'a>(files: &'a [NamedFile], name: &str) -> Option<&'a [u8]> {
-    for file in files.iter().rev() {
-        if file.name.as_str() == name {
-            return Some(file.bytes.as_slice());
-        }
-    }
-    None
-}
 
 /// The status of a call in which the file of this name has these bytes.
 fn status_with(
@@ -27,11 +17,11 @@ fn status_with(
 ) -> Result<u8, AllocError> {
     let mut files = files_with(alloc, Vec::new(alloc), common, own)?;
     files.add(name, bytes)?;
-    let trial = call(alloc, made, files, Vec::new(alloc), Vec::new(alloc))?;
-    Ok(trial.status)
+    let outcome = call(alloc, made, files, Vec::new(alloc), Vec::new(alloc))?;
+    Ok(outcome.status)
 }
 
-/// Makes a call again with a file cut behind each of its bytes but the last, and notes where it ends with a status that is
+/// Makes a call again with each proper prefix of a file in its place, and notes where it ends with a status that is
 /// not among those that are wanted.
 pub fn cut_each(
     alloc: Global,
@@ -42,7 +32,7 @@ pub fn cut_each(
     name: &str,
     wanted: &[u64],
 ) -> anyhow::Result<()> {
-    let Some(bytes) = bytes_of(own, name) else {
+    let Some(bytes) = bytes_named(own, name) else {
         bail!("the row has no file of this name");
     };
     for size in 0..bytes.len() {

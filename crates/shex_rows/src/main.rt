@@ -15,16 +15,16 @@
 //!   store. What is not said to be printed has to be nothing, and the status has to be said. A file that `stored` names is
 //!   there for the next call, with the text that stands here; files that were stored and that no line names are not looked
 //!   at, and are not there for the next call.
-//! - `cut NAME N ..` makes the last call again with this file of the row cut behind each of its bytes but the last, and each
-//!   has to end with one of these statuses.
+//! - `cut NAME N ..` makes the last call again with each proper prefix of this file of the row in its place, the empty one too,
+//!   and each has to end with one of these statuses.
 #![tactic(auto)]
 
-mod bench;
+mod attempt;
 mod common;
+mod comparison;
 mod cuts;
+mod outcome;
 mod program;
-mod trial;
-mod verdict;
 
 use common::Common;
 use row_format::print_reports;

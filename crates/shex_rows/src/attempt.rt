@@ -1,10 +1,10 @@
 //! A row that is tried.
 
 use crate::common::Common;
+use crate::comparison::Comparison;
 use crate::cuts::cut_each;
+use crate::outcome::{Failing, call, files_with};
 use crate::program::Call;
-use crate::trial::{Failing, call, files_with};
-use crate::verdict::Verdict;
 use anyhow::bail;
 use row_format::{Entry, NamedFile, file_of, first_word, note, numbers_of};
 use std::alloc::{AllocError, Global};
@@ -12,22 +12,22 @@ use std::alloc::{AllocError, Global};
 /// A row that is being tried: its files, what fails in the next call, the last call, what it gave and was said of that, and
 /// what differs.
 #[derive(Drop)]
-struct Bench {
+struct Attempt {
     files: Vec<NamedFile>,
     failing: Failing,
     call: Option<Call>,
-    verdict: Option<Verdict>,
+    comparison: Option<Comparison>,
     differences: String,
 }
 
-impl Bench {
+impl Attempt {
     /// A row that has called nothing.
-    fn new(alloc: Global) -> Bench {
-        Bench {
+    fn new(alloc: Global) -> Attempt {
+        Attempt {
             files: Vec::new(alloc),
             failing: Failing::none(alloc),
             call: None,
-            verdict: None,
+            comparison: None,
             differences: String::new(alloc),
         }
     }
@@ -40,7 +40,7 @@ impl Bench {
             "files" => self.failing.files = numbers,
             "out" => self.failing.out = numbers,
             "err" => self.failing.err = numbers,
-            _ => bail!("neither files, out nor err fail"),
+            _ => bail!("a line `fails` names files, out or err"),
         }
         Ok(())
     }
@@ -53,22 +53,22 @@ impl Bench {
             Failing::none(alloc),
         );
         let files = files_with(alloc, files, common, self.files.as_slice())?;
-        let trial = call(alloc, &made, files, out, err)?;
-        self.verdict = Some(Verdict::new(trial));
+        let outcome = call(alloc, &made, files, out, err)?;
+        self.comparison = Some(Comparison::new(outcome));
         self.call = Some(made);
         Ok(())
     }
 
     /// Makes the call of each row that makes no other, where nothing was called.
     fn run_once(&mut self, alloc: Global, common: &Common) -> Result<(), AllocError> {
-        if let (None, Some(made)) = (&self.verdict, &common.call) {
+        if let (None, Some(made)) = (&self.comparison, &common.call) {
             let made = made.try_clone(alloc)?;
             self.run(alloc, common.files.as_slice(), made)?;
         }
         Ok(())
     }
 
-    /// Makes the last call again with a file cut behind each of its bytes but the last.
+    /// Makes the last call again with each proper prefix of a file in its place.
     fn cut(&mut self, alloc: Global, common: &[NamedFile], line: &str) -> anyhow::Result<()> {
         let (name, statuses) = first_word(line);
         let wanted = numbers_of(alloc, statuses)?;
@@ -88,17 +88,13 @@ impl Bench {
 
     /// Compares what is said of the last call. A file that is said to be stored is there from now on.
     fn say(&mut self, alloc: Global, entry: &Entry) -> anyhow::Result<()> {
-        let Some(verdict) = &mut self.verdict else {
-            bail!("something is said of a call before there is one");
+        let Some(comparison) = &mut self.comparison else {
+            bail!("a line says something of a call before there is one");
         };
-        let (verb, rest, text) = (
-            entry.verb.as_str(),
-            entry.rest.as_str(),
-            entry.text.as_str(),
-        );
-        verdict.say(alloc, &mut self.differences, verb, rest, text)?;
-        if verb == "stored" {
-            self.files.push(NamedFile::of_text(alloc, rest, text)?)?;
+        comparison.say(alloc, &mut self.differences, entry)?;
+        if entry.verb.as_str() == "stored" {
+            let (name, text) = (entry.rest.as_str(), entry.text.as_str());
+            self.files.push(NamedFile::of_text(alloc, name, text)?)?;
         }
         Ok(())
     }
@@ -123,8 +119,8 @@ impl Bench {
 
     /// Ends what is said of the last call, if there is one.
     fn end(&mut self, alloc: Global) -> Result<(), AllocError> {
-        match &self.verdict {
-            Some(verdict) => verdict.end(alloc, &mut self.differences),
+        match &self.comparison {
+            Some(comparison) => comparison.end(alloc, &mut self.differences),
             None => Ok(()),
         }
     }
@@ -135,7 +131,7 @@ impl Bench {
             bail!("a row says what fails behind its last call");
         }
         self.end(alloc)?;
-        if self.verdict.is_none() {
+        if self.comparison.is_none() {
             note(&mut self.differences, "nothing was called")?;
         }
         Ok(self.differences)
@@ -144,9 +140,9 @@ impl Bench {
 
 /// What differs in the row of these entries, with what all rows have.
 pub fn tried(alloc: Global, common: &Common, entries: &[Entry]) -> anyhow::Result<String> {
-    let mut bench = Bench::new(alloc);
+    let mut attempt = Attempt::new(alloc);
     for entry in entries {
-        bench.obey(alloc, common, entry)?;
+        attempt.obey(alloc, common, entry)?;
     }
-    bench.into_differences(alloc)
+    attempt.into_differences(alloc)
 }

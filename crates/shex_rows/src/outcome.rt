@@ -12,7 +12,7 @@ pub struct Failing {
     pub files: Vec<u64>,
     /// Those of the output.
     pub out: Vec<u64>,
-    /// Those of the errors.
+    /// Those of the error stream.
     pub err: Vec<u64>,
 }
 
@@ -34,12 +34,12 @@ impl Failing {
 
 /// What a call gave.
 #[derive(Drop)]
-pub struct Trial {
+pub struct Outcome {
     /// Its status.
     pub status: u8,
-    /// Its output.
+    /// What it printed to the output.
     pub out: MemSink,
-    /// Its errors.
+    /// What it printed to the error stream.
     pub err: MemSink,
     /// The files behind it.
     pub files: MemFiles,
@@ -73,7 +73,7 @@ pub fn call(
     files: MemFiles,
     out: Vec<u64>,
     err: Vec<u64>,
-) -> Result<Trial, AllocError> {
+) -> Result<Outcome, AllocError> {
     let mut files = files;
     let mut out = MemSink::new(alloc, out);
     let mut err = MemSink::new(alloc, err);
@@ -81,7 +81,7 @@ pub fn call(
     let status = call
         .program
         .call(alloc, words.as_slice(), &mut files, &mut out, &mut err);
-    Ok(Trial {
+    Ok(Outcome {
         status,
         out,
         err,

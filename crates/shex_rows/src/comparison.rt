@@ -1,8 +1,8 @@
 //! What is said of a call, beside what it gave.
 
-use crate::trial::Trial;
+use crate::outcome::Outcome;
 use anyhow::bail;
-use row_format::{compare, note};
+use row_format::{Entry, compare, note};
 use shex_io::{MemFiles, MemSink};
 use std::alloc::{AllocError, Global};
 
@@ -15,9 +15,9 @@ struct Printed {
 
 /// A call, and what was said of it so far.
 #[derive(Drop)]
-pub struct Verdict {
+pub struct Comparison {
     status: u8,
-    has_status: bool,
+    is_status_said: bool,
     out: Printed,
     err: Printed,
     files: MemFiles,
@@ -73,18 +73,18 @@ impl Printed {
     }
 }
 
-impl Verdict {
+impl Comparison {
     /// Nothing was said of a call.
-    pub fn new(trial: Trial) -> Verdict {
-        let Trial {
+    pub fn new(outcome: Outcome) -> Comparison {
+        let Outcome {
             status,
             out,
             err,
             files,
-        } = trial;
-        Verdict {
+        } = outcome;
+        Comparison {
             status,
-            has_status: false,
+            is_status_said: false,
             out: Printed::new(out),
             err: Printed::new(err),
             files,
@@ -122,18 +122,21 @@ impl Verdict {
         Ok(())
     }
 
-    /// Notes the difference where what a line with its text says of the call is not so.
+    /// Notes the difference where what an entry says of the call is not so.
     pub fn say(
         &mut self,
         alloc: Global,
         differences: &mut String,
-        verb: &str,
-        rest: &str,
-        text: &str,
+        entry: &Entry,
     ) -> anyhow::Result<()> {
+        let (verb, rest, text) = (
+            entry.verb.as_str(),
+            entry.rest.as_str(),
+            entry.text.as_str(),
+        );
         match verb {
             "status" => {
-                self.has_status = true;
+                self.is_status_said = true;
                 compare_status(alloc, differences, self.status, rest)?;
             }
             "out" => self.out.say(alloc, differences, verb, text)?,
@@ -149,7 +152,7 @@ impl Verdict {
     pub fn end(&self, alloc: Global, differences: &mut String) -> Result<(), AllocError> {
         self.out.end(alloc, differences, "out")?;
         self.err.end(alloc, differences, "err")?;
-        if !self.has_status {
+        if !self.is_status_said {
             note(differences, "no status is said")?;
         }
         Ok(())
