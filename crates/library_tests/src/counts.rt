@@ -1,4 +1,5 @@
-//! The rows of the table of intervals, and divisions of triples that the standard settles.
+//! Intervals of the numbers of copies, and how cardinalities, EachOf and OneOf divide triples (ShEx 2.1, section 5.5).
+
 ghost use Rattle.std.specs.Prelude.{◌≡◌, ◌↔◌, ◌+◌, ◌<◌, IfOk, IsTrue};
 ghost use Rattle.tally.specs.Plan.{more_plans, many, no_plans, plan_of, plans_of};
 ghost use Rattle.tally.specs.Span.{IsOrdered};
@@ -11,14 +12,17 @@ use std::test::Fail;
 use tally::counting::interval;
 use tally::{Bound, Count, Interval, Steps};
 
+/// From the one to the other.
 fn between(lo: u64, hi: u64) -> Option<Interval> {
     Some(Interval { lo, hi: Some(hi) })
 }
 
+/// From this on.
 fn from(lo: u64) -> Option<Interval> {
     Some(Interval { lo, hi: None })
 }
 
+/// Whether the minimum is within the bound.
 fn is_ordered(min: u32, max: Bound) -> bool
     ensures { IsTrue result ↔ IsOrdered min max }
 {
@@ -129,11 +133,11 @@ fn members_intersect_or_add(rt: HostRuntime) -> Result<(), Fail> {
         assert_eq!(rt; found.0, each, "EachOf at {low:?} to {high:?}");
         assert_eq!(rt; found.1, one, "OneOf at {low:?} to {high:?}");
     }
-    check_members(&rt)
+    Ok(())
 }
 
 /// Groups that repeat, and a choice with a member that may be empty.
-fn check_members(rt: &(impl Abort + AllocGlobal)) -> Result<(), Fail> {
+fn check_groups(rt: &(impl Abort + AllocGlobal)) -> Result<(), Fail> {
     for (counts, grouped, chosen) in [
         ([2, 0], between(1, 1), between(1, 1)),
         ([2, 1], between(1, 1), between(2, 2)),
@@ -155,10 +159,14 @@ fn check_members(rt: &(impl Abort + AllocGlobal)) -> Result<(), Fail> {
     Ok(())
 }
 
-/// No members have all copies or none, an interval contains its ends, and a counter can be made.
 #[test]
-fn the_least_calls_answer(rt: HostRuntime) {
-    count_from_a_fresh_blank();
+fn groups_repeat_as_a_whole(rt: HostRuntime) -> Result<(), Fail> {
+    check_groups(&rt)
+}
+
+/// An EachOf without members has any number of copies, and a OneOf none.
+#[test]
+fn no_members_have_all_copies_or_none(rt: HostRuntime) {
     assert_eq!(rt;
         interval(&Count::Each(Vec::new(rt.alloc())), &[], &[]),
         from(0)
@@ -167,6 +175,10 @@ fn the_least_calls_answer(rt: HostRuntime) {
         interval(&Count::One(Vec::new(rt.alloc())), &[], &[]),
         between(0, 0)
     );
+}
+
+#[test]
+fn an_interval_contains_its_ends(rt: HostRuntime) {
     let some = Interval { lo: 2, hi: Some(4) };
     for (k, want) in [(1, false), (2, true), (4, true), (5, false)] {
         assert_eq!(rt; some.contains(k), want, "{k}");
@@ -174,6 +186,7 @@ fn the_least_calls_answer(rt: HostRuntime) {
     assert!(rt; Interval { lo: 2, hi: None }.contains(u64::MAX));
 }
 
+/// Counts two steps.
 fn tick_twice<L: Ledger>(steps: &mut Steps<L>)
     ensures { steps.new ≡ steps.old + 2 }
 {
@@ -181,6 +194,7 @@ fn tick_twice<L: Ledger>(steps: &mut Steps<L>)
     steps.tick();
 }
 
+/// Makes a counter and counts two steps.
 fn count_two<L: Ledger>(blank: Blank)
     requires name { blank.name ≡ L.name }
     requires parts { blank.parts ≡ L.parts }
@@ -191,6 +205,7 @@ fn count_two<L: Ledger>(blank: Blank)
 }
 
 /// Whoever counts nothing makes a counter of a fresh blank.
-fn count_from_a_fresh_blank() {
+#[test]
+fn a_counter_is_made_of_a_fresh_blank(_rt: HostRuntime) {
     count_two::<Brand>(Blank::new(1));
 }

@@ -5,7 +5,6 @@ use graph_index::graph::Graph;
 use graph_index::read_error::ReadError;
 use rdf_terms::table::TermTable;
 use std::alloc::{AllocError, Global};
-use std::process::Abort;
 use std::test::Fail;
 
 /// Reads data into the table and the graph, and tells how many triples that then holds, or why they are refused.

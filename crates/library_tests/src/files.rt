@@ -2,7 +2,10 @@
 
 ghost use Rattle.std.specs.Prelude.{None, Some};
 
-use shex_io::*;
+use shex_io::{
+    DiskFiles, FetchError, Files, MemSink, Sink, SinkError, StdSink, StoreError, SureFiles,
+    SureSink, put_all,
+};
 use std::alloc::Global;
 use std::io::Write;
 use std::test::Fail;

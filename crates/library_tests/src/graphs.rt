@@ -111,7 +111,7 @@ fn lend_alike(one: &Graph, other: &Graph, n: TermId, p: TermId) -> bool
 }
 
 /// Whether two graphs lend the same of twelve nodes and two predicates.
-fn lend_one_thing(one: &Graph, other: &Graph) -> bool
+fn lend_the_same(one: &Graph, other: &Graph) -> bool
     requires one { IsSealed one.now }
     requires other { IsSealed other.now }
 {
@@ -136,7 +136,7 @@ fn lends_as_anew(
 {
     let mut anew = Graph::new(alloc);
     seal_with(&mut anew, terms, triples)?;
-    Ok(lend_one_thing(graph, &anew))
+    Ok(lend_the_same(graph, &anew))
 }
 
 /// Inserts triples, with a new predicate, one that is there, and a self-loop, and tells whether each answer is right.

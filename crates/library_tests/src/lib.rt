@@ -1,4 +1,6 @@
-//! What no row of `shex_rows` can show of the libraries: large documents, counts of steps, sessions, files of the machine. The libraries themselves have no tests, since a crate with tests is proved twice, and tests in one crate share what the linked code of all libraries costs.
+//! What no row of `shex_rows` or `text_rows` can show of the libraries: large documents, counts of steps, sessions, files of the
+//! machine. The libraries themselves have no tests, since a crate with tests is proved twice, and tests in one crate share what the
+//! linked code of all libraries costs.
 #![tactic(auto)]
 
 #[cfg(test)]

@@ -197,7 +197,7 @@ fn asked_over<L: Ledger>(
     times_asked::<L>(blank, alloc, schema, graph, terms, &levels, &pairs)
 }
 
-/// The same over the graph of the row.
+/// How often what is kept of others is asked, over the graph of the row.
 fn asked_along<L: Ledger>(
     blank: Blank,
     alloc: Global,
@@ -214,7 +214,7 @@ fn asked_along<L: Ledger>(
     asked_over::<L>(blank, alloc, schema, &graph, terms)
 }
 
-/// The same once the terms of the row are in the table.
+/// How often what is kept of others is asked, once the terms of the row are in the table.
 fn asked_of<L: Ledger>(
     blank: Blank,
     alloc: Global,
@@ -230,7 +230,7 @@ fn asked_of<L: Ledger>(
     asked_along::<L>(blank, alloc, schema, terms)
 }
 
-/// The same of the schema of the row.
+/// How often what is kept of others is asked, by the schema of the row.
 fn asked_by_row<L: Ledger>(blank: Blank, alloc: Global) -> Result<u64, Fail>
     requires name { blank.name ≡ L.name }
     requires parts { blank.parts ≡ L.parts }
@@ -242,7 +242,8 @@ fn asked_by_row<L: Ledger>(blank: Blank, alloc: Global) -> Result<u64, Fail>
 }
 
 /// Each pair of a row needs the next one, and the last cannot match. A pair is looked at again only when the one that it
-/// needs goes, so what is kept of others is asked at most 14,991 times; in rounds over all pairs it would be 400,000 times.
+/// needs goes, so what is kept of others is asked at most 14,991 times, which is the bound that `refine_from` promises for
+/// this row; in rounds over all pairs it would be asked more than 400,000 times.
 #[test]
 fn a_row_falls_from_its_end_without_rounds(rt: HostRuntime) -> Result<(), Fail> {
     let times = asked_by_row::<Brand>(Blank::new(1), rt.alloc())?;

@@ -2,7 +2,6 @@
 
 ghost use Rattle.std.specs.Prelude.{◌<◌, IfOk, length, map};
 ghost use Rattle.std.specs.List.{AllByRecursion};
-ghost use Rattle.graph_index.specs.Contents.{IsSealedWith};
 ghost use Rattle.schema_documents.specs.Ordered.{IsOrderedDocument};
 ghost use Rattle.schema_documents.specs.Tree.{document_of};
 ghost use Rattle.schema_tree.specs.Loaded.{IsLoaded};
@@ -72,8 +71,8 @@ pub fn put(alloc: Global, terms: &mut TermTable, name: &str) -> Result<(), Fail>
     Ok(())
 }
 
-/// Puts `<http://d/c>`, `<http://d/a>`, `<http://d/b>` and `<http://d/d>` into the table, which behind the only predicate of
-/// a schema get the numbers 1 to 4.
+/// Puts `<http://d/c>`, `<http://d/a>`, `<http://d/b>` and `<http://d/d>` into the table. Their numbers follow those of the
+/// predicates of the schema.
 pub fn put_nodes(alloc: Global, terms: &mut TermTable) -> Result<(), Fail> {
     for name in ["c", "a", "b", "d"] {
         put(alloc, terms, name)?;

@@ -3,7 +3,6 @@
 use crate::documents::repeated;
 use session_script::{ScriptError, read_script};
 use std::alloc::Global;
-use std::process::Abort;
 use std::test::Fail;
 
 /// How many commands a script has, or why it is refused.
@@ -12,9 +11,9 @@ fn count(alloc: Global, source: &str) -> Result<usize, ScriptError> {
     Ok(commands.len())
 }
 
-/// A lexical form at its limit, an IRI beyond it, of a term and of a target, and many lines.
+/// A lexical form at its limit is read; an IRI beyond it is refused as a node and read as a label; many lines are read.
 #[test]
-fn large_scripts_are_read(rt: HostRuntime) -> Result<(), Fail> {
+fn terms_are_bounded_and_labels_and_lines_are_not(rt: HostRuntime) -> Result<(), Fail> {
     let alloc = rt.alloc();
     for (front, part, times, back, wanted) in [
         ("+ <a:s> <a:p> \"", "x", 16_777_216, "\" .", Ok(1)),

@@ -126,7 +126,7 @@ fn is_no_twice<L: Ledger>(session: &mut Session, steps: &mut Steps<L>) -> Result
     Ok(first == Verdict::No && second == Verdict::No)
 }
 
-/// The same in a session that is begun here.
+/// Whether a has S0 neither at first nor when it is asked again, in a session that is begun here.
 fn stays_no<L: Ledger>(blank: Blank, alloc: Global) -> Result<bool, Fail>
     requires name { blank.name ≡ L.name }
     requires parts { blank.parts ≡ L.parts }

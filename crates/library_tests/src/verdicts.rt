@@ -200,7 +200,7 @@ fn node_and_view(alloc: Global, terms: &mut TermTable) -> Result<(TermId, Told),
     Ok((node, Told { yes, no }))
 }
 
-/// Whether each of the expressions has its verdict.
+/// Aborts the test where one of the expressions has another verdict than is wanted.
 fn have_verdicts(
     rt: &(impl Abort + AllocGlobal),
     schema: &Schema,
