@@ -1,6 +1,6 @@
 -- A drill ends as its texts are answered.
 use Rattle.std.proofs.Common.{◌≡◌, ◌∙◌, ◌≤◌, ap, sym, subst, refl, ℕ, suc, List, [], ◌∷◌, inl, inr, arith, length, Bool, true}
-use Rattle.std.specs.Prelude.{Contains, None, Option, Some}
+use Rattle.std.specs.Prelude.{Contains, IsSome, None, Option, Some}
 use Rattle.lists.proofs.Members.{is_first, is_later}
 use Rattle.std.specs.Str.{chars}
 use Rattle.clap.specs.Words.{Text}
@@ -30,9 +30,8 @@ use Rattle.shex_inputs.specs.Refusals.{IsRefused as IsInputRefused}
 use Rattle.shex_inputs.specs.declared.error.InputError.{InputError}
 use Rattle.shex_inputs.specs.declared.error.InputError.TheVariants as InputErrors
 use Rattle.shex_inputs.specs.declared.error.Refusal.{Refusal as InputRefusal}
-use Rattle.program_ends.specs.Printing.{IsQuiet, PrintsBoth, PrintsTo, SinkSeen}
+use Rattle.program_ends.specs.Printing.{IsQuiet, PrintsBoth, SinkSeen}
 use Rattle.shex_run.specs.declared.deciding.Decided.{Decided}
-use Rattle.shex_run.specs.declared.stop.File.{File}
 use Rattle.shex_run.specs.declared.stop.File.TheVariants as Files
 use Rattle.shex_run.specs.declared.stop.Refusal.TheVariants as Refusals
 use Rattle.shex_run.specs.declared.stop.Stop.{Stop}
@@ -41,6 +40,7 @@ use Rattle.shex_run.specs.Checking.{ConfirmStops}
 use Rattle.shex_run.specs.Drills.{AreDrillAnswers, IsCutDrill, IsDrillProof, IsDrilled, drill_command}
 use Rattle.shex_run.specs.Endings.{Ends, answered, failed, wanting}
 use Rattle.program_ends.specs.Ends.{FilesSeen}
+use Rattle.shex_run.specs.Printing.{MayStopDrill, SaysDrillStop}
 use Rattle.shex_run.specs.Proofs.{Accepted, AreAnswers, IsStoredProofOf}
 use Rattle.shex_run.specs.Ready.{AreTexts, IsReply}
 use Rattle.shex_run.specs.Stopping.{DrillStops, Explains, FaultsAs, IsFit, ProofStops}
@@ -173,6 +173,12 @@ module _ (told after : Told) (d : Drill) (name bytes : List ℕ) (named : d.proo
 
 -- ---- the end
 
+-- what can stop a drill
+pub may_stop : (told after : Told) (d : Drill) (before later : ℕ) (blame : List ℕ) (act : Act) (stop : Stop) → DrillStops told after d before later blame act stop → MayStopDrill d stop
+may_stop told after d before later blame act (Stops.Refused refusal) stops = elim stops [ ]
+may_stop told after d before later blame act (Stops.Failed file) (rose, up, named, acted, cut_store) = subst IsSome (sym named) refl
+may_stop told after d before later blame act Stops.Memory stops = tt
+
 module _ (words : List Text) (d : Drill) (is_drill : IsDrill words d) (files : FilesSeen) (out err : SinkSeen) (status : ℕ) where
   pub with_line : (text notes : List ℕ) (wanted : ℕ) → IsDrilled files.told files.told_after d wanted text notes → files.faults_after ≡ files.faults → PrintsBoth out err text notes wanted status → Ends words files out err status
   with_line text notes wanted drilled still prints = answered text notes wanted (inl drilled.status_is) (inr (d, is_drill, drilled)) still prints
@@ -180,14 +186,14 @@ module _ (words : List Text) (d : Drill) (is_drill : IsDrill words d) (files : F
   no_fetch : {act : Act} → act ≡ Acts.Store → act ≡ Acts.Fetch → ⊥
   no_fetch stored fetched = cc
 
-  pub with_failure : (file : File) → DrillStops files.told files.told_after d files.faults files.faults_after files.blame files.act (Stops.Failed file) → IsQuiet out → PrintsTo err (failed_line files.blame) 5 status → Ends words files out err status
-  with_failure file (rose, up, named, acted, cut_store) quiet prints =
+  -- it ends as it was stopped
+  pub with_stop : (stop : Stop) → DrillStops files.told files.told_after d files.faults files.faults_after files.blame files.act stop → IsQuiet out → SaysDrillStop d stop err status → Ends words files out err status
+  with_stop (Stops.Refused refusal) stops quiet says = elim stops [ ]
+  with_stop (Stops.Failed file) (rose, up, named, acted, cut_store) quiet says =
       failed (failed_line files.blame) (record {
         rose = rose;
         failed = inr (record { drill = d; is_drill = is_drill; bytes = cut_store.bytes; due = cut_store.due; name_is = named; act_is = acted });
         line_is = refl;
-      }) (record { later = up; stored = inr (inr (d, is_drill, cut_store)); unfetched = λ e. absurd (no_fetch acted e) }) quiet prints
-
-  pub with_want : DrillStops files.told files.told_after d files.faults files.faults_after files.blame files.act Stops.Memory → IsQuiet out → IsQuiet err → status ≡ 8 → Ends words files out err status
-  with_want (still, inl same) quiet also at = wanting (inl same) still quiet also at
-  with_want (still, inr cut_store) quiet also at = wanting (inr (inr (d, is_drill, cut_store))) still quiet also at
+      }) (record { later = up; stored = inr (inr (d, is_drill, cut_store)); unfetched = λ e. absurd (no_fetch acted e) }) quiet (says files.blame named)
+  with_stop Stops.Memory (still, inl same) quiet (also, at) = wanting (inl same) still quiet also at
+  with_stop Stops.Memory (still, inr cut_store) quiet (also, at) = wanting (inr (inr (d, is_drill, cut_store))) still quiet also at

@@ -1,5 +1,5 @@
 -- How a call ends, from what it found.
-use Rattle.std.proofs.Common.{◌≡◌, ◌∙◌, ap, subst, sym, refl, List, ℕ, inl, inr}
+use Rattle.std.proofs.Common.{◌≡◌, ◌∙◌, ap, sym, refl, List, ℕ, inl, inr}
 use Rattle.std.specs.Prelude.{IfOk, Option, Result}
 use Rattle.clap.specs.Words.{Text}
 use Rattle.shex_io.specs.declared.files.Act.{Act}
@@ -13,15 +13,14 @@ use Rattle.command_words.specs.declared.error.WordsError.TheVariants as Errors
 use Rattle.proof_checker.specs.declared.checking.CheckError.{CheckError}
 use Rattle.proof_checker.specs.declared.checking.CheckError.TheVariants as CheckErrors
 use Rattle.program_ends.specs.Printing.{IsQuiet, Prints, PrintsBoth, PrintsTo, SinkSeen}
-use Rattle.shex_run.specs.declared.stop.Refusal.{Refusal}
 use Rattle.shex_run.specs.declared.stop.Refusal.TheVariants as Refusals
 use Rattle.shex_run.specs.declared.stop.Stop.{Stop}
 use Rattle.shex_run.specs.declared.stop.Stop.TheVariants as Stops
 use Rattle.shex_run.specs.Checking.{IsRejected}
 use Rattle.program_ends.specs.Ends.{AreLeft, FilesSeen}
 use Rattle.shex_run.specs.Endings.{Ends, IsPartlyStored, IsResponse, answered, failed, faulty, refused, rejected, wanting}
-use Rattle.shex_run.specs.Printing.{RefusesWords}
-use Rattle.shex_run.specs.Statuses.{IsAnswering, refusal_status}
+use Rattle.shex_run.specs.Printing.{RefusesWords, SaysStop}
+use Rattle.shex_run.specs.Statuses.{IsAnswering}
 use Rattle.shex_run.specs.Stopping.{Explains, FaultsAs, LeavesFailed, LeavesStored}
 use Rattle.shex_run.specs.Storing.{MayStore}
 use Rattle.shex_run.specs.Tasks.{act_of, name_of}
@@ -46,18 +45,12 @@ module _ (words : List Text) (c : Command) (is_asked : IsAsked words c) (files :
   pub with_response : (text notes : List ℕ) (wanted : ℕ) → IsAnswering wanted → IsResponse files.told files.told_after c wanted text notes → files.faults_after ≡ files.faults → PrintsBoth out err text notes wanted status → Ends words files out err status
   with_response text notes wanted low response still prints = answered text notes wanted low (inl (record { command = c; is_asked = is_asked; response = response })) still prints
 
-  -- what is printed where a call stops
-  abbrev pub StopPrints : Stop → Type 0
-  StopPrints (Stops.Refused refusal) = PrintsTo err (refusal_line c refusal) (refusal_status refusal) status
-  StopPrints (Stops.Failed file) = PrintsTo err (failed_line (name_of c file)) 5 status
-  StopPrints Stops.Memory = IsQuiet err × (status ≡ 8)
-
   with_rejection : (e : CheckError) → IsRejected files.told c e → files.faults_after ≡ files.faults → files.told_after ≡ files.told → IsQuiet out → PrintsTo err (refusal_line c (Refusals.Proof e)) 6 status → Ends words files out err status
   with_rejection e cause still left quiet prints =
       rejected (refusal_line c (Refusals.Proof e)) (record { command = c; is_asked = is_asked; rejection = e; rejected = cause; line_is = refl }) (record { told_same = left; faults_same = still }) quiet prints
 
   pub with_stop : (stop : Stop) → Explains files.told c stop → FaultsAs c files.faults files.faults_after files.blame files.act stop → LeavesStored files.told files.told_after c stop → IsQuiet out →
-      StopPrints stop → Ends words files out err status
+      SaysStop c stop err status → Ends words files out err status
   with_stop (Stops.Refused (Refusals.Input refusal)) cause still left quiet prints =
       refused (refusal_line c (Refusals.Input refusal)) (record { command = c; is_asked = is_asked; refused = inl (refusal, cause, refl) }) (record { told_same = left; faults_same = still }) quiet prints
   with_stop (Stops.Refused (Refusals.Proof CheckErrors.Full)) cause still left quiet prints =
@@ -73,11 +66,6 @@ module _ (words : List Text) (c : Command) (is_asked : IsAsked words c) (files :
     line_is = ap failed_line (sym named);
   }) (record { later = later; stored = partly (failed_in_part (act_of c.task file) left); unfetched = λ e. failed_unfetched (act_of c.task file) (sym act ∙ e) left }) quiet prints
   with_stop Stops.Memory cause still left quiet (silent, at) = wanting (partly left) still quiet silent at
-
-  -- a refusal is printed with its status
-  pub with_refusal : (refusal : Refusal) (wanted : ℕ) → wanted ≡ refusal_status refusal → Explains files.told c (Stops.Refused refusal) → FaultsAs c files.faults files.faults_after files.blame files.act (Stops.Refused refusal) →
-      LeavesStored files.told files.told_after c (Stops.Refused refusal) → IsQuiet out → PrintsTo err (refusal_line c refusal) wanted status → Ends words files out err status
-  with_refusal refusal wanted same cause still left quiet prints = with_stop (Stops.Refused refusal) cause still left quiet (subst (λ n. PrintsTo err (refusal_line c refusal) n status) same prints)
 
 -- the line of the words' fault is printed, unless memory ran out
 pub printed : {X Y : Type 0} (bytes : X → List ℕ) (made : Result X Y) (e : WordsError) → (e ≡ Errors.Memory → ⊥) → IfOk made (λ s. Because (λ f. bytes s ≡ words_line f) e) → (before after : Option (List ℕ)) (faults faults_after status : ℕ) →

@@ -1,6 +1,6 @@
 -- Where an association has no answer, a wide pair is noted.
-use Rattle.std.proofs.Common.{◌≡◌, ◌≢◌, ◌∙◌, ap, sym, refl, List, ℕ, [], ◌∷◌, ◌<◌, inl, inr, arith, length, map, Bool, true, false}
-use Rattle.std.specs.Prelude.{Contains, ◌-◌, ◌^◌, if◌then◌else◌, nat_lt}
+use Rattle.std.proofs.Common.{◌≡◌, ◌≢◌, ◌∙◌, ap, sym, refl, List, ℕ, [], ◌<◌, inl, inr, arith, length, map, Bool, true, false}
+use Rattle.std.specs.Prelude.{Contains, if◌then◌else◌, nat_lt}
 use Rattle.std.proofs.lemmas.Bool.{ltb-true}
 use Rattle.std.proofs.lemmas.List.{length-map}
 use Rattle.clap.specs.Words.{Text}
@@ -16,9 +16,7 @@ use Rattle.wide_pairs.specs.Laws.{NoneIsWide}
 use Rattle.wide_pairs.specs.Lines.{wide_lines}
 use Rattle.shex_run.specs.Endings.{IsAnswered, IsRespondedTo, IsResponse}
 use Rattle.shex_run.specs.Statuses.{are_wanted, status_by}
-use Rattle.shex_run.specs.Stopping.{IsFit}
 use Rattle.shex_run.specs.Texts.{notes_by}
-use Rattle.command_words.specs.Asked.{Command}
 use Rattle.shex_run.proofs.Fitting.{fit}
 
 -- where there are fewer answers than associations, one is left out

@@ -6,7 +6,7 @@ use Rattle.program_ends.specs.Ends.{FilesSeen}
 use Rattle.program_ends.specs.Printing.{IsCut, IsQuiet, PrintsBoth, PrintsTo, SinkSeen}
 use Rattle.shex_run.specs.Endings.{Ends, IsFailedBy, IsRefusedBy, IsRejectedBy, IsRespondedTo, IsWordsLine, answered, failed, faulty, refused, rejected, wanting}
 use Rattle.shex_run.specs.Statuses.{IsAnswering, IsInterrupted, IsStatus}
-use Rattle.shex_run.proofs.Closing.{answering, five_interrupts, low_wanted, other_both, other_cut, other_status, wanted_both, wanted_or}
+use Rattle.shex_run.proofs.Closing.{five_interrupts, low_wanted, other_both, other_cut, other_status, wanted_both, wanted_or}
 
 -- ---- what is printed whole
 

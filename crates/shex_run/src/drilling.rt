@@ -100,7 +100,10 @@ fn decide_texts(
     // The law by which no text of a drill is refused.
     drill_is_taken();
     let mut holding = hold(alloc, files, validation)?;
-    match decide_map(alloc, files, &mut holding, validation) {
+    let decided = decide_map(alloc, files, &mut holding, validation);
+    // What is held is dropped by one call, which is proved in less time; so below.
+    drop(holding);
+    match decided {
         Ok(decided) => Ok(decided),
         Err(stop) => match stop {
             Stop::Memory => Err(Stop::Memory),
@@ -124,7 +127,9 @@ fn check_texts(
     // The law by which the texts hold one thing.
     inputs_are_one();
     let mut holding = hold(alloc, files, validation)?;
-    match confirm(alloc, &mut holding, proof) {
+    let confirmed = confirm(alloc, &mut holding, proof);
+    drop(holding);
+    match confirmed {
         Ok(_) => Ok(()),
         Err(stop) => match stop {
             Stop::Memory => Err(Stop::Memory),

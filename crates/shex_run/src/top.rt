@@ -15,7 +15,7 @@ ghost use Rattle.shex_inputs.specs.Held.{Held};
 ghost use Rattle.shex_run.specs.Checking.{IsFull, IsGiven, IsRejected};
 ghost use Rattle.shex_run.specs.Endings.{Ends, IsDrillWhollyStored, IsFailedBy, IsPartlyStored, IsPrintedInPart, IsRefusedBy, IsRejectedBy, IsRespondedTo, IsWhollyStored, IsWhollyUpgraded, IsWordsLine, KeepsTold, MayPrintInPart};
 ghost use Rattle.shex_run.specs.Outcomes.{AreTaken, IsAbsent, IsRefused};
-ghost use Rattle.shex_run.specs.Printing.{RefusesWords};
+ghost use Rattle.shex_run.specs.Printing.{MayStopDrill, RefusesWords, SaysDrillStop, SaysStop};
 ghost use Rattle.shex_run.specs.Proofs.{Accepted};
 ghost use Rattle.shex_run.specs.Statuses.{Concludes, IsAnswering, IsInterrupted, IsStatus};
 ghost use Rattle.shex_run.specs.Stopping.{IsFit};
@@ -43,6 +43,23 @@ fn refuse<S: Sink>(alloc: Global, error: WordsError<'_>, sink: &mut S) -> u8
     }
 }
 
+/// Says what stops a command, unless memory ran out, and gives the status.
+fn say_stop<S: Sink>(alloc: Global, command: &Command<'_>, stop: &Stop, sink: &mut S) -> u8
+    ensures { SaysStop (command_of command.now) stop.now (record { got = S.got sink.old; got_after = S.got sink.new; faults = S.faults sink.old; faults_after = S.faults sink.new }) result }
+{
+    match stop {
+        Stop::Refused(refusal) => {
+            say(
+                report::refusal(alloc, command, refusal),
+                refusal.status(),
+                sink,
+            )
+        }
+        Stop::Failed(file) => say(report::failed(alloc, command, *file), 5, sink),
+        Stop::Memory => 8,
+    }
+}
+
 /// Answers a command, or says why there is no answer, and gives the status.
 fn end_command<F: Files, O: Sink, E: Sink>(
     alloc: Global,
@@ -61,15 +78,23 @@ fn end_command<F: Files, O: Sink, E: Sink>(
 {
     match respond(alloc, files, command) {
         Ok(response) => response.print(out, err),
-        Err(Stop::Refused(refusal)) => {
-            say(
-                report::refusal(alloc, command, &refusal),
-                refusal.status(),
-                err,
-            )
+        Err(stop) => {
+            let status = say_stop(alloc, command, &stop, err);
+            drop(stop);
+            status
         }
-        Err(Stop::Failed(file)) => say(report::failed(alloc, command, file), 5, err),
-        Err(Stop::Memory) => 8,
+    }
+}
+
+/// Says what stops a drill, unless memory ran out, and gives the status.
+fn say_drill_stop<S: Sink>(alloc: Global, drilling: &Drilling<'_>, stop: &Stop, sink: &mut S) -> u8
+    requires { MayStopDrill (drill_of drilling.now) stop.now }
+    ensures { SaysDrillStop (drill_of drilling.now) stop.now (record { got = S.got sink.old; got_after = S.got sink.new; faults = S.faults sink.old; faults_after = S.faults sink.new }) result }
+{
+    match stop {
+        Stop::Refused(_) => unreachable!(),
+        Stop::Failed(_) => say(report::unstored(alloc, drilling), 5, sink),
+        Stop::Memory => 8,
     }
 }
 
@@ -91,9 +116,11 @@ fn end_drill<F: Files, O: Sink, E: Sink>(
 {
     match drill(alloc, files, drilling) {
         Ok(response) => response.print(out, err),
-        Err(Stop::Refused(_)) => unreachable!(),
-        Err(Stop::Failed(_)) => say(report::unstored(alloc, drilling), 5, err),
-        Err(Stop::Memory) => 8,
+        Err(stop) => {
+            let status = say_drill_stop(alloc, drilling, &stop, err);
+            drop(stop);
+            status
+        }
     }
 }
 

@@ -5,8 +5,8 @@ use Rattle.shex_run.specs.Stopping.{IsFit}
 use Rattle.shex_run.proofs.Drilled.{are_decided, drill_fits}
 use Rattle.shex_run.proofs.drilling.decide_texts.Goals as goal
 
-pub decide_map-requires-clause-fit : goal.decide_map-requires-clause-fit
-decide_map-requires-clause-fit c = subst IsFit (sym c.requires.asked) drill_fits
+pub decide_map-decided-requires-clause-fit : goal.decide_map-decided-requires-clause-fit
+decide_map-decided-requires-clause-fit c = subst IsFit (sym c.requires.asked) drill_fits
 
 pub unreachable-requires : goal.unreachable-requires
 unreachable-requires c =
