@@ -126,6 +126,11 @@ pub fn respond<F: Files>(alloc: Global, files: &mut F, editing: &Editing<'_>) ->
     ensures told_stays { F.told files.new ≡ F.told files.old }
 {
     let holding = hold(alloc, files, editing)?;
-    let commands = read_commands(alloc, files, editing, &holding)?;
-    answer(alloc, holding, editing.budget, commands)
+    match read_commands(alloc, files, editing, &holding) {
+        Ok(commands) => answer(alloc, holding, editing.budget, commands),
+        Err(stop) => {
+            drop(holding);
+            Err(stop)
+        }
+    }
 }
