@@ -1,5 +1,5 @@
 -- Needs that are followed.
-use Rattle.demand.proofs.Starting.{many_of}
+use Rattle.demand.proofs.Roots.{many_of}
 use Rattle.std.proofs.Common.{◌≡◌, ◌∙◌, ℕ, ◌<◌, ◌≤◌, ◌+◌, ◌⊎◌, inl, inr, List, arith, sym, ap, subst, length, get_or}
 use Rattle.std.proofs.lemmas.Bool.{cases_lt}
 use Rattle.std.proofs.lemmas.Option.{slice_get-get_or}

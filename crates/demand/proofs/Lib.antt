@@ -5,7 +5,7 @@ pub mod Needing
 pub mod Opened
 pub mod PairOrder
 pub mod Reached
+pub mod Roots
 pub mod Same
 pub mod SameShapes
-pub mod Starting
 pub mod Taken

@@ -24,9 +24,9 @@ StartsAt s r q = (q.node ≡ r.node) × StandsAny s q.shape r.expr
 abbrev pub Starts : Schema → List Root → Pair → Type 0
 Starts s roots q = (r : Root) × Contains roots r × StartsAt s r q
 
--- the pairs at which some root starts
-abbrev pub IsStart : Schema → List Root → List Pair → Type 0
-IsStart s roots seen = (q : Pair) → Contains seen q ↔ Starts s roots q
+-- the pairs at which some root starts are held, and what was held
+abbrev pub AddsStarts : Schema → List Root → List Pair → List Pair → Type 0
+AddsStarts s roots old new = (q : Pair) → Contains new q ↔ (Contains old q ⊎ Starts s roots q)
 
 -- distinct pairs, of which P holds, are more than may be asked for
 pub record AreMany (P : Pair → Type 0) : Type 0 where
@@ -40,8 +40,18 @@ abbrev pub StopsFor : (Pair → Type 0) → DemandError → Type 0
 StopsFor P Errors.Pairs = AreMany P
 StopsFor P Errors.Memory = Unit {0}
 
-abbrev pub StopsAtStart : Schema → List Root → DemandError → Type 0
-StopsAtStart s roots e = StopsFor (Starts s roots) e
+-- a pair that is new where no more may be held
+pub record HasNoRoom (old : List Pair) (q : Pair) : Type 0 where
+  pub distinct : AreDistinct old
+  pub fresh : ¬ Contains old q
+  pub full : length old ≡ max_pairs
+
+abbrev pub StopsAt : List Pair → Pair → DemandError → Type 0
+StopsAt old q Errors.Pairs = HasNoRoom old q
+StopsAt old q Errors.Memory = Unit {0}
+
+abbrev pub StopsAtStart : Schema → List Root → List Pair → DemandError → Type 0
+StopsAtStart s roots old e = StopsFor (λ q. Contains old q ⊎ Starts s roots q) e
 
 -- needs lead to the pair from one of those that were held
 abbrev pub IsLedTo : Schema → List Triple → List Pair → Pair → Type 0

@@ -6,7 +6,9 @@ pub mod links;
 pub mod needs;
 pub mod order;
 pub mod reach;
+mod seeing;
+mod starting;
 pub mod table;
 
 pub use error::DemandError;
-pub use reach::{Pairs, Root, close};
+pub use reach::{Pairs, Root, close, close_each};

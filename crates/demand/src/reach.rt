@@ -1,27 +1,29 @@
 //! The pairs that roots reach.
 
-ghost use Rattle.std.specs.Prelude.{◌≡◌, ◌≤◌, ◌↔◌, ◌⊎◌, [], Contains, IfErr, IfOk, OnOk, length};
+ghost use Rattle.std.specs.Prelude.{◌≡◌, ◌≤◌, ◌↔◌, Contains, IfErr, IfOk, OnOk, length};
 ghost use Rattle.std.specs.List.Sorted.{IsStrictlySortedBy};
 ghost use Rattle.graph_index.specs.Contents.{IsSealedWith};
 ghost use Rattle.lists.specs.Distinct.{AreDistinct};
 ghost use Rattle.schema_tree.specs.declared.schema.Pair.{Pair as Reached};
 ghost use Rattle.schema_tree.specs.Loaded.{IsLoaded};
 ghost use Rattle.schema_tree.specs.Needs.{HoldNeeds};
-ghost use Rattle.demand.specs.Demand.{AreAsked, AreTooMany};
+ghost use Rattle.demand.specs.Demand.{AreAsked, AreTooMany, roots_of};
 ghost use Rattle.demand.specs.Orders.{compare_pairs, max_pairs};
 ghost use Rattle.demand.specs.Links.{AreLinks};
-ghost use Rattle.demand.specs.Closing.{Grows, GrowsByNeeds, IsStart, StartsAt, StopsAtStart, StopsByNeeds, StopsOver};
+ghost use Rattle.demand.specs.Closing.{GrowsByNeeds, StopsByNeeds};
 
 use crate::error::DemandError;
-use crate::links::{Link, links, shapes_in};
-use crate::needs::{needs, push_pairs};
+use crate::links::{Link, links};
+use crate::needs::needs;
 use crate::order::compare_pairs;
-use crate::table::{PairError, PairTable};
+use crate::seeing::see_all;
+use crate::starting::{see_each, see_roots};
+use crate::table::PairTable;
 use graph_index::graph::Graph;
 use rdf_terms::items::Items;
 use rdf_terms::table::TermTable;
 use rdf_terms::terms::TermId;
-use schema_tree::schema::{ExprId, Pair, Schema, ShapeId};
+use schema_tree::schema::{ExprId, Pair, Schema};
 use std::alloc::{AllocError, Global};
 use std::marker::Model;
 
@@ -64,51 +66,6 @@ impl Pairs {
     }
 }
 
-/// Puts each of the pairs into the table.
-fn see_all(seen: &mut PairTable, pairs: &[Pair]) -> Result<(), DemandError>
-    ensures grows { OnOk result (Grows seen.old pairs.now seen.new) }
-    ensures stops { IfErr result (StopsOver seen.old pairs.now) }
-{
-    for pair in pairs {
-        match seen.put(*pair) {
-            Ok(()) => {}
-            Err(PairError::Full) => return Err(DemandError::Pairs),
-            Err(PairError::Memory) => return Err(DemandError::Memory),
-        }
-    }
-    Ok(())
-}
-
-/// The node of a root with each Shape that stands in its expression.
-fn pairs_at(alloc: Global, schema: &Schema, root: Root) -> Result<Vec<Pair>, AllocError>
-    requires loaded { IsLoaded schema.now }
-    ensures { IfOk result (λ v. (q : Reached) → Contains v.items q ↔ StartsAt schema.now root q) }
-{
-    let shapes = shapes_in(alloc, schema, root.expr)?;
-    let mut pairs = Vec::new(alloc);
-    push_pairs(root.node, shapes.as_slice(), &mut pairs)?;
-    Ok(pairs)
-}
-
-/// Puts the pairs that roots lead to into the table.
-fn see_roots(
-    alloc: Global,
-    schema: &Schema,
-    roots: &[Root],
-    seen: &mut PairTable,
-) -> Result<(), DemandError>
-    requires loaded { IsLoaded schema.now }
-    requires none { seen.old ≡ [] }
-    ensures seen { OnOk result (IsStart schema.now roots.now seen.new) }
-    ensures stops { IfErr result (StopsAtStart schema.now roots.now) }
-{
-    for root in roots {
-        let pairs = pairs_at(alloc, schema, *root)?;
-        see_all(seen, pairs.as_slice())?;
-    }
-    Ok(())
-}
-
 /// Puts what the pairs of the table need into it, until it has all.
 fn see_needs(
     alloc: Global,
@@ -147,6 +104,30 @@ fn in_order(alloc: Global, terms: &TermTable, pairs: &[Pair]) -> Result<Vec<Pair
     Ok(list)
 }
 
+/// The pairs that needs lead to from those of the table, each once, in the order of the texts of their nodes and then of their
+/// Shapes. It is refused as `Pairs` only where these are more than 4,194,304.
+fn closed(
+    alloc: Global,
+    schema: &Schema,
+    graph: &Graph,
+    terms: &TermTable,
+    seen: &mut PairTable,
+) -> Result<Pairs, DemandError>
+    requires loaded { IsLoaded schema.now }
+    requires sealed { IsSealedWith terms.now graph.now }
+    ensures sorted { IfOk result (IsStrictlySortedBy (compare_pairs terms.now)) }
+    ensures whole { IfOk result (HoldNeeds schema.now graph.now.triples) }
+    ensures grown { IfOk result (GrowsByNeeds schema.now graph.now.triples seen.old) }
+    ensures few { IfOk result (λ p. length p ≤ max_pairs) }
+    ensures stops { IfErr result (StopsByNeeds schema.now graph.now.triples seen.old) }
+{
+    let all_links = links(alloc, schema)?;
+    see_needs(alloc, schema, all_links.as_slice(), graph, terms, seen)?;
+    let _count = seen.len();
+    let list = in_order(alloc, terms, seen.as_slice())?;
+    Ok(Pairs { list })
+}
+
 /// The pairs that the roots reach, each once, in the order of the texts of their nodes and then of their Shapes. It is
 /// refused as `Pairs` exactly where these are more than 4,194,304, want of memory aside.
 pub fn close(
@@ -163,11 +144,28 @@ pub fn close(
     ensures many { (result ≡ Err DemandError.Pairs) → AreTooMany schema.now graph.now.triples roots.now }
     ensures few { IfOk result (λ p. ¬ AreTooMany schema.now graph.now.triples roots.now) }
 {
-    let all_links = links(alloc, schema)?;
     let mut seen = PairTable::new(alloc);
     see_roots(alloc, schema, roots, &mut seen)?;
-    see_needs(alloc, schema, all_links.as_slice(), graph, terms, &mut seen)?;
-    let _count = seen.len();
-    let list = in_order(alloc, terms, seen.as_slice())?;
-    Ok(Pairs { list })
+    closed(alloc, schema, graph, terms, &mut seen)
+}
+
+/// The same, where each of the nodes is asked for with each of the expressions, however many roots that makes.
+pub fn close_each(
+    alloc: Global,
+    schema: &Schema,
+    graph: &Graph,
+    terms: &TermTable,
+    nodes: &[TermId],
+    exprs: &[ExprId],
+) -> Result<Pairs, DemandError>
+    requires loaded { IsLoaded schema.now }
+    requires sealed { IsSealedWith terms.now graph.now }
+    ensures asked { IfOk result (AreAsked schema.now terms.now graph.now.triples (roots_of nodes.now exprs.now)) }
+    ensures closed { IfOk result (HoldNeeds schema.now graph.now.triples) }
+    ensures many { (result ≡ Err DemandError.Pairs) → AreTooMany schema.now graph.now.triples (roots_of nodes.now exprs.now) }
+    ensures few { IfOk result (λ p. ¬ AreTooMany schema.now graph.now.triples (roots_of nodes.now exprs.now)) }
+{
+    let mut seen = PairTable::new(alloc);
+    see_each(alloc, schema, nodes, exprs, &mut seen)?;
+    closed(alloc, schema, graph, terms, &mut seen)
 }

@@ -1,6 +1,6 @@
 -- What the functions that find members promise one another.
 use Rattle.std.specs.Prelude.{Bool, true, false, List, [], ◌∷◌, ◌≡◌, map, filter}
-use Rattle.std.specs.List.{flat_map, list_any}
+use Rattle.std.specs.List.{list_any}
 use Rattle.rdf_terms.specs.declared.terms.Term.{Term}
 use Rattle.rdf_terms.specs.declared.terms.TermId.{TermId}
 use Rattle.rdf_terms.specs.declared.terms.Triple.{Triple}
@@ -12,20 +12,15 @@ use Rattle.schema_tree.specs.declared.verdicts.Verdict.{Verdict}
 use Rattle.schema_tree.specs.declared.verdicts.Verdict.TheVariants.{Yes, No, Unknown}
 use Rattle.schema_tree.specs.Sure.{IsSure, Known}
 use Rattle.schema_tree.specs.Width.{is_certain}
-use Rattle.demand.specs.declared.reach.Root.{Root}
 use Rattle.label_extents.specs.Extents.{member}
 
 -- the subject and the object of a triple
 abbrev pub ends_of : Triple → List TermId
 ends_of t = t.s ∷ t.o ∷ []
 
--- a node with an expression
-abbrev pub root : ExprId → TermId → Root
-root e n = record { node = n; expr = e }
-
--- the nodes with the expression of each label
-abbrev pub roots_of : List TermId → List (Label × ExprId) → List Root
-roots_of nodes labels = flat_map (λ d. map (root d.1) nodes) labels
+-- the expressions of labels
+abbrev pub exprs_of : List (Label × ExprId) → List ExprId
+exprs_of labels = map (λ d. d.1) labels
 
 -- whether the verdict is Unknown
 abbrev pub is_unknown : Verdict → Bool

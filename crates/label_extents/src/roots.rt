@@ -1,15 +1,15 @@
 //! The pairs that extents ask for.
 
-ghost use Rattle.std.specs.Prelude.{◌≡◌, ◌++◌, IfErr, IfOk, OnOk, map};
+ghost use Rattle.std.specs.Prelude.{◌≡◌, IfErr, IfOk};
 ghost use Rattle.graph_index.specs.Contents.{IsSealedWith};
 ghost use Rattle.schema_tree.specs.Loaded.{IsLoaded};
 ghost use Rattle.schema_tree.specs.Needs.{HoldNeeds};
 ghost use Rattle.label_extents.specs.Demanded.{AreDemanded, AreTooMany, Explains};
 ghost use Rattle.label_extents.specs.Extents.{AreInOrder, IsNode};
-ghost use Rattle.label_extents.specs.Members.{root, roots_of};
+ghost use Rattle.label_extents.specs.Members.{exprs_of};
 
 use crate::error::ExtentsError;
-use demand::{DemandError, Pairs, Root, close};
+use demand::{DemandError, Pairs, close_each};
 use graph_index::graph::Graph;
 use rdf_terms::table::TermTable;
 use rdf_terms::terms::TermId;
@@ -17,29 +17,18 @@ use schema_tree::labels::Labels;
 use schema_tree::schema::{ExprId, Schema};
 use std::alloc::{AllocError, Global};
 
-/// Puts the nodes with an expression behind the others.
-fn push_roots(nodes: &[TermId], expr: ExprId, roots: &mut Vec<Root>) -> Result<(), AllocError>
-    ensures { OnOk result (roots.new.items ≡ roots.old.items ++ map (root expr) nodes.now) }
+/// The expressions of the labels, in reading order.
+fn exprs_of(alloc: Global, labels: &Labels) -> Result<Vec<ExprId>, AllocError>
+    ensures { IfOk result (λ v. v.items ≡ exprs_of labels.now) }
 {
-    for node in nodes {
-        let node = *node;
-        roots.push(Root { node, expr })?;
-    }
-    Ok(())
-}
-
-/// The nodes with the expression of each label.
-fn roots_of(alloc: Global, labels: &Labels, nodes: &[TermId]) -> Result<Vec<Root>, AllocError>
-    ensures { IfOk result (λ v. v.items ≡ roots_of nodes.now labels.now) }
-{
-    let mut roots = Vec::new(alloc);
+    let mut exprs = Vec::new(alloc);
     for place in 0..labels.len() {
         match labels.at(place) {
-            Some((_, expr)) => push_roots(nodes, expr, &mut roots)?,
+            Some((_, expr)) => exprs.push(expr)?,
             None => unreachable!(),
         }
     }
-    Ok(roots)
+    Ok(exprs)
 }
 
 /// The pairs that the nodes of the graph with the expressions of the labels reach, each once, in the order of the texts of their
@@ -59,8 +48,8 @@ pub(crate) fn demanded(
     ensures refused { IfErr result (Explains schema.now graph.now.triples) }
     ensures few { IfOk result (λ p. ¬ AreTooMany schema.now graph.now.triples) }
 {
-    let roots = roots_of(alloc, &schema.labels, nodes)?;
-    match close(alloc, schema, graph, terms, roots.as_slice()) {
+    let exprs = exprs_of(alloc, &schema.labels)?;
+    match close_each(alloc, schema, graph, terms, nodes, exprs.as_slice()) {
         Ok(pairs) => Ok(pairs),
         Err(DemandError::Pairs) => Err(ExtentsError::Pairs),
         Err(DemandError::Memory) => Err(ExtentsError::Memory),

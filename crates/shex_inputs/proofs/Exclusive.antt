@@ -1,5 +1,5 @@
 -- Where contents are told, a file of the inputs is taken, refused or absent, and not two of these.
-use Rattle.std.proofs.Common.{◌≡◌, ◌∙◌, ap, sym, subst, refl, List, ℕ, [], inl, inr, map}
+use Rattle.std.proofs.Common.{◌≡◌, ◌∙◌, ap, sym, subst, refl, List, ℕ, [], inl, inr, map, Ok}
 use Rattle.std.specs.Prelude.{Option, Some, ⊤}
 use Rattle.shex_io.specs.Files.{Lacks, Told}
 use Rattle.rdf_terms.specs.declared.terms.Term.{Term}
@@ -178,7 +178,8 @@ module _ (contents : List ℕ → Option (List ℕ)) (i : Inputs) (laws : AreLaw
       let held : u.held ≡ q.held = held_one u.held q.held u.taken x.taken in
       let same = stands_one u.held q.held u.taken x.taken u.items x.items (selected u.associations u.terms) (selected q.associations q.terms) (record { holds_map = u.holds_map; ends = u.ends }) (asked_stands q x) in
       let associations : u.associations ≡ q.associations = ap associations_in same in
-      not_many q.held.schema q.terms q.held.graph (map root_of q.associations) q.pairs x.asked x.few
+      let few : ¬ AreTooMany q.held.schema q.held.graph (map root_of q.associations) = not_many q.held.schema q.terms q.held.graph (map root_of q.associations) (Ok q.pairs) x.asked x.few in
+      few
       (subst (λ v. AreTooMany v.schema v.graph (map root_of q.associations)) held (subst (λ xs. AreTooMany u.held.schema u.held.graph (map root_of xs)) associations u.many))
 
   map_is_read : (q : Question) → IsAskedOf told i q → (e : MapError) → IsNoMap told i e → ⊥
