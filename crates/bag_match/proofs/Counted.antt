@@ -30,7 +30,7 @@ module _ (terms : List Term) (g : List Triple) (sh : Shape) (n : TermId) where
   abbrev ordered : List Triple
   ordered = relevant_in_order terms g sh n
 
-  there : (t : Triple) → Contains rel t → Contains ordered t
+  pub there : (t : Triple) → Contains rel t → Contains ordered t
   there t c =
       let (held, passes) = in_filter (is_relevant sh.occs n) (neigh g n) t c in
       filter_has (is_relevant sh.occs n) (neighbourhood terms g n) t (Contains-permutation (neigh g n) (neighbourhood terms g n) t (ordered_same terms g n) held) passes

@@ -1,6 +1,6 @@
 -- What the keys of triples tell.
 use Rattle.std.proofs.Common.{◌≡◌, ℕ, zero, suc, ◌+◌, ◌*◌, ◌<◌, ◌≤◌, inl, inr, length, get_or, take, drop, map, min, max, List, [], ◌∷◌, ◌++◌, All, arith, refl, ap, sym, subst, ◌∙◌, Bool, true, false, true≢false, cond, not}
-use Rattle.std.proofs.lemmas.Bool.{eqb-true}
+use Rattle.std.proofs.lemmas.Bool.{eq-eqb, eqb-true}
 use Rattle.std.proofs.lemmas.Map.Text.{is_eq-slice_cmp}
 use Rattle.std.proofs.lemmas.Map.Views.{All-keys-insert_entry, All-values-insert_entry}
 use Rattle.std.specs.BTreeMap.{BTreeMap, get, insert_entry, is_at}
@@ -18,7 +18,7 @@ use Rattle.schema_tree.specs.declared.schema.ExprId.{ExprId}
 use Rattle.schema_tree.specs.declared.schema.Shape.{Shape}
 use Rattle.schema_tree.specs.declared.verdicts.Verdict.{Verdict}
 use Rattle.schema_tree.specs.Relevant.{is_forward}
-use Rattle.schema_tree.specs.Width.{is_open_rest, is_taken_by, product, ways}
+use Rattle.schema_tree.specs.Width.{is_open, is_open_rest, is_taken_by, product, ways}
 use Rattle.std.proofs.lemmas.List.{take_more, take_all}
 use Rattle.std.proofs.lemmas.List.Sums.{sum_by-append, sum_by-cons}
 use Rattle.bag_match.specs.Keys.{AreCounted, AreSized, CountsOne, HaveKeys, IsKeyLong, compare_lists, has_key, held, if_any, is_set, key_of, places_of}
@@ -28,7 +28,7 @@ use Rattle.bag_match.proofs.Rising.{in_push}
 use Rattle.bag_match.proofs.Spread.{mul-le-mul}
 use Rattle.std.proofs.Common.{mul_assoc, mul_comm}
 use Rattle.std.proofs.lemmas.Bool.{cases_lt}
-use Rattle.lists.proofs.Members.{is_first, is_later}
+use Rattle.lists.proofs.Members.{any_true, is_first, is_later}
 
 -- ---- the remainder
 
@@ -56,6 +56,23 @@ not_in_extra plain sh n t near out fits none = go (same_id t.s n) out (same_id t
     go true e true true is false at true g = refl
     go true e true false is false at true g = absurd (true≢false is)
     go true e false l is false at true g = refl
+
+-- by its form it may exactly where its predicate is in extra
+pub open_by_extra : (sh : Shape) (n : TermId) (t : Triple) (b : Bool) → IsNear n t → same_id t.s n ≡ true → list_any (is_forward n t) sh.occs ≡ true → (b ≡ true → Contains sh.extra t.p) →
+    (Contains sh.extra t.p → b ≡ true) → b ≡ is_open sh n t
+open_by_extra sh n t b near out fits in_extra extra_is =
+    go (same_id t.s n) out (same_id t.o n) (is_loop t) (end_is n t near) (list_any (λ p. same_id p t.p) sh.extra) refl (list_any (is_forward n t) sh.occs) fits b in_extra extra_is
+  where
+    go : (a : Bool) → a ≡ true → (o l : Bool) → o ≡ cond a l true → (x : Bool) → list_any (λ p. same_id p t.p) sh.extra ≡ x → (f : Bool) → f ≡ true →
+        (c : Bool) → (c ≡ true → Contains sh.extra t.p) → (Contains sh.extra t.p → c ≡ true) → c ≡ ((o && not l) || (a && (x || not f)))
+    go false e o l is x at f g c there here = absurd (true≢false (sym e))
+    go true e o l is x at false g c there here = absurd (true≢false (sym g))
+    go true e true false is x at true g c there here = absurd (true≢false is)
+    go true e true true is true at true g c there here = here (extra_in t sh.extra at)
+    go true e false l is true at true g c there here = here (extra_in t sh.extra at)
+    go true e o l is false at true g true there here = absurd (true≢false (sym (any_true (λ p. same_id p t.p) sh.extra t.p (there refl) (eq-eqb t.p.0 t.p.0 refl)) ∙ at))
+    go true e true true is false at true g false there here = refl
+    go true e false l is false at true g false there here = refl
 
 -- ---- counting
 

@@ -33,3 +33,5 @@ pub mod Counted
 pub mod Skipping
 pub mod Counting
 pub mod Filled
+pub mod Unchosen
+pub mod OnePlace

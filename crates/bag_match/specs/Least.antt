@@ -22,6 +22,10 @@ IsNotBehind [] qs = ⊤
 IsNotBehind (p ∷ ps) [] = ⊥
 IsNotBehind (p ∷ ps) (q ∷ qs) = IsPlaceBefore p q ⊎ ((p ≡ q) × IsNotBehind ps qs)
 
+-- a list of one place
+abbrev pub sole : Place → List Place
+sole p = p ∷ []
+
 module _ (hold fail : TermId → Option ExprId → Type 0) (sh : Shape) (n : TermId) where
   -- the places are those that are allowed for the triple, in their order
   pub record ArePlacesFor (t : Triple) (ps : List Place) : Type 0 where

@@ -148,7 +148,7 @@ impl<J: Judge> Question<'_, J> {
         requires few_occurrences { length self.now.shape.now.occs ≤ 256 }
         ensures { IfOk result (λ v. AreOffered (J.hold self.now.judge.now) (J.fail self.now.judge.now) self.now.shape.now self.now.node self.now.triples.now (length self.now.triples.now) v.items) }
     {
-        let mut lists = Vec::new(alloc);
+        let mut lists = Vec::with_capacity(alloc, self.triples.len())?;
         for i in 0..self.triples.len() {
             let triple = self.triples.at(i);
             let places = allowed_places(alloc, self.judge, self.shape, self.node, triple)?;

@@ -4,6 +4,7 @@
 pub mod arcs;
 pub mod counts;
 pub mod dying;
+mod forms;
 mod keys;
 pub mod laws;
 mod layers;
@@ -14,6 +15,7 @@ pub mod places;
 mod placing;
 mod products;
 pub mod raising;
+mod sole;
 mod spreading;
 
 pub use matching::match_pair;

@@ -7,6 +7,7 @@ ghost use Rattle.schema_tree.specs.Loaded.{BodyOk, IsLoaded};
 ghost use Rattle.schema_tree.specs.Places.{PairCanMatch};
 ghost use Rattle.schema_tree.specs.Width.{HasWidth};
 ghost use Rattle.bag_match.specs.Bounds.{IsBound, most_ticks};
+ghost use Rattle.bag_match.specs.Least.{AreOffered};
 ghost use Rattle.bag_match.specs.Outcomes.{IsFound, IsOutcome, IsPlaced, ticks_of};
 
 use crate::arcs::{is_shut, relevant};
@@ -18,7 +19,7 @@ use rdf_terms::items::Items;
 use rdf_terms::table::TermTable;
 use schema_tree::schema::{Pair, Schema};
 use schema_tree::sure::View;
-use schema_tree::verdicts::{Lean, State};
+use schema_tree::verdicts::{Lean, Place, State};
 use std::alloc::{AllocError, Global};
 use std::sync::ledger::Ledger;
 use tally::Steps;
@@ -45,7 +46,34 @@ fn joined(alloc: Global, layers: Vec<Items<State>>) -> Result<Vec<State>, AllocE
 }
 
 impl<J: Judge> Question<'_, J> {
-    /// The least places, or the states that are reached where there are none.
+    /// The least places, or the states that are reached where there are none, layer by layer, where the lists are the places
+    /// that are allowed for each triple.
+    fn by_layers<L: Ledger>(
+        &self,
+        alloc: Global,
+        offered: &[Items<Place>],
+        steps: &mut Steps<L>,
+    ) -> Result<Outcome, AllocError>
+        requires offered { AreOffered (J.hold self.now.judge.now) (J.fail self.now.judge.now) self.now.shape.now self.now.node self.now.triples.now (length self.now.triples.now) offered.now }
+        requires body { BodyOk self.now.shape.now.occs self.now.shape.now.body }
+        requires few { length self.now.triples.now < 2 ^ 31 }
+        requires few_occurrences { length self.now.shape.now.occs ≤ 256 }
+        ensures found { IfOk result (IsFound (J.hold self.now.judge.now) (J.fail self.now.judge.now) self.now.shape.now self.now.node self.now.triples.now) }
+        ensures least { IfOk result (λ r. steps.old + ticks_of r ≤ steps.new) }
+        ensures most { (bound : ℕ) → IsBound (J.hold self.now.judge.now) (J.fail self.now.judge.now) self.now.shape.now self.now.node self.now.triples.now bound → steps.new ≤ steps.old + (length self.now.triples.now + 1) * bound }
+    {
+        let last = self.triples.len();
+        let layers = self.layers(alloc, offered, steps)?;
+        if layer_at(layers.as_slice(), last).is_empty() {
+            Ok(Outcome::Never(Items::of(joined(alloc, layers)?)))
+        } else {
+            let places = self.least_places(alloc, offered, layers)?;
+            Ok(Outcome::Placed(Items::of(places)))
+        }
+    }
+
+    /// The least places, or the states that are reached where there are none. There are no layers where each triple has one
+    /// place alone and the counts of these match.
     fn outcome<L: Ledger>(&self, alloc: Global, steps: &mut Steps<L>) -> Result<Outcome, AllocError>
         requires ready { J.ready self.now.judge.now }
         requires body { BodyOk self.now.shape.now.occs self.now.shape.now.body }
@@ -55,14 +83,10 @@ impl<J: Judge> Question<'_, J> {
         ensures least { IfOk result (λ r. steps.old + ticks_of r ≤ steps.new) }
         ensures most { (bound : ℕ) → IsBound (J.hold self.now.judge.now) (J.fail self.now.judge.now) self.now.shape.now self.now.node self.now.triples.now bound → steps.new ≤ steps.old + (length self.now.triples.now + 1) * bound }
     {
-        let last = self.triples.len();
         let offered = self.offered(alloc)?;
-        let layers = self.layers(alloc, offered.as_slice(), steps)?;
-        if layer_at(layers.as_slice(), last).is_empty() {
-            Ok(Outcome::Never(Items::of(joined(alloc, layers)?)))
-        } else {
-            let places = self.least_places(alloc, offered.as_slice(), layers)?;
-            Ok(Outcome::Placed(Items::of(places)))
+        match self.only_places(alloc, offered.as_slice(), steps)? {
+            Some(places) => Ok(Outcome::Placed(Items::of(places))),
+            None => self.by_layers(alloc, offered.as_slice(), steps),
         }
     }
 }

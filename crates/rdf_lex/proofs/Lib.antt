@@ -18,3 +18,4 @@ pub mod TermTokens
 pub mod Theorem
 pub mod Unescaping
 pub mod TokenLines
+pub mod Unescaped

@@ -1,5 +1,5 @@
 -- What a token's text stands for (RDF 1.1 Turtle, section 6.4).
-use Rattle.std.specs.Prelude.{◌≡◌, ℕ, ◌+◌, ◌-◌, ◌*◌, slice_index, Bool, true, false, Option, Some, None, List, [], ◌∷◌, ◌++◌, length, nat_eq, nat_lt, nat_le, if◌then◌else◌, ◌&&◌, ◌||◌, ◌⊎◌, encode_utf8, encode_utf8_all, string_bytes, ◌<◌, Result, Ok, Err, String}
+use Rattle.std.specs.Prelude.{◌≡◌, ℕ, ◌+◌, ◌-◌, ◌*◌, slice_index, Bool, true, false, Option, Some, None, List, [], ◌∷◌, ◌++◌, length, nat_eq, nat_lt, nat_le, not, if◌then◌else◌, ◌&&◌, ◌||◌, ◌⊎◌, encode_utf8, encode_utf8_all, string_bytes, ◌<◌, Result, Ok, Err, String}
 use Rattle.std.specs.declared.alloc.Global.{Global}
 use Rattle.std.specs.List.{fold, list_all}
 use Rattle.std.specs.Str.{chars, NonePass}
@@ -71,6 +71,12 @@ abbrev pub fits : Inside → ℕ → Bool
 fits Iri n = is_character n && has iri_char n
 fits Text n = is_character n
 fits Local n = is_character n
+
+-- the character is no backslash and, in an IRI, one that an IRI may have
+abbrev pub stands_alone : Inside → ℕ → Bool
+stands_alone Iri c = not (nat_eq c 92) && has iri_char c
+stands_alone Text c = not (nat_eq c 92)
+stands_alone Local c = not (nat_eq c 92)
 
 -- how a kind's text is escaped
 abbrev pub inside_of : Kind → Inside

@@ -1,8 +1,9 @@
 //! What a token's text stands for.
 
 ghost use Rattle.std.specs.Prelude.{◌≡◌, ℕ, ◌+◌, ◌*◌, ◌^◌, ◌<◌, List, true, false, MatchResult, IfOk, string_bytes};
+ghost use Rattle.std.specs.List.{list_all};
 ghost use Rattle.std.specs.Str.{chars};
-ghost use Rattle.rdf_lex.specs.Escapes.{digit_of, goes_on, numbers, escaped, bound_of, IsBelow, StaysBelow, step_after, fits, Gave, StandsFor, ReadsAs, inside_of, holds_text, IsSpelled, Unescapes};
+ghost use Rattle.rdf_lex.specs.Escapes.{digit_of, goes_on, numbers, escaped, bound_of, stands_alone, IsBelow, StaysBelow, step_after, fits, Gave, StandsFor, ReadsAs, inside_of, holds_text, IsSpelled, Unescapes};
 ghost use Rattle.rdf_lex.specs.declared.machine.Left.{Left};
 ghost use Rattle.rdf_lex.specs.declared.escapes.LexError.TheVariants.{Escape, Memory};
 
@@ -165,11 +166,32 @@ fn read_char(
     }
 }
 
-/// What characters stand for.
+/// Whether each character of a part stands for itself, and may stand there.
+fn stands_for_itself(inside: Inside, body: &str) -> bool
+    ensures { result ≡ list_all (stands_alone inside) (chars body.now) }
+{
+    match inside {
+        Inside::Iri => body.chars().all(|ch| ch != '\\' && is_iri_char(ch)),
+        Inside::Text | Inside::Local => body.chars().all(|ch| ch != '\\'),
+    }
+}
+
+/// What characters stand for. A part without escapes is copied whole.
 fn read_body(alloc: Global, inside: Inside, body: &str) -> Result<String, LexError>
     ensures { (out : List ℕ) → StandsFor inside (chars body.now) out → ReadsAs inside out result }
 {
-    let mut text = String::new(alloc);
+    if stands_for_itself(inside, body) {
+        return Ok(String::from_str(alloc, body)?);
+    }
+    read_escaped(alloc, inside, body)
+}
+
+/// What characters stand for, read one by one.
+fn read_escaped(alloc: Global, inside: Inside, body: &str) -> Result<String, LexError>
+    ensures { (out : List ℕ) → StandsFor inside (chars body.now) out → ReadsAs inside out result }
+{
+    // An escape is longer than what it stands for, so this is enough.
+    let mut text = String::with_capacity(alloc, body.len())?;
     let mut reading = Reading::Plain;
     for ch in body.chars() {
         reading = read_char(inside, reading, ch, &mut text)?;

@@ -67,6 +67,32 @@ module _ (n : TermId) (t : Triple) where
       go false here true there e = omega arith
       go false here false there e = omega arith
 
+module _ (sh : Shape) (n : TermId) where
+  -- the first of each class are among the triples
+  first_in : (ts : List Triple) (t : Triple) → Contains (firsts (same_class n) ts) t → Contains ts t
+  first_in [] t c = c
+  first_in (u ∷ us) t c = go (in_rest u (filter (λ v. not (same_class n u v)) (firsts (same_class n) us)) t c) (first_in us t)
+    where
+      go :
+          (u ≡ t) ⊎ Contains (filter (λ v. not (same_class n u v)) (firsts (same_class n) us)) t →
+          (Contains (firsts (same_class n) us) t → Contains us t) → Contains (u ∷ us) t
+      go (inl same) deeper = subst (λ v. Contains (u ∷ us) v) same (is_first u us)
+      go (inr later) deeper = is_later u us t (deeper (in_filter (λ v. not (same_class n u v)) (firsts (same_class n) us) t later).0)
+
+  -- a product of ones
+  all_ones : (f : Triple → ℕ) (ts : List Triple) → ((t : Triple) → Contains ts t → f t ≡ 1) → product (map f ts) ≡ 1
+  all_ones f [] one = refl
+  all_ones f (t ∷ ts) one =
+      let a = one t (is_first t ts) in
+      let b = all_ones f ts (λ u c. one u (is_later t ts u c)) in
+      rw (a, b) refl
+
+  -- where each triple has one place, the product is 1
+  pub one_over : (ts : List Triple) → ((t : Triple) → Contains ts t → places_for sh n t ≡ 1) → coarse_over sh n ts ≡ 1
+  one_over ts one =
+      all_ones (λ t. ways (count_by (same_class n t) ts) (places_for sh n t)) (firsts (same_class n) ts)
+      (λ t c. ap (ways (count_by (same_class n t) ts)) (one t (first_in ts t c)) ∙ ways_one (count_by (same_class n t) ts))
+
 module _ (sh : Shape) (plain : IsPlain sh) (n : TermId) where
   -- a relevant triple has one place
   one_place : (t : Triple) → is_relevant sh.occs n t ≡ true → places_for sh n t ≡ 1
@@ -105,29 +131,8 @@ module _ (sh : Shape) (plain : IsPlain sh) (n : TermId) where
           go true to_here false loop = absurd (let bad : ⊥ = grind (arith, nat_tests, from_here, to_here, loop) in bad)
           go false to_here b loop = rw (from_here, no_extra, taken) refl
 
-  -- the first of each class are among the triples
-  first_in : (ts : List Triple) (t : Triple) → Contains (firsts (same_class n) ts) t → Contains ts t
-  first_in [] t c = c
-  first_in (u ∷ us) t c = go (in_rest u (filter (λ v. not (same_class n u v)) (firsts (same_class n) us)) t c) (first_in us t)
-    where
-      go :
-          (u ≡ t) ⊎ Contains (filter (λ v. not (same_class n u v)) (firsts (same_class n) us)) t →
-          (Contains (firsts (same_class n) us) t → Contains us t) → Contains (u ∷ us) t
-      go (inl same) deeper = subst (λ v. Contains (u ∷ us) v) same (is_first u us)
-      go (inr later) deeper = is_later u us t (deeper (in_filter (λ v. not (same_class n u v)) (firsts (same_class n) us) t later).0)
-
-  -- a product of ones
-  all_ones : (f : Triple → ℕ) (ts : List Triple) → ((t : Triple) → Contains ts t → f t ≡ 1) → product (map f ts) ≡ 1
-  all_ones f [] one = refl
-  all_ones f (t ∷ ts) one =
-      let a = one t (is_first t ts) in
-      let b = all_ones f ts (λ u c. one u (is_later t ts u c)) in
-      rw (a, b) refl
-
   plain_over : (ts : List Triple) → ((t : Triple) → Contains ts t → is_relevant sh.occs n t ≡ true) → coarse_over sh n ts ≡ 1
-  plain_over ts rel =
-      all_ones (λ t. ways (count_by (same_class n t) ts) (places_for sh n t)) (firsts (same_class n) ts)
-      (λ t c. ap (ways (count_by (same_class n t) ts)) (one_place t (rel t (first_in ts t c))) ∙ ways_one (count_by (same_class n t) ts))
+  plain_over ts rel = one_over sh n ts (λ t c. one_place t (rel t c))
 
 pub plain_coarse : (s : Schema) (g : List Triple) (p : Pair) (sh : Shape) → shape_at s p.shape ≡ Some sh → IsPlain sh → coarse s g p ≡ 1
 plain_coarse s g p sh is plain =

@@ -47,7 +47,8 @@ fn behind_prefix(
     let Some(iri) = names.prefixes.get(prefix) else {
         return Err(Stop::Fault(Fault::Prefix));
     };
-    let mut whole = String::from_str(names.alloc, iri)?;
+    let mut whole = String::with_capacity(names.alloc, iri.len() + local.len())?;
+    whole.push_str(iri)?;
     whole.push_str(local)?;
     limit(whole, bounded)
 }

@@ -20,3 +20,4 @@ pub mod Loops
 pub mod Capped
 pub mod Answered
 pub mod Choices
+pub mod TimesWay

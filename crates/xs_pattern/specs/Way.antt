@@ -1,7 +1,7 @@
 -- A pattern without counts as a plain tree, and the reading of a text by sets of positions.
-use Rattle.std.specs.Prelude.{ℕ, ◌+◌, ◌≤◌, ◌≡◌, ◌⊎◌, Bool, true, false, ◌||◌, ◌&&◌, List, [], ◌∷◌, ◌++◌, length, drop}
+use Rattle.std.specs.Prelude.{ℕ, zero, suc, ◌+◌, ◌≤◌, ◌≡◌, ◌⊎◌, Bool, true, false, ◌||◌, ◌&&◌, List, [], ◌∷◌, ◌++◌, length, drop}
 use Rattle.xs_pattern.specs.declared.unrolled.Unrolled.{Unrolled}
-use Rattle.xs_pattern.specs.declared.unrolled.Unrolled.TheOpen.{Unrolled-F, Nothing, Never, Start, End, One, Then, Either, Plus}
+use Rattle.xs_pattern.specs.declared.unrolled.Unrolled.TheOpen.{Unrolled-F, Nothing, Never, Start, End, One, Times, Then, Either, Plus}
 use Rattle.xs_pattern.specs.declared.unrolled.Unrolled.TheFolds.{fold-Unrolled}
 use Rattle.xs_pattern.specs.declared.walk.Edge.{Edge}
 use Rattle.xs_pattern.specs.Language.{Leads}
@@ -17,6 +17,12 @@ pub data Way : Type 0 where
   either : Way → Way → Way
   plus : Way → Way
 
+-- a character of one set so many times
+abbrev pub times_way : ℕ → ℕ → Way
+times_way k zero = nothing
+times_way k (suc zero) = one k
+times_way k (suc (suc n)) = then (one k) (times_way k (suc n))
+
 -- one layer, with the way of each child in its place
 abbrev pub way_step : Unrolled-F Way → Way
 way_step Nothing = nothing
@@ -24,6 +30,7 @@ way_step Never = never
 way_step Start = start
 way_step End = finish
 way_step (One k) = one k
+way_step (Times k n) = times_way k n
 way_step (Then a b) = then a.value b.value
 way_step (Either a b) = either a.value b.value
 way_step (Plus a) = plus a.value
@@ -72,6 +79,11 @@ next e has (then a b) enters marks =
 next e has (either a b) enters marks = next e has a enters marks ++ next e has b enters (drop (size a) marks)
 next e has (plus a) enters marks = next e has a (enters || ends e a marks) marks
 next e has _ enters marks = []
+
+-- the marks behind the next character, of so many characters of one set, of which it is known whether it has it
+abbrev pub next_times : Bool → ℕ → Bool → List Bool → List Bool
+next_times has zero enters marks = []
+next_times has (suc n) enters marks = (enters && has) ∷ next_times has n (first marks) (drop 1 marks)
 
 module _ (edge : ℕ → Edge) (has : ℕ → ℕ → Bool) where
   unfoldable mutual

@@ -37,6 +37,8 @@ pub(crate) enum Unrolled {
     End,
     /// A character of the set with this number.
     One(usize),
+    /// A character of the set with this number, so many times.
+    Times(usize, usize),
     /// One after the other.
     Then(Box<Unrolled>, Box<Unrolled>),
     /// One of the two.
@@ -49,13 +51,23 @@ impl Unrolled {
     fn is_nothing(&self) -> bool
         ensures { result ≡ is_nothing (way_of self.now) }
     {
-        matches!(self, Unrolled::Nothing)
+        match self {
+            Unrolled::Nothing => true,
+            Unrolled::Times(_, count) => *count == 0,
+            Unrolled::Never | Unrolled::Start | Unrolled::End | Unrolled::One(_) => false,
+            Unrolled::Then(_, _) | Unrolled::Either(_, _) | Unrolled::Plus(_) => false,
+        }
     }
 
     fn is_never(&self) -> bool
         ensures { result ≡ is_never (way_of self.now) }
     {
-        matches!(self, Unrolled::Never)
+        match self {
+            Unrolled::Never => true,
+            Unrolled::Times(_, _) => false,
+            Unrolled::Nothing | Unrolled::Start | Unrolled::End | Unrolled::One(_) => false,
+            Unrolled::Then(_, _) | Unrolled::Either(_, _) | Unrolled::Plus(_) => false,
+        }
     }
 
     /// One after the other, without what stands for no character.
@@ -104,6 +116,7 @@ impl Unrolled {
             Unrolled::Start => Unrolled::Start,
             Unrolled::End => Unrolled::End,
             Unrolled::One(set) => Unrolled::One(*set),
+            Unrolled::Times(set, count) => Unrolled::Times(*set, *count),
             Unrolled::Then(first, second) => {
                 let first = first.copy(alloc)?;
                 let second = second.copy(alloc)?;
@@ -123,6 +136,16 @@ impl Unrolled {
 
     /// So many copies.
     fn copies(&self, alloc: Global, number: u32) -> Result<Unrolled, AllocError>
+        ensures { IfOk result (λ w. way_of w ≡ copies number (way_of self.now)) }
+    {
+        match self {
+            Unrolled::One(set) => Ok(Unrolled::Times(*set, number as usize)),
+            _ => self.copied(alloc, number),
+        }
+    }
+
+    /// So many copies, one after the other.
+    fn copied(&self, alloc: Global, number: u32) -> Result<Unrolled, AllocError>
         ensures { IfOk result (λ w. way_of w ≡ copies number (way_of self.now)) }
     {
         let mut all = Unrolled::Nothing;

@@ -3,7 +3,9 @@
 //! Each set of characters in an unrolled pattern is a position. A position is marked where the last character that was
 //! read can stand there, so the time for a character is that of one walk over the pattern, however it is built.
 ghost use Rattle.std.specs.Prelude.{◌≡◌, ◌+◌, ◌++◌, ◌≤◌, ◌||◌, ◌&&◌, false, IfOk, OnOk, length, drop, replicate, slice_index_or, vec_len};
-ghost use Rattle.xs_pattern.specs.Way.{way_of, size, passes, ends, next};
+ghost use Rattle.std.specs.Prelude.{ℕ};
+ghost use Rattle.xs_pattern.specs.Way.{way_of, size, passes, ends, next, next_times, times_way};
+ghost use Rattle.xs_pattern.specs.declared.walk.Edge.{Edge as At};
 
 use crate::unrolled::Unrolled;
 use std::alloc::AllocError;
@@ -90,6 +92,25 @@ fn still(passes: bool, position: usize) -> Exit
     }
 }
 
+/// What so many characters of one set do at a place, whose positions begin at `from`.
+fn exit_of_times(count: usize, marks: &[bool], from: usize) -> Exit
+    requires { from + count ≤ length marks.now }
+    ensures { (edge : At) (set : ℕ) → result ≡ record {
+      ends = ends edge (times_way set count) (drop from marks.now);
+      passes = passes edge (times_way set count);
+      position = from + count;
+    } }
+{
+    if count == 0 {
+        return still(true, from);
+    }
+    Exit {
+        ends: marks[from + count - 1],
+        passes: false,
+        position: from + count,
+    }
+}
+
 /// What the part whose positions begin at `from` does at a place.
 pub(crate) fn exit_of(part: &Unrolled, edge: Edge, marks: &[bool], from: usize) -> Exit
     requires { from + size (way_of part.now) ≤ length marks.now }
@@ -107,6 +128,7 @@ pub(crate) fn exit_of(part: &Unrolled, edge: Edge, marks: &[bool], from: usize) 
             passes: false,
             position: from + 1,
         },
+        Unrolled::Times(_, count) => exit_of_times(*count, marks, from),
         Unrolled::Then(first, second) => {
             let first = exit_of(first, edge, marks, from);
             let second = exit_of(second, edge, marks, first.position);
@@ -119,6 +141,27 @@ pub(crate) fn exit_of(part: &Unrolled, edge: Edge, marks: &[bool], from: usize) 
         }
         Unrolled::Plus(body) => exit_of(body, edge, marks, from),
     }
+}
+
+/// Adds the marks of so many characters of one set, of which it is known whether it has the next character.
+fn advance_times(
+    count: usize,
+    has: bool,
+    enters: bool,
+    marks: &[bool],
+    behind: &mut Vec<bool>,
+) -> Result<(), AllocError>
+    requires { vec_len behind.old + count ≤ length marks.now }
+    ensures marks { OnOk result (behind.new.items ≡ behind.old.items ++ next_times has count enters (drop (vec_len behind.old) marks.now)) }
+    ensures counted { OnOk result (vec_len behind.new ≡ vec_len behind.old + count) }
+{
+    let from = behind.len();
+    let mut entered = enters;
+    for i in 0..count {
+        behind.push(entered && has)?;
+        entered = marks[from + i];
+    }
+    Ok(())
 }
 
 /// Reads the next character, of which it is known which sets have it: the marks behind it are added to `behind`.
@@ -150,6 +193,11 @@ pub(crate) fn advance(
             behind.push(enters && has)?;
             Ok(exit_of(part, edge, marks, from))
         }
+        Unrolled::Times(set, count) => {
+            let has = having.get(*set).copied().unwrap_or(false);
+            advance_times(*count, has, enters, marks, behind)?;
+            Ok(exit_of_times(*count, marks, from))
+        }
         Unrolled::Then(first, second) => {
             let first = advance(first, edge, having, enters, marks, behind)?;
             let second = advance(second, edge, having, first.hands_on(enters), marks, behind)?;
@@ -167,6 +215,16 @@ pub(crate) fn advance(
     }
 }
 
+/// Adds so many marks that are not set.
+fn add_blanks(count: usize, marks: &mut Vec<bool>) -> Result<(), AllocError>
+    ensures { OnOk result (marks.new.items ≡ marks.old.items ++ replicate count false) }
+{
+    for _ in 0..count {
+        marks.push(false)?;
+    }
+    Ok(())
+}
+
 /// Adds a mark that is not set for each position.
 pub(crate) fn add_blank(part: &Unrolled, marks: &mut Vec<bool>) -> Result<(), AllocError>
     ensures { OnOk result (marks.new.items ≡ marks.old.items ++ replicate (size (way_of part.now)) false) }
@@ -174,6 +232,7 @@ pub(crate) fn add_blank(part: &Unrolled, marks: &mut Vec<bool>) -> Result<(), Al
     match part {
         Unrolled::Nothing | Unrolled::Never | Unrolled::Start | Unrolled::End => Ok(()),
         Unrolled::One(_) => Ok(marks.push(false)?),
+        Unrolled::Times(_, count) => add_blanks(*count, marks),
         Unrolled::Then(first, second) => {
             add_blank(first, marks)?;
             add_blank(second, marks)?;

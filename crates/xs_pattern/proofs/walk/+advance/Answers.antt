@@ -1,7 +1,8 @@
-use Rattle.std.proofs.Common.{◌∙◌, ap, sym, drop, false, ◌||◌}
+use Rattle.std.proofs.Common.{rules, ◌≡◌, ◌∙◌, ◌+◌, ◌++◌, ap, arith, sym, drop, false, ◌||◌}
 use Rattle.std.specs.Prelude.{slice_index_or, vec_len}
-use Rattle.xs_pattern.specs.Way.{ends, way_of}
+use Rattle.xs_pattern.specs.Way.{ends, next, next_times, size, way_of}
 use Rattle.xs_pattern.proofs.Marks.{handed_is, then_marks, then_ends, either_marks, either_ends, plus_marks}
+use Rattle.xs_pattern.proofs.TimesWay.{is_times, next_is, size_times}
 use Rattle.xs_pattern.proofs.Ways.{is_then, is_either, is_plus}
 use Rattle.xs_pattern.proofs.walk.+advance.Goals as goal
 
@@ -40,3 +41,27 @@ returns-in-Plus-clause-marks t c =
     ∙ (ap (λ v. ends c.args.edge (way_of c.deref-in-Plus.result.now) (drop v c.args.marks.now)) c.len-from.ensures
     ∙ ap (λ v. ends c.args.edge (way_of v) marks) (c.deref-in-Plus.ensures ∙ sym c.deref-in-Plus-2.ensures))))
     c.advance-in-Plus.ensures.marks
+
+pub advance_times-requires : goal.advance_times-requires
+advance_times-requires t c =
+    let e = ap size (is_times c.args.part.now c.in-Times.set c.in-Times.count c.in-Times.is) ∙ size_times c.in-Times.set c.in-Times.count in
+    let r = c.requires in omega (arith, e, r)
+
+pub exit_of_times-requires : goal.exit_of_times-requires
+exit_of_times-requires t c =
+    let e = ap size (is_times c.args.part.now c.in-Times.set c.in-Times.count c.in-Times.is) ∙ size_times c.in-Times.set c.in-Times.count in
+    let from = c.len-from.ensures in let r = c.requires in omega (arith, e, from, r)
+
+pub returns-in_ok-advance_times-in-Times-clause-marks : goal.returns-in_ok-advance_times-in-Times-clause-marks
+returns-in_ok-advance_times-in-Times-clause-marks t c =
+    let has : c.unwrap_or-has-in-Times.result ≡ slice_index_or c.args.having.now c.in-Times.set false = search rules in
+    let marks = drop (vec_len c.args.behind.now) c.args.marks.now in
+    c.in_ok-advance_times-in-Times.ensures.marks
+    ∙ ap (λ xs. c.args.behind.now.items ++ xs) (ap (λ b. next_times b c.in-Times.count c.args.enters marks) has
+    ∙ sym (next_is c.args.edge (λ k. slice_index_or c.args.having.now k false) c.in-Times.set c.in-Times.count c.args.enters marks)
+    ∙ ap (λ w. next c.args.edge (λ k. slice_index_or c.args.having.now k false) w c.args.enters marks) (sym (is_times c.args.part.now c.in-Times.set c.in-Times.count c.in-Times.is)))
+
+pub returns-in_ok-advance_times-in-Times-clause-counted : goal.returns-in_ok-advance_times-in-Times-clause-counted
+returns-in_ok-advance_times-in-Times-clause-counted t c =
+    c.in_ok-advance_times-in-Times.ensures.counted
+    ∙ ap (λ n. vec_len c.args.behind.now + n) (sym (ap size (is_times c.args.part.now c.in-Times.set c.in-Times.count c.in-Times.is) ∙ size_times c.in-Times.set c.in-Times.count))

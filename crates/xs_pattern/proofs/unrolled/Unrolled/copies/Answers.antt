@@ -1,11 +1,5 @@
-use Rattle.xs_pattern.specs.Unrolling.{copies}
-use Rattle.xs_pattern.proofs.Repeated.{copied}
-use Rattle.xs_pattern.proofs.Ways.{way_nothing}
+use Rattle.xs_pattern.proofs.TimesWay.{copies_is}
 use Rattle.xs_pattern.proofs.unrolled.Unrolled.copies.Goals as goal
 
-pub loop-made-init : goal.loop-made-init
-unfolding copies
-loop-made-init c = way_nothing
-
-pub loop-made-preserved : goal.loop-made-preserved
-loop-made-preserved c = copied _ _ _ _ _ c.in_ok-all.ensures c.in_ok-copy.ensures c.loop-made.invariant
+pub returns-in-One : goal.returns-in-One
+returns-in-One c = copies_is c.args.self.now c.in-One.set c.args.number c.in-One.is

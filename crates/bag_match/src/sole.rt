@@ -1,0 +1,65 @@
+//! Matches without a choice: each triple has one place alone.
+
+ghost use Rattle.std.specs.Prelude.{◌≡◌, ◌<◌, ◌≤◌, ◌+◌, ◌^◌, IfOk, IfSome, IsNone, length, map};
+ghost use Rattle.schema_tree.specs.Loaded.{BodyOk};
+ghost use Rattle.bag_match.specs.Least.{AreLeast, AreOffered, sole};
+
+use crate::counts::have_counts;
+use crate::layers::Question;
+use crate::places::Judge;
+use rdf_terms::items::Items;
+use schema_tree::verdicts::Place;
+use std::alloc::{AllocError, Global};
+use std::sync::ledger::Ledger;
+use tally::Steps;
+
+/// The place of each list, where each has one alone.
+fn sole_places(alloc: Global, offered: &[Items<Place>]) -> Result<Option<Vec<Place>>, AllocError>
+    ensures { IfOk result (λ o. IfSome o (λ v. map sole v.items ≡ offered.now)) }
+{
+    let mut places = Vec::with_capacity(alloc, offered.len())?;
+    for list in offered {
+        match list.as_slice() {
+            [place] => places.push(*place)?,
+            _ => return Ok(None),
+        }
+    }
+    Ok(Some(places))
+}
+
+/// Ticks once for each of the places.
+fn tick_all<L: Ledger>(places: &[Place], steps: &mut Steps<L>)
+    ensures { steps.new ≡ steps.old + length places.now }
+{
+    for _place in places {
+        steps.tick();
+    }
+}
+
+impl<J: Judge> Question<'_, J> {
+    /// The only places that are allowed, where each triple has one alone and their counts match. Neither layers nor states
+    /// are made for them.
+    pub fn only_places<L: Ledger>(
+        &self,
+        alloc: Global,
+        offered: &[Items<Place>],
+        steps: &mut Steps<L>,
+    ) -> Result<Option<Vec<Place>>, AllocError>
+        requires offered { AreOffered (J.hold self.now.judge.now) (J.fail self.now.judge.now) self.now.shape.now self.now.node self.now.triples.now (length self.now.triples.now) offered.now }
+        requires body { BodyOk self.now.shape.now.occs self.now.shape.now.body }
+        requires few { length self.now.triples.now < 2 ^ 31 }
+        ensures places { IfOk result (λ o. IfSome o (λ v. AreLeast (J.hold self.now.judge.now) (J.fail self.now.judge.now) self.now.shape.now self.now.node self.now.triples.now v.items)) }
+        ensures ticked { IfOk result (λ o. IfSome o (λ v. steps.new ≡ steps.old + length v.items)) }
+        ensures still { IfOk result (λ o. IsNone o → steps.new ≡ steps.old) }
+        ensures few { steps.new ≤ steps.old + length self.now.triples.now }
+    {
+        let Some(places) = sole_places(alloc, offered)? else {
+            return Ok(None);
+        };
+        if !have_counts(alloc, self.shape, places.as_slice())? {
+            return Ok(None);
+        }
+        tick_all(places.as_slice(), steps);
+        Ok(Some(places))
+    }
+}
