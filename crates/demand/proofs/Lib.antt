@@ -1,5 +1,6 @@
 pub mod Following
 pub mod Growing
+pub mod Led
 pub mod Listed
 pub mod Needing
 pub mod Opened

@@ -1,5 +1,5 @@
 -- Which Shapes stand in an expression, by its members.
-use Rattle.std.proofs.Common.{◌≡◌, ◌∙◌, ℕ, ◌<◌, ◌⊎◌, inl, inr, List, [], Bool, true, false, refl, arith, sym, subst, ap}
+use Rattle.std.proofs.Common.{◌≡◌, ◌∙◌, ℕ, zero, suc, ◌<◌, ◌⊎◌, inl, inr, List, [], ◌∷◌, Bool, true, false, refl, arith, sym, subst, ap}
 use Rattle.std.specs.Prelude.{◌↔◌, Contains, Option, Some, None}
 use Rattle.schema_tree.specs.declared.schema.Expr.{Expr}
 use Rattle.schema_tree.specs.declared.schema.Expr.TheVariants as Exprs
@@ -9,7 +9,9 @@ use Rattle.schema_tree.specs.declared.schema.ShapeId.{ShapeId}
 use Rattle.schema_tree.specs.Edges.{StandsIn, in_and, in_not, in_or, itself}
 use Rattle.schema_tree.specs.Entries.{entry}
 use Rattle.schema_tree.specs.Loaded.{IsLoaded}
-use Rattle.lists.proofs.Members.{from_map, in_map, in_one, is_first, not_in_none}
+use Rattle.schema_tree.proofs.Decide.{same_shapes}
+use Rattle.lists.proofs.Decided.{Decided, decide_member}
+use Rattle.lists.proofs.Members.{from_map, in_map, in_one, in_rest, is_first, is_later, not_in_none}
 use Rattle.demand.specs.Links.{StandsAny, StandsInSome, members_of, own_of}
 
 number_is : (d e : ExprId) → d.0 ≡ e.0 → d ≡ e
@@ -99,3 +101,32 @@ smaller s loaded d q c = go (entry s d) refl c
     go (Some (Exprs.Not u)) is c = let same : u.0 ≡ q = in_one u.0 q c in let l = loaded.refers d (Exprs.Not u) is in omega (arith, l, same)
     go (Some (Exprs.Node n)) is c = absurd (not_in_none q c)
     go (Some (Exprs.Shape j)) is c = absurd (not_in_none q c)
+
+-- ---- whether a Shape stands in an expression
+
+module _ (s : Schema) (loaded : IsLoaded s) (i : ShapeId) where
+  decide_some : (todo : List ℕ) → ((q : ℕ) → Contains todo q → Decided (StandsAny s i (record { 0 = q }))) → Decided (StandsInSome s todo i)
+  decide_some [] d = inr (λ (e, c, st). not_in_none e.0 c)
+  decide_some (q ∷ qs) d = go (d q (is_first q qs)) (decide_some qs (λ r c. d r (is_later q qs r c)))
+    where
+      go : Decided (StandsAny s i (record { 0 = q })) → Decided (StandsInSome s qs i) → Decided (StandsInSome s (q ∷ qs) i)
+      go (inl st) rest = inl (record { 0 = q }, is_first q qs, st)
+      go (inr none) (inl (e, c, st)) = inl (e, is_later q qs e.0 c, st)
+      go (inr none) (inr more) = inr (λ (e, c, st). elim (in_rest q qs e.0 c) [
+        | inl is ↦ none (subst (λ u. StandsAny s i u) (sym (number_is (record { 0 = q }) e is)) st)
+        | inr later ↦ more (e, later, st)
+      ])
+
+  decide_below : (k : ℕ) (e : ExprId) → e.0 < k → Decided (StandsAny s i e)
+  decide_below zero e lt = absurd (omega (arith, lt))
+  decide_below (suc k) e lt =
+      go (decide_member same_shapes (own_of (entry s e)) i)
+      (decide_some (members_of (entry s e)) (λ q c. decide_below k (record { 0 = q }) (let l = smaller s loaded e q c in omega (arith, l, lt))))
+    where
+      go : Decided (Contains (own_of (entry s e)) i) → Decided (StandsInSome s (members_of (entry s e)) i) → Decided (StandsAny s i e)
+      go (inl own) rest = inl (from_own s e i (entry s e) refl own)
+      go (inr none) (inl some) = inl (from_member s e i (entry s e) refl some)
+      go (inr none) (inr more) = inr (λ (sign, st). elim (to_parts s e i sign st) [ inl own ↦ none own | inr some ↦ more some ])
+
+  pub decide_stands : (e : ExprId) → Decided (StandsAny s i e)
+  decide_stands e = decide_below (suc e.0) e (omega arith)

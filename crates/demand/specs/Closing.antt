@@ -41,15 +41,17 @@ StopsFor P Errors.Pairs = AreMany P
 StopsFor P Errors.Memory = Unit {0}
 
 -- a pair that is new where no more may be held
-pub record HasNoRoom (old : List Pair) (q : Pair) : Type 0 where
+pub record IsOneTooMany (old : List Pair) (q : Pair) : Type 0 where
   pub distinct : AreDistinct old
   pub fresh : ¬ Contains old q
   pub full : length old ≡ max_pairs
 
+-- where the refusal is for too many pairs, this one is one too many
 abbrev pub StopsAt : List Pair → Pair → DemandError → Type 0
-StopsAt old q Errors.Pairs = HasNoRoom old q
+StopsAt old q Errors.Pairs = IsOneTooMany old q
 StopsAt old q Errors.Memory = Unit {0}
 
+-- the held pairs and those at which some root starts are too many
 abbrev pub StopsAtStart : Schema → List Root → List Pair → DemandError → Type 0
 StopsAtStart s roots old e = StopsFor (λ q. Contains old q ⊎ Starts s roots q) e
 
@@ -57,6 +59,7 @@ StopsAtStart s roots old e = StopsFor (λ q. Contains old q ⊎ Starts s roots q
 abbrev pub IsLedTo : Schema → List Triple → List Pair → Pair → Type 0
 IsLedTo s g old q = (p : Pair) × Contains old p × Leads s g p q
 
+-- the pairs to which needs lead from those that were held are too many
 abbrev pub StopsByNeeds : Schema → List Triple → List Pair → DemandError → Type 0
 StopsByNeeds s g old e = StopsFor (IsLedTo s g old) e
 

@@ -14,7 +14,7 @@ use Rattle.schema_tree.specs.declared.verdicts.Verdict.{Verdict}
 use Rattle.schema_tree.specs.declared.verdicts.Verdict.TheVariants.{Yes, No, Unknown}
 use Rattle.schema_tree.specs.Edges.{IsStratum}
 use Rattle.schema_tree.specs.Loaded.{IsLoaded}
-use Rattle.schema_tree.specs.Needs.{HoldNeeds, HoldRoots, IsDecided}
+use Rattle.schema_tree.specs.Needs.{HoldNeeds, HoldRoots, ReachesWide}
 use Rattle.schema_tree.specs.Removal.{IsRefined}
 use Rattle.schema_tree.specs.Sure.{IsSure, Known, PairIs}
 use Rattle.schema_tree.specs.Truths.{IsTruth}
@@ -66,5 +66,5 @@ module _ (s : Schema) (terms : List Term) (g : List Triple) (f : List ℕ) (pair
         let is : IsTrueAnswer s terms verdicts g budget asked x = only_answer x (replies (x ∷ []) (given (record { node = refl; target = refl; sure = h }) none)) in
         (is.sure, is.answer.truth)
 
-    pub undecided : IsSure s terms view n e Unknown → IsSure s terms verdicts n e Unknown × (¬ IsDecided s terms g budget n e)
-    undecided h = let out = only_left (replies [] (left h none)) in (out.unsure, out.undecided)
+    pub left_wide : IsSure s terms view n e Unknown → IsSure s terms verdicts n e Unknown × ReachesWide s terms g budget n e
+    left_wide h = let out = only_left (replies [] (left h none)) in (out.unsure, out.wide)

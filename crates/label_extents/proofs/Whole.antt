@@ -20,10 +20,11 @@ use Rattle.schema_tree.specs.declared.verdicts.Verdict.{Verdict}
 use Rattle.schema_tree.specs.declared.verdicts.Verdict.TheVariants.{Yes, No, Unknown}
 use Rattle.schema_tree.specs.Entries.{pair_of}
 use Rattle.schema_tree.specs.Laws.{OneVerdict, SomeVerdict}
-use Rattle.schema_tree.specs.Needs.{HoldRoots, IsDecided, here}
+use Rattle.schema_tree.specs.Needs.{HoldRoots, ReachesWide, here}
 use Rattle.schema_tree.specs.Sure.{IsSure, Known}
 use Rattle.schema_tree.specs.Typings.{HoldsEnds}
 use Rattle.typing_answers.specs.Laws.{SureAnswersAreTrue}
+use Rattle.demand.proofs.Led.{not_decided}
 use Rattle.label_extents.specs.declared.finding.Extents.{Extents}
 use Rattle.label_extents.specs.Demanded.{AreDemanded}
 use Rattle.wide_pairs.specs.Wide.{AreWide}
@@ -31,7 +32,7 @@ use Rattle.label_extents.specs.Extents.{AreExtents, AreInOrder, AreKnownExtents,
 use Rattle.label_extents.specs.Found.{AreFound, AreMembers, HoldDecided}
 use Rattle.schema_tree.specs.Width.{is_certain}
 use Rattle.label_extents.specs.Members.{GivesVerdicts, has_unknown, is_unknown, members_with}
-use Rattle.label_extents.proofs.Judged.{AreVerdicts, fails, holds, one_truth, undecided}
+use Rattle.label_extents.proofs.Judged.{AreVerdicts, fails, holds, left_wide, one_truth}
 use Rattle.label_extents.proofs.Listed.{from_listed, in_listed, listed, listed_alike}
 
 yes_unlike_unknown : Yes ≡ Unknown → ⊥
@@ -97,7 +98,7 @@ module _ (s : Schema) (terms : List Term) (g : List Triple) (f : List ℕ) (pair
         by : (v : Verdict) → verdict n e ≡ v → is_certain v ≡ true
         by Yes is = refl
         by No is = absurd (one_truth s terms g nodes n e ends ((ordered.exactly n).1 is_node) m.satisfied (fails s terms g f pairs budget verdicts view law are n e roots (sure_of No is)).1)
-        by Unknown is = absurd (known (undecided s terms g f pairs budget verdicts view law are n e roots (sure_of Unknown is)).0)
+        by Unknown is = absurd (known (left_wide s terms g f pairs budget verdicts view law are n e roots (sure_of Unknown is)).0)
 
     -- what is Unknown by the verdicts is so by the view
     unknown_there : IsUnknown s terms verdicts e n → is_unknown (verdict n e) ≡ true
@@ -108,10 +109,10 @@ module _ (s : Schema) (terms : List Term) (g : List Triple) (f : List ℕ) (pair
         by No is = absurd (no_unlike_unknown (one s terms verdicts n e No Unknown (fails s terms g f pairs budget verdicts view law are n e roots (sure_of No is)).0 unknown))
         by Unknown is = refl
 
-    unknown_from : is_unknown (verdict n e) ≡ true → IsUnknown s terms verdicts e n × (¬ IsDecided s terms g budget n e)
-    unknown_from is = undecided s terms g f pairs budget verdicts view law are n e roots (sure_of Unknown (only_unknown (verdict n e) is))
+    unknown_from : is_unknown (verdict n e) ≡ true → IsUnknown s terms verdicts e n × ReachesWide s terms g budget n e
+    unknown_from is = left_wide s terms g f pairs budget verdicts view law are n e roots (sure_of Unknown (only_unknown (verdict n e) is))
 
-    pub only_wide : IsUnknown s terms verdicts e n → ¬ IsDecided s terms g budget n e
+    pub only_wide : IsUnknown s terms verdicts e n → ReachesWide s terms g budget n e
     only_wide unknown = (unknown_from (unknown_there unknown)).1
 
   -- the nodes with Yes are the members that are known
@@ -160,7 +161,7 @@ module _ (s : Schema) (terms : List Term) (g : List Triple) (f : List ℕ) (budg
   are_members a c = let (l, e, n, declared, known, is) = from_listed terms (IsKnownMember s terms g are.verdicts) s.labels x.members are.members a c in (l, e, n, declared, known.0, is)
 
   pub hold_decided : HoldDecided s terms g budget x.members
-  hold_decided l e n declared m decided = in_listed terms (IsKnownMember s terms g are.verdicts) s.labels x.members are.members (l, e) n declared (m, λ unknown. are.only_wide l e n declared m.node unknown decided)
+  hold_decided l e n declared m decided = in_listed terms (IsKnownMember s terms g are.verdicts) s.labels x.members are.members (l, e) n declared (m, λ unknown. not_decided s terms g budget n e (are.only_wide l e n declared m.node unknown) decided)
 
   pub are_whole : x.undecided ≡ false → AreExtents s terms g x.members
   are_whole none = listed_alike terms (IsKnownMember s terms g are.verdicts) (IsMember s terms g) s.labels x.members

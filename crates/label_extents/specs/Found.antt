@@ -8,7 +8,7 @@ use Rattle.schema_tree.specs.declared.schema.Answer.{Answer}
 use Rattle.schema_tree.specs.declared.schema.ExprId.{ExprId}
 use Rattle.schema_tree.specs.declared.schema.Pair.{Pair}
 use Rattle.schema_tree.specs.declared.schema.Schema.{Schema}
-use Rattle.schema_tree.specs.Needs.{IsDecided}
+use Rattle.schema_tree.specs.Needs.{IsDecided, ReachesWide}
 use Rattle.schema_tree.specs.Removal.{IsRefined}
 use Rattle.schema_tree.specs.Sure.{Known}
 use Rattle.label_extents.specs.declared.finding.Extents.{Extents}
@@ -26,7 +26,7 @@ pub record AreFound (s : Schema) (terms : List Term) (g : List Triple) (f : List
   pub refined : IsRefined s terms g f pairs budget verdicts
   pub members : AreKnownExtents s terms g verdicts x.members
   pub undecided : IsTrue x.undecided ↔ IsUndecided s terms g verdicts
-  pub only_wide : (l : Label) (e : ExprId) (n : TermId) → Contains s.labels (l, e) → IsNode g n → IsUnknown s terms verdicts e n → ¬ IsDecided s terms g budget n e
+  pub only_wide : (l : Label) (e : ExprId) (n : TermId) → Contains s.labels (l, e) → IsNode g n → IsUnknown s terms verdicts e n → ReachesWide s terms g budget n e
   pub wide : AreWide s terms g budget pairs x.wide
 
 module _ (s : Schema) (terms : List Term) (g : List Triple) where

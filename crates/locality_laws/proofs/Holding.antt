@@ -14,13 +14,14 @@ use Rattle.schema_tree.specs.declared.schema.Schema.{Schema}
 use Rattle.schema_tree.specs.declared.schema.ShapeId.{ShapeId}
 use Rattle.schema_tree.specs.Edges.{StandsInValue}
 use Rattle.schema_tree.specs.Entries.{pair_of}
-use Rattle.schema_tree.specs.Laws.{NarrowIsKnown, RefinementExists, RefinementIsTrue}
+use Rattle.schema_tree.specs.Laws.{NarrowIsKnown, RefinementExists, RefinementIsTrue, WidthIsOne}
 use Rattle.schema_tree.specs.Loaded.{IsLoaded}
 use Rattle.schema_tree.specs.Matches.{other_end}
 use Rattle.schema_tree.specs.Needs.{HoldNeeds}
 use Rattle.schema_tree.specs.Typings.{HaveSame}
 use Rattle.schema_tree.proofs.Decide.{same_pairs}
 use Rattle.schema_tree.proofs.Strata.{stands_there}
+use Rattle.demand.proofs.Led.{leads_wide, led_there}
 use Rattle.locality_laws.specs.Laws.{UnknownIsWide, VerdictIsOne, VerdictIsTrue}
 use Rattle.locality_laws.proofs.Alike.{one_verdict, some_verdict}
 use Rattle.locality_laws.proofs.Counting.{with_first}
@@ -124,12 +125,13 @@ verdict_one exists s terms g f budget loaded p =
       (λ w h. one_verdict known p v w is (h c.all known c.distinct c.held c.there refined)),
     )
 
-pub unknown_wide : RefinementExists → NarrowIsKnown → UnknownIsWide
-unknown_wide exists law s terms g f budget loaded strat p unknown narrow =
+pub unknown_wide : RefinementExists → NarrowIsKnown → WidthIsOne → UnknownIsWide
+unknown_wide exists law widths s terms g f budget loaded strat p unknown =
     let c = closed s g loaded p in
     let (known, refined) = exists s terms g f c.all budget loaded c.distinct in
     let none = unknown c.all known c.distinct c.held c.there refined in
-    elim (law s terms g f c.all budget known loaded strat c.held refined p c.there narrow) [ inl y ↦ none.0 y | inr n ↦ none.1 n ]
+    leads_wide s loaded g c.all widths terms budget p (λ q leads. led_there s g c.all c.held p q c.there leads)
+    (λ narrow. elim (law s terms g f c.all budget known loaded strat c.held refined p c.there narrow) [ inl y ↦ none.0 y | inr n ↦ none.1 n ])
 
 pub verdict_true : RefinementExists → RefinementIsTrue → VerdictIsTrue
 verdict_true exists law s terms g f budget U T loaded typing holds p node =

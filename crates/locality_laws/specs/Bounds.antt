@@ -16,7 +16,7 @@ pub record IsOpenTest (is_open : ℕ → ℕ → Bool) (narrow : ℕ → Bool) :
 abbrev pub cost_where : (ℕ → Bool) → (ℕ → ℕ) → ℕ → ℕ
 cost_where test cost i = if test i then cost i else 0
 
--- removal and confirmation on each stratum below so many, and one look at each narrow pair for its record, cost no more than
+-- what removal and confirmation on each stratum below so many, and one look at each narrow pair for its record, may cost is no more than
 -- 2 × k + 3 looks at each narrow pair, where k is the number of pairs that it needs
 abbrev pub StrataAreBounded : Type 0
 StrataAreBounded =
@@ -24,7 +24,7 @@ StrataAreBounded =
     total (λ k. phase_cost (cost_where (is_open k) cost) need n + phase_cost (cost_where (is_open k) cost) need n) strata + total (cost_where narrow cost) n
     ≤ whole_cost (cost_where narrow cost) need n
 
--- the number tells for each two pairs of the list whether the second needs the first
+-- the test tells of the places of each two pairs of the list whether the second needs the first
 abbrev pub AreNeedTests : Schema → List Triple → List Pair → (ℕ → ℕ → Bool) → Type 0
 AreNeedTests s g pairs need =
     (at i : ℕ) (p q : Pair) → slice_get pairs at ≡ Some p → slice_get pairs i ≡ Some q → (need at i ≡ true) ↔ Needs s g q p

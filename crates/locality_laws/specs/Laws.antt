@@ -9,7 +9,7 @@ use Rattle.schema_tree.specs.declared.verdicts.Verdict.{Verdict}
 use Rattle.schema_tree.specs.declared.verdicts.Verdict.TheVariants.{No, Unknown, Yes}
 use Rattle.schema_tree.specs.Edges.{IsStratified}
 use Rattle.schema_tree.specs.Loaded.{IsLoaded}
-use Rattle.schema_tree.specs.Needs.{HoldNeeds, LeadsToNarrow}
+use Rattle.schema_tree.specs.Needs.{HoldNeeds, LeadsToWide}
 use Rattle.schema_tree.specs.Removal.{IsRefined}
 use Rattle.schema_tree.specs.Sure.{Known, PairIs}
 use Rattle.schema_tree.specs.Typings.{HoldsEnds, IsTheTyping, top_of}
@@ -50,7 +50,7 @@ VerdictIsOne =
 abbrev pub UnknownIsWide : Type 0
 UnknownIsWide =
     (s : Schema) (terms : List Term) (g : List Triple) (f : List ℕ) (budget : ℕ) → IsLoaded s → IsStratified s f → (p : Pair) →
-    IsVerdict s terms g f budget p Unknown → ¬ LeadsToNarrow s terms g budget p
+    IsVerdict s terms g f budget p Unknown → LeadsToWide s terms g budget p
 
 -- a complete typing over terms that hold the node of a pair and the graph's ends has the pair where its verdict is Yes, and not
 -- where it is No

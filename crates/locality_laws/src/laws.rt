@@ -5,7 +5,9 @@ ghost use Rattle.locality_laws.specs.Laws.{RefinementIsIndependent, VerdictIsInd
 ghost use Rattle.locality_laws.specs.Laws.{RefinementIsLocal, RefinementOverKeptIsLocal, RefinementOverOthersIsLocal};
 ghost use Rattle.locality_laws.specs.Laws.{UnknownIsWide, VerdictIsOne, VerdictIsTrue};
 
-use schema_tree::laws::{refinement_is_complete, refinement_is_one, refinement_is_true};
+use schema_tree::laws::{
+    refinement_is_complete, refinement_is_one, refinement_is_true, width_is_one,
+};
 
 /// Claims that refinement says of a pair what the pairs that it needs make sure: it does not depend on what else is
 /// refined, so that pairs that are known already need not be refined again.
@@ -25,6 +27,7 @@ pub fn verdict_is_one()
     refinement_is_one();
     refinement_is_complete();
     refinement_is_true();
+    width_is_one();
 }
 
 /// Claims that refinement gives the same verdicts by any two stratifications, so that those by any are those by the least.
@@ -35,8 +38,8 @@ pub fn strata_are_independent()
     refinement_is_one();
 }
 
-/// Claims that refinement on all strata costs no more looks than 2 × k + 3 at each narrow pair, where k is the number of
-/// pairs that it needs, and that tests of needs count these.
+/// Claims that what the phases of refinement on all strata may cost comes to no more than 2 × k + 3 looks at each narrow
+/// pair, where k is the number of pairs that it needs, and that tests of needs count these.
 pub fn strata_are_bounded()
     ensures strata { StrataAreBounded }
     ensures needs { NeedsAreCounted }

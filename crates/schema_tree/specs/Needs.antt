@@ -12,7 +12,7 @@ use Rattle.schema_tree.specs.declared.schema.Pair.{Pair}
 use Rattle.schema_tree.specs.Entries.{pair_of, shape_at}
 use Rattle.schema_tree.specs.Matches.{fits, other_end}
 use Rattle.schema_tree.specs.Edges.{StandsIn, StandsInValue}
-use Rattle.schema_tree.specs.Width.{IsWithinWidth, coarse}
+use Rattle.schema_tree.specs.Width.{IsWide, IsWithinWidth, coarse}
 
 -- p needs q: an occurrence of p's Shape fits a triple of p's node, whose other end is q's node, and q's Shape stands in
 -- the occurrence's value
@@ -41,6 +41,10 @@ Reaches s g n e q = (i : ShapeId) × (sign : Bool) × StandsIn s i e sign × Lea
 abbrev pub IsDecided : Schema → List Term → List Triple → ℕ → TermId → ExprId → Type 0
 IsDecided s terms g budget n e = (q : Pair) → Reaches s g n e q → IsWithinWidth s terms g budget q
 
+-- the node with the expression reaches a pair whose Width is above the budget
+abbrev pub ReachesWide : Schema → List Term → List Triple → ℕ → TermId → ExprId → Type 0
+ReachesWide s terms g budget n e = (q : Pair) × Reaches s g n e q × IsWide s terms g budget q
+
 -- for no pair that the node with the expression reaches is the product over the classes by form alone above the budget
 abbrev pub IsDecidedByForm : Schema → List Triple → ℕ → TermId → ExprId → Type 0
 IsDecidedByForm s g budget n e = (q : Pair) → Reaches s g n e q → coarse s g q ≤ budget
@@ -56,3 +60,7 @@ HoldRoots s pairs n e = (i : ShapeId) (sign : Bool) → StandsIn s i e sign → 
 -- no pair that needs lead to from the pair has a Width above the budget
 abbrev pub LeadsToNarrow : Schema → List Term → List Triple → ℕ → Pair → Type 0
 LeadsToNarrow s terms g budget p = (q : Pair) → Leads s g p q → IsWithinWidth s terms g budget q
+
+-- needs lead from the pair to one whose Width is above the budget
+abbrev pub LeadsToWide : Schema → List Term → List Triple → ℕ → Pair → Type 0
+LeadsToWide s terms g budget p = (q : Pair) × Leads s g p q × IsWide s terms g budget q

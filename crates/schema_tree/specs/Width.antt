@@ -1,6 +1,6 @@
 -- To how many different counts of triples a Shape's occurrences can come, at most, as the triples of a node are given to them (own:
 -- what the budget is held against).
-use Rattle.std.specs.Prelude.{ℕ, zero, suc, Bool, true, false, ◌≡◌, ◌≤◌, Contains, List, [], ◌∷◌, ◌+◌, ◌*◌, ◌&&◌, ◌||◌, not, if◌then◌else◌, filter, map, count_by, max, min, slice_get, Option, Some, None}
+use Rattle.std.specs.Prelude.{ℕ, zero, suc, Bool, true, false, ◌≡◌, ◌≤◌, ◌<◌, Contains, List, [], ◌∷◌, ◌+◌, ◌*◌, ◌&&◌, ◌||◌, not, if◌then◌else◌, filter, map, count_by, max, min, slice_get, Option, Some, None}
 use Rattle.std.specs.Bool.{beq}
 use Rattle.std.specs.List.{list_all, list_any}
 use Rattle.rdf_terms.specs.declared.terms.Term.{Term}
@@ -143,6 +143,10 @@ pub record HasWidth (s : Schema) (terms : List Term) (g : List Triple) (p : Pair
 -- the Width of a pair is at most the bound
 abbrev pub IsWithinWidth : Schema → List Term → List Triple → ℕ → Pair → Type 0
 IsWithinWidth s terms g bound p = (w : ℕ) × HasWidth s terms g p w × (w ≤ bound)
+
+-- the Width of a pair is above the bound
+abbrev pub IsWide : Schema → List Term → List Triple → ℕ → Pair → Type 0
+IsWide s terms g bound p = (w : ℕ) × HasWidth s terms g p w × (bound < w)
 
 -- the Shape has no inverse occurrence, no EXTRA, and one occurrence for each predicate
 pub record IsPlain (sh : Shape) : Type 0 where

@@ -25,6 +25,7 @@ use Rattle.tool_words.specs.Asked.{Editing, IsEditing, IsEditingFault}
 use Rattle.tool_words.specs.Laws.{AnswersAreOne}
 use Rattle.typing_session.specs.Questions.{IsUnknownOnlyWide}
 use Rattle.wide_pairs.specs.Laws.{NoneIsWide}
+use Rattle.demand.proofs.Led.{not_decided}
 use Rattle.session_run.specs.declared.error.CommandError.{CommandError}
 use Rattle.session_run.specs.declared.stop.File.{File}
 use Rattle.session_run.specs.declared.stop.Refusal.{Refusal}
@@ -176,7 +177,7 @@ some_noted : NoneIsWide → (s : Schema) (x : State) (budget : ℕ) (n : TermId)
 some_noted law s x budget n e Yes notes few only noted some = absurd (true≢false (sym some))
 some_noted law s x budget n e No notes few only noted some = absurd (true≢false (sym some))
 some_noted law s x budget n e Unknown notes few only (wide, are, is) some = λ none.
-    only refl (λ q reached. law s x.terms x.graph budget are.pairs wide few are.wide (sym is ∙ none) q ((are.asked.exactly q).1 (record { node = n; expr = e }, is_first (record { node = n; expr = e }) [], reached)))
+    not_decided s x.terms x.graph budget n e (only refl) (λ q reached. law s x.terms x.graph budget are.pairs wide few are.wide (sym is ∙ none) q ((are.asked.exactly q).1 (record { node = n; expr = e }, is_first (record { node = n; expr = e }) [], reached)))
 
 module _ (law : NoneIsWide) (s : Schema) (f : List ℕ) (budget : ℕ) (few : budget < 2 ^ 64 - 1) where
   step_noted : (x : State) (c : Command) (y : State) (more : List Reply) → Steps s f budget x c y more → AreNoted more

@@ -48,6 +48,7 @@ use Rattle.shex_inputs.specs.Held.{predicates_in}
 use Rattle.shex_inputs.specs.Laws.{LabelsHaveLines}
 use Rattle.typing_answers.specs.Proofs.{HasLines, IsProofOf as Proves}
 use Rattle.typing_answers.specs.Replies.{AreGiven, AreReplies, AreSureAnswers, IsLeftOut, IsSureAnswer, IsTrueAnswer, IsUnsure, given, left, none}
+use Rattle.demand.proofs.Led.{not_decided}
 use Rattle.shex_run.specs.Proofs.{IsStoredProofOf}
 use Rattle.shex_run.specs.Ready.{AreOnLines, IsOnLine, head_of}
 use Rattle.shex_run.specs.Stopping.{IsFit}
@@ -211,7 +212,7 @@ module _ (told : Told) (c : Command) (q : Question) (is : IsAskedOf told (inputs
             let kept : slice_get q.terms n.0 ≡ Some (get_or q.held.terms n.0 t) = kept_at q.held.terms q.terms n.0 (get_or q.held.terms n.0 t) (all_grow q.held.terms q.terms is.ends.takes.nodes is.ends.takes.taken) own in
             let one : get_or q.held.terms n.0 t ≡ t = one_term (get_or q.held.terms n.0 t) t (sym kept ∙ k.node) in
             inl (got_in q.held.terms n.0 t (own ∙ ap (λ z. Some z) one))
-        go (inr beyond) (inl out) = absurd (out.undecided (decided_alone s g n (no_end n beyond) q.terms budget some law k.association.expr))
+        go (inr beyond) (inl out) = absurd (not_decided s q.terms g budget n k.association.expr out.wide (decided_alone s g n (no_end n beyond) q.terms budget some law k.association.expr))
 
     module _ (p : Proof) (proof : Proves q.held.strata s q.terms g q.pairs budget answers p) where
       -- the nodes that are written in the map have lines, or are held

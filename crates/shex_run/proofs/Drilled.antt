@@ -31,6 +31,7 @@ use Rattle.shex_inputs.specs.declared.error.InputError.{InputError}
 use Rattle.shex_inputs.specs.declared.error.InputError.TheVariants as InputErrors
 use Rattle.shex_inputs.specs.declared.error.Refusal.{Refusal as InputRefusal}
 use Rattle.program_ends.specs.Printing.{IsQuiet, PrintsBoth, SinkSeen}
+use Rattle.demand.proofs.Led.{not_decided}
 use Rattle.shex_run.specs.declared.deciding.Decided.{Decided}
 use Rattle.shex_run.specs.declared.stop.File.TheVariants as Files
 use Rattle.shex_run.specs.declared.stop.Refusal.TheVariants as Refusals
@@ -94,7 +95,7 @@ module _ (n : ℕ) (low : 1 ≤ n) (high : n ≤ max_items) (law : DrillIsDecide
   pub drill_answers : AreDrillAnswers n reply.question reply.answers
   drill_answers =
       let are = subst (λ t. AreAnswers t drill_command reply.question default_budget reply.answers) is_told reply.are_answers in
-      record { are_answers = are; all = all_given _ _ reply.question.associations reply.answers are.replies (λ a c out. out.undecided (law n low high reply.question are.asked a c)) }
+      record { are_answers = are; all = all_given _ _ reply.question.associations reply.answers are.replies (λ a c out. not_decided reply.question.held.schema reply.question.terms reply.question.held.graph default_budget a.node a.expr out.wide (law n low high reply.question are.asked a c)) }
 
 -- ---- the texts
 

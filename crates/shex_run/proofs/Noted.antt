@@ -14,6 +14,7 @@ use Rattle.typing_answers.specs.Replies.{AreGiven, given, left, none}
 use Rattle.typing_refiner.specs.declared.building.WidePair.{WidePair}
 use Rattle.wide_pairs.specs.Laws.{NoneIsWide}
 use Rattle.wide_pairs.specs.Lines.{wide_lines}
+use Rattle.demand.proofs.Led.{not_decided}
 use Rattle.shex_run.specs.Endings.{IsAnswered, IsRespondedTo, IsResponse}
 use Rattle.shex_run.specs.Statuses.{are_wanted, status_by}
 use Rattle.shex_run.specs.Texts.{notes_by}
@@ -55,7 +56,7 @@ four_noted law told after words text notes status at (inl r) nothing = by r.resp
         sym (lines_due a.question.terms (length a.question.associations) a.budget a.answers a.wide some) ∙ sym a.notes_are ∙ nothing in
         let few = ((fit words r.command r.is_asked).budget a.map_name a.proof_name a.budget a.task).1 in
         let (x, asked, out) = left_out a.question.associations a.answers a.are_answers.replies (ltb-true (length a.answers) (length a.question.associations) some) in
-        out.undecided (λ p reached.
+        not_decided a.question.held.schema a.question.terms a.question.held.graph a.budget x.node x.expr out.wide (λ p reached.
         law a.question.held.schema a.question.terms a.question.held.graph a.budget a.question.pairs a.wide (omega (arith, few)) a.are_wide lines p
         ((a.are_answers.asked.asked.exactly p).1 (root_of x, in_map root_of a.question.associations x asked, reached)))
 

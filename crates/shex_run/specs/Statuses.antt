@@ -31,7 +31,8 @@ IsAnswering status = (status ≡ 0) ⊎ ((status ≡ 1) ⊎ (status ≡ 4))
 abbrev pub IsStatus : ℕ → Type 0
 IsStatus status = IsAnswering status ⊎ ((status ≡ 2) ⊎ ((status ≡ 3) ⊎ ((status ≡ 5) ⊎ ((status ≡ 6) ⊎ ((status ≡ 7) ⊎ (status ≡ 8))))))
 
--- the status of a proof that is not accepted: 6 where it is rejected, and 3 where the table cannot take up its node lines
+-- the status of a proof that is not accepted: 6 where it is rejected, and 3 where the table cannot take up its node lines (want of
+-- memory, which is no refusal, has 6 here too)
 abbrev pub check_status : CheckError → ℕ
 check_status (CheckErrors.Syntax at) = 6
 check_status (CheckErrors.Stale part) = 6
@@ -49,7 +50,7 @@ refusal_status (Refusals.Proof error) = check_status error
 abbrev pub IsInterrupted : ℕ → Type 0
 IsInterrupted status = (status ≡ 5) ⊎ ((status ≡ 7) ⊎ (status ≡ 8))
 
--- the statuses of a task whose inputs are taken: 0, 1 or 4; or, where a proof is checked, 0, 6, or 3 where the table is full
+-- the statuses of a task whose inputs are taken: 0, 1 or 4; or, where a proof is checked, 0, 3 or 6
 abbrev pub Concludes : Task → ℕ → Type 0
 Concludes (validation map_name proof_name budget) status = IsAnswering status
 Concludes (checking name) status = (status ≡ 0) ⊎ ((status ≡ 3) ⊎ (status ≡ 6))

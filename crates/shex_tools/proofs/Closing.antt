@@ -22,6 +22,7 @@ use Rattle.shex_io.specs.Files.{Told}
 use Rattle.tool_words.specs.Asked.{IsToolCall, IsToolFault, Listing, ToolCall, of_labels, of_schema}
 use Rattle.tool_words.specs.Laws.{AnswersAreOne}
 use Rattle.typing_refiner.specs.declared.building.WidePair.{WidePair}
+use Rattle.demand.proofs.Led.{not_decided}
 use Rattle.shex_tools.specs.declared.stop.Refusal.{Refusal}
 use Rattle.shex_tools.specs.Calls.{inputs_of}
 use Rattle.shex_tools.specs.Endings.{IsAnswered, IsFailedBy, IsRefusedBy, IsWordsLine, ToolEnds}
@@ -80,7 +81,7 @@ noted_answer law told words (of_labels l) text notes is_call answer none =
     let lines : wide_lines h.terms l.budget x.wide ≡ [] = sym (lines_due h.terms l.budget x.undecided x.wide some) ∙ sym answer.listed.notes_are ∙ none in
     let few = (fit words (of_labels l) is_call).2 in
     let u = found.undecided.0 some in
-    found.only_wide u.label u.expr u.node u.declared u.is_node u.unknown (λ p reached.
+    not_decided h.schema h.terms h.graph l.budget u.node u.expr (found.only_wide u.label u.expr u.node u.declared u.is_node u.unknown) (λ p reached.
     law h.schema h.terms h.graph l.budget found.pairs x.wide (omega (arith, few)) found.wide lines p
     ((found.demanded.exactly p).1 (record { label = u.label; expr = u.expr; node = u.node; declared = u.declared; is_node = u.is_node; reaches = reached })))
 

@@ -7,7 +7,7 @@ use Rattle.shexj_writer.specs.Expressions.{expr_data, value_expr_data}
 use Rattle.shexj_writer.specs.Objects.{Field, list_if_any, object_of}
 use Rattle.shexj_writer.specs.Texts.{label_data, texts_data}
 
--- a ShapeDecl, in which a declared reference stands
+-- a ShapeDecl, in which a declared reference stands (own: ShEx 2.2 has it)
 abbrev pub shape_decl_fields : Data → Data → List Field
 shape_decl_fields id inside =
     (codes "id", Some id) ∷

@@ -13,14 +13,15 @@ use Rattle.schema_tree.specs.declared.schema.Schema.{Schema}
 use Rattle.schema_tree.specs.declared.verdicts.Verdict.{Verdict}
 use Rattle.schema_tree.specs.declared.verdicts.Verdict.TheVariants.{Yes, No, Unknown}
 use Rattle.schema_tree.specs.Edges.{IsStratified, IsStratum}
-use Rattle.schema_tree.specs.Laws.{AnswersAlike, DecidedIsSure, OneVerdict, RefinementIsTrue, StrataAreStratified, SureFollowsAnswers, SureIsTrue, TypingExists}
+use Rattle.schema_tree.specs.Laws.{AnswersAlike, DecidedIsSure, OneVerdict, RefinementIsTrue, StrataAreStratified, SureFollowsAnswers, SureIsTrue, TypingExists, WidthIsOne}
 use Rattle.schema_tree.specs.Loaded.{IsLoaded}
-use Rattle.schema_tree.specs.Needs.{HoldNeeds, HoldRoots, IsDecided}
+use Rattle.schema_tree.specs.Needs.{HoldNeeds, HoldRoots, ReachesWide}
 use Rattle.schema_tree.specs.Removal.{IsRefined}
 use Rattle.schema_tree.specs.Satisfies.{Sat}
 use Rattle.schema_tree.specs.Sure.{Agrees, IsSure, Known, PairIs}
 use Rattle.schema_tree.specs.Truths.{IsTruth}
 use Rattle.schema_tree.specs.Typings.{HoldsEnds}
+use Rattle.demand.proofs.Led.{reached_there, reaches_wide}
 use Rattle.proof_file.specs.Accepts.{verdict_of}
 use Rattle.shape_map.specs.declared.resolve.Association.{Association}
 use Rattle.typing_answers.specs.Laws.{SureAnswersAreTrue}
@@ -37,6 +38,7 @@ pub record AreLaws : Type 0 where
   pub one : OneVerdict
   pub refined : RefinementIsTrue
   pub decided : DecidedIsSure
+  pub widths : WidthIsOne
 
 no_yes : No ≡ Unknown → ⊥
 no_yes e = cc
@@ -79,16 +81,18 @@ module _ (laws : AreLaws) (s : Schema) (terms : List Term) (g : List Triple) (f 
   }
 
   -- an expression that is Unknown reaches a pair whose Width is above the budget
-  undecided : (n : TermId) (e : ExprId) → HoldRoots s pairs n e → IsSure s terms verdicts n e Unknown → ¬ IsDecided s terms g budget n e
-  undecided n e roots unsure decided = elim (laws.decided s terms g f pairs budget verdicts loaded stratified needs refined n e roots decided) [
-    | inl holds ↦ yes_no (laws.one s terms verdicts n e Yes Unknown holds unsure)
-    | inr fails ↦ no_yes (laws.one s terms verdicts n e No Unknown fails unsure)
-  ]
+  unknown_wide : (n : TermId) (e : ExprId) → HoldRoots s pairs n e → IsSure s terms verdicts n e Unknown → ReachesWide s terms g budget n e
+  unknown_wide n e roots unsure =
+      reaches_wide s loaded g pairs n e (reached_there s g pairs needs n e roots) laws.widths terms budget
+      (λ decided. elim (laws.decided s terms g f pairs budget verdicts loaded stratified needs refined n e roots decided) [
+        | inl holds ↦ yes_no (laws.one s terms verdicts n e Yes Unknown holds unsure)
+        | inr fails ↦ no_yes (laws.one s terms verdicts n e No Unknown fails unsure)
+      ])
 
   pub replies : (view : Known) → ((p : Pair) (v : Verdict) → PairIs view p v ↔ PairIs verdicts p v) → (asked : List Association) (answers : List Answer) → ((a : Association) → Contains asked a → HoldRoots s pairs a.node a.expr) →
       AreSureAnswers s terms view asked answers → AreReplies s terms verdicts g budget asked answers
   replies view same asked answers roots sure = given_to asked answers
-      (λ a c unsure. (let u = (laws.follows s terms view verdicts loaded same a.node a.expr Unknown).0 unsure in record { unsure = u; undecided = undecided a.node a.expr (roots a c) u }))
+      (λ a c unsure. (let u = (laws.follows s terms view verdicts loaded same a.node a.expr Unknown).0 unsure in record { unsure = u; wide = unknown_wide a.node a.expr (roots a c) u }))
       (λ a x c h. (let v = (laws.follows s terms view verdicts loaded same a.node a.expr (verdict_of x.holds)).0 h.sure in record { sure = v; answer = record { node = h.node; target = h.target; truth = truth a.node a.expr x.holds v } }))
       sure
 

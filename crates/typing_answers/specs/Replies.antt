@@ -5,7 +5,7 @@ use Rattle.rdf_terms.specs.declared.terms.Triple.{Triple}
 use Rattle.schema_tree.specs.declared.schema.Answer.{Answer}
 use Rattle.schema_tree.specs.declared.schema.Schema.{Schema}
 use Rattle.schema_tree.specs.declared.verdicts.Verdict.TheVariants.{Unknown}
-use Rattle.schema_tree.specs.Needs.{IsDecided}
+use Rattle.schema_tree.specs.Needs.{ReachesWide}
 use Rattle.schema_tree.specs.Sure.{IsSure, Known}
 use Rattle.proof_file.specs.Accepts.{verdict_of}
 use Rattle.shape_map.specs.Answers.{IsAnswerTo}
@@ -36,7 +36,7 @@ module _ (s : Schema) (terms : List Term) (verdicts : Known) where
     -- an association that is left out: the verdict on its expression is Unknown, and it reaches a pair whose Width is above the budget
     pub record IsLeftOut (a : Association) : Type 0 where
       pub unsure : IsUnsure a
-      pub undecided : ¬ IsDecided s terms g budget a.node a.expr
+      pub wide : ReachesWide s terms g budget a.node a.expr
 
     -- the answer is sure and true: it says whether the complete typing satisfies the association's expression at its node
     -- (ShEx 2.1, section 5.2)

@@ -4,7 +4,7 @@ ghost use Rattle.typing_answers.specs.Laws.{SureAnswersAreTrue};
 
 use schema_tree::laws::{
     layers_are_meanings, refinement_is_complete, refinement_is_true, strata_are_alike,
-    strata_are_least, sure_is_true, typing_is_one, verdict_is_one,
+    strata_are_least, sure_is_true, typing_is_one, verdict_is_one, width_is_one,
 };
 
 /// What is sure by the verdicts of refinement is true of the complete typing (ShEx 2.1, section 5.2), and it leaves out only what
@@ -20,4 +20,5 @@ pub fn sure_answers_are_true()
     sure_is_true();
     typing_is_one();
     verdict_is_one();
+    width_is_one();
 }

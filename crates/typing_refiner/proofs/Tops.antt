@@ -6,7 +6,7 @@ use Rattle.rdf_terms.specs.declared.terms.Triple.{Triple}
 use Rattle.schema_tree.specs.declared.schema.Pair.{Pair}
 use Rattle.schema_tree.specs.declared.schema.Schema.{Schema}
 use Rattle.schema_tree.specs.Edges.{IsStratified}
-use Rattle.schema_tree.specs.Laws.{NarrowIsKnown, RefinementIsTrue, StrataGiveOneTyping, TypingExists}
+use Rattle.schema_tree.specs.Laws.{NarrowIsKnown, RefinementIsTrue, StrataGiveOneTyping, TypingExists, WidthIsOne}
 use Rattle.schema_tree.specs.Loaded.{IsLoaded}
 use Rattle.schema_tree.specs.Needs.{HoldNeeds}
 use Rattle.removal_laws.specs.Marks.{known_by}
@@ -50,10 +50,10 @@ module _ {E : Type 0} (s : Schema) (terms : List Term) (g : List Triple) (f : Li
     ok_by_each (Ok r) same is loaded law strat h = by_each s terms g f budget pairs (known_by_it r) loaded (at_home s terms g f budget pairs lent strata r same is h) law strat
     ok_by_each (Err e) same is loaded law strat h = h
 
-    pub ok_wide : (result : Result Refinement E) → lent ≡ pairs → strata ≡ f → IsLoaded s → NarrowIsKnown → IsStratified s f → HoldNeeds s g pairs →
+    pub ok_wide : (result : Result Refinement E) → lent ≡ pairs → strata ≡ f → IsLoaded s → NarrowIsKnown → WidthIsOne → IsStratified s f → HoldNeeds s g pairs →
         IfOk result (λ r. IsRefinementOf s terms g strata budget lent (known_by_it r)) → IfOk result (λ r. IsUnknownOnlyWide s terms g f budget pairs (known_by_it r))
-    ok_wide (Ok r) same is loaded law strat closed h = unknown_only s terms g f budget pairs (known_by_it r) loaded (at_home s terms g f budget pairs lent strata r same is h) law strat closed
-    ok_wide (Err e) same is loaded law strat closed h = h
+    ok_wide (Ok r) same is loaded law widths strat closed h = unknown_only s terms g f budget pairs (known_by_it r) loaded (at_home s terms g f budget pairs lent strata r same is h) law widths strat closed
+    ok_wide (Err e) same is loaded law widths strat closed h = h
 
 module _ {E : Type 0} (s : Schema) (terms : List Term) (g : List Triple) (f : List ℕ) (budget : ℕ) (pairs : List Pair) where
   pub ok_shown : (lent : List Pair) (strata : List ℕ) (result : Result Refinement E) → lent ≡ pairs → strata ≡ f →

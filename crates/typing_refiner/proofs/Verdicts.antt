@@ -10,13 +10,14 @@ use Rattle.schema_tree.specs.declared.schema.Schema.{Schema}
 use Rattle.schema_tree.specs.declared.verdicts.Verdict.{Verdict}
 use Rattle.schema_tree.specs.declared.verdicts.Verdict.TheVariants.{Yes, No, Unknown}
 use Rattle.schema_tree.specs.Edges.{IsStratified}
-use Rattle.schema_tree.specs.Laws.{NarrowIsKnown, RefinementIsTrue, StrataGiveOneTyping, TypingExists}
+use Rattle.schema_tree.specs.Laws.{NarrowIsKnown, RefinementIsTrue, StrataGiveOneTyping, TypingExists, WidthIsOne}
 use Rattle.schema_tree.specs.Loaded.{IsLoaded}
 use Rattle.schema_tree.specs.Needs.{HoldNeeds}
 use Rattle.schema_tree.specs.Sure.{Known, PairIs}
 use Rattle.schema_tree.specs.Typings.{HaveSame}
 use Rattle.removal_laws.specs.Marks.{KnowSame, known_by, marked}
 use Rattle.removal_laws.proofs.Known.{answers_in, answers_none, answers_out, same_alike}
+use Rattle.demand.proofs.Led.{leads_wide, led_there}
 use Rattle.typing_refiner.specs.Refined.{verdicts_of}
 use Rattle.locality_laws.specs.Laws.{RefinementIsIndependent}
 use Rattle.typing_refiner.specs.Statements.{AreTrue, AreTrueByAll, AreVerdictsByAll, IsRefinementOf, IsUnknownOnlyWide}
@@ -61,10 +62,11 @@ one_unknown marks new is all i inside = subst (λ xs. slice_get xs i ≡ Some Un
 
 module _ (s : Schema) (terms : List Term) (g : List Triple) (f : List ℕ) (budget : ℕ) (pairs : List Pair) (verdicts : Known) (loaded : IsLoaded s)
     (r : IsRefinementOf s terms g f budget pairs verdicts) where
-  pub unknown_only : NarrowIsKnown → IsStratified s f → HoldNeeds s g pairs → IsUnknownOnlyWide s terms g f budget pairs verdicts
-  unknown_only law strat closed p c unknown narrow =
+  pub unknown_only : NarrowIsKnown → WidthIsOne → IsStratified s f → HoldNeeds s g pairs → IsUnknownOnlyWide s terms g f budget pairs verdicts
+  unknown_only law widths strat closed p c unknown =
       let (known, is, same) = r in
-      elim (law s terms g f pairs budget known loaded strat closed is p c narrow) [ inl y ↦ unknown.0 (same.0.1 p y) | inr n ↦ unknown.1 (same.1.1 p n) ]
+      leads_wide s loaded g pairs widths terms budget p (λ q leads. led_there s g pairs closed p q c leads)
+      (λ narrow. elim (law s terms g f pairs budget known loaded strat closed is p c narrow) [ inl y ↦ unknown.0 (same.0.1 p y) | inr n ↦ unknown.1 (same.1.1 p n) ])
 
   pub are_true : RefinementIsTrue → AreTrue s terms g f budget pairs verdicts
   are_true law U T typing holds =

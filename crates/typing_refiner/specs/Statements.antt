@@ -8,7 +8,7 @@ use Rattle.schema_tree.specs.declared.schema.Pair.{Pair}
 use Rattle.schema_tree.specs.declared.schema.Schema.{Schema}
 use Rattle.schema_tree.specs.declared.verdicts.Verdict.{Verdict}
 use Rattle.schema_tree.specs.declared.verdicts.Verdict.TheVariants.{Unknown}
-use Rattle.schema_tree.specs.Needs.{LeadsToNarrow}
+use Rattle.schema_tree.specs.Needs.{LeadsToWide}
 use Rattle.schema_tree.specs.Removal.{IsRefined}
 use Rattle.schema_tree.specs.Sure.{Agrees, Known, PairIs}
 use Rattle.schema_tree.specs.Edges.{IsStratified}
@@ -31,7 +31,7 @@ module _ (s : Schema) (terms : List Term) (g : List Triple) (f : List ℕ) (budg
 
   -- Unknown only where the pair is not of the list or reaches a pair whose Width is above the budget
   abbrev pub IsUnknownOnlyWide : List Pair → Known → Type 0
-  IsUnknownOnlyWide pairs verdicts = (p : Pair) → Contains pairs p → PairIs verdicts p Unknown → ¬ LeadsToNarrow s terms g budget p
+  IsUnknownOnlyWide pairs verdicts = (p : Pair) → Contains pairs p → PairIs verdicts p Unknown → LeadsToWide s terms g budget p
 
   -- Yes is of every complete typing, and No of none
   abbrev pub AreTrue : List Pair → Known → Type 0

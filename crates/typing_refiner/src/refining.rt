@@ -347,6 +347,7 @@ pub fn refine(
     typing_is_one();
     strata_are_alike();
     strata_are_independent();
+    width_is_one();
     let list = pairs.list();
     // The length of a graph tells contracts that it is within the limit.
     let _held = graph.len();

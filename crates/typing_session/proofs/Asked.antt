@@ -4,6 +4,7 @@ use Rattle.std.proofs.lemmas.List.Elements.{All-contains}
 use Rattle.std.specs.Prelude.{◌↔◌, Contains, IfSome, IsNone, Option, Some, None}
 use Rattle.demand.specs.Demand.{AreAsked, IsAsked}
 use Rattle.demand.specs.Orders.{compare_pairs}
+use Rattle.demand.proofs.Led.{reaches_wide}
 use Rattle.demand.proofs.PairOrder.{pairs_once, pairs_total}
 use Rattle.graph_index.specs.Contents.{Contents}
 use Rattle.graph_index.specs.Laws.{IsOfTable}
@@ -31,7 +32,7 @@ use Rattle.schema_tree.specs.Entries.{pair_of}
 use Rattle.schema_tree.specs.Laws.{DecidedIsSure, OneVerdict, RefinementExists, RefinementIsTrue, SatIsDecided, SomeVerdict, SureFollowsAnswers, SureIsTrue, WidthIsOne}
 use Rattle.schema_tree.specs.Loaded.{IsLoaded}
 use Rattle.schema_tree.specs.Matches.{other_end}
-use Rattle.schema_tree.specs.Needs.{HoldNeeds, Leads, Needs, Reaches, here, step}
+use Rattle.schema_tree.specs.Needs.{HoldNeeds, IsDecided, Leads, Needs, Reaches, here, step}
 use Rattle.schema_tree.specs.Removal.{IsRefined}
 use Rattle.schema_tree.specs.Satisfies.{Sat}
 use Rattle.schema_tree.specs.Sure.{IsSure, Known, PairIs}
@@ -191,8 +192,8 @@ module _ (s : Schema) (terms : List Term) (g : List Triple) (f : List ℕ) (budg
         (λ is. meant.1 (subst (λ z. IsSure s terms known n e z) is said)),
       )
 
-  pub is_wide : DecidedIsSure → OneVerdict → IsStratified s f → (v : Verdict) → IsAnswer s terms g f budget n e v → IsUnknownOnlyWide s terms g budget n e v
-  is_wide decided one strat v answer unknown narrow =
+  pub undecided : DecidedIsSure → OneVerdict → IsStratified s f → (v : Verdict) → IsAnswer s terms g f budget n e v → v ≡ Unknown → ¬ IsDecided s terms g budget n e
+  undecided decided one strat v answer unknown narrow =
       let (known, refined) = exists s terms g f pairs budget loaded (pairs_once terms pairs asked.sorted) in
       let said : IsSure s terms known n e Unknown = subst (λ z. IsSure s terms known n e z) unknown (answer pairs known asked refined) in
       elim (decided s terms g f pairs budget known loaded strat (asked_closed s terms g n e pairs asked) refined n e
@@ -254,9 +255,10 @@ module _ (s : Schema) (terms : List Term) (g : List Triple) (f : List ℕ) (budg
           by (inl sat) is = sat
           by (inr none) is = absurd (some_asked (λ (pairs, asked). none ((is_true s terms g f budget n e pairs asked exists loaded whole sure v answered U T typing ends there).0 is)))
 
-      pub only_wide : DecidedIsSure → IsStratified s f → IsUnknownOnlyWide s terms g budget n e v
-      only_wide decided strat unknown narrow =
-          some_asked (λ (pairs, asked). is_wide s terms g f budget n e pairs asked exists loaded decided one strat v answered unknown narrow)
+      pub only_wide : DecidedIsSure → WidthIsOne → IsStratified s f → IsUnknownOnlyWide s terms g budget n e v
+      only_wide decided widths strat unknown =
+          reaches_wide s loaded g (pairs_of new) n e reached_kept widths terms budget
+          (λ narrow. some_asked (λ (pairs, asked). undecided s terms g f budget n e pairs asked exists loaded decided one strat v answered unknown narrow))
 
 module _ (s : Schema) (terms : List Term) (g : List Triple) (loaded : IsLoaded s) (ends : All (IsOfTable terms) g) where
   end_of : (t : Triple) (inverse : Bool) → Contains g t → (other_end inverse t).0 < length terms

@@ -10,7 +10,7 @@ use Rattle.schema_tree.specs.declared.schema.Schema.{Schema}
 use Rattle.schema_tree.specs.declared.verdicts.Verdict.{Verdict}
 use Rattle.schema_tree.specs.declared.verdicts.Verdict.TheVariants.{No, Unknown, Yes}
 use Rattle.schema_tree.specs.Edges.{IsStratified}
-use Rattle.schema_tree.specs.Needs.{IsDecided, Reaches}
+use Rattle.schema_tree.specs.Needs.{Reaches, ReachesWide}
 use Rattle.schema_tree.specs.Removal.{IsRefined}
 use Rattle.schema_tree.specs.Satisfies.{Sat}
 use Rattle.schema_tree.specs.Sure.{IsSure, Known}
@@ -50,7 +50,7 @@ IsTrueAnswer s terms g f n e v =
 
 -- Unknown comes only where the node with the expression reaches a pair whose Width is above the budget
 abbrev pub IsUnknownOnlyWide : Schema → List Term → List Triple → ℕ → TermId → ExprId → Verdict → Type 0
-IsUnknownOnlyWide s terms g budget n e v = v ≡ Unknown → ¬ IsDecided s terms g budget n e
+IsUnknownOnlyWide s terms g budget n e v = v ≡ Unknown → ReachesWide s terms g budget n e
 
 -- the verdict is the same by any stratification
 abbrev pub IsAnswerByAll : Schema → List Term → List Triple → ℕ → TermId → ExprId → Verdict → Type 0

@@ -28,7 +28,7 @@ use rdf_terms::table::TermTable;
 use rdf_terms::terms::TermId;
 use schema_tree::laws::{
     layers_are_meanings, refinement_is_complete, refinement_is_one, refinement_is_true,
-    satisfaction_is_decided, sure_is_true, verdict_is_one,
+    satisfaction_is_decided, sure_is_true, verdict_is_one, width_is_one,
 };
 use schema_tree::schema::{ExprId, Pair, Schema};
 use schema_tree::sure::sure;
@@ -174,6 +174,7 @@ pub(crate) fn answer<L: Ledger>(
     strata_are_independent();
     sure_is_true();
     verdict_is_one();
+    width_is_one();
     let before = kept.len();
     keep_fresh(
         alloc, schema, graph, terms, strata, fresh, kept, budget, steps,

@@ -11,4 +11,5 @@ returns c = sure_answers (record {
   one = c.verdict_is_one.ensures.one;
   refined = c.refinement_is_true.ensures.whole;
   decided = c.refinement_is_complete.ensures.expressions;
+  widths = c.width_is_one.ensures.one;
 })

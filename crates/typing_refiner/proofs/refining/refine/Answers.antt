@@ -11,7 +11,7 @@ returns-clause-true_verdicts c =
 pub returns-clause-only_wide : goal.returns-clause-only_wide
 returns-clause-only_wide c =
     ok_wide c.args.schema.now c.args.terms.now c.args.graph.now.triples c.args.strata.now c.args.budget c.args.pairs.now c.list-list.result.now c.list.result.now c.refine_with.result c.list-list.ensures.list
-    c.list.ensures c.requires.loaded c.refinement_is_complete.ensures.pairs c.requires.stratified c.requires.closed c.refine_with.ensures.refined
+    c.list.ensures c.requires.loaded c.refinement_is_complete.ensures.pairs c.width_is_one.ensures.one c.requires.stratified c.requires.closed c.refine_with.ensures.refined
 
 pub returns-clause-true_by_all : goal.returns-clause-true_by_all
 returns-clause-true_by_all c =

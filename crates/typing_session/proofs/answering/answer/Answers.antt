@@ -32,4 +32,4 @@ pub returns-in-Ok-clause-only_wide : goal.returns-in-Ok-clause-only_wide
 returns-in-Ok-clause-only_wide g c =
     only_wide c.args.schema.now c.args.terms.now c.args.graph.now.triples c.args.strata.now c.args.budget c.args.node c.args.expr c.args.fresh.now c.args.kept.now c.keep_fresh.new.kept c.requires.fresh
     c.in_ok-keep_fresh.ensures.kept c.len-after.ensures.distinct c.verdict_is_one.ensures.one c.verdict_is_one.ensures.some c.refinement_is_one.ensures.exists c.requires.loaded c.in-Ok.verdict c.in-Ok.ensures.verdict
-    c.refinement_is_complete.ensures.expressions c.requires.stratified
+    c.refinement_is_complete.ensures.expressions c.width_is_one.ensures.one c.requires.stratified
