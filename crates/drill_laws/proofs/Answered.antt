@@ -1,6 +1,6 @@
 -- No text of a drill is refused, and each association is decided.
-use Rattle.std.proofs.Common.{◌≡◌, ◌≢◌, ◌∙◌, ℕ, ◌<◌, ◌≤◌, List, [], ◌∷◌, Some, refl, sym, ap, subst, arith, length, map, inl, inr, ◌⊎◌}
-use Rattle.std.specs.Prelude.{Contains, Option}
+use Rattle.std.proofs.Common.{◌≡◌, ◌∙◌, ℕ, ◌<◌, ◌≤◌, List, [], ◌∷◌, Some, refl, sym, ap, subst, arith, length, map, inl, inr}
+use Rattle.std.specs.Prelude.{Option}
 use Rattle.command_words.specs.Requests.{default_budget}
 use Rattle.rdf_terms.specs.declared.terms.Term.{Term}
 use Rattle.rdf_terms.specs.declared.terms.Triple.{Triple}
@@ -12,7 +12,6 @@ use Rattle.schema_tree.specs.Laws.{PlainShapesAreNarrow, WidthIsOne}
 use Rattle.schema_tree.specs.Needs.{IsDecided}
 use Rattle.shape_map.specs.declared.error.MapError.{MapError}
 use Rattle.shape_map.specs.declared.items.Item.{Item}
-use Rattle.shape_map.specs.declared.resolve.Association.{Association}
 use Rattle.shape_map.specs.Maps.{IsMap, MapsAreOne}
 use Rattle.shape_map.specs.Selection.{Outcome, Resolves, refused, selected}
 use Rattle.shex_io.specs.Files.{Told}
@@ -23,9 +22,8 @@ use Rattle.shex_drill.specs.Schema.{SchemaIsDocument, allowed_tags, item_label}
 use Rattle.shex_drill.specs.Texts.{map_text}
 use Rattle.shex_inputs.specs.declared.error.Refusal.{Refusal}
 use Rattle.shex_inputs.specs.declared.error.Refusal.TheVariants as Refusals
-use Rattle.shex_inputs.specs.declared.error.Source.{Source}
 use Rattle.shex_inputs.specs.declared.error.Source.TheVariants as Sources
-use Rattle.shex_inputs.specs.Asked.{EndsAs, HoldsMap, IsAskedOf, Question, node_names, root_of}
+use Rattle.shex_inputs.specs.Asked.{EndsAs, HoldsMap, node_names, root_of}
 use Rattle.shex_inputs.specs.Held.{Held, IsTaken}
 use Rattle.shex_inputs.specs.Laws.{HeldIsOne, InputsAreOne, TakenIsNotLeft}
 use Rattle.shex_inputs.specs.Named.{source_of}

@@ -1,19 +1,18 @@
 -- The parts of the schema of a drill meet what is required of documents, whatever the label, the predicates and the tags are.
 use Rattle.std.proofs.Common.{◌≡◌, ◌∙◌, ℕ, zero, suc, ◌+◌, ◌<◌, ◌≤◌, List, [], ◌∷◌, Bool, true, false, Some, None, refl, sym, ap, subst, arith, length, get_or, inl, inr, ◌⊎◌}
-use Rattle.std.specs.Prelude.{Option, Contains, filter, slice_get}
+use Rattle.std.specs.Prelude.{Option, Contains, filter}
 use Rattle.node_constraint.specs.Constraint.{Constraint}
 use Rattle.tally.specs.declared.Bound.TheVariants.{Free, Upto}
-use Rattle.lists.proofs.Members.{in_rest, in_one, is_first, is_later}
+use Rattle.lists.proofs.Members.{in_rest, in_one, is_first}
 use Rattle.schema_documents.specs.declared.label.Label.{Label}
 use Rattle.schema_load.specs.declared.part.Part.{Part}
 use Rattle.schema_load.specs.declared.part.Part.TheVariants as Parts
-use Rattle.schema_load.specs.declared.part.ShapePart.{ShapePart}
 use Rattle.schema_load.specs.declared.part.TripleForm.{TripleForm}
 use Rattle.schema_load.specs.declared.part.TripleForm.TheVariants.{Arc, Each, Include, One}
 use Rattle.schema_load.specs.declared.part.TriplePart.{TriplePart}
 use Rattle.schema_load.specs.Graph.{HasDepth, IsAsDeepAs, LeadsTo, Reaches, alone, at_once, below, through, weight}
 use Rattle.schema_load.specs.Parts.{IsAt, IsDeclared, IsNamed, is_shape}
-use Rattle.schema_load.specs.Requirements.{HasOccurrences, HasOne, HaveOccurrences, IsCircle, IsCrowded, IsDeclaredTwice, IsDeep, IsIncludeCircle, IsInclusion, IsMissing, IsNamedTwice, IsTwice, MeetsRequirements, NoneIs, of_arc, of_each, of_include, of_more, of_none, of_one}
+use Rattle.schema_load.specs.Requirements.{HasOccurrences, HasOne, HaveOccurrences, IsCircle, IsCrowded, IsDeep, IsIncludeCircle, IsMissing, IsTwice, MeetsRequirements, NoneIs, of_arc, of_each, of_include, of_more, of_none, of_one}
 use Rattle.schema_load.proofs.One.{one_at}
 
 -- the depths of the parts

@@ -1,5 +1,5 @@
 -- The associations of a drill reach few pairs.
-use Rattle.std.proofs.Common.{◌≡◌, ◌∙◌, ℕ, ◌<◌, ◌≤◌, List, [], ◌∷◌, Bool, true, false, refl, sym, ap, subst, arith, length, map}
+use Rattle.std.proofs.Common.{◌≡◌, ℕ, ◌<◌, ◌≤◌, List, Bool, true, false, sym, ap, arith, length, map}
 use Rattle.std.specs.Prelude.{Contains}
 use Rattle.node_constraint.specs.Constraint.{Constraint}
 use Rattle.lists.proofs.Members.{from_map}
@@ -7,7 +7,6 @@ use Rattle.rdf_terms.specs.declared.terms.Term.{Term}
 use Rattle.rdf_terms.specs.declared.terms.Triple.{Triple}
 use Rattle.graph_index.specs.Laws.{IsOfTable}
 use Rattle.demand.specs.Demand.{AreTooMany, IsAsked}
-use Rattle.demand.specs.Orders.{max_pairs}
 use Rattle.demand.specs.declared.reach.Root.{Root}
 use Rattle.schema_tree.specs.declared.schema.Pair.{Pair}
 use Rattle.schema_tree.specs.declared.schema.Schema.{Schema}

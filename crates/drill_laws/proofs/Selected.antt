@@ -1,6 +1,6 @@
 -- The map of a drill is resolved over its schema and any graph of few terms.
-use Rattle.std.proofs.Common.{◌≡◌, ◌∙◌, ℕ, zero, suc, ◌+◌, ◌<◌, ◌≤◌, List, [], ◌∷◌, ◌++◌, Bool, true, false, Some, refl, sym, ap, subst, arith, length, map, inl, inr, ◌⊎◌}
-use Rattle.std.specs.Prelude.{Contains, slice_get}
+use Rattle.std.proofs.Common.{◌≡◌, ℕ, zero, suc, ◌+◌, ◌<◌, ◌≤◌, List, [], ◌∷◌, ◌++◌, refl, sym, ap, subst, arith, length, map, inl, inr, ◌⊎◌}
+use Rattle.std.specs.Prelude.{Contains}
 use Rattle.std.specs.List.{range_with_len}
 use Rattle.std.specs.List.Sorted.{IsStrictlySortedBy}
 use Rattle.std.proofs.lemmas.List.{length-map, map-id}
@@ -13,23 +13,18 @@ use Rattle.lists.proofs.Among.{few_among}
 use Rattle.lists.proofs.Halving.{one_place}
 use Rattle.lists.proofs.Members.{from_map, in_map, is_first, is_later, not_in_none}
 use Rattle.rdf_terms.specs.Order.{compare_at}
-use Rattle.rdf_terms.specs.Tables.{max_terms}
 use Rattle.rdf_terms.specs.declared.terms.Term.{Term}
 use Rattle.rdf_terms.specs.declared.terms.TermId.{TermId}
 use Rattle.rdf_terms.specs.declared.terms.Triple.{Triple}
 use Rattle.rdf_terms.proofs.Orders.{id_total}
 use Rattle.graph_index.specs.Laws.{IsOfTable}
-use Rattle.schema_documents.specs.declared.label.Label.{Label}
-use Rattle.schema_tree.specs.declared.schema.ExprId.{ExprId}
 use Rattle.schema_tree.specs.declared.schema.Schema.{Schema}
-use Rattle.schema_tree.specs.declared.schema.Target.TheVariants as target
 use Rattle.schema_tree.specs.Loaded.{HasTarget}
 use Rattle.shape_map.specs.declared.error.MapError.{MapError}
 use Rattle.shape_map.specs.declared.error.MapError.TheVariants as error
-use Rattle.shape_map.specs.declared.items.Focus.TheVariants.{Subject}
 use Rattle.shape_map.specs.declared.items.Item.{Item}
 use Rattle.shape_map.specs.declared.resolve.Association.{Association}
-use Rattle.shape_map.specs.Selection.{AreAbove, AreInOrder, AreNodes, Ends, EndsAs, Outcome, Refuses, Resolves, Selects, TakesNodes, all, association, more, refused, selected, stops, written_nodes}
+use Rattle.shape_map.specs.Selection.{AreNodes, Ends, Outcome, Refuses, Resolves, Selects, TakesNodes, all, association, more, refused, selected, stops}
 use Rattle.shex_drill.specs.Map.{map_item}
 use Rattle.shex_drill.specs.Schema.{item_label}
 use Rattle.drill_laws.proofs.Standing.{item_schema}

@@ -1,10 +1,9 @@
 -- The texts of a drill are short, and its triples few.
-use Rattle.std.proofs.Common.{◌≡◌, ℕ, zero, suc, ◌+◌, ◌*◌, ◌%◌, ◌<◌, ◌≤◌, Bool, true, false, ◌&&◌, cond, List, [], ◌∷◌, ◌++◌, length, length-append, codes, ◌∙◌, ap, arith}
+use Rattle.std.proofs.Common.{◌≡◌, ℕ, zero, suc, ◌+◌, ◌*◌, ◌%◌, ◌<◌, ◌≤◌, Bool, true, false, ◌&&◌, cond, List, ◌++◌, length, length-append, codes, ◌∙◌, ap, arith}
 use Rattle.std.specs.Prelude.{nat_eq, nat_lt}
 use Rattle.std.specs.Fmt.{decimal}
 use Rattle.std.specs.List.{flat_map, range_with_len}
 use Rattle.std.proofs.lemmas.List.Concat.{flat_map-cons}
-use Rattle.graph_index.specs.declared.loading.TermTriple.{TermTriple}
 use Rattle.shex_drill.specs.Graph.{graph_triples, triples_of}
 use Rattle.shex_drill.specs.Texts.{block_of, first_of, graph_text, line_of, map_text, next_of, schema_text, tag_of}
 use Rattle.shex_drill.proofs.Digits.{few_digits}

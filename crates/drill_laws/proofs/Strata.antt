@@ -1,6 +1,6 @@
 -- The schema of a drill has no negative edge, and its Shape is narrow.
-use Rattle.std.proofs.Common.{◌≡◌, ◌∙◌, ℕ, zero, suc, ◌<◌, ◌≤◌, List, [], ◌∷◌, Bool, true, false, Some, None, refl, sym, ap, subst, arith, length, inl, inr, ◌⊎◌}
-use Rattle.std.specs.Prelude.{Option, Contains, slice_get, slice_index, map}
+use Rattle.std.proofs.Common.{◌≡◌, ◌∙◌, ℕ, zero, suc, ◌<◌, List, [], ◌∷◌, Bool, true, false, Some, None, refl, sym, ap, subst, arith, inl, inr}
+use Rattle.std.specs.Prelude.{Option, Contains, slice_get, slice_index}
 use Rattle.node_constraint.specs.Constraint.{Constraint}
 use Rattle.rdf_terms.specs.declared.terms.Term.{Term}
 use Rattle.rdf_terms.specs.declared.terms.TermId.{TermId}

@@ -1,22 +1,14 @@
 -- What is known of all pairs is kept for some of them.
-use Rattle.std.proofs.Common.{◌≡◌, inl, inr, ℕ, zero, suc, ◌<◌, ◌≤◌, List, [], ◌∷◌, length, refl, sym, ap, subst, arith, Bool, true, false, cond, filter, ◌∙◌}
-use Rattle.std.specs.Prelude.{Contains, Option, Some, None, slice_get}
+use Rattle.std.proofs.Common.{◌≡◌, inl, inr, ℕ, zero, suc, ◌≤◌, List, [], ◌∷◌, length, refl, sym, ap, subst, arith, Bool, true, false, cond, filter}
+use Rattle.std.specs.Prelude.{Contains}
 use Rattle.lists.specs.Distinct.{AreDistinct}
 use Rattle.lists.proofs.Among.{few_among}
 use Rattle.lists.proofs.Filters.{in_filter}
-use Rattle.lists.proofs.Members.{got_in, in_one, in_rest, not_in_none, place_of}
+use Rattle.lists.proofs.Members.{got_in, place_of}
 use Rattle.rdf_terms.specs.declared.terms.Term.{Term}
 use Rattle.rdf_terms.specs.declared.terms.Triple.{Triple}
-use Rattle.tally.specs.Plan.{Plan}
-use Rattle.schema_tree.specs.declared.schema.Expr.{Expr}
-use Rattle.schema_tree.specs.declared.schema.Expr.TheVariants as Exprs
-use Rattle.schema_tree.specs.declared.schema.ExprId.{ExprId}
-use Rattle.schema_tree.specs.declared.schema.Occurrence.{Occurrence}
 use Rattle.schema_tree.specs.declared.schema.Pair.{Pair}
 use Rattle.schema_tree.specs.declared.schema.Schema.{Schema}
-use Rattle.schema_tree.specs.declared.schema.Shape.{Shape}
-use Rattle.schema_tree.specs.Labels.{labels_of}
-use Rattle.schema_tree.specs.Loaded.{BodyOk, IsEntryIfAny, IsLoaded, IsShapeLoaded, RefersBelow}
 use Rattle.schema_tree.specs.Needs.{HoldNeeds}
 use Rattle.schema_tree.specs.Sure.{Known}
 use Rattle.locality_laws.specs.Local.{AreKept}

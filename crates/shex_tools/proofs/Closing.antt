@@ -1,6 +1,6 @@
 -- What the ways to end say of the status.
 use Rattle.std.proofs.Common.{◌≡◌, ◌≢◌, ◌∙◌, ap, sym, subst, refl, List, ℕ, [], ◌⊎◌, inl, inr, arith, Bool, true, false}
-use Rattle.std.specs.Prelude.{Option, Some, IsTrue, ◌-◌, ◌^◌, ◌<◌, if◌then◌else◌}
+use Rattle.std.specs.Prelude.{Option, Some, IsTrue, if◌then◌else◌}
 use Rattle.clap.specs.Words.{Text}
 use Rattle.rdf_terms.specs.declared.terms.Term.{Term}
 use Rattle.schema_tree.specs.declared.schema.Pair.{Pair}

@@ -1,16 +1,13 @@
 -- Pairs of which none is told to be wide.
 use Rattle.std.proofs.Common.{◌≡◌, ℕ, Bool, true, false, List, [], ◌∷◌, ◌++◌, ◌⊎◌, inl, inr, refl, sym, subst, ◌∙◌, arith}
-use Rattle.std.specs.Prelude.{Contains, codes, ◌-◌, ◌^◌, ◌<◌, ◌≤◌, min, nat_le}
+use Rattle.std.specs.Prelude.{Contains, codes, ◌-◌, ◌^◌, ◌<◌, ◌≤◌, min}
 use Rattle.std.specs.List.{flat_map}
 use Rattle.std.proofs.Math.Dec.{leb}
 use Rattle.std.proofs.lemmas.Bool.{leb-true}
 use Rattle.lists.proofs.Members.{in_rest, not_in_none}
 use Rattle.rdf_terms.specs.declared.terms.Term.{Term}
-use Rattle.rdf_terms.specs.declared.terms.Triple.{Triple}
 use Rattle.schema_tree.specs.declared.schema.Pair.{Pair}
-use Rattle.schema_tree.specs.declared.schema.Schema.{Schema}
 use Rattle.schema_tree.specs.Laws.{WidthIsOne}
-use Rattle.schema_tree.specs.Width.{IsWithinWidth}
 use Rattle.typing_refiner.specs.Building.{told_width, wide_by, wide_one}
 use Rattle.typing_refiner.specs.declared.building.WidePair.{WidePair}
 use Rattle.wide_pairs.specs.Laws.{NoneIsWide}
