@@ -30,7 +30,7 @@ add_in_turn i (At a) Rest k = refl
 add_in_turn i Rest (At b) k = refl
 add_in_turn i Rest Rest k = refl
 
-times_push : (ps : List Place) (p : Place) (i : ℕ) → times (ps ++ p ∷ []) i ≡ add_place i p (times ps i)
+pub times_push : (ps : List Place) (p : Place) (i : ℕ) → times (ps ++ p ∷ []) i ≡ add_place i p (times ps i)
 times_push [] p i = refl
 times_push (q ∷ ps) p i = ap (λ k. add_place i q k) (times_push ps p i) ∙ add_in_turn i p q (times ps i)
 
@@ -38,7 +38,7 @@ times_push (q ∷ ps) p i = ap (λ k. add_place i q k) (times_push ps p i) ∙ a
 pub times_next : (ps : List Place) (j : ℕ) (d : Place) (i : ℕ) → j < length ps → times (take (j + 1) ps) i ≡ add_place i (get_or ps j d) (times (take j ps) i)
 times_next ps j d i within = ap (λ z. times z i) (take_more ps j d within) ∙ times_push (take j ps) (get_or ps j d) i
 
-add_most : (i : ℕ) (p : Place) (k : ℕ) → add_place i p k ≤ suc k
+pub add_most : (i : ℕ) (p : Place) (k : ℕ) → add_place i p k ≤ suc k
 add_most i (At a) k = go (nat_eq i a)
   where
     go : (b : Bool) → cond b (suc k) k ≤ suc k
@@ -46,7 +46,7 @@ add_most i (At a) k = go (nat_eq i a)
     go false = omega arith
 add_most i Rest k = omega arith
 
-times_most : (ps : List Place) (i : ℕ) → times ps i ≤ length ps
+pub times_most : (ps : List Place) (i : ℕ) → times ps i ≤ length ps
 times_most [] i = omega arith
 times_most (p ∷ ps) i = let a = add_most i p (times ps i) in let b = times_most ps i in omega (arith, a, b)
 
@@ -81,7 +81,7 @@ one_counted n ps j d xs more within (len, are) same added =
 pub all_counted : (n : ℕ) (ps : List Place) (j : ℕ) (xs : List ℕ) → length ps ≤ j → Counts n (take j ps) xs → Counts n ps xs
 all_counted n ps j xs past counted = subst (λ z. Counts n z xs) (take_all j ps past) counted
 
-add_least : (i : ℕ) (p : Place) (k : ℕ) → k ≤ add_place i p k
+pub add_least : (i : ℕ) (p : Place) (k : ℕ) → k ≤ add_place i p k
 add_least i (At a) k = go (nat_eq i a)
   where
     go : (b : Bool) → k ≤ cond b (suc k) k

@@ -16,7 +16,7 @@ none_is : {X : Type 0} (x : X) (rest : List X) → ¬ ([] ≡ x ∷ rest)
 none_is x rest e = let bad : ⊥ = cc in bad
 
 -- what is behind an item of a rising list comes after it
-rising_behind : {X : Type 0} (IsBefore : X → X → Type 0) (xs : List X) (i : ℕ) (d : X) → i < length xs → AreRising IsBefore xs →
+pub rising_behind : {X : Type 0} (IsBefore : X → X → Type 0) (xs : List X) (i : ℕ) (d : X) → i < length xs → AreRising IsBefore xs →
     (y : X) → Contains (drop (i + 1) xs) y → IsBefore (get_or xs i d) y
 rising_behind IsBefore xs i d within h y c = (rising_drop i xs h (get_or xs i d) (drop (i + 1) xs) (drop_more xs i d within)) y c
   where

@@ -16,6 +16,8 @@ pub mod Finishing
 pub mod Leading
 pub mod Finished
 pub mod OnWay
+pub mod Offers
+pub mod Hopeful
 pub mod Found
 pub mod Matched
 pub mod Ways
@@ -34,4 +36,5 @@ pub mod Skipping
 pub mod Counting
 pub mod Filled
 pub mod Unchosen
+pub mod Looked
 pub mod OnePlace

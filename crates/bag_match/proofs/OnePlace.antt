@@ -1,5 +1,5 @@
 -- Triples that have one place alone by their form.
-use Rattle.std.proofs.Common.{◌≡◌, ◌∙◌, ◌≤◌, ◌-◌, ◌^◌, ◌⊎◌, ℕ, inl, inr, List, [], ◌∷◌, arith, ap, sym, subst, drop, length, lit≤, min}
+use Rattle.std.proofs.Common.{◌≡◌, ◌∙◌, ◌≤◌, ◌-◌, ◌^◌, ◌⊎◌, ℕ, inl, inr, List, ◌∷◌, arith, ap, sym, subst, drop, length, lit≤, min}
 use Rattle.std.proofs.lemmas.List.{drop_all}
 use Rattle.std.specs.Prelude.{Contains, Some}
 use Rattle.rdf_terms.specs.declared.terms.Term.{Term}

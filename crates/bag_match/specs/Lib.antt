@@ -3,6 +3,7 @@ pub mod Sets
 pub mod Reached
 pub mod Least
 pub mod Layers
+pub mod Hopes
 pub mod Outcomes
 pub mod Bounds
 pub mod Keys

@@ -98,7 +98,7 @@ fn sum_up(sums: &mut [u32], counts: &[u32], left: &[u32])
 }
 
 /// Whether the counts, with any of the numbers beside them added, spell the expression once in no way.
-fn spell_never_more(body: &Body, counts: &[u32], left: &[u32]) -> bool
+pub(crate) fn spell_never_more(body: &Body, counts: &[u32], left: &[u32]) -> bool
     requires distinct { IsDistinct body.now }
     requires sound { IsSound body.now }
     requires covered { Covers (length counts.now) body.now }

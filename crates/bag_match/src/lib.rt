@@ -9,6 +9,7 @@ mod keys;
 pub mod laws;
 mod layers;
 mod matching;
+mod offering;
 mod outcome;
 mod passing;
 pub mod places;
@@ -17,6 +18,7 @@ mod products;
 pub mod raising;
 mod sole;
 mod spreading;
+mod straight;
 
 pub use matching::match_pair;
 pub use outcome::Outcome;

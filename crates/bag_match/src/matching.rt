@@ -72,6 +72,28 @@ impl<J: Judge> Question<'_, J> {
         }
     }
 
+    /// The least places, or the states that are reached where there are none, where the lists are the places that are allowed
+    /// for each triple. There are no layers where the first place of each triple that leads to a living state leads on.
+    fn by_choice<L: Ledger>(
+        &self,
+        alloc: Global,
+        offered: &[Items<Place>],
+        steps: &mut Steps<L>,
+    ) -> Result<Outcome, AllocError>
+        requires offered { AreOffered (J.hold self.now.judge.now) (J.fail self.now.judge.now) self.now.shape.now self.now.node self.now.triples.now (length self.now.triples.now) offered.now }
+        requires body { BodyOk self.now.shape.now.occs self.now.shape.now.body }
+        requires few { length self.now.triples.now < 2 ^ 31 }
+        requires few_occurrences { length self.now.shape.now.occs ≤ 256 }
+        ensures found { IfOk result (IsFound (J.hold self.now.judge.now) (J.fail self.now.judge.now) self.now.shape.now self.now.node self.now.triples.now) }
+        ensures least { IfOk result (λ r. steps.old + ticks_of r ≤ steps.new) }
+        ensures most { (bound : ℕ) → IsBound (J.hold self.now.judge.now) (J.fail self.now.judge.now) self.now.shape.now self.now.node self.now.triples.now bound → steps.new ≤ steps.old + (length self.now.triples.now + 1) * bound }
+    {
+        match self.straight_places(alloc, offered, steps)? {
+            Some(places) => Ok(Outcome::Placed(Items::of(places))),
+            None => self.by_layers(alloc, offered, steps),
+        }
+    }
+
     /// The least places, or the states that are reached where there are none. There are no layers where each triple has one
     /// place alone and the counts of these match.
     fn outcome<L: Ledger>(&self, alloc: Global, steps: &mut Steps<L>) -> Result<Outcome, AllocError>
@@ -86,7 +108,7 @@ impl<J: Judge> Question<'_, J> {
         let offered = self.offered(alloc)?;
         match self.only_places(alloc, offered.as_slice(), steps)? {
             Some(places) => Ok(Outcome::Placed(Items::of(places))),
-            None => self.by_layers(alloc, offered.as_slice(), steps),
+            None => self.by_choice(alloc, offered.as_slice(), steps),
         }
     }
 }

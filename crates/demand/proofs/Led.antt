@@ -1,11 +1,11 @@
 -- Which pairs are reached is decided where a list holds them all, so what does not reach narrow pairs alone reaches a wide one.
-use Rattle.std.proofs.Common.{◌≡◌, ◌∙◌, ℕ, ◌⊎◌, inl, inr, Bool, true, false, true≢false, List, [], ◌∷◌, refl, arith, sym, subst, ap}
+use Rattle.std.proofs.Common.{◌≡◌, ◌∙◌, ℕ, ◌⊎◌, inl, inr, Bool, true, List, [], ◌∷◌, refl, arith, sym, subst, ap}
 use Rattle.std.proofs.lemmas.Bool.{cases_lt}
 use Rattle.std.specs.Prelude.{Contains, Option, Some, None, unwrap_or}
 use Rattle.rdf_terms.specs.declared.terms.Term.{Term}
 use Rattle.rdf_terms.specs.declared.terms.TermId.{TermId}
 use Rattle.rdf_terms.specs.declared.terms.Triple.{Triple}
-use Rattle.lists.proofs.Decided.{Decided, decide_both, decide_either}
+use Rattle.lists.proofs.Decided.{Decided, decide_both, decide_either, decide_true}
 use Rattle.lists.proofs.Members.{in_rest, is_first, is_later, not_in_none}
 use Rattle.schema_tree.specs.declared.schema.ExprId.{ExprId}
 use Rattle.schema_tree.specs.declared.schema.Occurrence.{Occurrence}
@@ -69,10 +69,6 @@ module _ (s : Schema) (loaded : IsLoaded s) (g : List Triple) where
   -- a need by an occurrence and a triple
   abbrev NeedsBy : Pair → Pair → Occurrence → Triple → Type 0
   NeedsBy p q o t = (fits o p.node t ≡ true) × ((q.node ≡ other_end o.inverse t) × ((sign : Bool) × StandsInValue s q.shape o.value sign))
-
-  decide_true : (b : Bool) → Decided (b ≡ true)
-  decide_true true = inl refl
-  decide_true false = inr (λ is. true≢false (sym is))
 
   decide_value : (i : ShapeId) (value : Option ExprId) → Decided ((sign : Bool) × StandsInValue s i value sign)
   decide_value i None = inr (λ h. h.1)

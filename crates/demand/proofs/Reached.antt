@@ -4,12 +4,13 @@ use Rattle.std.specs.List.Sorted.{IsStrictlySortedBy}
 use Rattle.std.specs.Prelude.{◌↔◌, Contains, IfErr, IfOk}
 use Rattle.lists.proofs.Among.{few_among}
 use Rattle.rdf_terms.specs.declared.terms.Term.{Term}
+use Rattle.demand.proofs.Led.{led_there}
 use Rattle.demand.specs.Orders.{compare_pairs, max_pairs}
 use Rattle.schema_tree.specs.declared.schema.Pair.{Pair}
 use Rattle.rdf_terms.specs.declared.terms.Triple.{Triple}
 use Rattle.schema_tree.specs.declared.schema.Schema.{Schema}
 use Rattle.schema_tree.specs.Entries.{pair_of}
-use Rattle.schema_tree.specs.Needs.{HoldNeeds, Leads, here, step}
+use Rattle.schema_tree.specs.Needs.{HoldNeeds, Leads, here}
 use Rattle.demand.specs.Closing.{AddsStarts, GrowsByNeeds, Starts, StopsAtStart, StopsByNeeds}
 use Rattle.demand.specs.Demand.{AreAsked, AreTooMany, IsAsked}
 use Rattle.demand.specs.declared.error.DemandError.{DemandError}
@@ -30,15 +31,11 @@ is_start s roots old new none h q = ((λ c. elim ((h q).0 c) [ inl o ↦ absurd 
 pub to_asked : (s : Schema) (g : List Triple) (roots : List Root) (p q : Pair) → Starts s roots p → Leads s g p q → IsAsked s g roots q
 to_asked s g roots p q (r, held, (node, (sign, st))) leads = (r, held, (p.shape, sign, st, subst (λ m. Leads s g (pair_of m p.shape) q) node leads))
 
-closed_leads : (s : Schema) (g : List Triple) (seen : List Pair) → HoldNeeds s g seen → (p q : Pair) → Leads s g p q → Contains seen p → Contains seen q
-closed_leads s g seen closed p q here c = c
-closed_leads s g seen closed p q (step u need rest) c = closed_leads s g seen closed u q rest (closed p u c need)
-
 pub asked_exactly : (s : Schema) (g : List Triple) (roots : List Root) (start seen : List Pair) → IsStart s roots start → GrowsByNeeds s g start seen → HoldNeeds s g seen →
     (q : Pair) → Contains seen q ↔ IsAsked s g roots q
 asked_exactly s g roots start seen starts led closed q = (
   (λ c. let (p, of, leads) = led.1 q c in to_asked s g roots p q ((starts p).0 of) leads),
-  (λ (r, held, (i, sign, st, leads)). closed_leads s g seen closed (pair_of r.node i) q leads (led.0 (pair_of r.node i) ((starts (pair_of r.node i)).1 (r, held, (refl, (sign, st)))))),
+  (λ (r, held, (i, sign, st, leads)). led_there s g seen closed (pair_of r.node i) q (led.0 (pair_of r.node i) ((starts (pair_of r.node i)).1 (r, held, (refl, (sign, st))))) leads),
 )
 
 pub too_many : (s : Schema) (g : List Triple) (roots : List Root) (start : List Pair) → IsStart s roots start → (e : DemandError) → StopsByNeeds s g start e → e ≡ Errors.Pairs → AreTooMany s g roots

@@ -18,3 +18,4 @@ pub mod RowOrders
 pub mod Sealed
 pub mod Stepped
 pub mod LoadedLines
+pub mod RowByRow

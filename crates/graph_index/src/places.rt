@@ -6,7 +6,7 @@ ghost use Rattle.graph_index.specs.Numbers.{ArePlacesIn};
 ghost use Rattle.graph_index.specs.Places.{AreApart, FollowTexts, IsPlaced, place_of};
 
 use crate::numbers::{numbers_in, table_len};
-use rdf_terms::order::compare_ids;
+use rdf_terms::joined::JoinedTexts;
 use rdf_terms::table::TermTable;
 use rdf_terms::terms::{TermId, Triple};
 use std::alloc::{AllocError, Global};
@@ -30,7 +30,8 @@ pub(crate) fn places_in(
 {
     let len = table_len(triples);
     let mut ids = numbers_in(alloc, len, triples)?;
-    ids.sort_by(|a, b| compare_ids(terms, *a, *b))?;
+    let texts = JoinedTexts::of(alloc, terms)?;
+    ids.sort_by(|a, b| texts.compare(*a, *b))?;
     let places = numbered(alloc, len, ids.as_slice())?;
     Ok(places)
 }

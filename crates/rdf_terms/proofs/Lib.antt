@@ -11,3 +11,4 @@ pub mod TermTexts
 pub mod OneLine
 pub mod TermLines
 pub mod AddedLines
+pub mod Joining

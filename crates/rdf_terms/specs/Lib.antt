@@ -1,4 +1,5 @@
 pub mod Graphs
+pub mod JoinedTexts
 pub mod Laws
 pub mod Literals
 pub mod Names

@@ -2,6 +2,7 @@
 #![tactic(auto)]
 
 pub mod items;
+pub mod joined;
 pub mod laws;
 pub mod order;
 pub mod reader;

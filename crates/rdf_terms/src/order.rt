@@ -258,14 +258,14 @@ impl Iterator for TextBytes<'_> {
 }
 
 /// Whether a datatype is that of plain strings.
-fn is_string(datatype: &Text) -> bool
+pub(crate) fn is_string(datatype: &Text) -> bool
     ensures { result ≡ same_text datatype.now xsd_string }
 {
     datatype.as_str() == XSD_STRING
 }
 
 /// What stands behind the backslash where a byte of a quoted string is escaped (N-Triples, section 2.3).
-fn escape_of(byte: u8) -> Option<u8>
+pub(crate) fn escape_of(byte: u8) -> Option<u8>
     ensures escaped { IfSome result (λ e. escaped_byte byte ≡ 92 ∷ (e ∷ [])) }
     ensures plain { IfNone result (escaped_byte byte ≡ byte ∷ []) }
 {

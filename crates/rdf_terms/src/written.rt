@@ -70,7 +70,7 @@ fn push_name(alloc: Global, name: &Name, out: &mut String) -> Result<(), AllocEr
 }
 
 /// What stands before a label in its printed name, so that it is not that of an anonymous node.
-fn mark(label: &Text) -> &'static str
+pub(crate) fn mark(label: &Text) -> &'static str
     ensures { result.now ≡ (if starts_with nat_eq label.now (codes "anon") then codes "anon_" else []) }
 {
     if begins_with_anon(label) { "anon_" } else { "" }

@@ -1,17 +1,14 @@
 -- What the reading of a text says of the language of the pattern.
-use Rattle.std.proofs.Common.{◌≡◌, ℕ, zero, suc, ◌*◌, ◌≤◌, ◌↔◌, List, [], length, refl, arith, sym, subst, ap, ◌∙◌, Bool, true, false, max, length-append}
-use Rattle.std.specs.Prelude.{Option, Some, None, Result, Ok, Err, IfOk, IfSome, IsTrue}
-use Rattle.std.proofs.Math.Logic.{∥∥₁_elim}
+use Rattle.std.proofs.Common.{◌≡◌, ℕ, zero, suc, ◌*◌, ◌≤◌, ◌↔◌, List, [], length, refl, arith, sym, subst, Bool, true, false, max, length-append}
+use Rattle.std.specs.Prelude.{Option, Some, None, Result, Ok, Err, IfOk, IsTrue}
 use Rattle.std.proofs.Math.Nat.{mul-le-mul_right}
-use Rattle.std.proofs.Props.{props}
 use Rattle.std.proofs.lemmas.List.{append-nil}
 use Rattle.xs_pattern.specs.declared.expression.Flags.{Flags}
-use Rattle.xs_pattern.specs.declared.unrolled.Unrolled.{Unrolled}
 use Rattle.xs_pattern.specs.Language.{IsFound}
 use Rattle.xs_pattern.specs.Limits.{positions, all_positions, written}
 use Rattle.xs_pattern.specs.Regex.{Chars, Regex, start, finish, one, group, branch, choice, repeat, Regexes, none, more}
 use Rattle.xs_pattern.specs.Unrolling.{exits_at, kept, sets, all_sets, unroll, edge_at, has_at}
-use Rattle.xs_pattern.specs.Way.{Way, way_of, Runs}
+use Rattle.xs_pattern.specs.Way.{Way, Runs}
 use Rattle.xs_pattern.proofs.SameLanguage.{same}
 use Rattle.xs_pattern.proofs.Search.{exits_found, found_exits}
 
@@ -67,19 +64,3 @@ pub found_result :
     IfOk r (λ b. IsTrue b ↔ IsFound f text e)
 found_result (Ok b) f text e w is found missed = found_exact f text e w b is found missed
 found_result (Err x) f text e w is found missed = tt
-
--- the same of a way that is kept: what it answers at each place is what the way of the expression does
-module _ (f : Flags) (text : List ℕ) (e : Regex) (kept_way : Option Unrolled) (w : Unrolled) (is : kept_way ≡ Some w) (known : ∥ IfSome kept_way (λ v. way_of v ≡ unroll 0 e) ∥₁) where
-  same_exits : (j : ℕ) → exits_at f (sets e) text (way_of w) j ≡ exits_at f (sets e) text (unroll 0 e) j
-  same_exits j = ∥∥₁_elim known (hlevel props) (λ h. ap (λ v. exits_at f (sets e) text v j) (subst (λ o. IfSome o (λ v. way_of v ≡ unroll 0 e)) is h))
-
-  pub kept_result :
-      {E : Type 0} (r : Result Bool E) →
-      IfOk r (λ b. b ≡ true → (j : ℕ) × (j ≤ length text) × (exits_at f (sets e) text (way_of w) j ≡ true)) →
-      IfOk r (λ b. b ≡ false → (j : ℕ) → j ≤ length text → exits_at f (sets e) text (way_of w) j ≡ false) →
-      IfOk r (λ b. IsTrue b ↔ IsFound f text e)
-  kept_result (Ok b) found missed =
-      found_exact f text e (unroll 0 e) b refl
-      (λ h. let (j, le, exits) = found h in (j, le, sym (same_exits j) ∙ exits))
-      (λ h j le. sym (same_exits j) ∙ missed h j le)
-  kept_result (Err x) found missed = tt

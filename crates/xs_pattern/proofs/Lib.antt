@@ -21,3 +21,7 @@ pub mod Capped
 pub mod Answered
 pub mod Choices
 pub mod TimesWay
+pub mod Bitwise
+pub mod Unions
+pub mod Stepped
+pub mod Pairs

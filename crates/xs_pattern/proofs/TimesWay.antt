@@ -1,12 +1,13 @@
 -- A character of one set, so many times.
-use Rattle.std.proofs.Common.{rules, ◌≡◌, ◌∙◌, ◌+◌, ◌-◌, ◌<◌, ◌≤◌, ℕ, zero, suc, Bool, true, false, ◌&&◌, ◌||◌, List, [], ◌∷◌, ◌++◌, refl, arith, ap, sym, subst, drop, length, get_or, add-one, append_assoc}
+use Rattle.std.proofs.Common.{rules, ◌≡◌, ◌∙◌, ◌+◌, ◌-◌, ◌≤◌, ℕ, zero, suc, Bool, true, false, ◌&&◌, ◌||◌, List, [], ◌∷◌, ◌++◌, refl, arith, ap, sym, drop, get_or, add-one, append_assoc, replicate}
 use Rattle.std.proofs.lemmas.Bool.Decides.{nat_tests}
 use Rattle.std.proofs.lemmas.List.{get_or-drop}
 use Rattle.std.specs.Prelude.{slice_index_or, ◌==◌}
 use Rattle.xs_pattern.specs.declared.unrolled.Unrolled.{Unrolled, One, Times, the_lemmas}
 use Rattle.xs_pattern.specs.declared.walk.Edge.{Edge}
 use Rattle.xs_pattern.specs.Unrolling.{copies, is_never, is_nothing, then_way}
-use Rattle.xs_pattern.specs.Way.{Way, way_of, nothing, one, then, size, passes, ends, next, first, next_times, times_way}
+use Rattle.xs_pattern.specs.Marked.{set_numbers}
+use Rattle.xs_pattern.specs.Way.{way_of, one, then, size, passes, ends, next, first, next_times, times_way}
 
 way_times : (k n : ℕ) → way_of (Times k n) ≡ times_way k n
 way_times k n = search (rules, the_lemmas)
@@ -49,6 +50,11 @@ next_is e has k (suc zero) enters m = refl
 next_is e has k (suc (suc n)) enters m =
     ap (λ b. (enters && has k) ∷ next e has (times_way k (suc n)) b (drop 1 m)) (or_none (first m) enters)
     ∙ ap (λ xs. (enters && has k) ∷ xs) (next_is e has k (suc n) (first m) (drop 1 m))
+
+pub sets_times : (k n : ℕ) → set_numbers (times_way k n) ≡ replicate n k
+sets_times k zero = refl
+sets_times k (suc zero) = refl
+sets_times k (suc (suc n)) = ap (λ ks. k ∷ ks) (sets_times k (suc n))
 
 -- it is so many copies
 then_one : (k n : ℕ) → then_way (one k) (times_way k (suc n)) ≡ then (one k) (times_way k (suc n))

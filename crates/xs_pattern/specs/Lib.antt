@@ -8,6 +8,7 @@ pub mod Flagged
 pub mod Language
 pub mod Laws
 pub mod Limits
+pub mod Marked
 pub mod Messages
 pub mod Parses
 pub mod Spelling

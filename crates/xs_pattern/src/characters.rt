@@ -1,9 +1,10 @@
 //! The characters of a text, and which of them a set has.
-ghost use Rattle.std.specs.Prelude.{◌≡◌, ◌++◌, IfOk, OnOk, map};
+ghost use Rattle.std.specs.Prelude.{◌≡◌, ◌<◌, ◌++◌, ℕ, IfOk, OnOk, filter, map, nat_lt, true};
 ghost use Rattle.std.specs.Str.{chars};
 ghost use Rattle.xs_pattern.specs.Characters.{has_kind};
 ghost use Rattle.xs_pattern.specs.Regex.{chars_of, members_of, regex_of, regexes_of};
-ghost use Rattle.xs_pattern.specs.Tests.{item_has, some_has, member_has, class_has, set_has, some_within, others};
+ghost use Rattle.xs_pattern.specs.Tests.{item_has, some_has, member_has, class_has, set_has, some_within, others, partners};
+ghost use Rattle.unicode.specs.CaseFolding.{fold_pairs};
 ghost use Rattle.xs_pattern.specs.Unrolling.{all_sets, having, kept, sets};
 
 use crate::{CharGroup, Expression, Flags, Item, Kind, Set};
@@ -102,16 +103,39 @@ impl Set {
     }
 }
 
-/// Adds the other characters with the simple folding of this one.
-fn add_others(code: u32, alike: &mut Vec<u32>) -> Result<(), AllocError>
-    ensures { OnOk result (alike.new.items ≡ alike.old.items ++ others code) }
+/// Adds the second character of each pair whose first is this one.
+fn add_partners(code: u32, pairs: &[(u32, u32)], alike: &mut Vec<u32>) -> Result<(), AllocError>
+    ensures { OnOk result (alike.new.items ≡ alike.old.items ++ partners code pairs.now) }
 {
-    for pair in fold_pairs() {
+    for pair in pairs {
         if pair.0 == code {
             alike.push(pair.1)?;
         }
     }
     Ok(())
+}
+
+/// The pairs of foldings whose first character is of ASCII.
+fn ascii_pairs(alloc: Global) -> Result<Vec<(u32, u32)>, AllocError>
+    ensures { IfOk result (λ v. v.items ≡ filter (λ pair. nat_lt pair.0 128) fold_pairs) }
+{
+    let mut near = Vec::new(alloc);
+    for pair in fold_pairs() {
+        if pair.0 < 128 {
+            near.push(*pair)?;
+        }
+    }
+    Ok(near)
+}
+
+/// Where case is ignored, pairs of foldings, among them all whose first character is of ASCII.
+pub(crate) fn pairs_of_ascii(alloc: Global, flags: Flags) -> Result<Vec<(u32, u32)>, AllocError>
+    ensures { IfOk result (λ v. (c : ℕ) → c < 128 → flags.ignore_case ≡ true → partners c v.items ≡ others c) }
+{
+    if !flags.ignore_case {
+        return Ok(Vec::new(alloc));
+    }
+    ascii_pairs(alloc)
 }
 
 /// Sets `answers` to whether each set of the expression has the character. Where case is ignored, `alike` is what stands
@@ -125,6 +149,21 @@ pub(crate) fn fill_having(
 ) -> Result<(), AllocError>
     ensures { OnOk result (answers.new.items ≡ having flags (sets (regex_of e.now)) c) }
 {
+    fill_having_by(e, flags, c, fold_pairs(), alike, answers)
+}
+
+/// The same, by the pairs of foldings whose first character is this one, among others.
+pub(crate) fn fill_having_by(
+    e: &Expression,
+    flags: Flags,
+    c: char,
+    pairs: &[(u32, u32)],
+    alike: &mut Vec<u32>,
+    answers: &mut Vec<bool>,
+) -> Result<(), AllocError>
+    requires { flags.ignore_case ≡ true → partners c pairs.now ≡ others c }
+    ensures { OnOk result (answers.new.items ≡ having flags (sets (regex_of e.now)) c) }
+{
     let code = u32::from(c);
     answers.clear();
     if !flags.ignore_case {
@@ -132,7 +171,7 @@ pub(crate) fn fill_having(
     }
     alike.clear();
     alike.push(code)?;
-    add_others(code, alike)?;
+    add_partners(code, pairs, alike)?;
     add_having(e, flags, c, alike, answers)
 }
 

@@ -17,6 +17,7 @@ mod quantifier;
 mod reader;
 mod unrolled;
 mod walk;
+mod words;
 
 pub use expression::{CharGroup, Expression, Flags, Item, Kind, Set};
 pub use pattern::Pattern;

@@ -4,6 +4,7 @@ ghost use Rattle.xs_pattern.specs.Flagged.{AreFlags, IsSpelledUnder, SpellsUnder
 ghost use Rattle.std.specs.Str.{chars};
 ghost use Rattle.xs_pattern.specs.Language.{IsFound};
 ghost use Rattle.xs_pattern.specs.Limits.{IsLarge, positions};
+ghost use Rattle.xs_pattern.specs.Marked.{AreKept};
 ghost use Rattle.xs_pattern.specs.Regex.{Regex, regex_of};
 ghost use Rattle.xs_pattern.specs.Unrolling.{exits, exits_at, sets, unroll};
 ghost use Rattle.xs_pattern.specs.Way.{next, size, way_of};
@@ -14,11 +15,12 @@ use crate::limits::fitting_positions;
 use crate::reader::read_expression;
 use crate::unrolled::{Unrolled, unroll};
 use crate::walk::{Edge, add_blank, advance, exit_of};
+use crate::words::{MOST, Words, add_known, add_sets};
 use crate::{Expression, Flags, PatternError};
 use std::alloc::{AllocError, Global};
 use std::mem;
 
-/// The most positions of a pattern whose unrolled form is kept.
+/// The most positions of a pattern that is kept by words, anchors among them.
 const FEW: u32 = 64;
 
 /// A pattern with its flags (XPath Functions and Operators 3.1, sections 5.6.1 and 5.6.2).
@@ -26,10 +28,10 @@ const FEW: u32 = 64;
 pub struct Pattern {
     expression: Expression,
     flags: Flags,
-    // The unrolled form of a pattern of few positions, so that it is not made anew for each text.
-    unrolled: Option<Unrolled>,
+    // A pattern of few positions by words, which are made once for all texts.
+    words: Option<Words>,
     ghost small: { positions (regex_of expression) ≤ 4096 },
-    ghost kept: { ∥ IfSome unrolled (λ w. way_of w ≡ unroll 0 (regex_of expression)) ∥₁ },
+    ghost kept: { AreKept flags (regex_of expression) words },
 }
 
 impl Pattern {
@@ -47,7 +49,7 @@ impl Pattern {
             Some(Pattern {
                 expression,
                 flags,
-                unrolled: None,
+                words: None,
             })
         } else {
             None
@@ -96,33 +98,34 @@ impl Pattern {
         }
     }
 
-    /// The same pattern. Where it has few positions, its unrolled form is kept.
+    /// The same pattern. Where it has few positions, it is kept by words.
     fn keeping(self, alloc: Global) -> Result<Pattern, AllocError>
         ensures { IfOk result (λ p. (regex p ≡ regex self) × (flags_of p ≡ flags_of self)) }
     {
         let Pattern {
             expression,
             flags,
-            unrolled: _,
+            words: _,
         } = self;
-        let unrolled = unrolled_if_few(alloc, &expression)?;
+        let words = words_if_few(alloc, &expression, flags)?;
         Ok(Pattern {
             expression,
             flags,
-            unrolled,
+            words,
         })
     }
 
     /// Whether some part of the text is in the language of the pattern (section 5.6.3).
     ///
-    /// The text is read once, whatever the pattern is: a character takes time in proportion to the positions, times how
-    /// deep repetitions without end nest, and to the sets of characters; where case is ignored, also to the table of
-    /// foldings.
+    /// The text is read once, whatever the pattern is. Where the pattern has at most 64 positions, a character of ASCII takes
+    /// time in proportion to the positions at which the one before it can stand. Else a character takes time in proportion
+    /// to the positions, times how deep repetitions without end nest, and to the sets of characters; where case is ignored,
+    /// also to the table of foldings.
     pub fn found(&self, alloc: Global, text: &str) -> Result<bool, AllocError>
         ensures { IfOk result (λ b. IsTrue b ↔ IsFound (flags_of self.now) (chars text.now) (regex self.now)) }
     {
-        match &self.unrolled {
-            Some(way) => is_found(alloc, &self.expression, self.flags, way, text),
+        match &self.words {
+            Some(words) => words.is_found(alloc, &self.expression, self.flags, text),
             None => self.found_anew(alloc, text),
         }
     }
@@ -137,19 +140,26 @@ impl Pattern {
     }
 }
 
-/// The unrolled form of an expression that has few positions.
-fn unrolled_if_few(alloc: Global, e: &Expression) -> Result<Option<Unrolled>, AllocError>
-    ensures way { IfOk result (λ o. IfSome o (λ w. way_of w ≡ unroll 0 (regex_of e.now))) }
-    ensures few { IfOk result (λ o. IsSome o ↔ (positions (regex_of e.now) ≤ 64)) }
+/// An expression that has few positions by words.
+fn words_if_few(alloc: Global, e: &Expression, flags: Flags) -> Result<Option<Words>, AllocError>
+    ensures { IfOk result (λ o. AreKept flags (regex_of e.now) o) }
 {
-    let Some(number) = fitting_positions(e) else {
+    let Some(positions) = fitting_positions(e) else {
         return Ok(None);
     };
-    if number > FEW {
+    if positions > FEW {
         return Ok(None);
     }
-    let mut next = 0;
-    Ok(Some(unroll(alloc, e, &mut next)?))
+    let mut number = 0;
+    let way = unroll(alloc, e, &mut number)?;
+    let mut sets = Vec::new(alloc);
+    add_sets(&way, &mut sets)?;
+    if sets.len() > MOST {
+        return Ok(None);
+    }
+    let mut all = Vec::new(alloc);
+    add_known(number, &mut all)?;
+    Ok(Some(Words::new(alloc, e, flags, &way, sets, &all)?))
 }
 
 /// Reads a character at a place, of which it is known which sets have it, and answers whether a part of the text ends

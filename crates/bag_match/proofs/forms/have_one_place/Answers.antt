@@ -1,8 +1,6 @@
 use Rattle.std.proofs.Common.{◌≡◌, rules}
-use Rattle.rdf_terms.specs.declared.terms.Triple.{Triple}
 use Rattle.schema_tree.specs.Width.{places_for}
-use Rattle.lists.proofs.Members.{got_in}
-use Rattle.bag_match.proofs.OnePlace.{next_left, none_left}
+use Rattle.bag_match.proofs.OnePlace.{next_left}
 use Rattle.bag_match.proofs.forms.have_one_place.Goals as goal
 
 pub loop-i-preserved : goal.loop-i-preserved

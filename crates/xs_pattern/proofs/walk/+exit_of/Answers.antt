@@ -1,5 +1,5 @@
-use Rattle.std.proofs.Common.{◌≡◌, ◌∙◌, ◌+◌, arith, ap, drop, sym}
-use Rattle.xs_pattern.specs.Way.{ends, passes, size, times_way, way_of}
+use Rattle.std.proofs.Common.{◌∙◌, ◌+◌, arith, ap, drop, sym}
+use Rattle.xs_pattern.specs.Way.{ends, passes, size}
 use Rattle.xs_pattern.proofs.TimesWay.{is_times, size_times}
 use Rattle.xs_pattern.proofs.walk.+exit_of.Goals as goal
 
