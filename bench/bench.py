@@ -2,7 +2,7 @@
 """Times shex on made inputs with known answers, and prints a table and how the goals are met.
 
     bench/bench.py [--program F] [--tool F] [--session F] [--sizes 1000,10000,100000,1000000] [--families NAME,NAME ..]
-                   [--jena 100000] [--limit 120] [--alone]
+                   [--jena 100000] [--limit 120] [--alone] [--plots]
 
 F are the built programs, by default those of crates/. Each family of inputs (inputs.py) is made at each size, a number of triples;
 its data are loaded, validated without and with a proof, and the proof is checked; what is answered is compared with what is known,
@@ -11,8 +11,8 @@ from the size before (time as size to the exponent). Where `serdi` is installed,
 where Debian's `libapache-jena-java` is, Jena's ShEx validator answers the same map: records and catalogues at sizes up to that of
 `--jena`, the others, some of which it does not end, up to a hundredth of that and in a tenth of the time. What is not there is
 named, and the bench goes on. A run is ended behind `--limit` seconds. Sessions and extents are timed by tools.py, where their
-programs are built, and not with `--alone`. All that is printed is Markdown, the goals last. Nothing but Python's standard library
-is wanted.
+programs are built, and not with `--alone`. All that is printed is Markdown, the goals last. With `--plots` growth and the comparison
+are drawn into bench/plots, by Debian's python3-matplotlib. Nothing else but Python's standard library is wanted.
 """
 
 import argparse
@@ -24,10 +24,11 @@ import tempfile
 from datetime import date
 
 import goals
+import plots
 import tools
 from beside import Jena, Serdi
 from inputs import BOUNDED, FAMILIES
-from measuring import ROOT, Row, answers, built, growth, made, measured, once, said
+from measuring import HERE, ROOT, Row, answers, built, growth, made, measured, once, said
 
 STEPS = {
     "load .nt": "load `.nt`",
@@ -158,7 +159,8 @@ def words_of():
     parser.add_argument("--families", type=lambda text: text.split(","), default=list(FAMILIES))
     parser.add_argument("--jena", type=int, default=100_000)
     parser.add_argument("--limit", type=float, default=120)
-    parser.add_argument("--alone", action="store_true")
+    for name in ("--alone", "--plots"):
+        parser.add_argument(name, action="store_true")
     return parser.parse_args()
 
 
@@ -175,6 +177,8 @@ def main():
         tiny = bench.tiny()
         rows = table(bench, pairs_of(words))
     print(flush=True)
+    if words.plots:
+        print(f"{plots.draw(rows, os.path.join(HERE, 'plots'))}\n", flush=True)
     figures = goals.all_goals(tiny, rows) + ([] if words.alone else tools.measure_tools(words))
     print("\n".join(goals.lines(figures)), flush=True)
 

@@ -190,7 +190,42 @@ def tenfold(size):
     return Family(schema, selected(":p"), ":S", count, lambda n: [(f":T{short(n)}", [(":p", [str(k) for k in range(20)])])], count, 0)
 
 
-FAMILIES = {family.__name__: family for family in (clinical, catalogue, ring, chain, clusters, values, strata, alone, overlapping, tenfold)}
+# Hubs: one node, which alone is asked about, with arcs from and to as many others.
+
+
+def hub(schema, size):
+    """One node that has the Shape :H, to which half of the triples lead, by :p, and from which the others lead, by :q."""
+    count = max(1, size // 2)
+    ends = [(":n", [(":q", [f":O{short(n)}" for n in range(count)])])]
+    return Family(schema, full(":n"), ":H", count, lambda n: ([] if n else ends) + [(f":I{short(n)}", [(":p", [":n"])])], 1, 0)
+
+
+def hub_in(size):
+    """A hub under one inverse constraint, which takes any number of arcs in."""
+    return hub(":H { ^:p . * }\n", size)
+
+
+def hub_both(size):
+    """A hub under an inverse constraint and one for arcs out, each of which takes any number."""
+    return hub(":H { ^:p . * ; :q . * }\n", size)
+
+
+def hub_extra(size):
+    """A hub that has to have two arcs to nodes of a Shape, and may have others: two of its arcs are to such nodes."""
+    family = hub(":H EXTRA :q { :q @:L {2} }\n:L { :name . }\n", max(4, size))
+    named = [(f":O{short(n)}", [(":name", ['"N"'])]) for n in range(2)]
+    return family._replace(record=lambda n: family.record(n) + ([] if n else named))
+
+
+def hub_recursive(size):
+    """A hub in which nodes may end that refer back to it by their Shape; none of them has it, so that they go one by one."""
+    return hub(":H { ^:p @:L * }\n:L { :name . ; :p @:H }\n", size)
+
+
+FAMILIES = {
+    family.__name__: family
+    for family in (clinical, catalogue, ring, chain, clusters, values, strata, alone, overlapping, tenfold, hub_in, hub_both, hub_extra, hub_recursive)
+}
 
 # These grow in no triples beyond their bounds.
 BOUNDED = {"overlapping": 200, "tenfold": 2000}
