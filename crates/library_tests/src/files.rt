@@ -8,6 +8,7 @@ use shex_io::{
 };
 use std::alloc::Global;
 use std::io::Write;
+use std::os::unix::fs::symlink;
 use std::test::Fail;
 use std::{fs, io};
 
@@ -103,7 +104,8 @@ fn disk_files_read_what_was_written(rt: HostRuntime) -> Result<(), Fail> {
     let whole = files.fetch(alloc, path, 280_000);
     let long = files.fetch(alloc, path, 279_999);
     let empty = files.fetch(alloc, path, 0);
-    let stored = files.store(path, b"shorter");
+    let mut other_files = DiskFiles::new(alloc, &rt);
+    let stored = other_files.store(path, b"shorter");
     let again = files.fetch(alloc, path, 280_000);
     fs::remove_file(&rt, path)?;
     let absent = files.fetch(alloc, path, 280_000);
@@ -116,6 +118,33 @@ fn disk_files_read_what_was_written(rt: HostRuntime) -> Result<(), Fail> {
     assert_eq!(rt; stored, Ok(()));
     assert_eq!(rt; again?.as_slice(), b"shorter".as_slice());
     assert_eq!(rt; absent.err(), Some(FetchError::Failed));
+    Ok(())
+}
+
+#[test]
+fn what_was_read_is_not_written_over(rt: HostRuntime) -> Result<(), Fail> {
+    let alloc = rt.alloc();
+    let path = "what_was_read_is_not_written_over";
+    let other_spelling = "./what_was_read_is_not_written_over";
+    let link = "what_was_read_is_not_written_over.link";
+    fs::write(&rt, path, b"data")?;
+    symlink(&rt, path, link)?;
+    let mut files = DiskFiles::new(alloc, &rt);
+    let read = files.fetch(alloc, path, 9);
+    let by_name = files.store(path, b"proof");
+    let by_spelling = files.store(other_spelling, b"proof");
+    let by_link = files.store(link, b"proof");
+    let again = files.fetch(alloc, path, 9);
+    fs::remove_file(&rt, link)?;
+    let beside = files.store(link, b"proof");
+    fs::remove_file(&rt, link)?;
+    fs::remove_file(&rt, path)?;
+    assert_eq!(rt; read?.as_slice(), b"data".as_slice());
+    assert_eq!(rt; by_name, Err(StoreError::Failed));
+    assert_eq!(rt; by_spelling, Err(StoreError::Failed));
+    assert_eq!(rt; by_link, Err(StoreError::Failed));
+    assert_eq!(rt; again?.as_slice(), b"data".as_slice());
+    assert_eq!(rt; beside, Ok(()));
     Ok(())
 }
 

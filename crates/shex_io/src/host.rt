@@ -9,18 +9,38 @@ use crate::files::{Act, FetchError, Files, StoreError};
 use crate::sinks::{Sink, SinkError};
 use std::alloc::Global;
 use std::fs;
+use std::fs::{Metadata, OpenFile};
 use std::io::{Read, Write};
+use std::os::unix::fs::MetadataExt;
 use std::rt::Files as HostFiles;
 
 /// How many bytes one read asks for.
 const PIECE: usize = 65536;
 
-/// Files of the machine.
+/// Where a regular file lies on the machine, whatever names and links lead there.
+#[derive(Clone, Copy, Debug, PartialEq, Eq)]
+struct Location {
+    device: u64,
+    inode: u64,
+}
+
+impl Location {
+    /// That of the file that these metadata are of, if it is a regular one, and no folder, device or pipe.
+    fn of(metadata: &Metadata) -> Option<Location> {
+        metadata.is_file().then_some(Location {
+            device: metadata.dev(),
+            inode: metadata.ino(),
+        })
+    }
+}
+
+/// Files of the machine. What was read by them is not written over by them.
 #[derive(Drop)]
 pub struct DiskFiles<'a, R> {
     alloc: Global,
     rt: &'a R,
     taken: u64,
+    read: Vec<Location>,
     faults: Faults,
 }
 
@@ -36,6 +56,7 @@ impl<'a, R> DiskFiles<'a, R> {
             alloc,
             rt,
             taken: 0,
+            read: Vec::new(alloc),
             faults: Faults::new(alloc),
         }
     }
@@ -59,7 +80,7 @@ impl<'a, R: HostFiles> Files for DiskFiles<'a, R> {
         let Ok(blamed) = String::from_str(alloc, name) else {
             return Err(FetchError::Memory);
         };
-        match read_file(self.rt, alloc, name, limit) {
+        match read_file(self.rt, alloc, name, limit, &mut self.read) {
             Ok(bytes) => {
                 self.taken = bytes.len() as u64;
                 if self.taken > limit {
@@ -79,7 +100,9 @@ impl<'a, R: HostFiles> Files for DiskFiles<'a, R> {
         let Ok(blamed) = String::from_str(self.alloc, name) else {
             return Err(StoreError::Memory);
         };
-        if fs::write(self.rt, name, bytes).is_err() {
+        if leads_to(self.rt, name, self.read.as_slice())
+            || fs::write(self.rt, name, bytes).is_err()
+        {
             self.faults.note(blamed, Act::Store);
             return Err(StoreError::Failed);
         }
@@ -93,15 +116,28 @@ enum ReadError {
     Memory,
 }
 
-/// Reads the file of this name to its end, or until more than `limit` bytes have come.
+/// Reads the file of this name to its end, or until more than `limit` bytes have come, and notes where it lies.
 fn read_file<R: HostFiles>(
     rt: &R,
     alloc: Global,
     name: &str,
     limit: u64,
+    read: &mut Vec<Location>,
 ) -> Result<Vec<u8>, ReadError> {
     let mut file = fs::open(rt, name).map_err(|_| ReadError::Failed)?;
+    let metadata = file.metadata().map_err(|_| ReadError::Failed)?;
+    if let Some(location) = Location::of(&metadata) {
+        read.push(location).map_err(|_| ReadError::Memory)?;
+    }
     read_within(alloc, &mut file, limit)
+}
+
+/// Whether a name leads to one of these files. A name that leads nowhere does not.
+fn leads_to<R: HostFiles>(rt: &R, name: &str, files: &[Location]) -> bool {
+    match fs::metadata(rt, name) {
+        Ok(metadata) => Location::of(&metadata).is_some_and(|location| files.contains(&location)),
+        Err(_) => false,
+    }
 }
 
 /// Reads to the end, or until more than `limit` bytes have come.
