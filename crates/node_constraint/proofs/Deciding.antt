@@ -86,7 +86,7 @@ of_spelled pattern flags text e spelled (inl found) = inl (e, spelled, found)
 of_spelled pattern flags text e spelled (inr none) =
     inr (λ h. none (subst (λ d. IsFound (flags_named flags) text d) (one_under flags pattern h.0 e h.1 spelled) h.2))
 
-decide_pattern : (pattern flags text : List ℕ) → Decided (HasPattern pattern flags text)
+pub decide_pattern : (pattern flags text : List ℕ) → Decided (HasPattern pattern flags text)
 decide_pattern pattern flags text = go (decide_spelling flags pattern)
   where
     go : Decided (IsSpelledUnder flags pattern) → Decided (HasPattern pattern flags text)

@@ -24,7 +24,7 @@ use Rattle.node_constraint.specs.SatNode.{SatNode}
 use Rattle.node_constraint.proofs.Deciding.{decide_facets}
 
 -- a pattern that is read is found where its text's is
-same_pattern : (t : PatternText) (p : Pattern) (text : List ℕ) → IsReadFrom t p → IsFoundIn text p ↔ HasPattern t.pattern t.flags text
+pub same_pattern : (t : PatternText) (p : Pattern) (text : List ℕ) → IsReadFrom t p → IsFoundIn text p ↔ HasPattern t.pattern t.flags text
 same_pattern t p text read = (
   λ h. (regex p, read.spelled, subst (λ (f : Flags). IsFound f text (regex p)) read.flags h),
   λ h. subst (λ (f : Flags). IsFound f text (regex p)) (sym read.flags)

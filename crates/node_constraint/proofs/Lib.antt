@@ -1,6 +1,7 @@
 pub mod Spelled
 pub mod Deciding
 pub mod Joining
+pub mod Failing
 pub mod Refusing
 pub mod Numbers
 pub mod Turning

@@ -1,6 +1,6 @@
 -- What a constraint keeps of its facets, and what the functions inside promise one another.
-use Rattle.std.specs.Prelude.{ℕ, nat_lt, Bool, true, IsTrue, ◌≡◌, ◌≤◌, ◌⊎◌, ⊤, IsSomeAnd, List, length, [], ◌∷◌, Option, Some, None, Result, Ok, Err, encode_utf8_all}
-use Rattle.std.specs.List.{list_all, list_any}
+use Rattle.std.specs.Prelude.{ℕ, nat_lt, Bool, true, IsTrue, ◌≡◌, ◌≤◌, ◌⊎◌, ⊤, IsSomeAnd, List, length, take, slice_get, [], ◌∷◌, Option, Some, None, Result, Ok, Err, encode_utf8_all}
+use Rattle.std.specs.List.{AllByRecursion, list_all, list_any}
 use Rattle.std.specs.Str.{bytes_eq}
 use Rattle.xs_pattern.specs.declared.pattern.Pattern.{Pattern}
 use Rattle.xs_pattern.specs.declared.pattern_error.PatternError.{PatternError}
@@ -128,3 +128,8 @@ pub record IsTaken (datatype : Option (List ℕ)) (facets : List Facet) (pattern
 -- kind, datatype and value set hold for the term
 abbrev pub Fits : Constraint → Term → Type 0
 Fits c term = IsOfKindIfAny c.kind term × (IsOfDatatypeIfAny c.datatype term × HasValueIfAny c.values term)
+
+-- the place of the first item that does not have the property, if there is one
+abbrev pub IsFirstWithout : {X : Type 0} → (X → Type 0) → List X → Option ℕ → Type 0
+IsFirstWithout P xs None = AllByRecursion P xs
+IsFirstWithout {X} P xs (Some place) = AllByRecursion P (take place xs) × ((x : X) × (slice_get xs place ≡ Some x) × (¬ P x))

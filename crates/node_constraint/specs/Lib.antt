@@ -3,6 +3,7 @@ pub mod Datatypes
 pub mod Facets
 pub mod Constraint
 pub mod SatNode
+pub mod Parts
 pub mod Making
 pub mod Held
 pub mod Laws

@@ -1,6 +1,6 @@
 //! Node constraints, and the terms that they hold for.
 
-ghost use Rattle.std.specs.Prelude.{◌≡◌, ◌↔◌, ◌⊎◌, Any, option_map, IfOk, IfErr, IsErrOf, IsOk, IsTrue, MatchResult, OnOk};
+ghost use Rattle.std.specs.Prelude.{◌≡◌, ◌↔◌, ◌⊎◌, Any, option_map, IfOk, IfErr, IfSome, IsErrOf, IsOk, IsTrue, MatchResult, OnOk};
 ghost use Rattle.std.specs.List.{AllByRecursion};
 ghost use Rattle.std.specs.Option.{ForSome, option_copied};
 ghost use Rattle.std.specs.Str.{chars};
@@ -15,8 +15,9 @@ ghost use Rattle.node_constraint.specs.Making.{Causes, HasFloatFacet, HasOtherNu
 ghost use Rattle.node_constraint.specs.SatNode.{HasValueIfAny};
 
 use crate::datatypes::{decimal_of, is_float, is_of_datatype};
+use crate::part::failing_facet;
 use crate::patterns::{all_found, read_patterns};
-use crate::{Facet, Kind4, MakeError};
+use crate::{ConstraintPart, Facet, Kind4, MakeError};
 use rdf_terms::terms::Term;
 use rdf_terms::text::Text;
 use rdf_terms::written::printed_name;
@@ -50,7 +51,8 @@ impl Model for NodeConstraint {
 }
 
 impl NodeConstraint {
-    ghost use Rattle.node_constraint.specs.Held.{Fits};
+    ghost use Rattle.node_constraint.specs.Held.{Fits, IsFirstWithout};
+    ghost use Rattle.node_constraint.specs.Parts.{HasFacet, IsFirstFailedPart};
     ghost use Rattle.node_constraint.specs.SatNode.{SatNode};
 
     /// The constraint that asks for these.
@@ -146,6 +148,43 @@ impl NodeConstraint {
             return Ok(true);
         }
         facets_hold(
+            alloc,
+            self.facets.as_slice(),
+            self.patterns.as_slice(),
+            term,
+        )
+    }
+
+    /// The first part that the term fails, in the order kind, datatype, facets, value set, if there is one. It fails where
+    /// memory runs out over the name of a blank node or over a pattern.
+    pub fn failing_part(
+        &self,
+        alloc: Global,
+        term: &Term,
+    ) -> Result<Option<ConstraintPart>, AllocError>
+        ensures none { IfOk result (λ part. (part ≡ None) ↔ SatNode self.now term.now) }
+        ensures first { IfOk result (λ part. IfSome part (IsFirstFailedPart self.now term.now)) }
+    {
+        if !is_of_kind(self.kind, term) {
+            return Ok(Some(ConstraintPart::Kind));
+        }
+        if !is_of_datatype(self.datatype.as_ref(), term) {
+            return Ok(Some(ConstraintPart::Datatype));
+        }
+        if let Some(place) = self.failing_facet(alloc, term)? {
+            return Ok(Some(ConstraintPart::Facet(place)));
+        }
+        if !has_value(self.values.as_ref(), term) {
+            return Ok(Some(ConstraintPart::Values));
+        }
+        Ok(None)
+    }
+
+    /// The place of the first facet that does not hold for the term, if there is one.
+    fn failing_facet(&self, alloc: Global, term: &Term) -> Result<Option<usize>, AllocError>
+        ensures { IfOk result (IsFirstWithout (HasFacet term.now) self.now.facets) }
+    {
+        failing_facet(
             alloc,
             self.facets.as_slice(),
             self.patterns.as_slice(),

@@ -6,11 +6,13 @@ mod datatypes;
 mod facet;
 pub mod laws;
 mod make_error;
+mod part;
 mod patterns;
 
 pub use constraint::NodeConstraint;
 pub use facet::Facet;
 pub use make_error::MakeError;
+pub use part::ConstraintPart;
 
 /// The kinds of terms that a constraint can ask for (ShEx 2.1, section 5.4, Node Kind Constraints).
 #[derive(Clone, Copy, Debug, PartialEq, Eq)]
