@@ -1,5 +1,6 @@
 pub mod Meanings
 pub mod Texts
+pub mod LocalNames
 pub mod Labels
 pub mod Nexts
 pub mod Failing

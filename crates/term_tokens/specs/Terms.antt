@@ -1,5 +1,5 @@
 -- What single tokens stand for, by a base and prefixes, or what is wrong with them (RDF 1.1 Turtle, section 7.2). With the flag, what is too long is a fault.
-use Rattle.std.specs.Prelude.{◌≡◌, ℕ, Bool, ◌&&◌, not, List, [], ◌∷◌, ◌++◌, length, map, Option, Some, None, is_some, Result, Ok, Err, String, string_bytes, nat_eq, nat_lt, if◌then◌else◌, codes, encode_utf8_all}
+use Rattle.std.specs.Prelude.{◌≡◌, ℕ, Bool, true, false, ◌&&◌, not, List, [], ◌∷◌, ◌++◌, length, map, Option, Some, None, is_some, Result, Ok, Err, String, string_bytes, nat_eq, nat_lt, if◌then◌else◌, codes, encode_utf8_all}
 use Rattle.std.specs.declared.alloc.Global.{Global}
 use Rattle.std.specs.Char.{to_ascii_lowercase}
 use Rattle.std.specs.List.{before_first, after_first, starts_with}
@@ -11,6 +11,8 @@ use Rattle.rdf_terms.specs.Texts.{same_text}
 use Rattle.rdf_terms.specs.declared.terms.Name.TheVariants.{Label}
 use Rattle.rdf_terms.specs.declared.terms.Term.{Term}
 use Rattle.rdf_terms.specs.declared.terms.Term.TheVariants.{Iri, Blank, Lit}
+use Rattle.rdf_lex.specs.declared.kinds.Kind.{Kind}
+use Rattle.rdf_lex.specs.declared.kinds.Kind.TheVariants as kinds
 use Rattle.rdf_lex.specs.Tokens.{Spelled}
 use Rattle.rdf_cursor.specs.declared.stops.Fault.{Fault}
 use Rattle.rdf_cursor.specs.declared.stops.Fault.TheVariants.{Syntax, Long, Prefix}
@@ -22,6 +24,23 @@ use Rattle.rdf_cursor.specs.Symbols.{symbol_of, is_symbol, is_among}
 use Rattle.term_tokens.specs.Meanings.{text_of}
 use Rattle.term_tokens.specs.Scopes.{Scope}
 use Rattle.term_tokens.specs.Vocabulary.{shorthand_datatype}
+
+-- a token of the kind is a prefixed name, whose local name stands behind its first colon
+abbrev pub is_name : Kind → Bool
+is_name kinds.IriRef = false
+is_name kinds.Str = false
+is_name kinds.PnameNs = true
+is_name kinds.PnameLn = true
+is_name kinds.AtName = true
+is_name kinds.BlankLabel = false
+is_name kinds.LangTag = false
+is_name kinds.Integer = false
+is_name kinds.Decimal = false
+is_name kinds.Double = false
+is_name kinds.Word = false
+is_name kinds.Punct = false
+is_name kinds.Line = false
+is_name kinds.Pattern = false
 
 -- names with a prefix
 abbrev pub names : List Symbol

@@ -1,9 +1,10 @@
 //! Texts of tokens and their lengths.
 
-ghost use Rattle.std.specs.Prelude.{◌≡◌, ◌&&◌, nat_lt, length, IfOk, string_bytes, true};
-ghost use Rattle.std.specs.List.{before_first, after_first};
+ghost use Rattle.std.specs.Prelude.{ℕ, List, ◌≡◌, ◌&&◌, nat_lt, length, IfOk, string_bytes, true};
+ghost use Rattle.std.specs.List.{before_first, after_first, list_all};
 ghost use Rattle.std.specs.Str.{chars};
-ghost use Rattle.rdf_lex.specs.Escapes.{holds_text, IsSpelled};
+ghost use Rattle.rdf_lex.specs.Escapes.{holds_text, stands_alone, IsBehindColon, IsSpelled};
+ghost use Rattle.rdf_lex.specs.declared.escapes.Inside.TheVariants.{Local};
 ghost use Rattle.rdf_cursor.specs.Lent.{spelled};
 ghost use Rattle.rdf_cursor.specs.Stops.{Answers};
 ghost use Rattle.term_tokens.specs.Meanings.{text_of};
@@ -65,6 +66,20 @@ pub(crate) fn after_colon(text: &str) -> &str
         Some((_, after)) => after,
         None => "",
     }
+}
+
+/// The local name in the text of a prefixed name, as it is written.
+pub(crate) fn local_name(text: &str) -> &str
+    ensures { (body : List ℕ) → IsBehindColon (chars text.now) body → chars result.now ≡ body }
+{
+    after_colon(text)
+}
+
+/// Whether a local name has no escapes, and so stands for itself.
+pub(crate) fn stands_for_itself(local: &str) -> bool
+    ensures { result ≡ list_all (stands_alone Local) (chars local.now) }
+{
+    local.chars().all(|ch| ch != '\\')
 }
 
 /// What stands behind `@`.

@@ -4,17 +4,20 @@
 ghost use Rattle.std.specs.Prelude.{◌≡◌, Ok, Some, IfOk, IsSome, is_some, true, string_bytes};
 ghost use Rattle.std.specs.Str.{chars};
 ghost use Rattle.iri_resolve.specs.Reference.{scheme_of};
-ghost use Rattle.rdf_lex.specs.Escapes.{holds_text, IsSpelled};
+ghost use Rattle.rdf_lex.specs.Escapes.{IsSpelled};
 ghost use Rattle.rdf_cursor.specs.Lent.{spelled};
 ghost use Rattle.rdf_cursor.specs.Stops.{Answers};
 ghost use Rattle.rdf_cursor.specs.Symbols.{is_symbol, is_among};
 ghost use Rattle.rdf_cursor.specs.declared.symbols.Symbol.TheVariants.{Str};
 ghost use Rattle.term_tokens.specs.Scopes.{scope_in};
-ghost use Rattle.term_tokens.specs.Terms.{resolved, joined, name_in, iri_ref_of, iri_of, at_name_of, absolute_of, label_of, is_quoted_once, string_of, short_string_of, typed, typed_by, typed_of, absolute_typed_of, tagged_of, shorthand_of, tags, shorthands};
+ghost use Rattle.term_tokens.specs.Terms.{is_name, resolved, joined, name_in, iri_ref_of, iri_of, at_name_of, absolute_of, label_of, is_quoted_once, string_of, short_string_of, typed, typed_by, typed_of, absolute_typed_of, tagged_of, shorthand_of, tags, shorthands};
 ghost use Rattle.term_tokens.specs.Vocabulary.{shorthand_datatype};
 
 use crate::names::Names;
-use crate::parts::{after_at, after_colon, is_long, limit, prefix_of, short, unescaped};
+use crate::parts::{
+    after_at, after_colon, is_long, limit, local_name, prefix_of, short, stands_for_itself,
+    unescaped,
+};
 use iri_resolve::{IriError, resolve, split};
 use rdf_cursor::{Fault, Stop, Symbol};
 use rdf_lex::Token;
@@ -53,12 +56,17 @@ fn behind_prefix(
     limit(whole, bounded)
 }
 
-/// The IRI of a prefixed name, also of one with an `@` in front of it (RDF 1.1 Turtle, section 2.4).
+/// The IRI of a prefixed name, also of one with an `@` in front of it (RDF 1.1 Turtle, section 2.4). A local name without
+/// escapes is not copied.
 fn name(names: &Names<'_>, token: Token<'_>, bounded: bool) -> Result<String, Stop>
-    requires holds { holds_text token.kind ≡ true }
+    requires name { is_name token.kind ≡ true }
     requires spelled { IsSpelled token.kind (chars token.text.now) }
     ensures { Answers string_bytes result (name_in bounded (scope_in names.now) (spelled token.entry)) }
 {
+    let written = local_name(token.text);
+    if stands_for_itself(written) {
+        return behind_prefix(names, prefix_of(token), written, bounded);
+    }
     let local = unescaped(names.alloc, token)?;
     behind_prefix(names, prefix_of(token), local.as_str(), bounded)
 }
