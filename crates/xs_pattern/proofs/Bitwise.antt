@@ -1,13 +1,10 @@
 -- Words as marks.
-use Rattle.std.proofs.Common.{◌≡◌, ℕ, zero, suc, ◌+◌, ◌*◌, ◌/◌, ◌%◌, ◌^◌, ◌<◌, ◌≤◌, ◌⊎◌, List, [], ◌∷◌, ◌++◌, length, get_or, refl, arith, sym, ap, ◌∙◌, Bool, true, false, ◌&&◌, ◌||◌, not, max, min, inl, inr, w64, replicate, add-one, drop, map, append_assoc}
+use Rattle.std.proofs.Common.{◌≡◌, ℕ, zero, suc, ◌+◌, ◌*◌, ◌/◌, ◌%◌, ◌^◌, ◌<◌, ◌≤◌, ◌⊎◌, List, [], ◌∷◌, ◌++◌, length, get_or, refl, arith, sym, ap, ◌∙◌, Bool, true, false, ◌&&◌, ◌||◌, not, max, min, inl, inr, w64, replicate, add-one}
 use Rattle.std.proofs.lemmas.Bool.{cases_eq}
 use Rattle.std.proofs.lemmas.Nat.{or_lt, and_le_l}
 use Rattle.std.proofs.lemmas.Nat.Bits.{bit_at_lowest, bit_at-suc, shr_and_one, bit_at_set_same, bit_at_above, bit_at_or, bit_at_and, bit_at-lt, bit_at-pow_same, bit_at-pow_other, bit_at_clear_same, bit_at_clear_other, same_from_bits, same_from_bits_below}
 use Rattle.std.proofs.Math.Pow.{pow-lt}
-use Rattle.std.proofs.Math.ListN.{drop_of_length-le}
-use Rattle.std.proofs.Math.Seq.{drop-cons}
-use Rattle.std.proofs.lemmas.List.{append-nil}
-use Rattle.xs_pattern.proofs.Unions.{or_blank}
+use Rattle.xs_pattern.proofs.Unions.{blank_or, one_tests, or_blank, or_more, or_none}
 use Rattle.std.specs.Prelude.{bit_and, bit_or, ◌==◌}
 use Rattle.std.specs.Int.{bit_at, bit_not}
 use Rattle.std.specs.Int.Bits.{and_zero_r}
@@ -35,13 +32,19 @@ lowest_or : (a b : ℕ) → bit_or a b % 2 ≡ max (a % 2) (b % 2)
 lowest_or a b = sym (bit_at_lowest (bit_or a b)) ∙ bit_at_or a b 0 ∙ ap (λ v. max v (bit_at b 0)) (bit_at_lowest a) ∙ ap (λ v. max (a % 2) v) (bit_at_lowest b)
 
 lowest_and : (a b : ℕ) → bit_and a b % 2 ≡ min (a % 2) (b % 2)
-lowest_and a b = sym (bit_at_lowest (bit_and a b)) ∙ bit_at_and a b 0 ∙ ap (λ v. min v (bit_at b 0)) (bit_at_lowest a) ∙ ap (λ v. min (a % 2) v) (bit_at_lowest b)
+lowest_and a b =
+    sym (bit_at_lowest (bit_and a b)) ∙ bit_at_and a b 0
+    ∙ ap (λ v. min v (bit_at b 0)) (bit_at_lowest a) ∙ ap (λ v. min (a % 2) v) (bit_at_lowest b)
 
 half_or : (a b : ℕ) → bit_or a b / 2 ≡ bit_or (a / 2) (b / 2)
-half_or a b = same_from_bits _ _ (λ i. sym (bit_at-suc (bit_or a b) i) ∙ bit_at_or a b (suc i) ∙ ap (λ v. max v (bit_at b (suc i))) (bit_at-suc a i) ∙ ap (λ v. max (bit_at (a / 2) i) v) (bit_at-suc b i) ∙ sym (bit_at_or (a / 2) (b / 2) i))
+half_or a b =
+    same_from_bits _ _ (λ i. sym (bit_at-suc (bit_or a b) i) ∙ bit_at_or a b (suc i) ∙ ap (λ v. max v (bit_at b (suc i))) (bit_at-suc a i)
+    ∙ ap (λ v. max (bit_at (a / 2) i) v) (bit_at-suc b i) ∙ sym (bit_at_or (a / 2) (b / 2) i))
 
 half_and : (a b : ℕ) → bit_and a b / 2 ≡ bit_and (a / 2) (b / 2)
-half_and a b = same_from_bits _ _ (λ i. sym (bit_at-suc (bit_and a b) i) ∙ bit_at_and a b (suc i) ∙ ap (λ v. min v (bit_at b (suc i))) (bit_at-suc a i) ∙ ap (λ v. min (bit_at (a / 2) i) v) (bit_at-suc b i) ∙ sym (bit_at_and (a / 2) (b / 2) i))
+half_and a b =
+    same_from_bits _ _ (λ i. sym (bit_at-suc (bit_and a b) i) ∙ bit_at_and a b (suc i) ∙ ap (λ v. min v (bit_at b (suc i))) (bit_at-suc a i)
+    ∙ ap (λ v. min (bit_at (a / 2) i) v) (bit_at-suc b i) ∙ sym (bit_at_and (a / 2) (b / 2) i))
 
 first_or : (a b : ℕ) → (bit_or a b % 2 == 1) ≡ ((a % 2 == 1) || (b % 2 == 1))
 first_or a b = ap (λ v. v == 1) (lowest_or a b) ∙ one_or (a % 2) (b % 2) (omega arith) (omega arith)
@@ -86,7 +89,8 @@ half_pow j = omega arith
 pub marks_beyond : (n j : ℕ) → n ≤ j → marks_of n (2 ^ j) ≡ replicate n false
 marks_beyond zero j h = refl
 marks_beyond (suc n) zero h = absurd (omega arith)
-marks_beyond (suc n) (suc j) h = ap (λ v. v ∷ marks_of n (2 ^ suc j / 2)) (even j) ∙ ap (λ v. false ∷ marks_of n v) (half_pow j) ∙ ap (λ v. false ∷ v) (marks_beyond n j (omega arith))
+marks_beyond (suc n) (suc j) h =
+    ap (λ v. v ∷ marks_of n (2 ^ suc j / 2)) (even j) ∙ ap (λ v. false ∷ marks_of n v) (half_pow j) ∙ ap (λ v. false ∷ v) (marks_beyond n j (omega arith))
 
 meets_blank : (n : ℕ) (ys : List Bool) → meets (replicate n false) ys ≡ false
 meets_blank zero ys = refl
@@ -149,7 +153,8 @@ module _ (word j : ℕ) (small : word < 2 ^ 64) (within : j < 64) (set : bit_at 
       whole = same_from_bits_below 64 word (bit_or (2 ^ j) left) small (or_lt 64 (2 ^ j) left (pow-lt within) (let less = left_less in omega (arith, less, small))) each
 
 -- one more mark of a word
-pub filled : (n word : ℕ) (old new : List Bool) (b : Bool) → old ≡ marks_of n word → b ≡ (bit_and (word / 2 ^ n) 1 == 1) → new ≡ old ++ b ∷ [] → new ≡ marks_of (n + 1) word
+pub filled : (n word : ℕ) (old new : List Bool) (b : Bool) →
+    old ≡ marks_of n word → b ≡ (bit_and (word / 2 ^ n) 1 == 1) → new ≡ old ++ b ∷ [] → new ≡ marks_of (n + 1) word
 filled n word old new b is test push =
     rw add-one (push ∙ ap (λ v. v ++ b ∷ []) is ∙ ap (λ v. marks_of n word ++ v ∷ []) (test ∙ ap (λ v. v == 1) (shr_and_one word n)) ∙ sym (marks_more n word))
 
@@ -157,13 +162,16 @@ pub pow_positive : (n : ℕ) → 0 < 2 ^ n
 pow_positive zero = omega arith
 pow_positive (suc n) = let some = pow_positive n in omega (arith, some)
 
-pub marked : (n word : ℕ) → n < 64 → (marks_of (n + 1) (bit_or word (1 * 2 ^ n % 2 ^ 64)) ≡ marks_of n word ++ true ∷ []) × (word < 2 ^ n → bit_or word (1 * 2 ^ n % 2 ^ 64) < 2 ^ (n + 1))
+pub marked : (n word : ℕ) → n < 64 →
+    (marks_of (n + 1) (bit_or word (1 * 2 ^ n % 2 ^ 64)) ≡ marks_of n word ++ true ∷ [])
+    × (word < 2 ^ n → bit_or word (1 * 2 ^ n % 2 ^ 64) < 2 ^ (n + 1))
 marked n word lt =
     let power : 1 * 2 ^ n % 2 ^ 64 ≡ 2 ^ n = (let p : 2 ^ n < 2 ^ 64 = pow-lt lt in omega (arith, p)) in
     let twice : 2 ^ suc n ≡ 2 * 2 ^ n = omega arith in (
       rw add-one (marks_more n (bit_or word (1 * 2 ^ n % 2 ^ 64))
           ∙ ap (λ v. marks_of n (bit_or word (1 * 2 ^ n % 2 ^ 64)) ++ (v == 1) ∷ []) (bit_at_set_same w64 word n lt)
-          ∙ ap (λ v. v ++ true ∷ []) (ap (λ v. marks_of n (bit_or word v)) power ∙ marks_or n word (2 ^ n) ∙ ap (or_marks (marks_of n word)) (marks_beyond n n (omega arith)) ∙ or_blank n (marks_of n word) (length_marks n word))),
+          ∙ ap (λ v. v ++ true ∷ []) (ap (λ v. marks_of n (bit_or word v)) power ∙ marks_or n word (2 ^ n)
+          ∙ ap (or_marks (marks_of n word)) (marks_beyond n n (omega arith)) ∙ or_blank n (marks_of n word) (length_marks n word))),
       λ small. rw (power, add-one) (or_lt (suc n) word (2 ^ n) (omega (arith, small, twice)) (let some = pow_positive n in omega (arith, twice, some))),
     )
 
@@ -174,16 +182,85 @@ unmarked n word small =
       rw add-one (omega (arith, small, twice)),
     )
 
--- the mark at the front of what is left
-pub marked_on : (old new xs : List Bool) (i : ℕ) (b : Bool) → i < length xs → b ≡ get_or xs i false → old ++ drop i xs ≡ xs → new ≡ old ++ b ∷ [] → new ++ drop (i + 1) xs ≡ xs
-marked_on old new xs i b lt at is push =
-    ap (λ v. v ++ drop (i + 1) xs) push ∙ append_assoc old (b ∷ []) (drop (i + 1) xs)
-    ∙ ap (λ v. old ++ v) (ap (λ v. v ∷ drop (i + 1) xs) at ∙ ap (λ k. get_or xs i false ∷ drop k xs) (add-one i) ∙ sym (drop-cons xs i false lt)) ∙ is
+-- marks of both lists
+and_or : (xs ys zs : List Bool) → and_marks (or_marks xs ys) zs ≡ or_marks (and_marks xs zs) (and_marks ys zs)
+and_or [] ys zs = refl
+and_or (x ∷ xs) [] zs = sym (or_none (and_marks (x ∷ xs) zs))
+and_or (x ∷ xs) (y ∷ ys) [] = refl
+and_or (x ∷ xs) (y ∷ ys) (z ∷ zs) = ap (λ v. v ∷ and_marks (or_marks xs ys) zs) (one_tests x y z) ∙ ap (λ v. ((x && z) || (y && z)) ∷ v) (and_or xs ys zs)
 
-pub all_marked : (marks xs : List Bool) (i : ℕ) → length xs ≤ i → marks ++ drop i xs ≡ xs → marks ≡ xs
-all_marked marks xs i le is = sym (append-nil marks) ∙ ap (λ v. marks ++ v) (sym (drop_of_length-le xs le)) ∙ is
+and_blank : (n : ℕ) (xs : List Bool) → length xs ≡ n → and_marks (replicate n false) xs ≡ replicate n false
+and_blank zero xs h = refl
+and_blank (suc n) [] h = absurd (omega arith)
+and_blank (suc n) (x ∷ xs) h = ap (λ v. false ∷ v) (and_blank n xs (omega arith))
 
-pub mapped_at : (f : ℕ → Bool) (xs : List ℕ) (i : ℕ) → i < length xs → f (get_or xs i 0) ≡ get_or (map f xs) i false
-mapped_at f [] i h = absurd (omega arith)
-mapped_at f (x ∷ xs) zero h = refl
-mapped_at f (x ∷ xs) (suc i) h = mapped_at f xs i (omega arith)
+length_and : (xs ys : List Bool) → length xs ≡ length ys → length (and_marks xs ys) ≡ length ys
+length_and [] [] h = refl
+length_and [] (y ∷ ys) h = absurd (omega arith)
+length_and (x ∷ xs) [] h = refl
+length_and (x ∷ xs) (y ∷ ys) h = ap suc (length_and xs ys (omega arith))
+
+-- one position and the marks of a list: its mark alone
+one_kept : (n j : ℕ) (xs : List Bool) → length xs ≡ n → get_or xs j false ≡ true → and_marks (marks_of n (2 ^ j)) xs ≡ marks_of n (2 ^ j)
+one_kept zero j xs h at = refl
+one_kept (suc n) j [] h at = absurd (omega arith)
+one_kept (suc n) zero (x ∷ xs) h at =
+    ap (λ v. v ∷ and_marks (marks_of n 0) xs) at
+    ∙ ap (λ v. true ∷ v) (ap (λ v. and_marks v xs) (marks_zero n) ∙ and_blank n xs (omega arith) ∙ sym (marks_zero n))
+one_kept (suc n) (suc j) (x ∷ xs) h at =
+    ap (λ v. (v && x) ∷ and_marks (marks_of n (2 ^ suc j / 2)) xs) (even j)
+    ∙ ap (λ v. false ∷ and_marks (marks_of n v) xs) (half_pow j)
+    ∙ ap (λ v. false ∷ v) (one_kept n j xs (omega arith) at)
+    ∙ sym (ap (λ v. v ∷ marks_of n (2 ^ suc j / 2)) (even j) ∙ ap (λ v. false ∷ marks_of n v) (half_pow j))
+
+one_lost : (n j : ℕ) (xs : List Bool) → length xs ≡ n → get_or xs j false ≡ false → and_marks (marks_of n (2 ^ j)) xs ≡ replicate n false
+one_lost zero j xs h at = refl
+one_lost (suc n) j [] h at = absurd (omega arith)
+one_lost (suc n) zero (x ∷ xs) h at =
+    ap (λ v. v ∷ and_marks (marks_of n 0) xs) at
+    ∙ ap (λ v. false ∷ v) (ap (λ v. and_marks v xs) (marks_zero n) ∙ and_blank n xs (omega arith))
+one_lost (suc n) (suc j) (x ∷ xs) h at =
+    ap (λ v. (v && x) ∷ and_marks (marks_of n (2 ^ suc j / 2)) xs) (even j)
+    ∙ ap (λ v. false ∷ and_marks (marks_of n v) xs) (half_pow j)
+    ∙ ap (λ v. false ∷ v) (one_lost n j xs (omega arith) at)
+
+-- the positions of a word are asked one by one
+module _ (n : ℕ) (has : List Bool) (counted : length has ≡ n) where
+  abbrev those : ℕ → List Bool
+  those word = and_marks (marks_of n word) has
+
+  length_those : (word : ℕ) → length (those word) ≡ n
+  length_those word = length_and (marks_of n word) has (length_marks n word ∙ sym counted) ∙ counted
+
+  pub none_asked : (word : ℕ) → or_marks (marks_of n 0) (and_marks (marks_of n word) has) ≡ and_marks (marks_of n word) has
+  none_asked word = ap (λ v. or_marks v (those word)) (marks_zero n) ∙ blank_or n (those word) (length_those word)
+
+  pub all_asked : (found word : ℕ) → word ≡ 0 → or_marks (marks_of n found) (and_marks (marks_of n word) has) ≡ marks_of n found
+  all_asked found word is =
+      ap (λ v. or_marks (marks_of n found) (and_marks v has)) (ap (marks_of n) is ∙ marks_zero n)
+      ∙ ap (or_marks (marks_of n found)) (and_blank n has counted)
+      ∙ or_blank n (marks_of n found) (length_marks n found)
+
+  module _ (found left j : ℕ) (small : left < 2 ^ 64) (within : j < 64) (set : bit_at left j ≡ 1) where
+    abbrev rest : ℕ
+    rest = bit_and left (bit_not w64 (1 * 2 ^ j % 2 ^ 64))
+
+    split : or_marks (and_marks (marks_of n (2 ^ j)) has) (those rest) ≡ those left
+    split = sym (and_or (marks_of n (2 ^ j)) (marks_of n rest) has) ∙ ap (λ v. and_marks v has) (sym (taken left j small within set n))
+
+    pub asked_has : get_or has j false ≡ true →
+        or_marks (marks_of n (bit_or found (1 * 2 ^ j % 2 ^ 64))) (and_marks (marks_of n (bit_and left (bit_not w64 (1 * 2 ^ j % 2 ^ 64)))) has)
+        ≡ or_marks (marks_of n found) (and_marks (marks_of n left) has)
+    asked_has at =
+        let power : 1 * 2 ^ j % 2 ^ 64 ≡ 2 ^ j = (let p : 2 ^ j < 2 ^ 64 = pow-lt within in omega (arith, p)) in
+        ap (λ v. or_marks (marks_of n (bit_or found v)) (those rest)) power
+        ∙ ap (λ v. or_marks v (those rest)) (marks_or n found (2 ^ j))
+        ∙ or_more (marks_of n found) (marks_of n (2 ^ j)) (those rest)
+        ∙ ap (or_marks (marks_of n found)) (ap (λ v. or_marks v (those rest)) (sym (one_kept n j has counted at)) ∙ split)
+
+    pub asked_lacks : get_or has j false ≡ false →
+        or_marks (marks_of n found) (and_marks (marks_of n (bit_and left (bit_not w64 (1 * 2 ^ j % 2 ^ 64)))) has)
+        ≡ or_marks (marks_of n found) (and_marks (marks_of n left) has)
+    asked_lacks at =
+        ap (or_marks (marks_of n found))
+        (sym (blank_or n (those rest) (length_those rest)) ∙ ap (λ v. or_marks v (those rest)) (sym (one_lost n j has counted at)) ∙ split)

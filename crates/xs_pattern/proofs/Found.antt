@@ -8,7 +8,9 @@ use Rattle.xs_pattern.specs.Language.{IsFound}
 use Rattle.xs_pattern.specs.Limits.{positions, all_positions, written}
 use Rattle.xs_pattern.specs.Regex.{Chars, Regex, start, finish, one, group, branch, choice, repeat, Regexes, none, more}
 use Rattle.xs_pattern.specs.Unrolling.{exits_at, kept, sets, all_sets, unroll, edge_at, has_at}
+use Rattle.xs_pattern.specs.Marked.{AreWords}
 use Rattle.xs_pattern.specs.Way.{Way, Runs}
+use Rattle.xs_pattern.specs.declared.words.Words.{Words}
 use Rattle.xs_pattern.proofs.SameLanguage.{same}
 use Rattle.xs_pattern.proofs.Search.{exits_found, found_exits}
 
@@ -58,9 +60,22 @@ found_exact f text e w b is found missed = (λ h. out (found h), λ p. into b re
 
 -- the same of what a call answers
 pub found_result :
-    {E : Type 0} (r : Result Bool E) (f : Flags) (text : List ℕ) (e : Regex) (w : Way) → w ≡ unroll 0 e →
-    IfOk r (λ b. b ≡ true → (j : ℕ) × (j ≤ length text) × (exits_at f (sets e) text w j ≡ true)) →
-    IfOk r (λ b. b ≡ false → (j : ℕ) → j ≤ length text → exits_at f (sets e) text w j ≡ false) →
+    {E : Type 0} (r : Result Bool E) (f : Flags) (text : List ℕ) (e : Regex) (ss : List Chars) (w : Way) → ss ≡ sets e → w ≡ unroll 0 e →
+    IfOk r (λ b. b ≡ true → (j : ℕ) × (j ≤ length text) × (exits_at f ss text w j ≡ true)) →
+    IfOk r (λ b. b ≡ false → (j : ℕ) → j ≤ length text → exits_at f ss text w j ≡ false) →
     IfOk r (λ b. IsTrue b ↔ IsFound f text e)
-found_result (Ok b) f text e w is found missed = found_exact f text e w b is found missed
-found_result (Err x) f text e w is found missed = tt
+found_result (Ok b) f text e ss w of is found missed =
+    found_exact f text e w b is
+    (subst (λ ts. b ≡ true → (j : ℕ) × (j ≤ length text) × (exits_at f ts text w j ≡ true)) of found)
+    (subst (λ ts. b ≡ false → (j : ℕ) → j ≤ length text → exits_at f ts text w j ≡ false) of missed)
+found_result (Err x) f text e ss w of is found missed = tt
+
+-- the same of what a call answers by words
+pub found_by_words :
+    {E : Type 0} (r : Result Bool E) (f : Flags) (text : List ℕ) (e : Regex) (words : Words) → AreWords (sets e) (unroll 0 e) words →
+    IfOk r (λ b. (ss : List Chars) (w : Way) → AreWords ss w words → b ≡ true → (j : ℕ) × (j ≤ length text) × (exits_at f ss text w j ≡ true)) →
+    IfOk r (λ b. (ss : List Chars) (w : Way) → AreWords ss w words → b ≡ false → (j : ℕ) → j ≤ length text → exits_at f ss text w j ≡ false) →
+    IfOk r (λ b. IsTrue b ↔ IsFound f text e)
+found_by_words (Ok b) f text e words are found missed =
+    found_exact f text e (unroll 0 e) b refl (found (sets e) (unroll 0 e) are) (missed (sets e) (unroll 0 e) are)
+found_by_words (Err x) f text e words are found missed = tt

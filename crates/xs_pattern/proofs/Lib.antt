@@ -24,4 +24,4 @@ pub mod TimesWay
 pub mod Bitwise
 pub mod Unions
 pub mod Stepped
-pub mod Pairs
+pub mod Ascii

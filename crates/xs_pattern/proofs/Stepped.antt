@@ -1,5 +1,5 @@
 -- One step by words.
-use Rattle.std.proofs.Common.{length, map, subst, drop, get_or, [], ◌∷◌, ◌&&◌, ◌||◌, not, inl, inr, add-one, ◌≡◌, ℕ, ◌+◌, ◌*◌, ◌%◌, ◌<◌, ◌≤◌, ◌^◌, List, ◌++◌, append_assoc, refl, arith, sym, ap, ◌∙◌, Bool, true, false, w64, replicate}
+use Rattle.std.proofs.Common.{zero, suc, length, map, subst, drop, get_or, [], ◌∷◌, ◌&&◌, ◌||◌, not, inl, inr, add-one, ◌≡◌, ℕ, ◌+◌, ◌*◌, ◌%◌, ◌<◌, ◌≤◌, ◌^◌, List, ◌++◌, append_assoc, refl, arith, sym, ap, ◌∙◌, Bool, true, false, w64, replicate}
 use Rattle.std.specs.Prelude.{bit_and, bit_or, slice_index_or, ◌==◌}
 use Rattle.std.proofs.lemmas.Bool.{cases_lt}
 use Rattle.std.proofs.lemmas.List.{append-nil, get_or-replicate, get_or_past, length-map}
@@ -8,19 +8,28 @@ use Rattle.std.proofs.Math.Pow.{pow-lt}
 use Rattle.std.specs.Int.Bits.{and_zero_l}
 use Rattle.std.proofs.Math.Seq.{drop-cons}
 use Rattle.xs_pattern.specs.declared.expression.Flags.{Flags}
+use Rattle.xs_pattern.specs.declared.expression.Set.{Set}
 use Rattle.xs_pattern.specs.declared.walk.Edge.{Edge}
 use Rattle.xs_pattern.specs.declared.words.Words.{Words}
-use Rattle.xs_pattern.specs.Regex.{Chars}
-use Rattle.xs_pattern.specs.Tests.{char_test}
+use Rattle.xs_pattern.specs.Regex.{Chars, chars_of}
+use Rattle.xs_pattern.specs.Tests.{alike, char_test, set_has}
 use Rattle.xs_pattern.specs.Unrolling.{exits, having}
 use Rattle.std.specs.Int.{bit_at, bit_not}
 use Rattle.xs_pattern.specs.Way.{Way, size, passes, ends, next}
-use Rattle.xs_pattern.specs.Marked.{AreBehind, AreWords, IsPlace, all_known, alone, and_marks, at_end, at_start, set_numbers, inside, lasts, marks_of, meets, or_marks, place_at, positions_having, tested}
-use Rattle.xs_pattern.proofs.Bitwise.{length_marks, marks_and, marks_beyond, marks_or, marks_zero, meets_one, meets_words, pow_positive, taken}
+use Rattle.xs_pattern.specs.Marked.{AreBehind, AreWords, IsPlace, all_known, alone, and_marks, at_end, at_start, set_numbers, inside, lasts, marks_of, meets, or_marks, place_at, tested}
+use Rattle.xs_pattern.proofs.Bitwise.{length_marks, marks_beyond, marks_or, marks_zero, meets_one, meets_words, pow_positive, taken}
 use Rattle.xs_pattern.proofs.Unions.{blank_or, ends_blank, ends_meets, length_lasts, length_sets, next_asked, next_blank, next_or, or_blank, or_more}
 
 pub sets_more : (old one two xs ys : List ℕ) (all : List ℕ) → xs ++ ys ≡ all → one ≡ old ++ xs → two ≡ one ++ ys → two ≡ old ++ all
 sets_more old one two xs ys all is p q = q ∙ ap (λ k. k ++ ys) p ∙ append_assoc old xs ys ∙ ap (λ k. old ++ k) is
+
+-- the set with a number
+pub set_at : (f : Flags) (c : ℕ) (sets : List Set) (number : ℕ) (set : Set) (standing : List ℕ) (has : Bool) → standing ≡ alike f c →
+    number < length sets → set ≡ slice_index_or sets number set → has ≡ set_has f (chars_of set) c standing →
+    has ≡ slice_index_or (having f (map chars_of sets) c) number false
+set_at f c [] number set standing has is lt at by = absurd (omega arith)
+set_at f c (s ∷ sets) zero set standing has is lt at by = by ∙ ap (set_has f (chars_of set) c) is ∙ ap (λ v. set_has f (chars_of v) c (alike f c)) at
+set_at f c (s ∷ sets) (suc number) set standing has is lt at by = set_at f c sets number set standing has is (omega arith) at by
 
 module _ (n : ℕ) (w : Way) (rows : List ℕ) (are : AreBehind n w rows) where
   abbrev onward : ℕ → List Bool
@@ -38,7 +47,9 @@ module _ (n : ℕ) (w : Way) (rows : List ℕ) (are : AreBehind n w rows) where
       ∙ ap (or_marks (marks_of (size w) all)) (sym (next_or inside (all_known n) w false false (marks_of (size w) (2 ^ j)) (marks_of (size w) rest))
       ∙ ap (λ v. next inside (all_known n) w false v) (sym (taken left j small within set (size w))))
 
-  pub none_behind : (all left : ℕ) → left ≡ 0 → or_marks (marks_of (size w) all) (next inside (all_known n) w false (marks_of (size w) left)) ≡ marks_of (size w) all
+  pub none_behind : (all left : ℕ) → left ≡ 0 →
+      or_marks (marks_of (size w) all) (next inside (all_known n) w false (marks_of (size w) left))
+      ≡ marks_of (size w) all
   none_behind all left is =
       ap (λ v. or_marks (marks_of (size w) all) (next inside (all_known n) w false v)) (ap (marks_of (size w)) is ∙ marks_zero (size w))
       ∙ ap (or_marks (marks_of (size w) all)) (next_blank inside (all_known n) w (size w))
@@ -76,7 +87,8 @@ rows_all n w rows i all len each j = elim (cases_lt j i) [
 
 -- a place that is made of its parts
 pub place_is : (w : Way) (e : Edge) (count enters last : ℕ) (all ends : List Bool) (passing : Bool) → size w ≡ count → all ≡ replicate (length all) true →
-    marks_of count enters ≡ next e (tested all) w true (marks_of count 0) → ends ≡ lasts e w → marks_of (length ends) last ≡ ends → last < 2 ^ length ends → passing ≡ passes e w →
+    marks_of count enters ≡ next e (tested all) w true (marks_of count 0) → ends ≡ lasts e w →
+    marks_of (length ends) last ≡ ends → last < 2 ^ length ends → passing ≡ passes e w →
     IsPlace (length all) w e (record { enters = enters; ends = last; passes = passing })
 place_is w e count enters last all ends passing is known row ended shown small passed =
     let len : length ends ≡ size w = ap length ended ∙ length_lasts e w in (
@@ -87,7 +99,8 @@ place_is w e count enters last all ends passing is known row ended shown small p
       passed,
     )
 
-pub start_is : (w : Way) (e : Edge) (count enters : ℕ) (all : List Bool) (passing : Bool) → e.start ≡ true → size w ≡ count → all ≡ replicate (length all) true →
+pub start_is : (w : Way) (e : Edge) (count enters : ℕ) (all : List Bool) (passing : Bool) →
+    e.start ≡ true → size w ≡ count → all ≡ replicate (length all) true →
     marks_of count enters ≡ next e (tested all) w true (marks_of count 0) → passing ≡ passes e w →
     IsPlace (length all) w e (record { enters = enters; ends = 0; passes = passing })
 start_is w e count enters all passing start is known row passed = (
@@ -105,18 +118,13 @@ length_numbers w = sym (length-map (set_numbers w) (all_known 0)) ∙ length_set
 pub counted_is : (w : Way) (numbers : List ℕ) (count : ℕ) → numbers ≡ set_numbers w → count ≡ length numbers → size w ≡ count
 counted_is w numbers count is counted = sym (counted ∙ ap length is ∙ length_numbers w)
 
-pub each_of : (f : Flags) (ss : List Chars) (lent numbers words : List ℕ) → lent ≡ numbers →
-    ((c : ℕ) → c < 128 → marks_of (length lent) (slice_index_or words c 0) ≡ map (tested (having f ss c)) lent) →
-    (c : ℕ) → c < 128 → marks_of (length numbers) (slice_index_or words c 0) ≡ map (tested (having f ss c)) numbers
-each_of f ss lent numbers words is each = subst (λ xs. (c : ℕ) → c < 128 → marks_of (length xs) (slice_index_or words c 0) ≡ map (tested (having f ss c)) xs) is each
-
-pub made : (f : Flags) (ss : List Chars) (w : Way) (words : Words) (n : ℕ) → n ≡ length ss → words.sets.items ≡ set_numbers w → length words.sets.items ≤ 64 →
+pub made : (n : ℕ) (sets : List Set) (w : Way) (words : Words) → n ≡ length sets →
+    words.numbers.items ≡ set_numbers w → length words.numbers.items ≤ 64 → words.sets.items ≡ sets →
     IsPlace n w at_start words.start → IsPlace n w inside words.inside → IsPlace n w at_end words.end → IsPlace n w alone words.alone →
-    AreBehind n w words.behind.items →
-    ((c : ℕ) → c < 128 → marks_of (length words.sets.items) (slice_index_or words.ascii.items c 0) ≡ map (tested (having f ss c)) words.sets.items) →
-    length words.ascii.items ≡ 128 → AreWords f ss w words
-made f ss w words n count numbers few first within last only rows each counted =
-    let size_is : length words.sets.items ≡ size w = ap length numbers ∙ length_numbers w in (
+    AreBehind n w words.behind.items → AreWords (map chars_of sets) w words
+made n sets w words known numbers few kept first within last only rows =
+    let count : n ≡ length (map chars_of sets) = known ∙ sym (length-map sets chars_of) in
+    let size_is : length words.numbers.items ≡ size w = ap length numbers ∙ length_numbers w in (
       omega (arith, size_is, few),
       subst (λ k. IsPlace k w at_start words.start) count first,
       subst (λ k. IsPlace k w inside words.inside) count within,
@@ -124,8 +132,7 @@ made f ss w words n count numbers few first within last only rows each counted =
       subst (λ k. IsPlace k w alone words.alone) count only,
       subst (λ k. AreBehind k w words.behind.items) count rows,
       numbers,
-      λ c lt. ap (λ k. marks_of k (slice_index_or words.ascii.items c 0)) (sym size_is) ∙ each c lt ∙ ap (map (tested (having f ss c))) numbers,
-      counted,
+      ap (map chars_of) kept,
     )
 
 -- a character that a set has is one that all sets have
@@ -141,34 +148,50 @@ sure f ss c k = elim (cases_lt k (length ss)) [
     and_yes true = refl
     and_yes false = refl
 
-pub is_place : (f : Flags) (ss : List Chars) (w : Way) (words : Words) → AreWords f ss w words → (s t : Bool) → IsPlace (length ss) w (record { start = s; end = t }) (place_at words s t)
-is_place f ss w words (few, start, within, end, only, rows, sets, ascii, counted) true true = only
-is_place f ss w words (few, start, within, end, only, rows, sets, ascii, counted) true false = start
-is_place f ss w words (few, start, within, end, only, rows, sets, ascii, counted) false true = end
-is_place f ss w words (few, start, within, end, only, rows, sets, ascii, counted) false false = within
+pub is_place : (ss : List Chars) (w : Way) (words : Words) → AreWords ss w words → (s t : Bool) →
+    IsPlace (length ss) w (record { start = s; end = t }) (place_at words s t)
+is_place ss w words (few, start, within, end, only, rows, numbers, kept) true true = only
+is_place ss w words (few, start, within, end, only, rows, numbers, kept) true false = start
+is_place ss w words (few, start, within, end, only, rows, numbers, kept) false true = end
+is_place ss w words (few, start, within, end, only, rows, numbers, kept) false false = within
 
-module _ (f : Flags) (ss : List Chars) (w : Way) (words : Words) (are : AreWords f ss w words) where
+module _ (ss : List Chars) (w : Way) (words : Words) (are : AreWords ss w words) where
   -- what is entered, and what stands behind a set
   entered : (s : Bool) (set all : ℕ) → (s ≡ true → set ≡ 0) → (set ≡ 0 → all ≡ (place_at words s false).enters) →
-      marks_of (size w) all ≡ or_marks (marks_of (size w) (place_at words s false).enters) (next inside (all_known (length ss)) w false (marks_of (size w) set)) →
+      marks_of (size w) all
+      ≡ or_marks (marks_of (size w) (place_at words s false).enters) (next inside (all_known (length ss)) w false (marks_of (size w) set)) →
       marks_of (size w) all ≡ next (record { start = s; end = false }) (all_known (length ss)) w true (marks_of (size w) set)
   entered true set all first none behind =
-      ap (marks_of (size w)) (none (first refl)) ∙ (is_place f ss w words are true false).0
+      ap (marks_of (size w)) (none (first refl)) ∙ (is_place ss w words are true false).0
       ∙ ap (next at_start (all_known (length ss)) w true) (sym (ap (marks_of (size w)) (first refl) ∙ marks_zero (size w)))
   entered false set all first none behind =
-      behind ∙ ap (λ v. or_marks v (next inside (all_known (length ss)) w false (marks_of (size w) set))) (is_place f ss w words are false false).0
+      behind ∙ ap (λ v. or_marks v (next inside (all_known (length ss)) w false (marks_of (size w) set))) (is_place ss w words are false false).0
       ∙ sym (next_or inside (all_known (length ss)) w true false (replicate (size w) false) (marks_of (size w) set))
       ∙ ap (next inside (all_known (length ss)) w true) (blank_or (size w) (marks_of (size w) set) (length_marks (size w) set))
 
-  pub stepped : (s : Bool) (set all word c : ℕ) → (s ≡ true → set ≡ 0) → (set ≡ 0 → all ≡ (place_at words s false).enters) →
-      marks_of (size w) all ≡ or_marks (marks_of (size w) (place_at words s false).enters) (next inside (all_known (length ss)) w false (marks_of (size w) set)) →
-      marks_of (size w) word ≡ positions_having f ss w c →
-      marks_of (size w) (bit_and all word) ≡ next (record { start = s; end = false }) (tested (having f ss c)) w true (marks_of (size w) set)
-  stepped s set all word c first none behind is =
-      marks_and (size w) all word
-      ∙ and_swap (marks_of (size w) all) (marks_of (size w) word)
-      ∙ ap (λ v. and_marks v (marks_of (size w) all)) is
-      ∙ ap (λ v. and_marks (positions_having f ss w c) v) (entered s set all first none behind)
+  -- the positions of a set that have a character
+  has_of : (f : Flags) (all word c : ℕ) →
+      marks_of (length words.numbers.items) word
+      ≡ and_marks (marks_of (length words.numbers.items) all) (map (tested (having f (map chars_of words.sets.items) c)) words.numbers.items) →
+      marks_of (size w) word ≡ and_marks (marks_of (size w) all) (map (tested (having f ss c)) (set_numbers w))
+  has_of f all word c is =
+      let (few, start, within, end, only, rows, numbers, kept) = are in
+      let count : length words.numbers.items ≡ size w = ap length numbers ∙ length_numbers w in
+      ap (λ k. marks_of k word) (sym count) ∙ is
+      ∙ ap (λ k. and_marks (marks_of k all) (map (tested (having f (map chars_of words.sets.items) c)) words.numbers.items)) count
+      ∙ ap (λ v. and_marks (marks_of (size w) all) (map (tested (having f (map chars_of words.sets.items) c)) v)) numbers
+      ∙ ap (λ v. and_marks (marks_of (size w) all) (map (tested (having f v c)) (set_numbers w))) kept
+
+  pub stepped : (f : Flags) (s : Bool) (set all word c : ℕ) → (s ≡ true → set ≡ 0) → (set ≡ 0 → all ≡ (place_at words s false).enters) →
+      marks_of (size w) all
+      ≡ or_marks (marks_of (size w) (place_at words s false).enters) (next inside (all_known (length ss)) w false (marks_of (size w) set)) →
+      marks_of (length words.numbers.items) word
+      ≡ and_marks (marks_of (length words.numbers.items) all) (map (tested (having f (map chars_of words.sets.items) c)) words.numbers.items) →
+      marks_of (size w) word ≡ next (record { start = s; end = false }) (tested (having f ss c)) w true (marks_of (size w) set)
+  stepped f s set all word c first none behind is =
+      has_of f all word c is
+      ∙ and_swap (marks_of (size w) all) (map (tested (having f ss c)) (set_numbers w))
+      ∙ ap (and_marks (map (tested (having f ss c)) (set_numbers w))) (entered s set all first none behind)
       ∙ sym (next_asked (record { start = s; end = false }) (tested (having f ss c)) (all_known (length ss)) (sure f ss c) w true (marks_of (size w) set))
     where
       both : (x y : Bool) → (x && y) ≡ (y && x)
@@ -186,25 +209,16 @@ module _ (f : Flags) (ss : List Chars) (w : Way) (words : Words) (are : AreWords
   pub left : (s t : Bool) (set : ℕ) (b : Bool) → (s ≡ true → set ≡ 0) → b ≡ (not (bit_and set (place_at words s t).ends == 0) || (place_at words s t).passes) →
       b ≡ exits (record { start = s; end = t }) w (marks_of (size w) set)
   left true t set b first is =
-      let p = is_place f ss w words are true t in
+      let p = is_place ss w words are true t in
       let e : Edge = record { start = true; end = t } in
       is ∙ ap (λ v. not (v == 0) || (place_at words true t).passes) (ap (λ v. bit_and v (place_at words true t).ends) (first refl) ∙ and_zero_l (place_at words true t).ends)
       ∙ p.3
       ∙ ap (λ v. v || passes e w) (sym (ap (ends e w) (ap (marks_of (size w)) (first refl) ∙ marks_zero (size w)) ∙ ends_blank e w (size w)))
   left false t set b first is =
-      let p = is_place f ss w words are false t in
+      let p = is_place ss w words are false t in
       is ∙ ap (λ v. v || (place_at words false t).passes) (sym (meets_words (size w) set (place_at words false t).ends p.2)
       ∙ ap (meets (marks_of (size w) set)) (p.1 refl) ∙ sym (ends_meets (record { start = false; end = t }) w (marks_of (size w) set)))
       ∙ ap (λ v. ends (record { start = false; end = t }) w (marks_of (size w) set) || v) p.3
 
-  pub few_sets : (lent : List ℕ) → lent ≡ words.sets.items → length lent ≤ 64
-  few_sets lent is = let (few, start, within, end, only, rows, sets, ascii, counted) = are in let len = ap length is ∙ ap length sets ∙ length_numbers w in omega (arith, len, few)
-
-  pub asked : (c r : ℕ) (lent : List ℕ) (answers given : List Bool) → lent ≡ words.sets.items → answers ≡ given → given ≡ having f ss c → marks_of (length lent) r ≡ map (tested answers) lent → marks_of (size w) r ≡ positions_having f ss w c
-  asked c r lent answers given is known has shown =
-      let (few, start, within, end, only, rows, sets, ascii, counted) = are in
-      let same = is ∙ sets in
-      ap (λ k. marks_of k r) (sym (ap length same ∙ length_numbers w)) ∙ shown ∙ ap (λ v. map (tested v) lent) (known ∙ has) ∙ ap (map (tested (having f ss c))) same
-
   pub behind_are : (lent : List ℕ) → lent ≡ words.behind.items → AreBehind (length ss) w lent
-  behind_are lent is = let (few, start, within, end, only, rows, sets, ascii, counted) = are in subst (AreBehind (length ss) w) (sym is) rows
+  behind_are lent is = let (few, start, within, end, only, rows, numbers, kept) = are in subst (AreBehind (length ss) w) (sym is) rows

@@ -23,7 +23,7 @@ both_tests false true false q = refl
 both_tests false false true q = refl
 both_tests false false false q = refl
 
-one_tests : (p q h : Bool) → ((p || q) && h) ≡ ((p && h) || (q && h))
+pub one_tests : (p q h : Bool) → ((p || q) && h) ≡ ((p && h) || (q && h))
 one_tests true q true = refl
 one_tests true true false = refl
 one_tests true false false = refl

@@ -1,11 +1,10 @@
 -- Sets of positions as words, and what a way is at each position.
 use Rattle.std.specs.Prelude.{ℕ, Option, Some, zero, suc, ◌/◌, ◌%◌, ◌^◌, ◌<◌, ◌≤◌, ◌≡◌, Bool, true, false, ◌==◌, ◌||◌, ◌&&◌, List, [], ◌∷◌, ◌++◌, length, map, replicate, slice_index_or}
-use Rattle.xs_pattern.specs.declared.expression.Flags.{Flags}
 use Rattle.xs_pattern.specs.declared.walk.Edge.{Edge}
 use Rattle.xs_pattern.specs.declared.words.Place.{Place}
 use Rattle.xs_pattern.specs.declared.words.Words.{Words}
-use Rattle.xs_pattern.specs.Regex.{Chars, Regex}
-use Rattle.xs_pattern.specs.Unrolling.{having, sets, unroll}
+use Rattle.xs_pattern.specs.Regex.{Chars, Regex, chars_of}
+use Rattle.xs_pattern.specs.Unrolling.{sets, unroll}
 use Rattle.xs_pattern.specs.Way.{Way, one, then, either, plus, size, passes, next}
 
 -- the marks of so many positions that a word stands for: its bits, the lowest first
@@ -84,20 +83,15 @@ place_at words false false = words.inside
 abbrev pub AreBehind : ℕ → Way → List ℕ → Type 0
 AreBehind n w rows = (j : ℕ) → marks_of (size w) (slice_index_or rows j 0) ≡ next inside (all_known n) w false (marks_of (size w) (2 ^ j))
 
--- the positions whose set has the character
-abbrev pub positions_having : Flags → List Chars → Way → ℕ → List Bool
-positions_having f ss w c = map (tested (having f ss c)) (set_numbers w)
-
--- the words of a way, whose sets have these characters
-abbrev pub AreWords : Flags → List Chars → Way → Words → Type 0
-AreWords f ss w words =
+-- the words of a way with these sets
+abbrev pub AreWords : List Chars → Way → Words → Type 0
+AreWords ss w words =
     (size w ≤ 64)
     × IsPlace (length ss) w at_start words.start × IsPlace (length ss) w inside words.inside
     × IsPlace (length ss) w at_end words.end × IsPlace (length ss) w alone words.alone
-    × AreBehind (length ss) w words.behind.items × (words.sets.items ≡ set_numbers w)
-    × ((c : ℕ) → c < 128 → marks_of (size w) (slice_index_or words.ascii.items c 0) ≡ positions_having f ss w c)
-    × (length words.ascii.items ≡ 128)
+    × AreBehind (length ss) w words.behind.items
+    × (words.numbers.items ≡ set_numbers w) × (map chars_of words.sets.items ≡ ss)
 
 -- the words that are kept of an expression
-abbrev pub AreKept : Flags → Regex → Option Words → Type 0
-AreKept f e kept = (words : Words) → kept ≡ Some words → AreWords f (sets e) (unroll 0 e) words
+abbrev pub AreKept : Regex → Option Words → Type 0
+AreKept e kept = (words : Words) → kept ≡ Some words → AreWords (sets e) (unroll 0 e) words

@@ -1,5 +1,5 @@
 -- Tests for the characters that a set has.
-use Rattle.std.specs.Prelude.{ℕ, Bool, false, ◌==◌, ◌||◌, ◌&&◌, not, nat_le, if◌then◌else◌, List, [], ◌∷◌, map, filter}
+use Rattle.std.specs.Prelude.{ℕ, ◌+◌, ◌-◌, Option, Some, None, Bool, false, ◌==◌, ◌||◌, ◌&&◌, not, nat_le, if◌then◌else◌, List, [], ◌∷◌, map, filter}
 use Rattle.std.specs.List.{list_any}
 use Rattle.unicode.specs.CaseFolding.{fold_pairs}
 use Rattle.xs_pattern.specs.declared.expression.Flags.{Flags}
@@ -15,6 +15,18 @@ partners c pairs = map (λ pair. pair.1) (filter (λ pair. pair.0 == c) pairs)
 -- the other characters with the simple folding of this one
 abbrev pub others : ℕ → List ℕ
 others c = partners c fold_pairs
+
+-- of a character of ASCII: the letter of ASCII that differs from it in case alone, and the kelvin sign of k and the long s of s
+abbrev pub other_case : ℕ → Option ℕ
+other_case c =
+    if nat_le 65 c && nat_le c 90 then Some (c + 32) else if nat_le 97 c && nat_le c 122 then Some (c - 32) else None
+
+abbrev pub beyond_ascii : ℕ → Option ℕ
+beyond_ascii c = if c == 75 || c == 107 then Some 8490 else if c == 83 || c == 115 then Some 383 else None
+
+abbrev pub listed : Option ℕ → List ℕ
+listed (Some c) = c ∷ []
+listed None = []
 
 -- the characters that stand for this one: itself, and where case is ignored those with its folding
 abbrev pub alike : Flags → ℕ → List ℕ

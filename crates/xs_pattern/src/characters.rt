@@ -1,16 +1,21 @@
 //! The characters of a text, and which of them a set has.
-ghost use Rattle.std.specs.Prelude.{◌≡◌, ◌<◌, ◌++◌, ℕ, IfOk, OnOk, filter, map, nat_lt, true};
+ghost use Rattle.std.specs.Prelude.{◌≡◌, ◌<◌, ◌++◌, IfOk, OnOk, map, slice_index_or, false};
 ghost use Rattle.std.specs.Str.{chars};
 ghost use Rattle.xs_pattern.specs.Characters.{has_kind};
 ghost use Rattle.xs_pattern.specs.Regex.{chars_of, members_of, regex_of, regexes_of};
-ghost use Rattle.xs_pattern.specs.Tests.{item_has, some_has, member_has, class_has, set_has, some_within, others, partners};
-ghost use Rattle.unicode.specs.CaseFolding.{fold_pairs};
+ghost use Rattle.xs_pattern.specs.Tests.{alike as standing_for, beyond_ascii, item_has, listed, other_case, some_has, member_has, class_has, set_has, some_within, others, partners};
 ghost use Rattle.xs_pattern.specs.Unrolling.{all_sets, having, kept, sets};
 
 use crate::{CharGroup, Expression, Flags, Item, Kind, Set};
 use std::alloc::{AllocError, Global};
 use unicode::case::fold_pairs;
 use unicode::properties::{GeneralCategory, GeneralCategoryGroup};
+
+/// The kelvin sign, whose simple folding is `k`.
+const KELVIN_SIGN: u32 = 0x212a;
+
+/// The long s, whose simple folding is `s`.
+const LONG_S: u32 = 0x17f;
 
 /// The characters of a text.
 pub(crate) fn characters(alloc: Global, text: &str) -> Result<Vec<char>, AllocError>
@@ -78,6 +83,26 @@ impl CharGroup {
             some_has(&self.items, c, alike)
         }
     }
+
+    fn copy(&self, alloc: Global) -> Result<CharGroup, AllocError>
+        ensures { IfOk result (λ g. members_of g ≡ members_of self.now) }
+    {
+        Ok(CharGroup {
+            negated: self.negated,
+            items: self.items.to_vec(alloc)?,
+        })
+    }
+}
+
+/// A copy of each group.
+fn copies(alloc: Global, groups: &[CharGroup]) -> Result<Vec<CharGroup>, AllocError>
+    ensures { IfOk result (λ v. map members_of v.items ≡ map members_of groups.now) }
+{
+    let mut all = Vec::with_capacity(alloc, groups.len())?;
+    for group in groups {
+        all.push(group.copy(alloc)?)?;
+    }
+    Ok(all)
 }
 
 /// Whether the class of these groups has the character.
@@ -101,6 +126,27 @@ impl Set {
             Set::Class(groups) => class_has(groups, c, alike),
         }
     }
+
+    fn copy(&self, alloc: Global) -> Result<Set, AllocError>
+        ensures { IfOk result (λ s. chars_of s ≡ chars_of self.now) }
+    {
+        match self {
+            Set::Dot => Ok(Set::Dot),
+            Set::Item(item) => Ok(Set::Item(*item)),
+            Set::Class(groups) => Ok(Set::Class(copies(alloc, groups)?)),
+        }
+    }
+}
+
+/// Whether the set with this number has the character, for which these characters stand.
+pub(crate) fn has_char(sets: &[Set], number: usize, flags: Flags, c: char, alike: &[u32]) -> bool
+    requires { alike.now ≡ standing_for flags c }
+    ensures { result ≡ slice_index_or (having flags (map chars_of sets.now) c) number false }
+{
+    match sets.get(number) {
+        Some(set) => set.has(flags, c, alike),
+        None => false,
+    }
 }
 
 /// Adds the second character of each pair whose first is this one.
@@ -115,123 +161,121 @@ fn add_partners(code: u32, pairs: &[(u32, u32)], alike: &mut Vec<u32>) -> Result
     Ok(())
 }
 
-/// The pairs of foldings whose first character is of ASCII.
-fn ascii_pairs(alloc: Global) -> Result<Vec<(u32, u32)>, AllocError>
-    ensures { IfOk result (λ v. v.items ≡ filter (λ pair. nat_lt pair.0 128) fold_pairs) }
-{
-    let mut near = Vec::new(alloc);
-    for pair in fold_pairs() {
-        if pair.0 < 128 {
-            near.push(*pair)?;
-        }
-    }
-    Ok(near)
-}
-
-/// Where case is ignored, pairs of foldings, among them all whose first character is of ASCII.
-pub(crate) fn pairs_of_ascii(alloc: Global, flags: Flags) -> Result<Vec<(u32, u32)>, AllocError>
-    ensures { IfOk result (λ v. (c : ℕ) → c < 128 → flags.ignore_case ≡ true → partners c v.items ≡ others c) }
-{
-    if !flags.ignore_case {
-        return Ok(Vec::new(alloc));
-    }
-    ascii_pairs(alloc)
-}
-
-/// Sets `answers` to whether each set of the expression has the character. Where case is ignored, `alike` is what stands
-/// for the character: itself, and those with its simple folding.
-pub(crate) fn fill_having(
-    e: &Expression,
-    flags: Flags,
-    c: char,
-    alike: &mut Vec<u32>,
-    answers: &mut Vec<bool>,
-) -> Result<(), AllocError>
-    ensures { OnOk result (answers.new.items ≡ having flags (sets (regex_of e.now)) c) }
-{
-    fill_having_by(e, flags, c, fold_pairs(), alike, answers)
-}
-
-/// The same, by the pairs of foldings whose first character is this one, among others.
-pub(crate) fn fill_having_by(
-    e: &Expression,
-    flags: Flags,
-    c: char,
-    pairs: &[(u32, u32)],
-    alike: &mut Vec<u32>,
-    answers: &mut Vec<bool>,
-) -> Result<(), AllocError>
-    requires { flags.ignore_case ≡ true → partners c pairs.now ≡ others c }
-    ensures { OnOk result (answers.new.items ≡ having flags (sets (regex_of e.now)) c) }
+/// The letter of ASCII that differs from this one in its case alone.
+fn other_case(c: char) -> Option<u32>
+    ensures { result ≡ other_case c }
 {
     let code = u32::from(c);
-    answers.clear();
-    if !flags.ignore_case {
-        return add_having(e, flags, c, &[code], answers);
+    if 'A' <= c && c <= 'Z' {
+        return Some(code + 32);
     }
-    alike.clear();
-    alike.push(code)?;
-    add_partners(code, pairs, alike)?;
-    add_having(e, flags, c, alike, answers)
+    if 'a' <= c && c <= 'z' {
+        return Some(code - 32);
+    }
+    None
 }
 
-/// Adds for each set of the expression whether it has the character.
-#[cycle(having)]
-fn add_having(
-    e: &Expression,
+/// The character behind ASCII that has the simple folding of this one of ASCII.
+fn beyond_ascii(c: char) -> Option<u32>
+    ensures { result ≡ beyond_ascii c }
+{
+    if c == 'K' || c == 'k' {
+        return Some(KELVIN_SIGN);
+    }
+    if c == 'S' || c == 's' {
+        return Some(LONG_S);
+    }
+    None
+}
+
+/// Adds what there is.
+fn add_some(code: Option<u32>, alike: &mut Vec<u32>) -> Result<(), AllocError>
+    ensures { OnOk result (alike.new.items ≡ alike.old.items ++ listed code) }
+{
+    if let Some(code) = code {
+        alike.push(code)?;
+    }
+    Ok(())
+}
+
+/// Adds the other characters with the simple folding of one of ASCII.
+fn add_ascii_others(c: char, alike: &mut Vec<u32>) -> Result<(), AllocError>
+    requires { c < 128 }
+    ensures { OnOk result (alike.new.items ≡ alike.old.items ++ others c) }
+{
+    add_some(other_case(c), alike)?;
+    add_some(beyond_ascii(c), alike)
+}
+
+/// Sets `alike` to what stands for the character: itself, and where case is ignored those with its simple folding.
+pub(crate) fn fill_alike(flags: Flags, c: char, alike: &mut Vec<u32>) -> Result<(), AllocError>
+    ensures { OnOk result (alike.new.items ≡ standing_for flags c) }
+{
+    alike.clear();
+    alike.push(u32::from(c))?;
+    if !flags.ignore_case {
+        return Ok(());
+    }
+    if c.is_ascii() {
+        return add_ascii_others(c, alike);
+    }
+    add_partners(u32::from(c), fold_pairs(), alike)
+}
+
+/// Sets `answers` to whether each set has the character, and `alike` to what stands for it.
+pub(crate) fn fill_having(
+    sets: &[Set],
     flags: Flags,
     c: char,
-    alike: &[u32],
-    having: &mut Vec<bool>,
+    alike: &mut Vec<u32>,
+    answers: &mut Vec<bool>,
 ) -> Result<(), AllocError>
-    ensures { OnOk result (having.new.items
-        ≡ having.old.items ++ map (λ s. set_has flags s c alike.now) (sets (regex_of e.now))) }
+    ensures { OnOk result (answers.new.items ≡ having flags (map chars_of sets.now) c) }
+{
+    fill_alike(flags, c, alike)?;
+    answers.clear();
+    for set in sets {
+        answers.push(set.has(flags, c, alike))?;
+    }
+    Ok(())
+}
+
+/// Adds a copy of each set of the expression.
+#[cycle(copied)]
+pub(crate) fn add_sets(e: &Expression, alloc: Global, all: &mut Vec<Set>) -> Result<(), AllocError>
+    ensures { OnOk result (map chars_of all.new.items ≡ map chars_of all.old.items ++ sets (regex_of e.now)) }
 {
     match e {
         Expression::Start | Expression::End => Ok(()),
-        Expression::One(set) => Ok(having.push(set.has(flags, c, alike))?),
-        Expression::Group(body) => add_having(body, flags, c, alike, having),
-        Expression::Branch(parts) | Expression::Choice(parts) => {
-            add_all_having(parts, flags, c, alike, having)
-        }
-        Expression::Repeat(_, most, body) => {
-            add_repeated_having(*most, body, flags, c, alike, having)
-        }
+        Expression::One(set) => Ok(all.push(set.copy(alloc)?)?),
+        Expression::Group(body) => add_sets(body, alloc, all),
+        Expression::Branch(parts) | Expression::Choice(parts) => add_all_sets(parts, alloc, all),
+        Expression::Repeat(_, most, body) => add_repeated_sets(*most, body, alloc, all),
     }
 }
 
 /// What is repeated 0 times has no sets.
-#[cycle(having)]
-fn add_repeated_having(
+#[cycle(copied)]
+fn add_repeated_sets(
     most: Option<u32>,
     body: &Expression,
-    flags: Flags,
-    c: char,
-    alike: &[u32],
-    having: &mut Vec<bool>,
+    alloc: Global,
+    all: &mut Vec<Set>,
 ) -> Result<(), AllocError>
-    ensures { OnOk result (having.new.items
-        ≡ having.old.items ++ map (λ s. set_has flags s c alike.now) (kept most (sets (regex_of body.now)))) }
+    ensures { OnOk result (map chars_of all.new.items ≡ map chars_of all.old.items ++ kept most (sets (regex_of body.now))) }
 {
     if let Some(0) = most {
         return Ok(());
     }
-    add_having(body, flags, c, alike, having)
+    add_sets(body, alloc, all)
 }
 
-#[cycle(having)]
-fn add_all_having(
-    parts: &[Expression],
-    flags: Flags,
-    c: char,
-    alike: &[u32],
-    having: &mut Vec<bool>,
-) -> Result<(), AllocError>
-    ensures { OnOk result (having.new.items
-        ≡ having.old.items ++ map (λ s. set_has flags s c alike.now) (all_sets (regexes_of parts.now))) }
+#[cycle(copied)]
+fn add_all_sets(parts: &[Expression], alloc: Global, all: &mut Vec<Set>) -> Result<(), AllocError>
+    ensures { OnOk result (map chars_of all.new.items ≡ map chars_of all.old.items ++ all_sets (regexes_of parts.now)) }
 {
     for part in parts {
-        add_having(part, flags, c, alike, having)?;
+        add_sets(part, alloc, all)?;
     }
     Ok(())
 }

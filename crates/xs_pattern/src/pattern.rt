@@ -1,22 +1,22 @@
 //! Patterns, and whether they are found in a text.
-ghost use Rattle.std.specs.Prelude.{◌≡◌, ◌↔◌, ℕ, ◌≤◌, ◌<◌, true, false, IsTrue, ◌⊎◌, IfOk, IfSome, IsErrOf, IsNone, IsSome, MatchResult, OnOk, length, slice_index_or};
+ghost use Rattle.std.specs.Prelude.{◌≡◌, ◌↔◌, ℕ, ◌≤◌, ◌<◌, true, false, IsTrue, ◌⊎◌, IfOk, IfSome, IsErrOf, IsNone, IsSome, MatchResult, OnOk, length, map, slice_index_or};
 ghost use Rattle.xs_pattern.specs.Flagged.{AreFlags, IsSpelledUnder, SpellsUnder, flags_named};
 ghost use Rattle.std.specs.Str.{chars};
 ghost use Rattle.xs_pattern.specs.Language.{IsFound};
 ghost use Rattle.xs_pattern.specs.Limits.{IsLarge, positions};
 ghost use Rattle.xs_pattern.specs.Marked.{AreKept};
-ghost use Rattle.xs_pattern.specs.Regex.{Regex, regex_of};
-ghost use Rattle.xs_pattern.specs.Unrolling.{exits, exits_at, sets, unroll};
+ghost use Rattle.xs_pattern.specs.Regex.{Regex, chars_of, regex_of};
+ghost use Rattle.xs_pattern.specs.Unrolling.{exits, exits_at, unroll};
 ghost use Rattle.xs_pattern.specs.Way.{next, size, way_of};
 
-use crate::characters::fill_having;
+use crate::characters::{add_sets, fill_having};
 use crate::flagged::{are_flags, flags_named};
 use crate::limits::fitting_positions;
 use crate::reader::read_expression;
 use crate::unrolled::{Unrolled, unroll};
 use crate::walk::{Edge, add_blank, advance, exit_of};
-use crate::words::{MOST, Words, add_known, add_sets};
-use crate::{Expression, Flags, PatternError};
+use crate::words::{MOST, Words, add_known, add_numbers};
+use crate::{Expression, Flags, PatternError, Set};
 use std::alloc::{AllocError, Global};
 use std::mem;
 
@@ -31,7 +31,7 @@ pub struct Pattern {
     // A pattern of few positions by words, which are made once for all texts.
     words: Option<Words>,
     ghost small: { positions (regex_of expression) ≤ 4096 },
-    ghost kept: { AreKept flags (regex_of expression) words },
+    ghost kept: { AreKept (regex_of expression) words },
 }
 
 impl Pattern {
@@ -107,7 +107,7 @@ impl Pattern {
             flags,
             words: _,
         } = self;
-        let words = words_if_few(alloc, &expression, flags)?;
+        let words = words_if_few(alloc, &expression)?;
         Ok(Pattern {
             expression,
             flags,
@@ -117,15 +117,15 @@ impl Pattern {
 
     /// Whether some part of the text is in the language of the pattern (section 5.6.3).
     ///
-    /// The text is read once, whatever the pattern is. Where the pattern has at most 64 positions, a character of ASCII takes
-    /// time in proportion to the positions at which the one before it can stand. Else a character takes time in proportion
-    /// to the positions, times how deep repetitions without end nest, and to the sets of characters; where case is ignored,
-    /// also to the table of foldings.
+    /// The text is read once, whatever the pattern is. Where the pattern has at most 64 positions, a character takes time in
+    /// proportion to the positions at which the one before it can stand, and to the sets of those behind them. Else a
+    /// character takes time in proportion to the positions, times how deep repetitions without end nest, and to the sets of
+    /// characters. Where case is ignored, a character beyond ASCII also takes a walk over the table of foldings.
     pub fn found(&self, alloc: Global, text: &str) -> Result<bool, AllocError>
         ensures { IfOk result (λ b. IsTrue b ↔ IsFound (flags_of self.now) (chars text.now) (regex self.now)) }
     {
         match &self.words {
-            Some(words) => words.is_found(alloc, &self.expression, self.flags, text),
+            Some(words) => words.is_found(alloc, self.flags, text),
             None => self.found_anew(alloc, text),
         }
     }
@@ -136,13 +136,15 @@ impl Pattern {
     {
         let mut next = 0;
         let way = unroll(alloc, &self.expression, &mut next)?;
-        is_found(alloc, &self.expression, self.flags, &way, text)
+        let mut sets = Vec::new(alloc);
+        add_sets(&self.expression, alloc, &mut sets)?;
+        is_found(alloc, &sets, self.flags, &way, text)
     }
 }
 
 /// An expression that has few positions by words.
-fn words_if_few(alloc: Global, e: &Expression, flags: Flags) -> Result<Option<Words>, AllocError>
-    ensures { IfOk result (λ o. AreKept flags (regex_of e.now) o) }
+fn words_if_few(alloc: Global, e: &Expression) -> Result<Option<Words>, AllocError>
+    ensures { IfOk result (λ o. AreKept (regex_of e.now) o) }
 {
     let Some(positions) = fitting_positions(e) else {
         return Ok(None);
@@ -152,14 +154,16 @@ fn words_if_few(alloc: Global, e: &Expression, flags: Flags) -> Result<Option<Wo
     }
     let mut number = 0;
     let way = unroll(alloc, e, &mut number)?;
-    let mut sets = Vec::new(alloc);
-    add_sets(&way, &mut sets)?;
-    if sets.len() > MOST {
+    let mut numbers = Vec::new(alloc);
+    add_numbers(&way, &mut numbers)?;
+    if numbers.len() > MOST {
         return Ok(None);
     }
+    let mut sets = Vec::new(alloc);
+    add_sets(e, alloc, &mut sets)?;
     let mut all = Vec::new(alloc);
-    add_known(number, &mut all)?;
-    Ok(Some(Words::new(alloc, e, flags, &way, sets, &all)?))
+    add_known(sets.len(), &mut all)?;
+    Ok(Some(Words::new(alloc, &way, numbers, sets, &all)?))
 }
 
 /// Reads a character at a place, of which it is known which sets have it, and answers whether a part of the text ends
@@ -182,18 +186,18 @@ fn read_char(
     Ok(exit.leaves())
 }
 
-/// Whether some part of the text is of the pattern, which is given unrolled, too.
+/// Whether some part of the text is of the pattern, which is given unrolled, with its sets.
 pub(crate) fn is_found(
     alloc: Global,
-    e: &Expression,
+    sets: &[Set],
     flags: Flags,
     way: &Unrolled,
     text: &str,
 ) -> Result<bool, AllocError>
     ensures found { IfOk result (λ b. b ≡ true → (j : ℕ) × (j ≤ length (chars text.now))
-        × (exits_at flags (sets (regex_of e.now)) (chars text.now) (way_of way.now) j ≡ true)) }
+        × (exits_at flags (map chars_of sets.now) (chars text.now) (way_of way.now) j ≡ true)) }
     ensures missed { IfOk result (λ b. b ≡ false → (j : ℕ) → j ≤ length (chars text.now)
-        → exits_at flags (sets (regex_of e.now)) (chars text.now) (way_of way.now) j ≡ false) }
+        → exits_at flags (map chars_of sets.now) (chars text.now) (way_of way.now) j ≡ false) }
 {
     let mut marks = Vec::new(alloc);
     add_blank(way, &mut marks)?;
@@ -202,7 +206,7 @@ pub(crate) fn is_found(
     let mut alike = Vec::new(alloc);
     let mut start = true;
     for c in text.chars() {
-        fill_having(e, flags, c, &mut alike, &mut having)?;
+        fill_having(sets, flags, c, &mut alike, &mut having)?;
         let edge = Edge { start, end: false };
         if read_char(way, edge, &having, &mut marks, &mut behind)? {
             return Ok(true);

@@ -1,18 +1,18 @@
 //! Patterns of at most 64 positions, whose sets of positions are words: bit i of a word stands for position i.
 //!
 //! What a way does is known by what it does at each single position, since a set of positions leads where its members lead.
-ghost use Rattle.std.specs.Prelude.{◌≡◌, ◌<◌, ◌≤◌, ◌^◌, List, ◌++◌, ◌∷◌, [], ◌+◌, ◌==◌, ℕ, false, true, not, ◌||◌, bit_and, IfOk, OnOk, length, map, replicate, slice_index_or};
+ghost use Rattle.std.specs.Prelude.{◌≡◌, ◌<◌, ◌≤◌, ◌^◌, List, ◌++◌, ◌∷◌, [], ◌+◌, ◌==◌, ℕ, false, true, not, ◌||◌, bit_and, IfOk, OnOk, length, map, replicate};
 ghost use Rattle.std.specs.Str.{chars};
-ghost use Rattle.xs_pattern.specs.Marked.{AreBehind, AreWords, IsPlace, all_known, inside, lasts, marks_of, or_marks, place_at, positions_having, set_numbers, tested};
-ghost use Rattle.xs_pattern.specs.Regex.{Chars, regex_of};
-ghost use Rattle.xs_pattern.specs.Unrolling.{exits, exits_at, having, sets, unroll};
+ghost use Rattle.xs_pattern.specs.Marked.{AreBehind, AreWords, IsPlace, all_known, and_marks, inside, lasts, marks_of, or_marks, place_at, set_numbers, tested};
+ghost use Rattle.xs_pattern.specs.Regex.{Chars, chars_of};
+ghost use Rattle.xs_pattern.specs.Tests.{alike as standing_for};
+ghost use Rattle.xs_pattern.specs.Unrolling.{exits, exits_at, having};
 ghost use Rattle.xs_pattern.specs.Way.{Way, next, size, way_of};
-ghost use Rattle.xs_pattern.specs.declared.expression.Flags.{Flags};
 
-use crate::characters::{fill_having, fill_having_by, pairs_of_ascii};
+use crate::characters::{fill_alike, has_char};
 use crate::unrolled::Unrolled;
 use crate::walk::{Edge, advance, exit_of};
-use crate::{Expression, Flags};
+use crate::{Flags, Set};
 use std::alloc::{AllocError, Global};
 
 /// The most positions of a pattern that is kept as words.
@@ -43,9 +43,9 @@ pub(crate) struct Words {
     /// For each position, those that can stand behind it.
     pub(crate) behind: Vec<u64>,
     /// For each position the number of its set.
-    pub(crate) sets: Vec<usize>,
-    /// For each character of ASCII the positions whose sets have it.
-    pub(crate) ascii: Vec<u64>,
+    pub(crate) numbers: Vec<usize>,
+    /// The sets.
+    pub(crate) sets: Vec<Set>,
 }
 
 /// The word with one more mark.
@@ -71,20 +71,6 @@ fn word_of(marks: &[bool]) -> u64
     let mut word = 0;
     for position in 0..marks.len() {
         word = with_mark(word, position, marks[position]);
-    }
-    word
-}
-
-/// The word for the positions of these sets, of which it is known which have a character.
-fn word_having(sets: &[usize], having: &[bool]) -> u64
-    requires { length sets.now ≤ 64 }
-    ensures shown { marks_of (length sets.now) result ≡ map (tested having.now) sets.now }
-    ensures small { result < 2 ^ length sets.now }
-{
-    let mut word = 0;
-    for position in 0..sets.len() {
-        let has = having.get(sets[position]).copied().unwrap_or(false);
-        word = with_mark(word, position, has);
     }
     word
 }
@@ -238,24 +224,24 @@ fn add_times(count: usize, set: usize, sets: &mut Vec<usize>) -> Result<(), Allo
 }
 
 /// Adds for each position the number of its set.
-pub(crate) fn add_sets(part: &Unrolled, sets: &mut Vec<usize>) -> Result<(), AllocError>
-    ensures { OnOk result (sets.new.items ≡ sets.old.items ++ set_numbers (way_of part.now)) }
+pub(crate) fn add_numbers(part: &Unrolled, numbers: &mut Vec<usize>) -> Result<(), AllocError>
+    ensures { OnOk result (numbers.new.items ≡ numbers.old.items ++ set_numbers (way_of part.now)) }
 {
     match part {
         Unrolled::Nothing | Unrolled::Never | Unrolled::Start | Unrolled::End => Ok(()),
-        Unrolled::One(set) => Ok(sets.push(*set)?),
-        Unrolled::Times(set, count) => add_times(*count, *set, sets),
+        Unrolled::One(set) => Ok(numbers.push(*set)?),
+        Unrolled::Times(set, count) => add_times(*count, *set, numbers),
         Unrolled::Then(first, second) => {
-            add_sets(first, sets)?;
-            add_sets(second, sets)?;
+            add_numbers(first, numbers)?;
+            add_numbers(second, numbers)?;
             Ok(())
         }
         Unrolled::Either(first, second) => {
-            add_sets(first, sets)?;
-            add_sets(second, sets)?;
+            add_numbers(first, numbers)?;
+            add_numbers(second, numbers)?;
             Ok(())
         }
-        Unrolled::Plus(body) => add_sets(body, sets),
+        Unrolled::Plus(body) => add_numbers(body, numbers),
     }
 }
 
@@ -269,43 +255,19 @@ pub(crate) fn add_known(count: usize, marks: &mut Vec<bool>) -> Result<(), Alloc
     Ok(())
 }
 
-/// For each character of ASCII the positions whose sets have it.
-fn ascii_words(
-    alloc: Global,
-    e: &Expression,
-    flags: Flags,
-    numbers: &[usize],
-) -> Result<Vec<u64>, AllocError>
-    requires { length numbers.now ≤ 64 }
-    ensures each { IfOk result (λ v. (c : ℕ) → c < 128 → marks_of (length numbers.now) (slice_index_or v.items c 0)
-        ≡ map (tested (having flags (sets (regex_of e.now)) c)) numbers.now) }
-    ensures counted { IfOk result (λ v. length v.items ≡ 128) }
-{
-    let mut words = Vec::new(alloc);
-    let mut alike = Vec::new(alloc);
-    let mut having = Vec::new(alloc);
-    let pairs = pairs_of_ascii(alloc, flags)?;
-    for code in 0..128u8 {
-        fill_having_by(e, flags, char::from(code), &pairs, &mut alike, &mut having)?;
-        words.push(word_having(numbers, &having))?;
-    }
-    Ok(words)
-}
-
 impl Words {
-    /// The words of a way of at most 64 positions, which is that of the expression. `all` has a mark for each set.
+    /// The words of a way of at most 64 positions with these sets. `all` has a mark for each set.
     pub(crate) fn new(
         alloc: Global,
-        e: &Expression,
-        flags: Flags,
         way: &Unrolled,
         numbers: Vec<usize>,
+        sets: Vec<Set>,
         all: &[bool],
     ) -> Result<Words, AllocError>
         requires few { length numbers.items ≤ 64 }
         requires numbers { numbers.items ≡ set_numbers (way_of way.now) }
-        requires all { all.now ≡ replicate (length (sets (regex_of e.now))) true }
-        ensures { IfOk result (AreWords flags (sets (regex_of e.now)) (way_of way.now)) }
+        requires all { all.now ≡ replicate (length sets.items) true }
+        ensures { IfOk result (AreWords (map chars_of sets.items) (way_of way.now)) }
     {
         let count = numbers.len();
         let mut marks = Vec::new(alloc);
@@ -316,15 +278,14 @@ impl Words {
         let alone = place_of(way, true, true, all, count, &mut marks, &mut ends)?;
         let mut behind = Vec::new(alloc);
         fill_rows(way, all, count, &mut marks, &mut ends, &mut behind)?;
-        let ascii = ascii_words(alloc, e, flags, &numbers)?;
         Ok(Words {
             start,
             inside,
             end,
             alone,
             behind,
-            sets: numbers,
-            ascii,
+            numbers,
+            sets,
         })
     }
 
@@ -340,53 +301,57 @@ impl Words {
         }
     }
 
-    /// The positions whose sets have the character.
-    fn having(
-        &self,
-        e: &Expression,
-        flags: Flags,
-        c: char,
-        alike: &mut Vec<u32>,
-        answers: &mut Vec<bool>,
-    ) -> Result<u64, AllocError>
-        requires { AreWords flags (sets (regex_of e.now)) (unroll 0 (regex_of e.now)) self.now }
-        ensures { IfOk result (λ r. marks_of (size (unroll 0 (regex_of e.now))) r
-            ≡ positions_having flags (sets (regex_of e.now)) (unroll 0 (regex_of e.now)) c) }
+    /// Whether the set of a position has the character, for which these characters stand.
+    fn has(&self, position: usize, flags: Flags, c: char, alike: &[u32]) -> bool
+        requires { alike.now ≡ standing_for flags c }
+        ensures { result ≡ tested (map (tested (having flags (map chars_of self.now.sets.items) c)) self.now.numbers.items) position }
     {
-        let code = u32::from(c);
-        if code < 128 {
-            return Ok(self.ascii.get(code as usize).copied().unwrap_or(0));
+        match self.numbers.get(position) {
+            Some(number) => has_char(&self.sets, *number, flags, c, alike),
+            None => false,
         }
-        fill_having(e, flags, c, alike, answers)?;
-        Ok(word_having(&self.sets, answers))
+    }
+
+    /// Those of the positions whose sets have the character, for which these characters stand.
+    fn having(&self, positions: u64, flags: Flags, c: char, alike: &[u32]) -> u64
+        requires { alike.now ≡ standing_for flags c }
+        ensures { marks_of (length self.now.numbers.items) result ≡ and_marks (marks_of (length self.now.numbers.items) positions)
+            (map (tested (having flags (map chars_of self.now.sets.items) c)) self.now.numbers.items) }
+    {
+        let mut having = 0;
+        let mut left = positions;
+        while left != 0 {
+            let position = left.trailing_zeros();
+            left &= !(1u64 << position);
+            if self.has(position as usize, flags, c, alike) {
+                having |= 1u64 << position;
+            }
+        }
+        having
     }
 
     /// The positions at which the next character can stand, where the last one stands at those of `set`.
     fn step(
         &self,
-        e: &Expression,
         flags: Flags,
         start: bool,
         set: u64,
         c: char,
         alike: &mut Vec<u32>,
-        answers: &mut Vec<bool>,
     ) -> Result<u64, AllocError>
-        requires words { AreWords flags (sets (regex_of e.now)) (unroll 0 (regex_of e.now)) self.now }
-        requires start { start ≡ true → set ≡ 0 }
-        ensures { IfOk result (λ r. marks_of (size (unroll 0 (regex_of e.now))) r
-            ≡ next (record { start = start; end = false }) (tested (having flags (sets (regex_of e.now)) c)) (unroll 0 (regex_of e.now)) true
-            (marks_of (size (unroll 0 (regex_of e.now))) set)) }
+        requires { start ≡ true → set ≡ 0 }
+        ensures { IfOk result (λ r. (ss : List Chars) (w : Way) → AreWords ss w self.now → marks_of (size w) r
+            ≡ next (record { start = start; end = false }) (tested (having flags ss c)) w true (marks_of (size w) set)) }
     {
-        let word = self.having(e, flags, c, alike, answers)?;
+        fill_alike(flags, c, alike)?;
         let all = behind_all(self.place(start, false).enters, set, &self.behind);
-        Ok(all & word)
+        Ok(self.having(all, flags, c, alike))
     }
 
     /// Whether a part of the text ends there, where the last character stands at the positions of `set`.
     fn leaves(&self, start: bool, end: bool, set: u64) -> bool
         requires { start ≡ true → set ≡ 0 }
-        ensures { (f : Flags) (ss : List Chars) (w : Way) → AreWords f ss w self.now
+        ensures { (ss : List Chars) (w : Way) → AreWords ss w self.now
             → result ≡ exits (record { start = start; end = end }) w (marks_of (size w) set) }
     {
         self.place(start, end).leaves(set)
@@ -396,25 +361,22 @@ impl Words {
     pub(crate) fn is_found(
         &self,
         alloc: Global,
-        e: &Expression,
         flags: Flags,
         text: &str,
     ) -> Result<bool, AllocError>
-        requires { AreWords flags (sets (regex_of e.now)) (unroll 0 (regex_of e.now)) self.now }
-        ensures found { IfOk result (λ b. b ≡ true → (j : ℕ) × (j ≤ length (chars text.now))
-            × (exits_at flags (sets (regex_of e.now)) (chars text.now) (unroll 0 (regex_of e.now)) j ≡ true)) }
-        ensures missed { IfOk result (λ b. b ≡ false → (j : ℕ) → j ≤ length (chars text.now)
-            → exits_at flags (sets (regex_of e.now)) (chars text.now) (unroll 0 (regex_of e.now)) j ≡ false) }
+        ensures found { IfOk result (λ b. (ss : List Chars) (w : Way) → AreWords ss w self.now → b ≡ true
+            → (j : ℕ) × (j ≤ length (chars text.now)) × (exits_at flags ss (chars text.now) w j ≡ true)) }
+        ensures missed { IfOk result (λ b. (ss : List Chars) (w : Way) → AreWords ss w self.now → b ≡ false
+            → (j : ℕ) → j ≤ length (chars text.now) → exits_at flags ss (chars text.now) w j ≡ false) }
     {
         let mut alike = Vec::new(alloc);
-        let mut answers = Vec::new(alloc);
         let mut set = 0;
         let mut start = true;
         for c in text.chars() {
             if self.leaves(start, false, set) {
                 return Ok(true);
             }
-            set = self.step(e, flags, start, set, c, &mut alike, &mut answers)?;
+            set = self.step(flags, start, set, c, &mut alike)?;
             start = false;
         }
         Ok(self.leaves(start, true, set))

@@ -1,9 +1,7 @@
-use Rattle.std.proofs.Common.{◌∙◌, ap, length, rules, true}
+use Rattle.std.proofs.Common.{◌∙◌, ap, length, refl, rules, true}
 use Rattle.std.proofs.lemmas.List.{length-replicate}
-use Rattle.xs_pattern.specs.Regex.{regex_of}
-use Rattle.xs_pattern.specs.Unrolling.{sets}
 use Rattle.xs_pattern.specs.Way.{way_of}
-use Rattle.xs_pattern.proofs.Stepped.{counted_is, each_of, made}
+use Rattle.xs_pattern.proofs.Stepped.{counted_is, made}
 use Rattle.xs_pattern.proofs.words.Words.new.Goals as goal
 
 pub place_of-requires-clause-count : goal.place_of-requires-clause-count
@@ -23,10 +21,15 @@ fill_rows-requires-clause-count c = counted_is (way_of c.args.way.now) c.args.nu
 
 pub returns : goal.returns
 returns c =
-    let ss = sets (regex_of c.args.e.now) in
-    made c.args.flags ss (way_of c.args.way.now)
-    (record { start = c.in_ok-start.start; inside = c.in_ok-inside.inside; end = c.in_ok-end.end; alone = c.in_ok-alone.alone; behind = c.fill_rows.new.rows; sets = c.args.numbers; ascii = c.in_ok-ascii.ascii })
-    (length c.args.all.now) (ap length c.requires.all ∙ length-replicate (length ss) true) c.requires.numbers c.requires.few
+    made (length c.args.all.now) c.args.sets.items (way_of c.args.way.now)
+    (record {
+      start = c.in_ok-start.start;
+      inside = c.in_ok-inside.inside;
+      end = c.in_ok-end.end;
+      alone = c.in_ok-alone.alone;
+      behind = c.fill_rows.new.rows;
+      numbers = c.args.numbers;
+      sets = c.args.sets;
+    })
+    (ap length c.requires.all ∙ length-replicate (length c.args.sets.items) true) c.requires.numbers c.requires.few refl
     c.in_ok-start.ensures c.in_ok-inside.ensures c.in_ok-end.ensures c.in_ok-alone.ensures c.in_ok-fill_rows.ensures
-    (each_of c.args.flags ss c.deref.result.now c.args.numbers.items c.in_ok-ascii.ascii.items c.deref.ensures.value c.in_ok-ascii.ensures.each)
-    c.in_ok-ascii.ensures.counted
