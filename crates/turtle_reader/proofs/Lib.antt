@@ -1,4 +1,5 @@
 pub mod Places
+pub mod Alone
 pub mod Sound
 pub mod Complete
 pub mod Limits

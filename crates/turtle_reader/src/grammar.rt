@@ -200,16 +200,38 @@ fn commas(
     Ok(())
 }
 
+/// The objects of a subject and a predicate [8]. The predicate of one object alone is moved to its triple.
+#[cycle(grammar)]
+#[tactic(auto, unfolding(crate::specs::Reading::objects, crate::specs::Reading::one_object))]
+fn objects(
+    c: &mut Cursor<'_>,
+    state: &mut State,
+    depth: u32,
+    subject: &Resource,
+    predicate: String,
+) -> Result<(), Stop>
+    ensures gives { Gives (λ x. scope_of state.new) result (ahead c.new) (objects true (object true depth) (term_of subject.now) (string_bytes predicate) (scope_of state.old) (ahead c.old)) }
+    ensures source { source_in c.new ≡ source_in c.old }
+{
+    let first = object(c, state, depth)?;
+    if c.is_at(Symbol::Comma) {
+        state.add(subject, predicate.as_str(), first)?;
+        commas(c, state, depth, subject, predicate.as_str())
+    } else {
+        state.add_alone(subject, predicate, first)?;
+        Ok(())
+    }
+}
+
 /// A verb and its objects [8].
 #[cycle(grammar)]
-#[tactic(auto, unfolding(crate::specs::Reading::pair, crate::specs::Reading::objects))]
+#[tactic(auto, unfolding(crate::specs::Reading::pair))]
 fn pair(c: &mut Cursor<'_>, state: &mut State, depth: u32, subject: &Resource) -> Result<(), Stop>
     ensures gives { Gives (λ x. scope_of state.new) result (ahead c.new) (pair true (object true depth) (term_of subject.now) (scope_of state.old) (ahead c.old)) }
     ensures source { source_in c.new ≡ source_in c.old }
 {
     let predicate = verb(c, state)?;
-    one_object(c, state, depth, subject, predicate.as_str())?;
-    commas(c, state, depth, subject, predicate.as_str())
+    objects(c, state, depth, subject, predicate)
 }
 
 /// What follows a semicolon: a verb and its objects, or nothing.

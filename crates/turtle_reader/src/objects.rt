@@ -28,14 +28,14 @@ impl ObjectList {
     pub fn new(
         alloc: Global,
         subject: &Resource,
-        predicate: &str,
+        predicate: Text,
         object: Term,
     ) -> Result<ObjectList, AllocError>
-        ensures { IfOk result (λ l. triples_of l ≡ triple_of (term_of subject.now) (chars predicate.now) object ∷ []) }
+        ensures { IfOk result (λ l. triples_of l ≡ triple_of (term_of subject.now) predicate object ∷ []) }
     {
         Ok(ObjectList {
             subject: subject.try_clone(alloc)?,
-            predicate: Text::from_str(alloc, predicate)?,
+            predicate,
             before: Vec::new(alloc),
             last: object,
         })
@@ -58,6 +58,21 @@ impl ObjectList {
     }
 }
 
+/// Adds a triple to those of object lists, as a list of its own.
+pub fn add_list(
+    lists: &mut Vec<ObjectList>,
+    alloc: Global,
+    subject: &Resource,
+    predicate: Text,
+    object: Term,
+) -> Result<(), AllocError>
+    ensures { OnOk result (all_triples_of lists.new.items ≡ all_triples_of lists.old.items ++ triple_of (term_of subject.now) predicate object ∷ []) }
+{
+    let list = ObjectList::new(alloc, subject, predicate, object)?;
+    lists.push(list)?;
+    Ok(())
+}
+
 /// Adds a triple to those of object lists: an object to the last list, where that list is of its subject and its predicate, and
 /// else a list of its own.
 pub fn add_triple(
@@ -74,7 +89,6 @@ pub fn add_triple(
             return last.push(object);
         }
     }
-    let list = ObjectList::new(alloc, subject, predicate, object)?;
-    lists.push(list)?;
-    Ok(())
+    let predicate = Text::from_str(alloc, predicate)?;
+    add_list(lists, alloc, subject, predicate, object)
 }

@@ -4,7 +4,7 @@ ghost use Rattle.std.specs.Prelude.{◌≡◌, ◌≤◌, IfOk, OnOk, IsSome};
 ghost use Rattle.iri_resolve.specs.Reference.{scheme_of};
 ghost use Rattle.rdf_lex.specs.Prefixes.{base_of};
 
-use crate::objects::{ObjectList, add_triple};
+use crate::objects::{ObjectList, add_list, add_triple};
 use crate::resource::Resource;
 use rdf_cursor::{Fault, Stop};
 use rdf_lex::Prefixes;
@@ -32,7 +32,7 @@ pub struct State {
 }
 
 impl State {
-    ghost use Rattle.std.specs.Prelude.{true};
+    ghost use Rattle.std.specs.Prelude.{true, string_bytes};
     ghost use Rattle.rdf_cursor.specs.Stops.{Answers};
     ghost use Rattle.turtle_reader.specs.Meanings.{numbered};
     ghost use Rattle.turtle_reader.specs.States.{anonymous, names_in, scope_of, added, begun, declared, rebased, start};
@@ -90,6 +90,19 @@ impl State {
         ensures { OnOk result (scope_of self.new ≡ added (term_of subject.now) predicate.now object (scope_of self.old)) }
     {
         add_triple(&mut self.lists, self.alloc, subject, predicate, object)
+    }
+
+    /// Adds a triple of a predicate that is moved to it.
+    pub fn add_alone(
+        &mut self,
+        subject: &Resource,
+        predicate: String,
+        object: Term,
+    ) -> Result<(), AllocError>
+        ensures { OnOk result (scope_of self.new ≡ added (term_of subject.now) (string_bytes predicate) object (scope_of self.old)) }
+    {
+        let predicate = Text::from_string(predicate);
+        add_list(&mut self.lists, self.alloc, subject, predicate, object)
     }
 
     /// Adds the triple of a cell of a collection and its member (RDF 1.1 Turtle, section 2.8).

@@ -1,4 +1,4 @@
-use Rattle.std.proofs.Common.{sym, ◌∙◌, true}
+use Rattle.std.proofs.Common.{sym, ◌∙◌, true, string_bytes}
 use Rattle.std.proofs.lemmas.Result.{err_from_is_err_and}
 use Rattle.rdf_cursor.proofs.Loops.{loop_goes, loop_ends}
 use Rattle.rdf_cursor.specs.Cursors.{ahead}
@@ -6,6 +6,7 @@ use Rattle.turtle_reader.specs.Reading.{object}
 use Rattle.turtle_reader.specs.Objects.{term_of}
 use Rattle.turtle_reader.specs.States.{scope_of, anonymous}
 use Rattle.term_tokens.proofs.Failing.{fails_loop}
+use Rattle.turtle_reader.proofs.Alone.{one_alone}
 use Rattle.turtle_reader.proofs.Places.{consumes_comma, consumes_semicolon, consumes_next_member, local_object, consumes_object}
 use Rattle.turtle_reader.proofs.grammar.+grammar.Goals as goal
 
@@ -56,3 +57,7 @@ members-returns-in_err-last-clause-gives t c =
 
 pub members-returns-clause-gives : goal.members-returns-clause-gives
 members-returns-clause-gives t c = loop_ends _ _ (consumes_next_member true (object true c.args.depth) (local_object true c.args.depth) (consumes_object true c.args.depth)) _ _ _ (sym c.at_member.ensures ∙ c.loop-c-test.false) c.loop-c.invariant.0
+
+pub objects-returns-in_ok-add_alone-clause-gives : goal.objects-returns-in_ok-add_alone-clause-gives
+objects-returns-in_ok-add_alone-clause-gives t c =
+    rw c.in_ok-add_alone.ensures (one_alone true c.args.depth (term_of c.args.subject.now) (string_bytes c.args.predicate) (scope_of c.args.state.now) _ _ (ahead c.args.c.now) _ c.in_ok-first.ensures.gives (sym c.is_at.ensures ∙ c.if-is_at.false))

@@ -21,20 +21,23 @@ decreases-comma l = l.depth * 16 + 2
 abbrev pub decreases-commas : goal.decreases-commas
 decreases-commas l = l.depth * 16 + 3
 
+abbrev pub decreases-objects : goal.decreases-objects
+decreases-objects l = l.depth * 16 + 4
+
 abbrev pub decreases-pair : goal.decreases-pair
-decreases-pair l = l.depth * 16 + 4
+decreases-pair l = l.depth * 16 + 5
 
 abbrev pub decreases-semicolon : goal.decreases-semicolon
-decreases-semicolon l = l.depth * 16 + 5
+decreases-semicolon l = l.depth * 16 + 6
 
 abbrev pub decreases-semicolons : goal.decreases-semicolons
-decreases-semicolons l = l.depth * 16 + 6
+decreases-semicolons l = l.depth * 16 + 7
 
 abbrev pub decreases-predicates : goal.decreases-predicates
-decreases-predicates l = l.depth * 16 + 7
+decreases-predicates l = l.depth * 16 + 8
 
 abbrev pub decreases-node : goal.decreases-node
-decreases-node l = l.depth * 16 + 8
+decreases-node l = l.depth * 16 + 9
 
 abbrev pub decreases-in_cell : goal.decreases-in_cell
 decreases-in_cell l = l.depth * 16 + 1
