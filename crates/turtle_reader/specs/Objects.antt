@@ -1,5 +1,6 @@
 -- The triples of object lists (RDF 1.1 Turtle, section 2.3).
-use Rattle.std.specs.Prelude.{ℕ, List, [], ◌∷◌, ◌++◌, map}
+use Rattle.std.specs.Prelude.{◌≡◌, ℕ, List, [], ◌∷◌, ◌++◌, Some, map, slice_get}
+use Rattle.lists.specs.Additions.{AddsAll}
 use Rattle.std.specs.List.{flat_map}
 use Rattle.rdf_terms.specs.declared.terms.Term.{Term}
 use Rattle.rdf_terms.specs.declared.terms.Term.TheVariants.{Blank, Iri}
@@ -15,6 +16,16 @@ term_of (resource.Blank name) = Blank name
 -- the triple of a subject, a predicate and an object
 abbrev pub triple_of : Term → List ℕ → Term → TermTriple
 triple_of s p o = record { subject = s; predicate = Iri p; object = o }
+
+-- the triple of three terms
+abbrev pub triple_with : Term → Term → Term → TermTriple
+triple_with s p o = record { subject = s; predicate = p; object = o }
+
+-- a subject and a predicate, with which a triple begins, went last in the table where they were new, and have these numbers
+pub record Begins (old terms : List Term) (s p : Term) (i j : ℕ) : Type 0 where
+  pub added : AddsAll old (s ∷ p ∷ []) terms
+  pub subject : slice_get terms i ≡ Some s
+  pub predicate : slice_get terms j ≡ Some p
 
 -- the triple of an object of a list
 abbrev pub triple_in : ObjectList → Term → TermTriple

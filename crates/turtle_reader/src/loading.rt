@@ -1,62 +1,93 @@
 //! The triples of a statement, put into a table and a graph.
 
-ghost use Rattle.std.specs.Prelude.{◌≡◌, [], ◌∷◌, ◌++◌, IfOk, List};
+ghost use Rattle.std.specs.Prelude.{◌≡◌, ◌≤◌, [], ◌∷◌, ◌++◌, IfOk, OnOk, OnErr, List, Some, length, map, slice_get, Contains};
 ghost use Rattle.data_loading.specs.Loads.{LoadsAll};
+ghost use Rattle.lists.specs.Additions.{Adds, AddsAll};
+ghost use Rattle.lists.specs.Distinct.{AreDistinct};
+ghost use Rattle.rdf_terms.specs.Tables.{max_terms};
 ghost use Rattle.rdf_terms.specs.declared.terms.Term.{Term};
 ghost use Rattle.rdf_terms.specs.declared.terms.Triple.{Triple};
-ghost use Rattle.turtle_reader.specs.Objects.{all_triples_of, term_of, triple_of, triples_of};
+ghost use Rattle.turtle_reader.specs.Objects.{all_triples_of, triples_of, triple_with, Begins};
 
 use crate::objects::ObjectList;
-use crate::resource::Resource;
-use graph_index::graph::Graph;
-use graph_index::loading::{LoadError, TermTriple, load};
-use rdf_terms::table::TermTable;
-use rdf_terms::terms::Term;
-use rdf_terms::text::Text;
-use std::alloc::{AllocError, Global};
+use graph_index::graph::{AddError, Graph};
+use graph_index::loading::LoadError;
+use rdf_terms::table::{PutError, TermTable};
+use rdf_terms::terms::{Term, TermId, Triple};
 
-/// The triple of a subject and a predicate, which are copied, and an object.
-fn triple_with(
-    alloc: Global,
-    subject: &Resource,
-    predicate: &Text,
-    object: Term,
-) -> Result<TermTriple, AllocError>
-    ensures { IfOk result (λ t. t ≡ triple_of (term_of subject.now) predicate.now object) }
-{
-    Ok(TermTriple {
-        subject: subject.to_term(alloc)?,
-        predicate: Term::Iri(predicate.try_clone(alloc)?),
-        object,
-    })
+/// The numbers of a subject and a predicate.
+#[derive(Clone, Copy, Debug)]
+struct Numbers {
+    s: TermId,
+    p: TermId,
 }
 
-/// Loads the triple of a subject and a predicate, which are copied, and an object.
-fn load_copy(
-    alloc: Global,
-    terms: &mut TermTable,
-    graph: &mut Graph,
-    subject: &Resource,
-    predicate: &Text,
-    object: Term,
-) -> Result<(), LoadError>
-    ensures loads { LoadsAll result terms.old graph.old.triples (triple_of (term_of subject.now) predicate.now object ∷ []) terms.new graph.new.triples }
-    ensures grown { (more : List Term) × (terms.new ≡ terms.old ++ more) }
-    ensures appended { (more : List Triple) × (graph.new.triples ≡ graph.old.triples ++ more) }
+/// The number of a term, which goes last where it is new.
+fn number(terms: &mut TermTable, term: Term) -> Result<TermId, LoadError>
+    ensures number { IfOk result (λ id. slice_get terms.new id.0 ≡ Some term) }
+    ensures added { OnOk result (Adds terms.old term terms.new) }
+    ensures full { result ≡ Err LoadError.Full → (¬ Contains terms.old term) × (length terms.old ≡ max_terms) }
+    ensures err { OnErr result (terms.new ≡ terms.old) }
+    ensures distinct { AreDistinct terms.new }
 {
-    match triple_with(alloc, subject, predicate, object) {
-        Ok(triple) => load(terms, graph, triple),
-        Err(_) => Err(LoadError::Memory),
+    match terms.put(term) {
+        Ok(id) => Ok(id),
+        Err(PutError::Full) => Err(LoadError::Full),
+        Err(PutError::Memory) => Err(LoadError::Memory),
     }
 }
 
-/// Loads the triples of an object list, one after the other.
-fn load_list(
-    alloc: Global,
+/// The numbers of a subject and a predicate, which go last where they are new.
+fn number_both(terms: &mut TermTable, subject: Term, predicate: Term) -> Result<Numbers, LoadError>
+    ensures put { IfOk result (λ n. Begins terms.old terms.new subject predicate n.s.0 n.p.0) }
+    ensures full { result ≡ Err LoadError.Full → (o : Term) (new : List Term) → AddsAll terms.old (subject ∷ predicate ∷ o ∷ []) new → ¬ (length new ≤ max_terms) }
+    ensures grown { (more : List Term) × (terms.new ≡ terms.old ++ more) }
+{
+    let s = number(terms, subject)?;
+    let p = number(terms, predicate)?;
+    Ok(Numbers { s, p })
+}
+
+/// Loads the triple of a subject and a predicate of these numbers, and an object.
+fn load_object(
     terms: &mut TermTable,
     graph: &mut Graph,
-    list: ObjectList,
+    numbers: Numbers,
+    object: Term,
 ) -> Result<(), LoadError>
+    ensures loads { (old : List Term) (s p : Term) → Begins old terms.old s p numbers.s.0 numbers.p.0 → LoadsAll result old graph.old.triples (triple_with s p object ∷ []) terms.new graph.new.triples }
+    ensures grown { (more : List Term) × (terms.new ≡ terms.old ++ more) }
+    ensures appended { (more : List Triple) × (graph.new.triples ≡ graph.old.triples ++ more) }
+{
+    let o = number(terms, object)?;
+    let Numbers { s, p } = numbers;
+    match graph.add(Triple { s, p, o }) {
+        Ok(_) => Ok(()),
+        Err(AddError::Full) => Err(LoadError::Full),
+        Err(AddError::Memory) => Err(LoadError::Memory),
+    }
+}
+
+/// Loads the triples of a subject and a predicate of these numbers, one object after the other.
+fn load_objects(
+    terms: &mut TermTable,
+    graph: &mut Graph,
+    numbers: Numbers,
+    before: Vec<Term>,
+    last: Term,
+) -> Result<(), LoadError>
+    ensures loads { (old : List Term) (s p : Term) → Begins old terms.old s p numbers.s.0 numbers.p.0 → LoadsAll result old graph.old.triples (map (triple_with s p) (before.items ++ last ∷ [])) terms.new graph.new.triples }
+    ensures grown { (more : List Term) × (terms.new ≡ terms.old ++ more) }
+    ensures appended { (more : List Triple) × (graph.new.triples ≡ graph.old.triples ++ more) }
+{
+    for object in before {
+        load_object(terms, graph, numbers, object)?;
+    }
+    load_object(terms, graph, numbers, last)
+}
+
+/// Loads the triples of an object list, one after the other.
+fn load_list(terms: &mut TermTable, graph: &mut Graph, list: ObjectList) -> Result<(), LoadError>
     ensures loads { LoadsAll result terms.old graph.old.triples (triples_of list) terms.new graph.new.triples }
     ensures grown { (more : List Term) × (terms.new ≡ terms.old ++ more) }
     ensures appended { (more : List Triple) × (graph.new.triples ≡ graph.old.triples ++ more) }
@@ -67,21 +98,13 @@ fn load_list(
         before,
         last,
     } = list;
-    for object in before {
-        load_copy(alloc, terms, graph, &subject, &predicate, object)?;
-    }
-    let triple = TermTriple {
-        subject: subject.into_term(),
-        predicate: Term::Iri(predicate),
-        object: last,
-    };
-    load(terms, graph, triple)
+    let numbers = number_both(terms, subject.into_term(), Term::Iri(predicate))?;
+    load_objects(terms, graph, numbers, before, last)
 }
 
 /// Loads the triples of object lists, one list after the other. It fails as `Full` only where a triple finds no room behind
 /// those before it. After a failure the table and the graph hold what they held, and may hold more behind it.
 pub fn load_lists(
-    alloc: Global,
     terms: &mut TermTable,
     graph: &mut Graph,
     lists: Vec<ObjectList>,
@@ -91,7 +114,7 @@ pub fn load_lists(
     ensures appended { (more : List Triple) × (graph.new.triples ≡ graph.old.triples ++ more) }
 {
     for list in lists {
-        load_list(alloc, terms, graph, list)?;
+        load_list(terms, graph, list)?;
     }
     Ok(())
 }

@@ -39,7 +39,7 @@ fn load_statement(
 {
     statement(c, state)?;
     let lists = state.take_lists();
-    load_lists(state.alloc, terms, graph, lists)?;
+    load_lists(terms, graph, lists)?;
     Ok(())
 }
 

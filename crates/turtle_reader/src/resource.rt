@@ -45,14 +45,6 @@ impl Resource {
         }
     }
 
-    /// A copy of the term.
-    pub fn to_term(&self, alloc: Global) -> Result<Term, AllocError>
-        ensures { IfOk result (λ t. t ≡ term_of self.now) }
-    {
-        let copy = self.try_clone(alloc)?;
-        Ok(copy.into_term())
-    }
-
     /// A copy.
     pub fn try_clone(&self, alloc: Global) -> Result<Resource, AllocError>
         ensures { IfOk result (λ r. r ≡ self.now) }
