@@ -58,7 +58,7 @@ no_shapes_fault : (decls : List Declaration) (f : Fault) (o : Option Data) → S
 no_shapes_fault decls f o (ShapesFault.no_list d is there wrong) s w = no_array decls d wrong (subst (SpellsShapes decls) there s)
 no_shapes_fault decls f o (ShapesFault.bad_item ds k v there at h) s w = no_item_fault decls f ds k v (subst (SpellsShapes decls) there s) w at h
 
-no_start_fault : (e : MaybeShapeExpr) (f : Fault) (o : Option Data) → HasExprFault f o → SpellsValueExpr e o → maybe_expr_nesting e ≤ max_nesting → ⊥
+no_start_fault : (e : MaybeShapeExpr) (f : Fault) (o : Option Data) → HasExprFault (codes "start") f o → SpellsValueExpr e o → maybe_expr_nesting e ≤ max_nesting → ⊥
 no_start_fault e f o h s w =
     let member = value_at max_nesting e h.value o h.there s w in
     no_expr_fault f h.fault member.expr member.spelled member.within

@@ -11,7 +11,7 @@ use Rattle.schema_documents.specs.declared.label.Label.{Label}
 use Rattle.schema_documents.specs.Tree.{MaybeShapeExpr, MaybeTripleExpr, ShapeExpr, ShapeExprs, TripleBody, TripleExpr, TripleExprs, arc, conj, disj, each, include, more_exprs, more_triples, neg, no_expr, no_exprs, no_triple, no_triples, node, one, one_expr, one_triple, refer, shape, triple}
 use Rattle.shexj_reader.specs.Cardinalities.{IsCardinality}
 use Rattle.shexj_reader.specs.Constraints.{constraint_keys}
-use Rattle.shexj_reader.specs.ExpressionFaults.{ArcFault, CardinalityFault, ExprFault, GroupFault, IsItem, IsNoExpr, IsNoTriple, JoinFault, NegationFault, ShapeFault, TripleFault}
+use Rattle.shexj_reader.specs.ExpressionFaults.{ArcFault, CardinalityFault, ExprFault, ExprObjectFault, GroupFault, HasNoExprType, HasNoTripleType, IsItem, IsNoExpr, IsNoTriple, JoinFault, NegationFault, ShapeFault, TripleFault, TripleObjectFault}
 use Rattle.shexj_reader.specs.ExpressionFaults as faults
 use Rattle.shexj_reader.specs.Expressions.{HasChild, HasMembers, IsArc, IsGroup, IsJoined, IsNegated, IsShape, SpellsBody, SpellsExpr, SpellsExpression, SpellsExprs, SpellsTripleExpr, SpellsTripleExprs, SpellsValueExpr}
 use Rattle.shexj_reader.specs.Faults.{Fault}
@@ -23,7 +23,7 @@ use Rattle.shexj_reader.specs.declared.kinds.ExprKind.TheVariants as Exprs
 use Rattle.shexj_reader.specs.declared.kinds.TripleKind.TheVariants as Triples
 use Rattle.shexj_reader.proofs.ConstraintLaws.{no_constraint_fault}
 use Rattle.shexj_reader.proofs.KeyLaws.{known_keys, no_plain_fault}
-use Rattle.shexj_reader.proofs.TypeLaws.{arc_at, grouped_at, has_type, joined_at, negated_at, node_at, not_external, other_type, reference_type, shape_at, text_type, tree_type}
+use Rattle.shexj_reader.proofs.TypeLaws.{arc_at, grouped_at, has_type, joined_at, negated_at, node_at, no_text, not_external, of_no_type, other_type, reference_type, shape_at, text_type, tree_type}
 
 -- ---- what stands inside a spelled object is spelled
 
@@ -122,22 +122,40 @@ no_arc_fault inverse predicate spelled name low high f d (ArcFault.bad_predicate
 no_arc_fault inverse predicate spelled name low high f d (ArcFault.bad_count h) s = no_cardinality_fault low high f d h s.counted
 no_arc_fault inverse predicate spelled name low high f d (ArcFault.not_plain h) s = no_plain_fault f d h s.plain
 
-typed : (labelled : Bool) (e : ShapeExpr) (f : Fault) (d : Data) → IsNoExpr labelled f d → SpellsExpr labelled e d → ⊥
+-- what is spelled has a type of its place, or is a text
+typed : (labelled : Bool) (e : ShapeExpr) (f : Fault) (d : Data) → HasNoExprType f d → SpellsExpr labelled e d → ⊥
 typed labelled (disj es) f d h s = h.no_type Exprs.Or s.object.type
 typed labelled (conj es) f d h s = h.no_type Exprs.And s.object.type
 typed labelled (neg e) f d h s = h.no_type Exprs.Not s.object.type
 typed labelled (node c) f d h s = h.no_type Exprs.Node s.object.type
 typed labelled (shape closed extra t) f d h s = h.no_type Exprs.Shape s.object.type
-typed labelled (refer l) f d h s = let none = h.no_reference in cc
+typed labelled (refer l) f d h s = no_text labelled d l s h.object
+
+-- what is spelled is an object, or a text
+formed : (key : List ℕ) (labelled : Bool) (e : ShapeExpr) (f : Fault) (d : Data) → IsNoExpr key labelled f d → SpellsExpr labelled e d → ⊥
+formed key labelled (disj es) f d h s = of_no_type d (codes "ShapeOr") h.no_object s.object.type
+formed key labelled (conj es) f d h s = of_no_type d (codes "ShapeAnd") h.no_object s.object.type
+formed key labelled (neg e) f d h s = of_no_type d (codes "ShapeNot") h.no_object s.object.type
+formed key labelled (node c) f d h s = of_no_type d (codes "NodeConstraint") h.no_object s.object.type
+formed key labelled (shape closed extra t) f d h s = of_no_type d (codes "Shape") h.no_object s.object.type
+formed key labelled (refer l) f d h s = let none = h.no_reference in cc
 
 label_word : (d : Data) (l : Label) → label (Some d) ≡ Some l → word (Some d) ≡ None → ⊥
 label_word d l e none = let no_label : label (Some d) ≡ None = ap (λ (o : Option (List ℕ)). option_map label_from (option_map chars o)) none in cc
 
-typed_body : (b : TripleBody) (name : Option Label) (low : ℕ) (high : Bound) (f : Fault) (d : Data) → IsNoTriple f d → SpellsBody b name low high d → ⊥
+typed_body : (b : TripleBody) (name : Option Label) (low : ℕ) (high : Bound) (f : Fault) (d : Data)
+    → HasNoTripleType f d → SpellsBody b name low high d → ⊥
 typed_body (each ts) name low high f d h s = h.no_type Triples.Each s.object.type
 typed_body (one ts) name low high f d h s = h.no_type Triples.One s.object.type
 typed_body (arc inverse p e) name low high f d h s = h.no_type Triples.Arc s.object.type
-typed_body (include l) name low high f d h s = label_word d l s.has_target h.no_inclusion
+typed_body (include l) name low high f d h s = no_text false d l s.has_target h.object
+
+formed_body : (key : List ℕ) (b : TripleBody) (name : Option Label) (low : ℕ) (high : Bound) (f : Fault) (d : Data)
+    → IsNoTriple key f d → SpellsBody b name low high d → ⊥
+formed_body key (each ts) name low high f d h s = of_no_type d (codes "EachOf") h.no_object s.object.type
+formed_body key (one ts) name low high f d h s = of_no_type d (codes "OneOf") h.no_object s.object.type
+formed_body key (arc inverse p e) name low high f d h s = of_no_type d (codes "TripleConstraint") h.no_object s.object.type
+formed_body key (include l) name low high f d h s = label_word d l s.has_target h.no_inclusion
 
 not_deep : (labelled : Bool) (e : ShapeExpr) (d : Data) (own : List ℕ) → type_of d ≡ Some own → SpellsExpr labelled e d → nesting e ≤ 0 → ⊥
 not_deep labelled (disj es) d own t s w = omega arith
@@ -156,47 +174,59 @@ not_deep_body (include l) name low high d own t s w = let none = text_type d l s
 -- ---- no fault of an object or of an expression inside it
 
 mutual
-  pub no_expr_fault : (f : Fault) {labelled : Bool} {n : ℕ} {d : Data} → ExprFault f labelled n d → (e : ShapeExpr) → SpellsExpr labelled e d → nesting e ≤ n → ⊥
-  no_expr_fault f {labelled} {n} {d} (faults.no_expr h) e s w = typed labelled e f d h s
-  no_expr_fault f {labelled} {n} {d} (faults.outside is t) e s w = other_type (tree_type e) (Some (codes "ShapeExternal")) (type_of d) (not_external e) (has_type labelled e d s) t
-  no_expr_fault f {labelled} {n} {d} (faults.too_deep kind is end t) e s w = not_deep labelled e d _ t s (omega arith)
-  no_expr_fault f {labelled} {n} {d} (faults.bad_join t h) e s w =
+  pub no_expr_fault : (f : Fault) {key : List ℕ} {labelled : Bool} {n : ℕ} {d : Data}
+      → ExprFault f key labelled n d → (e : ShapeExpr) → SpellsExpr labelled e d → nesting e ≤ n → ⊥
+  no_expr_fault f {key} {labelled} {n} {d} (faults.no_expr h) e s w = formed key labelled e f d h s
+  no_expr_fault f {key} {labelled} {n} {d} (faults.expr_object h) e s w = no_object_fault f h e s w
+
+  no_object_fault : (f : Fault) {labelled : Bool} {n : ℕ} {d : Data}
+      → ExprObjectFault f labelled n d → (e : ShapeExpr) → SpellsExpr labelled e d → nesting e ≤ n → ⊥
+  no_object_fault f {labelled} {n} {d} (faults.no_expr_type h) e s w = typed labelled e f d h s
+  no_object_fault f {labelled} {n} {d} (faults.outside is t) e s w = other_type (tree_type e) (Some (codes "ShapeExternal")) (type_of d) (not_external e) (has_type labelled e d s) t
+  no_object_fault f {labelled} {n} {d} (faults.too_deep kind is end t) e s w = not_deep labelled e d _ t s (omega arith)
+  no_object_fault f {labelled} {n} {d} (faults.bad_join t h) e s w =
       let own = joined_at labelled e d t s in no_join_fault labelled own.type (SpellsExprs own.es) f d h own.join
-  no_expr_fault f {labelled} {n} {d} (faults.in_join m v up t i inner) e s w =
+  no_object_fault f {labelled} {n} {d} (faults.in_join m v up t i inner) e s w =
       let own = joined_at labelled e d t s in
       let deeper = own.deeper in
       let member = member_at m (codes "shapeExprs") own.es v d i own.join.has_members (omega arith) in
       no_expr_fault f inner member.expr member.spelled member.within
-  no_expr_fault f {labelled} {n} {d} (faults.bad_negation t h) e s w =
+  no_object_fault f {labelled} {n} {d} (faults.bad_negation t h) e s w =
       let own = negated_at labelled e d t s in no_negation_fault labelled (SpellsExpr false own.inner) f d h own.negation
-  no_expr_fault f {labelled} {n} {d} (faults.in_negation m v up t there inner) e s w =
+  no_object_fault f {labelled} {n} {d} (faults.in_negation m v up t there inner) e s w =
       let own = negated_at labelled e d t s in
       let deeper = own.deeper in
       let member = child_at m (codes "shapeExpr") own.inner v d there own.negation.has_child (omega arith) in
       no_expr_fault f inner member.expr member.spelled member.within
-  no_expr_fault f {labelled} {n} {d} (faults.bad_constraint t h) e s w =
+  no_object_fault f {labelled} {n} {d} (faults.bad_constraint t h) e s w =
       let own = node_at labelled e d t s in no_constraint_fault (with_id labelled constraint_keys) own.constraint f d h own.spelled
-  no_expr_fault f {labelled} {n} {d} (faults.bad_shape t h) e s w =
+  no_object_fault f {labelled} {n} {d} (faults.bad_shape t h) e s w =
       let own = shape_at labelled e d t s in no_shape_fault labelled own.closed own.extra (SpellsExpression own.t) f d h own.spelled
-  no_expr_fault f {labelled} {n} {d} (faults.in_shape m v up t there inner) e s w =
+  no_object_fault f {labelled} {n} {d} (faults.in_shape m v up t there inner) e s w =
       let own = shape_at labelled e d t s in
       let deeper = own.deeper in
       let member = expression_at m own.t v (get (codes "expression") d) there own.spelled.has_expression (omega arith) in
       no_triple_fault f inner member.t member.spelled member.within
 
-  pub no_triple_fault : (f : Fault) {n : ℕ} {d : Data} → TripleFault f n d → (t : TripleExpr) → SpellsTripleExpr t d → triple_nesting t ≤ n → ⊥
-  no_triple_fault f {n} {d} (faults.no_triple h) (triple name low high b) s w = typed_body b name low high f d h s
-  no_triple_fault f {n} {d} (faults.triple_too_deep kind is end t) (triple name low high b) s w = not_deep_body b name low high d _ t s (omega arith)
-  no_triple_fault f {n} {d} (faults.bad_group t h) (triple name low high b) s w =
+  pub no_triple_fault : (f : Fault) {key : List ℕ} {n : ℕ} {d : Data}
+      → TripleFault f key n d → (t : TripleExpr) → SpellsTripleExpr t d → triple_nesting t ≤ n → ⊥
+  no_triple_fault f {key} {n} {d} (faults.no_triple h) (triple name low high b) s w = formed_body key b name low high f d h s
+  no_triple_fault f {key} {n} {d} (faults.triple_object h) t s w = no_triple_object_fault f h t s w
+
+  no_triple_object_fault : (f : Fault) {n : ℕ} {d : Data}
+      → TripleObjectFault f n d → (t : TripleExpr) → SpellsTripleExpr t d → triple_nesting t ≤ n → ⊥
+  no_triple_object_fault f {n} {d} (faults.no_triple_type h) (triple name low high b) s w = typed_body b name low high f d h s
+  no_triple_object_fault f {n} {d} (faults.triple_too_deep kind is end t) (triple name low high b) s w = not_deep_body b name low high d _ t s (omega arith)
+  no_triple_object_fault f {n} {d} (faults.bad_group t h) (triple name low high b) s w =
       let own = grouped_at b name low high d t s in no_group_fault own.type (SpellsTripleExprs own.ts) name low high f d h own.group
-  no_triple_fault f {n} {d} (faults.in_group m v up t i inner) (triple name low high b) s w =
+  no_triple_object_fault f {n} {d} (faults.in_group m v up t i inner) (triple name low high b) s w =
       let own = grouped_at b name low high d t s in
       let deeper = own.deeper in
       let member = triple_at m (codes "expressions") own.ts v d i own.group.has_members (omega arith) in
       no_triple_fault f inner member.t member.spelled member.within
-  no_triple_fault f {n} {d} (faults.bad_arc t h) (triple name low high b) s w =
+  no_triple_object_fault f {n} {d} (faults.bad_arc t h) (triple name low high b) s w =
       let own = arc_at b name low high d t s in no_arc_fault own.inverse own.predicate (SpellsValueExpr own.e) name low high f d h own.spelled
-  no_triple_fault f {n} {d} (faults.in_arc m v up t there inner) (triple name low high b) s w =
+  no_triple_object_fault f {n} {d} (faults.in_arc m v up t there inner) (triple name low high b) s w =
       let own = arc_at b name low high d t s in
       let deeper = own.deeper in
       let member = value_at m own.e v (get (codes "valueExpr") d) there own.spelled.has_value (omega arith) in

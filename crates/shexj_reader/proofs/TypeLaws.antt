@@ -10,7 +10,7 @@ use Rattle.schema_documents.specs.declared.label.Label.{Label}
 use Rattle.schema_documents.specs.Tree.{MaybeShapeExpr, MaybeTripleExpr, ShapeExpr, ShapeExprs, TripleBody, TripleExprs, arc, conj, disj, each, include, neg, node, one, refer, shape}
 use Rattle.shexj_reader.specs.Constraints.{IsConstraint, constraint_keys}
 use Rattle.shexj_reader.specs.Expressions.{IsArc, IsGroup, IsJoined, IsNegated, IsShape, SpellsBody, SpellsExpr, SpellsExpression, SpellsExprs, SpellsTripleExprs, SpellsValueExpr}
-use Rattle.shexj_reader.specs.Keys.{type_of, with_id}
+use Rattle.shexj_reader.specs.Keys.{is_object, type_of, with_id}
 use Rattle.shexj_reader.specs.Labels.{label, reference}
 use Rattle.shexj_reader.specs.Nesting.{body_nesting, exprs_nesting, maybe_expr_nesting, maybe_triple_nesting, nesting, triples_nesting}
 use Rattle.shexj_reader.specs.Types.{IsGroupType, IsJoin, all_of, each_of, one_of, some_of}
@@ -54,6 +54,28 @@ text_type (object ms) l e = cc
 pub reference_type : (labelled : Bool) (d : Data) (l : Label) → reference labelled d ≡ Some l → type_of d ≡ None
 reference_type true d l e = cc
 reference_type false d l e = text_type d l e
+
+-- a text is no object
+no_text_object : (d : Data) (l : Label) → label (Some d) ≡ Some l → is_object d ≡ true → ⊥
+no_text_object null l e is = cc
+no_text_object (boolean b) l e is = cc
+no_text_object (number n) l e is = cc
+no_text_object (string s) l e is = cc
+no_text_object (array ds) l e is = cc
+no_text_object (object ms) l e is = cc
+
+pub no_text : (labelled : Bool) (d : Data) (l : Label) → reference labelled d ≡ Some l → is_object d ≡ true → ⊥
+no_text true d l e is = cc
+no_text false d l e is = no_text_object d l e is
+
+-- what is no object has no type
+pub of_no_type : (d : Data) (name : List ℕ) → is_object d ≡ false → type_of d ≡ Some name → ⊥
+of_no_type null name no_object typed = cc
+of_no_type (boolean b) name no_object typed = cc
+of_no_type (number n) name no_object typed = cc
+of_no_type (string s) name no_object typed = cc
+of_no_type (array ds) name no_object typed = cc
+of_no_type (object ms) name no_object typed = cc
 
 pub has_type : (labelled : Bool) (e : ShapeExpr) (d : Data) → SpellsExpr labelled e d → type_of d ≡ tree_type e
 has_type labelled (disj es) d s = s.object.type

@@ -59,7 +59,7 @@ pub data RangeFault (kind : StemKind) (f : Fault) (d : Data) : Type 0 where
 
 -- a value is neither a text nor an object, is a wildcard, or is an object that is at fault by its type
 pub data ValueFault (f : Fault) (d : Data) : Type 0 where
-  no_value : f ≡ form (codes "type") → word (Some d) ≡ None → is_object d ≡ false → ValueFault f d
+  no_value : f ≡ form (codes "values") → word (Some d) ≡ None → is_object d ≡ false → ValueFault f d
   wildcard : f ≡ form (codes "type") → type_of d ≡ Some (codes "Wildcard") → ValueFault f d
   in_literal : is_object d ≡ true → IsOfLiteral (type_of d) → LiteralFault f d → ValueFault f d
   in_stem : (kind : StemKind) → type_of d ≡ Some (stem_type kind) → StemFault f d → ValueFault f d

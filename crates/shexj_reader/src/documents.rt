@@ -41,7 +41,7 @@ fn read_declared(alloc: Global, value: &Value) -> Result<DocExpr, SchemaError>
     let Some(child) = value.get("shapeExpr") else {
         return Err(bad_form(alloc, "shapeExpr"));
     };
-    let expr = read_expr(alloc, child, false, MAX_NESTING)?;
+    let expr = read_expr(alloc, "shapeExpr", child, false, MAX_NESTING)?;
     only_concrete(alloc, value).map(move |()| expr)
 }
 
@@ -56,7 +56,7 @@ fn read_shape_decl(alloc: Global, value: &Value) -> Result<Decl, SchemaError>
     read_declared(alloc, value).map(move |expr| Decl { label, expr })
 }
 
-/// A declaration: a ShapeDecl, or a shape expression with a label.
+/// A declaration, an item of `shapes`: a ShapeDecl, or a shape expression with a label.
 fn read_declaration(alloc: Global, value: &Value) -> Result<Decl, SchemaError>
     ensures ok { IfOk result (λ d. IsDeclaration (decl_of d) (view value.now)) }
     ensures cause { IfErr result (Because (λ f. DeclarationFault f (view value.now))) }
@@ -64,19 +64,19 @@ fn read_declaration(alloc: Global, value: &Value) -> Result<Decl, SchemaError>
     if has_type(value, "ShapeDecl") {
         return read_shape_decl(alloc, value);
     }
-    let expr = read_expr(alloc, value, true, MAX_NESTING)?;
+    let expr = read_expr(alloc, "shapes", value, true, MAX_NESTING)?;
     label_at(alloc, value).map(move |label| Decl { label, expr })
 }
 
 /// The start expression, if there is one.
 fn read_start(alloc: Global, value: Option<&Value>) -> Result<Option<DocExpr>, SchemaError>
     ensures ok { IfOk result (λ e. IsStart (maybe_expr (option_map expr_of e)) (option_map (λ v. view v.now) value.entry)) }
-    ensures cause { IfErr result (Because (λ f. HasExprFault f (option_map (λ v. view v.now) value.entry))) }
+    ensures cause { IfErr result (Because (λ f. HasExprFault (codes "start") f (option_map (λ v. view v.now) value.entry))) }
 {
     let Some(value) = value else {
         return Ok(None);
     };
-    read_expr(alloc, value, false, MAX_NESTING).map(Some)
+    read_expr(alloc, "start", value, false, MAX_NESTING).map(Some)
 }
 
 /// The declarations of a list, none where there is no list.

@@ -1,13 +1,13 @@
 //! Shape expressions and triple expressions (ShEx 2.1, sections 5.3 to 5.5, and appendix A).
 
-ghost use Rattle.std.specs.Prelude.{◌≡◌, ◌+◌, IfErr, IfOk, OnOk, Some, codes, is_some, map, option_map};
+ghost use Rattle.std.specs.Prelude.{◌≡◌, ◌+◌, IfErr, IfOk, OnOk, Some, codes, is_some, map, option_map, true};
 ghost use Rattle.serde_json.specs.Find.{get};
 ghost use Rattle.serde_json.specs.View.{view};
 ghost use Rattle.schema_documents.specs.Tree.{expr_of, exprs, triple_of, triples};
-ghost use Rattle.shexj_reader.specs.ExpressionFaults.{ExprFault, TripleFault};
+ghost use Rattle.shexj_reader.specs.ExpressionFaults.{ExprFault, ExprObjectFault, TripleFault, TripleObjectFault};
 ghost use Rattle.shexj_reader.specs.Within.{AreMembers, AreTriples, HasGroup, IsExpr, IsTriple};
 ghost use Rattle.shexj_reader.specs.Faults.{Because};
-ghost use Rattle.shexj_reader.specs.Keys.{type_of};
+ghost use Rattle.shexj_reader.specs.Keys.{is_object, type_of};
 ghost use Rattle.shexj_reader.specs.Types.{IsGroupType, IsJoin};
 
 use crate::cardinalities::cardinality_of;
@@ -16,7 +16,8 @@ use crate::groups::{Group, each_of, one_of};
 use crate::kinds::{ExprKind, TripleKind, expr_kind, triple_kind};
 use crate::labels::{label_from, label_if_any, reference};
 use crate::objects::{
-    bad_form, flag_at, has_type, items_at, only_keys, only_own_keys, only_plain, text_at, texts_at,
+    bad_form, flag_at, has_type, is_object, items_at, only_keys, only_own_keys, only_plain,
+    text_at, texts_at,
 };
 use rdf_terms::items::Items;
 use schema_documents::{DocArc, DocBody, DocExpr, DocShape, DocTriple, SchemaError};
@@ -24,22 +25,41 @@ use serde_json::Value;
 use std::alloc::Global;
 use tally::Bound;
 
-/// The shape expression that the value stands for, where `depth` objects may stand in one another. Where it is labelled it
-/// is an object that may have an `id`, as a declaration has; else it may be a text, a reference.
+/// The shape expression that the value under the key stands for, where `depth` objects may stand in one another. Where it is
+/// labelled it is an object that may have an `id`, as a declaration has; else it may be a text, a reference.
 #[cycle(expressions)]
 pub(crate) fn read_expr(
     alloc: Global,
+    key: &str,
     value: &Value,
     labelled: bool,
     depth: u32,
 ) -> Result<DocExpr, SchemaError>
     ensures ok { IfOk result (λ e. IsExpr labelled depth (expr_of e) (view value.now)) }
-    ensures cause { IfErr result (Because (λ f. ExprFault f labelled depth (view value.now))) }
+    ensures cause { IfErr result (Because (λ f. ExprFault f key.now labelled depth (view value.now))) }
 {
     if let Some(text) = reference(value, labelled) {
         let label = label_from(alloc, text)?;
         return Ok(DocExpr::Ref(label));
     }
+    if !is_object(value) {
+        return Err(bad_form(alloc, key));
+    }
+    read_expr_object(alloc, value, labelled, depth)
+}
+
+/// The shape expression that an object stands for, where `depth` objects may stand in one another.
+#[cycle(expressions)]
+fn read_expr_object(
+    alloc: Global,
+    value: &Value,
+    labelled: bool,
+    depth: u32,
+) -> Result<DocExpr, SchemaError>
+    requires { is_object (view value.now) ≡ true }
+    ensures ok { IfOk result (λ e. IsExpr labelled depth (expr_of e) (view value.now)) }
+    ensures cause { IfErr result (Because (λ f. ExprObjectFault f labelled depth (view value.now))) }
+{
     if has_type(value, "ShapeExternal") {
         return Err(SchemaError::External);
     }
@@ -68,13 +88,13 @@ fn read_join(
 ) -> Result<Vec<DocExpr>, SchemaError>
     requires { IsJoin (view value.now) }
     ensures ok { IfOk result (λ v. AreMembers labelled depth (exprs (map expr_of v.items)) (view value.now)) }
-    ensures cause { IfErr result (Because (λ f. ExprFault f labelled (depth + 1) (view value.now))) }
+    ensures cause { IfErr result (Because (λ f. ExprObjectFault f labelled (depth + 1) (view value.now))) }
 {
     only_own_keys(alloc, value, labelled, &["shapeExprs", "type"])?;
     let items = items_at(alloc, value, "shapeExprs")?;
     let mut all = Vec::new(alloc);
     for item in items {
-        let member = read_expr(alloc, item, false, depth)?;
+        let member = read_expr(alloc, "shapeExprs", item, false, depth)?;
         all.push(member)?;
     }
     Ok(all)
@@ -90,13 +110,13 @@ fn read_not(
 ) -> Result<DocExpr, SchemaError>
     requires { type_of (view value.now) ≡ Some (codes "ShapeNot") }
     ensures ok { IfOk result (λ e. IsExpr labelled (depth + 1) (expr_of e) (view value.now)) }
-    ensures cause { IfErr result (Because (λ f. ExprFault f labelled (depth + 1) (view value.now))) }
+    ensures cause { IfErr result (Because (λ f. ExprObjectFault f labelled (depth + 1) (view value.now))) }
 {
     only_own_keys(alloc, value, labelled, &["shapeExpr", "type"])?;
     let Some(child) = value.get("shapeExpr") else {
         return Err(bad_form(alloc, "shapeExpr"));
     };
-    let inner = read_expr(alloc, child, false, depth)?;
+    let inner = read_expr(alloc, "shapeExpr", child, false, depth)?;
     let boxed = Box::new(alloc, inner)?;
     Ok(DocExpr::Not(boxed))
 }
@@ -111,7 +131,7 @@ fn read_shape(
 ) -> Result<DocExpr, SchemaError>
     requires { type_of (view value.now) ≡ Some (codes "Shape") }
     ensures ok { IfOk result (λ e. IsExpr labelled (depth + 1) (expr_of e) (view value.now)) }
-    ensures cause { IfErr result (Because (λ f. ExprFault f labelled (depth + 1) (view value.now))) }
+    ensures cause { IfErr result (Because (λ f. ExprObjectFault f labelled (depth + 1) (view value.now))) }
 {
     only_own_keys(
         alloc,
@@ -130,7 +150,7 @@ fn read_shape(
     let extra = texts_at(alloc, value, "extra")?;
     let expression = match value.get("expression") {
         Some(child) => {
-            let inner = read_triple(alloc, child, depth)?;
+            let inner = read_triple(alloc, "expression", child, depth)?;
             Some(inner)
         }
         None => None,
@@ -144,11 +164,17 @@ fn read_shape(
     })
 }
 
-/// The triple expression that the value stands for, where `depth` objects may stand in one another. A text is an inclusion.
+/// The triple expression that the value under the key stands for, where `depth` objects may stand in one another. A text is an
+/// inclusion.
 #[cycle(expressions)]
-fn read_triple(alloc: Global, value: &Value, depth: u32) -> Result<DocTriple, SchemaError>
+fn read_triple(
+    alloc: Global,
+    key: &str,
+    value: &Value,
+    depth: u32,
+) -> Result<DocTriple, SchemaError>
     ensures ok { IfOk result (λ t. IsTriple depth (triple_of t) (view value.now)) }
-    ensures cause { IfErr result (Because (λ f. TripleFault f depth (view value.now))) }
+    ensures cause { IfErr result (Because (λ f. TripleFault f key.now depth (view value.now))) }
 {
     if let Some(text) = value.as_str() {
         let label = label_from(alloc, text)?;
@@ -159,6 +185,19 @@ fn read_triple(alloc: Global, value: &Value, depth: u32) -> Result<DocTriple, Sc
             body: DocBody::Include(label),
         });
     }
+    if !is_object(value) {
+        return Err(bad_form(alloc, key));
+    }
+    read_triple_object(alloc, value, depth)
+}
+
+/// The triple expression that an object stands for, where `depth` objects may stand in one another.
+#[cycle(expressions)]
+fn read_triple_object(alloc: Global, value: &Value, depth: u32) -> Result<DocTriple, SchemaError>
+    requires { is_object (view value.now) ≡ true }
+    ensures ok { IfOk result (λ t. IsTriple depth (triple_of t) (view value.now)) }
+    ensures cause { IfErr result (Because (λ f. TripleObjectFault f depth (view value.now))) }
+{
     let Some(kind) = triple_kind(value) else {
         return Err(bad_form(alloc, "type"));
     };
@@ -177,7 +216,7 @@ fn read_triple(alloc: Global, value: &Value, depth: u32) -> Result<DocTriple, Sc
 fn read_group(alloc: Global, value: &Value, depth: u32) -> Result<Group, SchemaError>
     requires { IsGroupType (view value.now) }
     ensures ok { IfOk result (λ g. HasGroup depth (triples (map triple_of g.members.items)) g.label g.min g.max (view value.now)) }
-    ensures cause { IfErr result (Because (λ f. TripleFault f (depth + 1) (view value.now))) }
+    ensures cause { IfErr result (Because (λ f. TripleObjectFault f (depth + 1) (view value.now))) }
 {
     only_keys(
         alloc,
@@ -208,12 +247,12 @@ fn read_group(alloc: Global, value: &Value, depth: u32) -> Result<Group, SchemaE
 fn read_triples(alloc: Global, value: &Value, depth: u32) -> Result<Vec<DocTriple>, SchemaError>
     requires { IsGroupType (view value.now) }
     ensures ok { IfOk result (λ v. AreTriples depth (triples (map triple_of v.items)) (view value.now)) }
-    ensures cause { IfErr result (Because (λ f. TripleFault f (depth + 1) (view value.now))) }
+    ensures cause { IfErr result (Because (λ f. TripleObjectFault f (depth + 1) (view value.now))) }
 {
     let items = items_at(alloc, value, "expressions")?;
     let mut all = Vec::new(alloc);
     for item in items {
-        let member = read_triple(alloc, item, depth)?;
+        let member = read_triple(alloc, "expressions", item, depth)?;
         all.push(member)?;
     }
     Ok(all)
@@ -224,7 +263,7 @@ fn read_triples(alloc: Global, value: &Value, depth: u32) -> Result<Vec<DocTripl
 fn read_arc(alloc: Global, value: &Value, depth: u32) -> Result<DocTriple, SchemaError>
     requires { type_of (view value.now) ≡ Some (codes "TripleConstraint") }
     ensures ok { IfOk result (λ t. IsTriple (depth + 1) (triple_of t) (view value.now)) }
-    ensures cause { IfErr result (Because (λ f. TripleFault f (depth + 1) (view value.now))) }
+    ensures cause { IfErr result (Because (λ f. TripleObjectFault f (depth + 1) (view value.now))) }
 {
     only_keys(
         alloc,
@@ -246,7 +285,7 @@ fn read_arc(alloc: Global, value: &Value, depth: u32) -> Result<DocTriple, Schem
     let predicate = text_at(alloc, value, "predicate")?;
     let inner = match value.get("valueExpr") {
         Some(child) => {
-            let inner = read_expr(alloc, child, false, depth)?;
+            let inner = read_expr(alloc, "valueExpr", child, false, depth)?;
             let boxed = Box::new(alloc, inner)?;
             Some(boxed)
         }

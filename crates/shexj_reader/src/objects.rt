@@ -200,6 +200,13 @@ pub(crate) fn items_at<'a>(
     Ok(items)
 }
 
+/// Whether the value is an object.
+pub(crate) fn is_object(value: &Value) -> bool
+    ensures { result ≡ is_object (view value.now) }
+{
+    value.is_object()
+}
+
 /// The type that an object names, if it names one.
 pub(crate) fn type_of<'a>(value: &'a Value) -> Option<&'a str>
     ensures { option_map (λ s. s.now) result ≡ type_of (view value.now) }

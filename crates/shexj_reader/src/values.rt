@@ -12,7 +12,9 @@ ghost use Rattle.shexj_reader.specs.Keys.{is_object, text, type_of};
 ghost use Rattle.shexj_reader.specs.ValueFaults.{AreApart, ExclusionFault, ExclusionsFault, LanguageFault, LiteralFault, RangeFault, RangeStemFault, StemFault, ValueFault, ValueSetFault};
 ghost use Rattle.shexj_reader.specs.Values.{HasExclusions, IsExclusion, IsLanguage, IsLiteral, IsOfLiteral, IsRange, IsRangeStem, IsStem, IsTyped, SpellsValue, SpellsValueSet, range_type, stem_type, taken};
 
-use crate::objects::{bad_form, has_type, only_keys, only_listed, text_at, text_if_any, type_of};
+use crate::objects::{
+    bad_form, has_type, is_object, only_keys, only_listed, text_at, text_if_any, type_of,
+};
 use rdf_terms::items::Items;
 use rdf_terms::terms::{Literal, Term};
 use rdf_terms::text::Text;
@@ -31,13 +33,6 @@ pub(crate) enum StemKind {
     Literal,
     /// Literals, by their language tags.
     Language,
-}
-
-/// Whether the value is an object.
-fn is_object(value: &Value) -> bool
-    ensures { result ≡ is_object (view value.now) }
-{
-    value.is_object()
 }
 
 /// A copy of a text, in which the letters A to Z have become a to z.
@@ -309,7 +304,10 @@ fn read_value(alloc: Global, value: &Value) -> Result<SetValue, SchemaError>
         let iri = Text::from_str(alloc, text)?;
         return Ok(SetValue::Term(Term::Iri(iri)));
     }
-    if !is_object(value) || has_type(value, "Wildcard") {
+    if !is_object(value) {
+        return Err(bad_form(alloc, "values"));
+    }
+    if has_type(value, "Wildcard") {
         return Err(bad_form(alloc, "type"));
     }
     if let Some(kind) = stem_kind(value) {

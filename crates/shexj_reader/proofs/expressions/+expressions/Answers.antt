@@ -1,58 +1,69 @@
-use Rattle.std.proofs.Common.{rules, ◌≡◌, ◌≢◌, ◌+◌, codes}
+use Rattle.std.proofs.Common.{rules, ◌≡◌, ◌≢◌, ◌+◌, codes, false}
 use Rattle.std.specs.Prelude.{Some}
 use Rattle.serde_json.specs.View.{view}
 use Rattle.shexj_reader.specs.ConstraintFaults.{ConstraintFault}
 use Rattle.shexj_reader.specs.Constraints.{constraint_keys}
-use Rattle.shexj_reader.specs.ExpressionFaults.{ArcFault, CardinalityFault, ExprFault, GroupFault, JoinFault, NegationFault, ShapeFault, TripleFault, bad_constraint, bad_negation, outside, too_deep, triple_too_deep}
+use Rattle.shexj_reader.specs.ExpressionFaults.{ArcFault, CardinalityFault, ExprFault, ExprObjectFault, GroupFault, JoinFault, NegationFault, ShapeFault, TripleFault, TripleObjectFault, bad_constraint, bad_negation, outside, too_deep, triple_too_deep}
 use Rattle.shexj_reader.specs.Faults.{IsBad, IsUnknownKey, form}
-use Rattle.shexj_reader.specs.Keys.{flag, members, text, texts, type_of, with_id}
+use Rattle.shexj_reader.specs.Keys.{flag, is_object, members, text, texts, type_of, with_id}
 use Rattle.shexj_reader.specs.Labels.{label_if_any}
 use Rattle.shexj_reader.specs.Types.{arc_keys, expr_type, group_keys, join_keys, not_keys, shape_keys, triple_type}
 use Rattle.shexj_reader.specs.declared.kinds.ExprKind.{ExprKind}
 use Rattle.shexj_reader.specs.declared.kinds.TripleKind.{TripleKind}
 use Rattle.shexj_reader.proofs.Causes.{because, made}
-use Rattle.shexj_reader.proofs.ExpressionCauses.{arc_made, arc_passed, expr_handed, expr_made, expression_passed, group_made, group_passed, join_passed, member_passed, negated_passed, negation_passed, shape_made, shape_passed, triple_handed, triple_made, triple_passed, untyped, untyped_triple, value_passed}
+use Rattle.shexj_reader.proofs.ExpressionCauses.{arc_made, arc_passed, expr_handed, expr_made, expression_passed, formless, formless_triple, group_made, group_passed, join_passed, member_passed, negated_passed, negation_passed, placed, placed_triple, shape_made, shape_passed, triple_handed, triple_made, triple_passed, untyped, untyped_triple, value_passed}
 use Rattle.shexj_reader.proofs.ReadParts.{exprs_more, exprs_within, triples_more, triples_within}
 use Rattle.shexj_reader.proofs.expressions.+expressions.Goals as goal
 
-pub read_expr-returns-in_default-expr_kind-clause-cause : goal.read_expr-returns-in_default-expr_kind-clause-cause
-read_expr-returns-in_default-expr_kind-clause-cause t c =
+pub read_expr-returns-then-not-is_object-clause-cause : goal.read_expr-returns-then-not-is_object-clause-cause
+read_expr-returns-then-not-is_object-clause-cause t c =
+    let d = view c.args.value.now in
+    let no_object : is_object d ≡ false = search rules in
+    because (λ f. f ≡ form c.args.key.now) (λ f. ExprFault f c.args.key.now c.args.labelled c.args.depth d) c.bad_form.result
+    (λ f h. formless c.args.key.now c.args.labelled c.args.depth f d h c.in_default.ensures no_object) c.bad_form.ensures
+
+pub read_expr-returns-clause-cause : goal.read_expr-returns-clause-cause
+read_expr-returns-clause-cause t c =
+    placed c.args.key.now c.args.labelled c.args.depth _ c.read_expr_object.result c.read_expr_object.ensures.cause
+
+pub read_expr_object-returns-in_default-clause-cause : goal.read_expr_object-returns-in_default-clause-cause
+read_expr_object-returns-in_default-clause-cause t c =
     let d = view c.args.value.now in
     let other : (kind : ExprKind) → type_of d ≢ Some (expr_type kind) = search rules in
     let inside : type_of d ≢ Some (codes "ShapeExternal") = search rules in
-    because (λ f. f ≡ form (codes "type")) (λ f. ExprFault f c.args.labelled c.args.depth d) c.bad_form.result
-    (λ f h. untyped c.args.labelled c.args.depth f d h c.in_default.ensures other inside) c.bad_form.ensures
+    because (λ f. f ≡ form (codes "type")) (λ f. ExprObjectFault f c.args.labelled c.args.depth d) c.bad_form.result
+    (λ f h. untyped c.args.labelled c.args.depth f d h c.requires other inside) c.bad_form.ensures
 
-pub read_expr-returns-then-has_type-clause-cause : goal.read_expr-returns-then-has_type-clause-cause
-read_expr-returns-then-has_type-clause-cause t c =
+pub read_expr_object-returns-then-has_type-clause-cause : goal.read_expr_object-returns-then-has_type-clause-cause
+read_expr_object-returns-then-has_type-clause-cause t c =
     outside (search rules) (search rules)
 
-pub read_expr-returns-then-depth-eq0-clause-cause : goal.read_expr-returns-then-depth-eq0-clause-cause
-read_expr-returns-then-depth-eq0-clause-cause t c =
-    let typed : type_of (view c.args.value.now) ≡ Some (expr_type c.in-Some-expr_kind.kind) = search rules in
-    too_deep c.in-Some-expr_kind.kind (search rules) c.if-depth-eq0.true typed
+pub read_expr_object-returns-then-depth-eq0-clause-cause : goal.read_expr_object-returns-then-depth-eq0-clause-cause
+read_expr_object-returns-then-depth-eq0-clause-cause t c =
+    let typed : type_of (view c.args.value.now) ≡ Some (expr_type c.in-Some.kind) = search rules in
+    too_deep c.in-Some.kind (search rules) c.if-depth-eq0.true typed
 
-pub read_expr-returns-in-Or-clause-cause : goal.read_expr-returns-in-Or-clause-cause
-read_expr-returns-in-Or-clause-cause t c =
+pub read_expr_object-returns-in-Or-clause-cause : goal.read_expr_object-returns-in-Or-clause-cause
+read_expr_object-returns-in-Or-clause-cause t c =
     expr_made c.args.labelled c.args.depth _ _ c.read_join.result c.map.result c.map.ensures.cases c.if-depth-eq0.false c.read_join.ensures.cause
 
-pub read_expr-returns-in-And-clause-cause : goal.read_expr-returns-in-And-clause-cause
-read_expr-returns-in-And-clause-cause t c =
+pub read_expr_object-returns-in-And-clause-cause : goal.read_expr_object-returns-in-And-clause-cause
+read_expr_object-returns-in-And-clause-cause t c =
     expr_made c.args.labelled c.args.depth _ _ c.read_join-in-And.result c.map-in-And.result c.map-in-And.ensures.cases c.if-depth-eq0.false c.read_join-in-And.ensures.cause
 
-pub read_expr-returns-in-Node-clause-cause : goal.read_expr-returns-in-Node-clause-cause
-read_expr-returns-in-Node-clause-cause t c =
+pub read_expr_object-returns-in-Node-clause-cause : goal.read_expr_object-returns-in-Node-clause-cause
+read_expr_object-returns-in-Node-clause-cause t c =
     let d = view c.args.value.now in
     let typed : type_of d ≡ Some (codes "NodeConstraint") = search rules in
-    made (λ f. ConstraintFault (with_id c.args.labelled constraint_keys) f d) (λ f. ExprFault f c.args.labelled c.args.depth d) _ c.read_constraint.result c.map-in-Node.result c.map-in-Node.ensures.cases
+    made (λ f. ConstraintFault (with_id c.args.labelled constraint_keys) f d) (λ f. ExprObjectFault f c.args.labelled c.args.depth d) _ c.read_constraint.result c.map-in-Node.result c.map-in-Node.ensures.cases
     (λ f h. bad_constraint typed h) c.read_constraint.ensures.cause
 
-pub read_expr-returns-in-Not-clause-cause : goal.read_expr-returns-in-Not-clause-cause
-read_expr-returns-in-Not-clause-cause t c =
+pub read_expr_object-returns-in-Not-clause-cause : goal.read_expr_object-returns-in-Not-clause-cause
+read_expr_object-returns-in-Not-clause-cause t c =
     expr_handed c.args.labelled c.args.depth _ c.read_not.result c.if-depth-eq0.false c.read_not.ensures.cause
 
-pub read_expr-returns-in-Shape-clause-cause : goal.read_expr-returns-in-Shape-clause-cause
-read_expr-returns-in-Shape-clause-cause t c =
+pub read_expr_object-returns-in-Shape-clause-cause : goal.read_expr_object-returns-in-Shape-clause-cause
+read_expr_object-returns-in-Shape-clause-cause t c =
     expr_handed c.args.labelled c.args.depth _ c.read_shape.result c.if-depth-eq0.false c.read_shape.ensures.cause
 
 pub read_join-returns-in_err-only_own_keys-clause-cause : goal.read_join-returns-in_err-only_own_keys-clause-cause
@@ -85,7 +96,7 @@ read_not-returns-in_err-only_own_keys-clause-cause t c =
 pub read_not-returns-in_default-clause-cause : goal.read_not-returns-in_default-clause-cause
 read_not-returns-in_default-clause-cause t c =
     let d = view c.args.value.now in
-    because (λ f. f ≡ form (codes "shapeExpr")) (λ f. ExprFault f c.args.labelled (c.args.depth + 1) d) c.bad_form.result
+    because (λ f. f ≡ form (codes "shapeExpr")) (λ f. ExprObjectFault f c.args.labelled (c.args.depth + 1) d) c.bad_form.result
     (λ f h. bad_negation c.requires (NegationFault.no_child h (search rules))) c.bad_form.ensures
 
 pub read_not-returns-in_err-inner-clause-cause : goal.read_not-returns-in_err-inner-clause-cause
@@ -115,28 +126,39 @@ pub read_shape-returns-in_err-inner-in-Some-clause-cause : goal.read_shape-retur
 read_shape-returns-in_err-inner-in-Some-clause-cause t c =
     expression_passed c.args.labelled c.args.depth _ (view c.in-Some.child.now) c.from_residual-in_err-inner-in-Some.result c.in_err-inner-in-Some.field-0.0 c.from_residual-in_err-inner-in-Some.ensures.1 c.requires (search rules) c.in_err-inner-in-Some.ensures.cause
 
-pub read_triple-returns-in_default-triple_kind-clause-cause : goal.read_triple-returns-in_default-triple_kind-clause-cause
-read_triple-returns-in_default-triple_kind-clause-cause t c =
+pub read_triple-returns-then-not-is_object-clause-cause : goal.read_triple-returns-then-not-is_object-clause-cause
+read_triple-returns-then-not-is_object-clause-cause t c =
+    let d = view c.args.value.now in
+    let no_object : is_object d ≡ false = search rules in
+    because (λ f. f ≡ form c.args.key.now) (λ f. TripleFault f c.args.key.now c.args.depth d) c.bad_form.result
+    (λ f h. formless_triple c.args.key.now c.args.depth f d h c.in_default.ensures no_object) c.bad_form.ensures
+
+pub read_triple-returns-clause-cause : goal.read_triple-returns-clause-cause
+read_triple-returns-clause-cause t c =
+    placed_triple c.args.key.now c.args.depth _ c.read_triple_object.result c.read_triple_object.ensures.cause
+
+pub read_triple_object-returns-in_default-clause-cause : goal.read_triple_object-returns-in_default-clause-cause
+read_triple_object-returns-in_default-clause-cause t c =
     let d = view c.args.value.now in
     let other : (kind : TripleKind) → type_of d ≢ Some (triple_type kind) = search rules in
-    because (λ f. f ≡ form (codes "type")) (λ f. TripleFault f c.args.depth d) c.bad_form.result
-    (λ f h. untyped_triple c.args.depth f d h c.in_default.ensures other) c.bad_form.ensures
+    because (λ f. f ≡ form (codes "type")) (λ f. TripleObjectFault f c.args.depth d) c.bad_form.result
+    (λ f h. untyped_triple c.args.depth f d h c.requires other) c.bad_form.ensures
 
-pub read_triple-returns-then-depth-eq0-clause-cause : goal.read_triple-returns-then-depth-eq0-clause-cause
-read_triple-returns-then-depth-eq0-clause-cause t c =
-    let typed : type_of (view c.args.value.now) ≡ Some (triple_type c.in-Some-triple_kind.kind) = search rules in
-    triple_too_deep c.in-Some-triple_kind.kind (search rules) c.if-depth-eq0.true typed
+pub read_triple_object-returns-then-depth-eq0-clause-cause : goal.read_triple_object-returns-then-depth-eq0-clause-cause
+read_triple_object-returns-then-depth-eq0-clause-cause t c =
+    let typed : type_of (view c.args.value.now) ≡ Some (triple_type c.in-Some.kind) = search rules in
+    triple_too_deep c.in-Some.kind (search rules) c.if-depth-eq0.true typed
 
-pub read_triple-returns-in-Each-clause-cause : goal.read_triple-returns-in-Each-clause-cause
-read_triple-returns-in-Each-clause-cause t c =
+pub read_triple_object-returns-in-Each-clause-cause : goal.read_triple_object-returns-in-Each-clause-cause
+read_triple_object-returns-in-Each-clause-cause t c =
     triple_made c.args.depth _ _ c.read_group.result c.map.result c.map.ensures.cases c.if-depth-eq0.false c.read_group.ensures.cause
 
-pub read_triple-returns-in-One-clause-cause : goal.read_triple-returns-in-One-clause-cause
-read_triple-returns-in-One-clause-cause t c =
+pub read_triple_object-returns-in-One-clause-cause : goal.read_triple_object-returns-in-One-clause-cause
+read_triple_object-returns-in-One-clause-cause t c =
     triple_made c.args.depth _ _ c.read_group-in-One.result c.map-in-One.result c.map-in-One.ensures.cases c.if-depth-eq0.false c.read_group-in-One.ensures.cause
 
-pub read_triple-returns-in-Arc-clause-cause : goal.read_triple-returns-in-Arc-clause-cause
-read_triple-returns-in-Arc-clause-cause t c =
+pub read_triple_object-returns-in-Arc-clause-cause : goal.read_triple_object-returns-in-Arc-clause-cause
+read_triple_object-returns-in-Arc-clause-cause t c =
     triple_handed c.args.depth _ c.read_arc.result c.if-depth-eq0.false c.read_arc.ensures.cause
 
 pub read_group-returns-in_err-only_keys-clause-cause : goal.read_group-returns-in_err-only_keys-clause-cause

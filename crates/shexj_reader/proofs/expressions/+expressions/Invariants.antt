@@ -6,28 +6,34 @@ use Rattle.shexj_reader.specs.Nesting.{exprs_nesting, triples_nesting}
 use Rattle.shexj_reader.proofs.expressions.+expressions.Given as goal
 
 abbrev pub decreases-read_expr : goal.decreases-read_expr
-decreases-read_expr l = 3 * l.depth
+decreases-read_expr l = 4 * l.depth + 1
+
+abbrev pub decreases-read_expr_object : goal.decreases-read_expr_object
+decreases-read_expr_object l = 4 * l.depth
 
 abbrev pub decreases-read_join : goal.decreases-read_join
-decreases-read_join l = 3 * l.depth + 1
+decreases-read_join l = 4 * l.depth + 2
 
 abbrev pub decreases-read_not : goal.decreases-read_not
-decreases-read_not l = 3 * l.depth + 1
+decreases-read_not l = 4 * l.depth + 2
 
 abbrev pub decreases-read_shape : goal.decreases-read_shape
-decreases-read_shape l = 3 * l.depth + 1
+decreases-read_shape l = 4 * l.depth + 2
 
 abbrev pub decreases-read_triple : goal.decreases-read_triple
-decreases-read_triple l = 3 * l.depth
+decreases-read_triple l = 4 * l.depth + 1
+
+abbrev pub decreases-read_triple_object : goal.decreases-read_triple_object
+decreases-read_triple_object l = 4 * l.depth
 
 abbrev pub decreases-read_group : goal.decreases-read_group
-decreases-read_group l = 3 * l.depth + 2
+decreases-read_group l = 4 * l.depth + 3
 
 abbrev pub decreases-read_triples : goal.decreases-read_triples
-decreases-read_triples l = 3 * l.depth + 1
+decreases-read_triples l = 4 * l.depth + 2
 
 abbrev pub decreases-read_arc : goal.decreases-read_arc
-decreases-read_arc l = 3 * l.depth + 1
+decreases-read_arc l = 4 * l.depth + 2
 
 abbrev pub invariant-read_join-loop-item : goal.invariant-read_join-loop-item
 invariant-read_join-loop-item l = record {
