@@ -19,3 +19,5 @@ pub mod Sealed
 pub mod Stepped
 pub mod LoadedLines
 pub mod RowByRow
+pub mod Scattered
+pub mod Counted

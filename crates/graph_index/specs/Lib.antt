@@ -1,4 +1,5 @@
 pub mod Contents
+pub mod Counts
 pub mod Edits
 pub mod Laws
 pub mod Loading

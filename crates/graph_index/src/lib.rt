@@ -6,6 +6,7 @@ mod arcs;
 mod edited;
 mod ends;
 pub mod graph;
+mod grouping;
 pub mod laws;
 pub mod loading;
 pub mod neighbours;
