@@ -2,7 +2,7 @@
 
 use crate::terms::term_of;
 use anyhow::bail;
-use node_constraint::{Facet, MakeError, NodeConstraint};
+use node_constraint::{Facet, Kind4, MakeError, NodeConstraint};
 use rdf_terms::items::Items;
 use rdf_terms::terms::{Literal, Term};
 use rdf_terms::text::Text;
@@ -38,6 +38,101 @@ fn constraint_of(alloc: Global, lines: &str) -> anyhow::Result<Result<NodeConstr
         facets.push(facet_of(alloc, line)?)?;
     }
     Ok(NodeConstraint::make(alloc, None, None, facets, None))
+}
+
+/// What a constraint asks for, as far as its lines are read.
+#[derive(Drop)]
+struct Asked {
+    kind: Option<Kind4>,
+    datatype: Option<Text>,
+    facets: Vec<Facet>,
+    values: Vec<Value>,
+}
+
+impl Asked {
+    /// Takes up what a line asks for: a kind, a datatype, a value, which is a form and a text, or a facet.
+    fn add(&mut self, alloc: Global, line: &str) -> anyhow::Result<()> {
+        let (name, text) = first_word(line);
+        match name {
+            "kind" => self.kind = Some(kind_of(text)?),
+            "datatype" => self.datatype = Some(Text::from_str(alloc, text)?),
+            "value" => self.add_value(alloc, text)?,
+            _ => self.facets.push(facet_of(alloc, line)?)?,
+        }
+        Ok(())
+    }
+
+    /// Takes up what the lines ask for.
+    fn add_all(&mut self, alloc: Global, lines: &str) -> anyhow::Result<()> {
+        for line in lines.lines() {
+            self.add(alloc, line)?;
+        }
+        Ok(())
+    }
+
+    /// Takes up a value, which is a form and a text.
+    fn add_value(&mut self, alloc: Global, value: &str) -> anyhow::Result<()> {
+        let (form, text) = first_word(value);
+        Ok(self.values.push(value_of(alloc, form, text)?)?)
+    }
+
+    /// The constraint. Where no value is asked for, it has no value set.
+    fn constraint(self, alloc: Global) -> anyhow::Result<NodeConstraint> {
+        let Asked {
+            kind,
+            datatype,
+            facets,
+            values,
+        } = self;
+        let values = value_set(alloc, values)?;
+        Ok(NodeConstraint::make(alloc, kind, datatype, facets, values)?)
+    }
+}
+
+/// The set of the values, if there are any.
+fn value_set(alloc: Global, values: Vec<Value>) -> Result<Option<ValueSet>, AllocError> {
+    if values.is_empty() {
+        return Ok(None);
+    }
+    Ok(Some(ValueSet::of(alloc, values)?))
+}
+
+/// The kind of a name.
+fn kind_of(name: &str) -> anyhow::Result<Kind4> {
+    match name {
+        "iri" => Ok(Kind4::Iri),
+        "bnode" => Ok(Kind4::Bnode),
+        "nonliteral" => Ok(Kind4::NonLiteral),
+        "literal" => Ok(Kind4::Literal),
+        _ => bail!("no kind has this name"),
+    }
+}
+
+/// The constraint of these lines.
+fn constraint_asked(alloc: Global, lines: &str) -> anyhow::Result<NodeConstraint> {
+    let mut asked = Asked {
+        kind: None,
+        datatype: None,
+        facets: Vec::new(alloc),
+        values: Vec::new(alloc),
+    };
+    asked.add_all(alloc, lines)?;
+    asked.constraint(alloc)
+}
+
+/// The first part of the constraint that the term fails, or that it satisfies it.
+fn told_part(alloc: Global, constraint: &NodeConstraint, term: &Term) -> anyhow::Result<String> {
+    match constraint.failing_part(alloc, term)? {
+        Some(part) => Ok(format!(in alloc; "{part:?}")?),
+        None => told(alloc, true),
+    }
+}
+
+/// The first part of the constraint of these lines that the term of a text fails, or that it satisfies it.
+pub fn failed(alloc: Global, term: &str, lines: &str) -> anyhow::Result<String> {
+    let constraint = constraint_asked(alloc, lines)?;
+    let term = term_of(alloc, term)?;
+    told_part(alloc, &constraint, &term)
 }
 
 /// Whether a constraint holds for a literal.

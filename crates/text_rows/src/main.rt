@@ -17,6 +17,9 @@
 //! - `compare NUMBER` says how a number stands to this one, and `digits` how many digits it has, and how many behind the point.
 //! - `facet NAME VALUE` asks a node constraint of one facet about a decimal, and `facets` makes one of a facet a line. The
 //!   names are `mininclusive`, `minexclusive`, `maxinclusive`, `maxexclusive`, and `pattern` with `FLAGS/PATTERN` as its value.
+//! - `failed TERM` gives the first part that the term fails of the node constraint that asks for these lines, `holds` where it
+//!   fails none. A line is a facet as above, `kind` with `iri`, `bnode`, `nonliteral` or `literal`, `datatype IRI`, or
+//!   `value FORM TEXT` as below.
 //! - `value FORM TEXT` asks a value set of one value about a term. The forms are `term`, `iri-stem`, `literal-stem`, `language`
 //!   and `language-stem`, and for all IRIs, literals and tags but those with this stem `iris-but`, `literals-but` and
 //!   `languages-but`.

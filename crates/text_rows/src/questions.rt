@@ -52,6 +52,7 @@ fn of_text(
         "sorted" => terms::sorted(alloc, text),
         "facet" => constraints::held(alloc, with, text),
         "facets" => constraints::made(alloc, text),
+        "failed" => constraints::failed(alloc, with, text),
         "value" => constraints::valued(alloc, with, text),
         "proof-line" => Ok(proof_texts::of_line(alloc, text)?),
         "arcs" => arcs::arcs(alloc, with, files.bytes_of(with)?, text),
