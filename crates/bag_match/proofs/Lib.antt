@@ -3,9 +3,11 @@ pub mod Neighbours
 pub mod Forward
 pub mod Left
 pub mod Lending
+pub mod Runs
 pub mod Deadness
 pub mod Rising
 pub mod Offered
+pub mod Starts
 pub mod Putting
 pub mod Some
 pub mod Alive

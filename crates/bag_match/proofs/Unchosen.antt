@@ -1,7 +1,7 @@
 -- Where each triple has one place alone, these are the least places.
-use Rattle.std.proofs.Common.{◌≡◌, ◌∙◌, ◌+◌, ◌*◌, ◌≤◌, ℕ, zero, suc, List, [], ◌∷◌, inr, refl, arith, ap, sym, subst, length, map}
-use Rattle.std.proofs.lemmas.List.{length-map}
-use Rattle.std.proofs.lemmas.Option.{slice_get-map}
+use Rattle.std.proofs.Common.{◌≡◌, ◌∙◌, ◌+◌, ◌*◌, ◌≤◌, ◌++◌, ℕ, zero, suc, List, [], ◌∷◌, inr, refl, arith, ap, sym, subst, length, map, take, get_or}
+use Rattle.std.proofs.lemmas.List.{length-map, map-append, take_more}
+use Rattle.std.proofs.lemmas.Option.{get_or_from_slice_get, slice_get-map, slice_get_within}
 use Rattle.std.specs.Prelude.{Option, Some, option_map, slice_get}
 use Rattle.lists.proofs.Members.{in_one, is_first}
 use Rattle.rdf_terms.specs.declared.terms.TermId.{TermId}
@@ -15,6 +15,19 @@ use Rattle.bag_match.specs.Least.{AreLeast, AreOffered, ArePlacesFor, IsNotBehin
 not_behind_itself : (ps : List Place) → IsNotBehind ps ps
 not_behind_itself [] = tt
 not_behind_itself (p ∷ ps) = inr (refl, not_behind_itself ps)
+
+one_item : (list : List Place) (d : Place) → length list ≡ 1 → list ≡ sole (get_or list 0 d)
+one_item [] d one = absurd (omega (arith, one))
+one_item (x ∷ []) d one = refl
+one_item (x ∷ y ∷ list) d one = absurd (omega (arith, one))
+
+-- the place of one more list, which has it alone
+pub sole_next : (places new : List Place) (lists : List (List Place)) (i : ℕ) (list : List Place) (d : Place) → map sole places ≡ take i lists → slice_get lists i ≡ Some list → length list ≡ 1 →
+    new ≡ places ++ get_or list 0 d ∷ [] → map sole new ≡ take (i + 1) lists
+sole_next places new lists i list d so_far at one is =
+    ap (λ z. map sole z) is ∙ map-append sole places (get_or list 0 d ∷ []) ∙ ap (λ z. z ++ sole (get_or list 0 d) ∷ []) so_far
+    ∙ ap (λ z. take i lists ++ z ∷ []) (sym (one_item list d one) ∙ sym (get_or_from_slice_get lists i list [] at))
+    ∙ sym (take_more lists i [] (slice_get_within lists i list at))
 
 module _ (hold fail : TermId → Option ExprId → Type 0) (sh : Shape) (n : TermId) where
   allowed_each : (ts : List Triple) (ps : List Place) → length ps ≡ length ts →

@@ -10,3 +10,4 @@ pub mod Keys
 pub mod Counted
 pub mod Later
 pub mod Lent
+pub mod PlaceLists

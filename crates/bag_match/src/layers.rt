@@ -13,7 +13,8 @@ ghost use Rattle.bag_match.specs.Sets.{AreSmall, lists_of};
 
 use crate::arcs::RelevantTriples;
 use crate::dying::{fits_of, is_dead, pass_next};
-use crate::places::{Judge, allowed_places};
+use crate::place_lists::PlaceLists;
+use crate::places::{Judge, find_allowed};
 use crate::raising::{successors, zeros};
 use rdf_terms::items::Items;
 use rdf_terms::terms::TermId;
@@ -79,11 +80,11 @@ pub fn layer_at(layers: &[Items<State>], done: usize) -> &[State]
 }
 
 /// The places of the triple with so many triples before it.
-pub fn places_at(lists: &[Items<Place>], done: usize) -> &[Place]
+pub fn places_at(lists: &PlaceLists, done: usize) -> &[Place]
     requires { done < length lists.now }
     ensures { slice_get lists.now done ≡ Some result.now }
 {
-    lists[done].as_slice()
+    lists.at(done)
 }
 
 impl<J: Judge> Question<'_, J> {
@@ -143,16 +144,17 @@ impl<J: Judge> Question<'_, J> {
     }
 
     /// The places that are allowed for each triple.
-    pub fn offered(&self, alloc: Global) -> Result<Vec<Items<Place>>, AllocError>
+    pub fn offered(&self, alloc: Global) -> Result<PlaceLists, AllocError>
         requires ready { J.ready self.now.judge.now }
         requires few_occurrences { length self.now.shape.now.occs ≤ 256 }
-        ensures { IfOk result (λ v. AreOffered (J.hold self.now.judge.now) (J.fail self.now.judge.now) self.now.shape.now self.now.node self.now.triples.now (length self.now.triples.now) v.items) }
+        ensures { IfOk result (λ v. AreOffered (J.hold self.now.judge.now) (J.fail self.now.judge.now) self.now.shape.now self.now.node self.now.triples.now (length self.now.triples.now) v) }
     {
-        let mut lists = Vec::with_capacity(alloc, self.triples.len())?;
+        let mut lists = PlaceLists::with_capacity(alloc, self.triples.len())?;
+        let mut found = Vec::new(alloc);
         for i in 0..self.triples.len() {
             let triple = self.triples.at(i);
-            let places = allowed_places(alloc, self.judge, self.shape, self.node, triple)?;
-            lists.push(Items::of(places))?;
+            find_allowed(alloc, self.judge, self.shape, self.node, triple, &mut found)?;
+            lists.push(found.as_slice())?;
         }
         Ok(lists)
     }
@@ -162,7 +164,7 @@ impl<J: Judge> Question<'_, J> {
     fn add_next<L: Ledger>(
         &self,
         alloc: Global,
-        offered: &[Items<Place>],
+        offered: &PlaceLists,
         done: usize,
         left: &[u32],
         layers: &mut Vec<Items<State>>,
@@ -190,7 +192,7 @@ impl<J: Judge> Question<'_, J> {
     pub fn layers<L: Ledger>(
         &self,
         alloc: Global,
-        offered: &[Items<Place>],
+        offered: &PlaceLists,
         steps: &mut Steps<L>,
     ) -> Result<Vec<Items<State>>, AllocError>
         requires offered { AreOffered (J.hold self.now.judge.now) (J.fail self.now.judge.now) self.now.shape.now self.now.node self.now.triples.now (length self.now.triples.now) offered.now }

@@ -12,6 +12,7 @@ mod matching;
 mod offering;
 mod outcome;
 mod passing;
+mod place_lists;
 pub mod places;
 mod placing;
 mod products;

@@ -13,13 +13,14 @@ ghost use Rattle.bag_match.specs.Outcomes.{IsFound, IsOutcome, IsPlaced, ticks_o
 use crate::arcs::{is_shut, relevant};
 use crate::layers::{Question, layer_at};
 use crate::outcome::Outcome;
+use crate::place_lists::PlaceLists;
 use crate::places::{Judge, Values};
 use graph_index::graph::Graph;
 use rdf_terms::items::Items;
 use rdf_terms::table::TermTable;
 use schema_tree::schema::{Pair, Schema};
 use schema_tree::sure::View;
-use schema_tree::verdicts::{Lean, Place, State};
+use schema_tree::verdicts::{Lean, State};
 use std::alloc::{AllocError, Global};
 use std::sync::ledger::Ledger;
 use tally::Steps;
@@ -51,7 +52,7 @@ impl<J: Judge> Question<'_, J> {
     fn by_layers<L: Ledger>(
         &self,
         alloc: Global,
-        offered: &[Items<Place>],
+        offered: &PlaceLists,
         steps: &mut Steps<L>,
     ) -> Result<Outcome, AllocError>
         requires offered { AreOffered (J.hold self.now.judge.now) (J.fail self.now.judge.now) self.now.shape.now self.now.node self.now.triples.now (length self.now.triples.now) offered.now }
@@ -77,7 +78,7 @@ impl<J: Judge> Question<'_, J> {
     fn by_choice<L: Ledger>(
         &self,
         alloc: Global,
-        offered: &[Items<Place>],
+        offered: &PlaceLists,
         steps: &mut Steps<L>,
     ) -> Result<Outcome, AllocError>
         requires offered { AreOffered (J.hold self.now.judge.now) (J.fail self.now.judge.now) self.now.shape.now self.now.node self.now.triples.now (length self.now.triples.now) offered.now }
@@ -106,9 +107,9 @@ impl<J: Judge> Question<'_, J> {
         ensures most { (bound : ℕ) → IsBound (J.hold self.now.judge.now) (J.fail self.now.judge.now) self.now.shape.now self.now.node self.now.triples.now bound → steps.new ≤ steps.old + (length self.now.triples.now + 1) * bound }
     {
         let offered = self.offered(alloc)?;
-        match self.only_places(alloc, offered.as_slice(), steps)? {
+        match self.only_places(alloc, &offered, steps)? {
             Some(places) => Ok(Outcome::Placed(Items::of(places))),
-            None => self.by_choice(alloc, offered.as_slice(), steps),
+            None => self.by_choice(alloc, &offered, steps),
         }
     }
 }

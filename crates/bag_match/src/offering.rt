@@ -5,8 +5,8 @@ ghost use Rattle.schema_tree.specs.Places.{times};
 ghost use Rattle.bag_match.specs.Counts.{ArePlacesOf};
 ghost use Rattle.bag_match.specs.Hopes.{ArePlacesOfEach, AreOffers, offers};
 
+use crate::place_lists::PlaceLists;
 use crate::raising::{lower, raise, zeros};
-use rdf_terms::items::Items;
 use schema_tree::verdicts::Place;
 use std::alloc::{AllocError, Global};
 
@@ -38,15 +38,15 @@ pub fn take_all(counts: &mut Vec<u32>, places: &[Place])
 pub fn offers_of(
     alloc: Global,
     occurrences: usize,
-    lists: &[Items<Place>],
+    lists: &PlaceLists,
 ) -> Result<Vec<u32>, AllocError>
     requires there { ArePlacesOfEach occurrences lists.now }
     requires small { (i : ℕ) → offers lists.now i < 2 ^ 31 }
     ensures { IfOk result (λ v. AreOffers occurrences lists.now v.items) }
 {
     let mut counts = zeros(alloc, occurrences)?;
-    for places in lists {
-        add_all(&mut counts, places.as_slice());
+    for i in 0..lists.len() {
+        add_all(&mut counts, lists.at(i));
     }
     Ok(counts)
 }

@@ -304,6 +304,27 @@ fn push_allowed<J: Judge>(
     Ok(())
 }
 
+/// Puts the places that are allowed for the triple, in their order, in the stead of what was there.
+pub(crate) fn find_allowed<J: Judge>(
+    alloc: Global,
+    judge: &J,
+    shape: &Shape,
+    node: TermId,
+    triple: Triple,
+    found: &mut Vec<Place>,
+) -> Result<(), AllocError>
+    requires ready { J.ready judge.now }
+    requires few { length shape.now.occs ≤ 256 }
+    ensures { OnOk result (ArePlacesFor (J.hold judge.now) (J.fail judge.now) shape.now node triple found.new.items) }
+{
+    found.clear();
+    for i in 0..shape.occs.as_slice().len() {
+        push_allowed(alloc, judge, shape, node, triple, occurrence(i), found)?;
+    }
+    push_allowed(alloc, judge, shape, node, triple, Place::Rest, found)?;
+    Ok(())
+}
+
 /// The places that are allowed for the triple, in their order.
 pub fn allowed_places<J: Judge>(
     alloc: Global,
@@ -317,9 +338,6 @@ pub fn allowed_places<J: Judge>(
     ensures { IfOk result (λ v. ArePlacesFor (J.hold judge.now) (J.fail judge.now) shape.now node triple v.items) }
 {
     let mut found = Vec::new(alloc);
-    for i in 0..shape.occs.as_slice().len() {
-        push_allowed(alloc, judge, shape, node, triple, occurrence(i), &mut found)?;
-    }
-    push_allowed(alloc, judge, shape, node, triple, Place::Rest, &mut found)?;
+    find_allowed(alloc, judge, shape, node, triple, &mut found)?;
     Ok(found)
 }

@@ -13,6 +13,7 @@ ghost use Rattle.bag_match.specs.Least.{AreLeast, AreOffered, IsPlaceBefore};
 ghost use Rattle.bag_match.specs.Reached.{IsReachedAt};
 
 use crate::layers::{Question, layer_at, places_at};
+use crate::place_lists::PlaceLists;
 use crate::places::Judge;
 use crate::raising::{raise, zeros};
 use rdf_terms::items::Items;
@@ -125,7 +126,7 @@ impl<J: Judge> Question<'_, J> {
     fn finishing(
         &self,
         alloc: Global,
-        offered: &[Items<Place>],
+        offered: &PlaceLists,
         layers: Vec<Items<State>>,
     ) -> Result<Vec<Items<State>>, AllocError>
         requires offered { AreOffered (J.hold self.now.judge.now) (J.fail self.now.judge.now) self.now.shape.now self.now.node self.now.triples.now (length self.now.triples.now) offered.now }
@@ -152,7 +153,7 @@ impl<J: Judge> Question<'_, J> {
     pub fn least_places(
         &self,
         alloc: Global,
-        offered: &[Items<Place>],
+        offered: &PlaceLists,
         layers: Vec<Items<State>>,
     ) -> Result<Vec<Place>, AllocError>
         requires offered { AreOffered (J.hold self.now.judge.now) (J.fail self.now.judge.now) self.now.shape.now self.now.node self.now.triples.now (length self.now.triples.now) offered.now }

@@ -6,20 +6,20 @@ ghost use Rattle.bag_match.specs.Least.{AreLeast, AreOffered, sole};
 
 use crate::counts::have_counts;
 use crate::layers::Question;
+use crate::place_lists::PlaceLists;
 use crate::places::Judge;
-use rdf_terms::items::Items;
 use schema_tree::verdicts::Place;
 use std::alloc::{AllocError, Global};
 use std::sync::ledger::Ledger;
 use tally::Steps;
 
 /// The place of each list, where each has one alone.
-fn sole_places(alloc: Global, offered: &[Items<Place>]) -> Result<Option<Vec<Place>>, AllocError>
+fn sole_places(alloc: Global, offered: &PlaceLists) -> Result<Option<Vec<Place>>, AllocError>
     ensures { IfOk result (λ o. IfSome o (λ v. map sole v.items ≡ offered.now)) }
 {
     let mut places = Vec::with_capacity(alloc, offered.len())?;
-    for list in offered {
-        match list.as_slice() {
+    for i in 0..offered.len() {
+        match offered.at(i) {
             [place] => places.push(*place)?,
             _ => return Ok(None),
         }
@@ -42,7 +42,7 @@ impl<J: Judge> Question<'_, J> {
     pub fn only_places<L: Ledger>(
         &self,
         alloc: Global,
-        offered: &[Items<Place>],
+        offered: &PlaceLists,
         steps: &mut Steps<L>,
     ) -> Result<Option<Vec<Place>>, AllocError>
         requires offered { AreOffered (J.hold self.now.judge.now) (J.fail self.now.judge.now) self.now.shape.now self.now.node self.now.triples.now (length self.now.triples.now) offered.now }

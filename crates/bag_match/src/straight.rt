@@ -12,9 +12,9 @@ ghost use Rattle.bag_match.specs.Hopes.{HopesFirst, IsHopeless};
 use crate::dying::spell_never_more;
 use crate::layers::{Question, places_at};
 use crate::offering::{offers_of, take_all};
+use crate::place_lists::PlaceLists;
 use crate::places::Judge;
 use crate::raising::{lower, raise, zeros};
-use rdf_terms::items::Items;
 use schema_tree::schema::Shape;
 use schema_tree::verdicts::Place;
 use std::alloc::{AllocError, Global};
@@ -99,7 +99,7 @@ fn tick_up_to<L: Ledger>(places: &[Place], taken: Place, steps: &mut Steps<L>)
 
 /// Ticks once for each state that is looked at on the way by the places that are taken, one for each of the lists, and once
 /// for the opening state.
-fn tick_looked<L: Ledger>(offered: &[Items<Place>], taken: &[Place], steps: &mut Steps<L>)
+fn tick_looked<L: Ledger>(offered: &PlaceLists, taken: &[Place], steps: &mut Steps<L>)
     requires beside { length offered.now ≡ length taken.now }
     requires some { (places : List Place) → Contains offered.now places → 0 < length places }
     ensures least { steps.old + length taken.now ≤ steps.new }
@@ -117,7 +117,7 @@ impl<J: Judge> Question<'_, J> {
     pub fn straight_places<L: Ledger>(
         &self,
         alloc: Global,
-        offered: &[Items<Place>],
+        offered: &PlaceLists,
         steps: &mut Steps<L>,
     ) -> Result<Option<Vec<Place>>, AllocError>
         requires offered { AreOffered (J.hold self.now.judge.now) (J.fail self.now.judge.now) self.now.shape.now self.now.node self.now.triples.now (length self.now.triples.now) offered.now }
@@ -139,11 +139,7 @@ impl<J: Judge> Question<'_, J> {
     }
 
     /// The same without ticks.
-    fn walk(
-        &self,
-        alloc: Global,
-        offered: &[Items<Place>],
-    ) -> Result<Option<Vec<Place>>, AllocError>
+    fn walk(&self, alloc: Global, offered: &PlaceLists) -> Result<Option<Vec<Place>>, AllocError>
         requires offered { AreOffered (J.hold self.now.judge.now) (J.fail self.now.judge.now) self.now.shape.now self.now.node self.now.triples.now (length self.now.triples.now) offered.now }
         requires body { BodyOk self.now.shape.now.occs self.now.shape.now.body }
         requires few { length self.now.triples.now < 2 ^ 31 }
