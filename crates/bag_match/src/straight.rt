@@ -138,7 +138,7 @@ impl<J: Judge> Question<'_, J> {
         }
     }
 
-    /// The same without ticks.
+    /// The least places, where the walk comes to its end. It ticks for nothing.
     fn walk(&self, alloc: Global, offered: &PlaceLists) -> Result<Option<Vec<Place>>, AllocError>
         requires offered { AreOffered (J.hold self.now.judge.now) (J.fail self.now.judge.now) self.now.shape.now self.now.node self.now.triples.now (length self.now.triples.now) offered.now }
         requires body { BodyOk self.now.shape.now.occs self.now.shape.now.body }
