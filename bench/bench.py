@@ -166,9 +166,9 @@ def words_of():
 
 def main():
     words = words_of()
-    program = built(words.program, "shex_cli")
+    program = built(words.program, "shex")
     if program is None:
-        sys.exit("bench: the program is not built: bin/shex builds it, or --program names it")
+        sys.exit("bench: dist/shex is not there, and --program names no other")
     print(f"`bench/bench.py`, {date.today()}, {processors()}. Seconds by the clock, megabytes at the peak, exponent of growth.\n", flush=True)
     with tempfile.TemporaryDirectory() as folder:
         bench = Bench(program, folder, words.limit, words.jena)

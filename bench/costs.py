@@ -84,7 +84,7 @@ def main():
     parser.add_argument("--command", choices=COMMANDS, default="validate")
     parser.add_argument("--keep")
     words = parser.parse_args()
-    program = built(words.program, "shex_cli")
+    program = built(words.program, "shex")
     if program is None or not shutil.which("valgrind"):
         sys.exit("costs: the program or valgrind is not there")
     own, called = {}, {}

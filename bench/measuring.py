@@ -115,6 +115,6 @@ def made(family, size, folder):
 
 
 def built(word, name):
-    """The program that the word names, or else that of the crate of this name; none where there is none."""
-    path = os.path.abspath(word) if word else os.path.join(ROOT, "crates", name, "out", name)
+    """The program that the word names, or else the released one of this name; none where there is none."""
+    path = os.path.abspath(word) if word else os.path.join(ROOT, "dist", name)
     return path if os.access(path, os.X_OK) else None

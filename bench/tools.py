@@ -3,7 +3,7 @@
 
     bench/tools.py [--session F] [--tool F] [--sizes 1000,1000000] [--terms 1000,10000,100000,1000000] [--limit 40]
 
-F are the built programs. A session runs a script of edits with a question behind each, over people in rows of `length`, of whom
+F are by default the released programs. A session runs a script of edits with a question behind each, over people in rows of `length`, of whom
 each knows the next: the last of a row loses its name, or gets it back, and the first is asked about, so that an edit touches
 `length` pairs. Each has a name of its own; in one run all have one name, so that the object of an edit has as many triples as there
 are people. A script of k edits and one of 2k are timed, so that the difference is what k edits take: it is to hang on what they
@@ -126,10 +126,10 @@ def extents_table(program, folder, terms, limit):
 def measure_tools(words, sizes=(1_000, 1_000_000), terms=(1_000, 10_000, 100_000, 1_000_000)):
     """Prints the tables of the programs that are built, and gives the goals."""
     goals = []
-    for word, name, table, steps in ((words.session, "typing_session_cli", session_table, sizes), (words.tool, "shextool_cli", extents_table, terms)):
+    for word, name, table, steps in ((words.session, "typing_session", session_table, sizes), (words.tool, "shextool", extents_table, terms)):
         program = built(word, name)
         if program is None:
-            print(f"Left out: {name} is not built.\n", flush=True)
+            print(f"Left out: dist/{name} is not there.\n", flush=True)
             continue
         with tempfile.TemporaryDirectory() as folder:
             goals.append(table(program, folder, steps, min(words.limit, 40)))

@@ -1,9 +1,9 @@
 #!/usr/bin/env python3
 """Holds `shex validate` against a plain reading of ShEx 2.1, section 5, on random schemas and data.
 
-    extras/brute_force.py PROGRAM [--rounds 500] [--seed 1]
+    extras/brute_force.py [PROGRAM] [--rounds 500] [--seed 1]
 
-PROGRAM is the built program, as `crates/shex_cli/out/shex_cli`. Each round makes a schema in ShExJ, with references that may be
+PROGRAM is by default the released one, `dist/shex`. Each round makes a schema in ShExJ, with references that may be
 recursive, negation, groups, cardinalities, inverse constraints, EXTRA and CLOSED, and a few triples between five terms, and asks
 about each term with each label. The reading tries each division of a node's triples and takes the greatest typing, stratum by
 stratum, so it is fit for tiny inputs alone; it shares nothing with the program or with check_proof.py. The answers have to be the
@@ -21,6 +21,8 @@ import random
 import subprocess
 import sys
 import tempfile
+
+RELEASED = os.path.join(os.path.dirname(os.path.dirname(os.path.abspath(__file__))), "dist", "shex")
 
 CONTEXT = "http://www.w3.org/ns/shex.jsonld"
 SPACE = "http://example.org/"
@@ -359,7 +361,7 @@ class Contest:
 def main():
     """Runs the contest, and prints what came out."""
     parser = argparse.ArgumentParser(description=__doc__.split("\n", maxsplit=1)[0])
-    parser.add_argument("program")
+    parser.add_argument("program", nargs="?", default=RELEASED)
     parser.add_argument("--rounds", type=int, default=500)
     parser.add_argument("--seed", type=int, default=1)
     chosen = parser.parse_args()

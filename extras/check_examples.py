@@ -1,10 +1,10 @@
 #!/usr/bin/env python3
 """Holds `shex check` and check_proof.py against each other: on the proofs of all examples, and on forged copies of them.
 
-    extras/check_examples.py PROGRAM [--random 1000] [--seed 1]
-    extras/check_examples.py PROGRAM --rows crates/shex_rows/data/*.rows [--most 4] [--random 10] [--seed 1]
+    extras/check_examples.py [PROGRAM] [--random 1000] [--seed 1]
+    extras/check_examples.py [PROGRAM] --rows crates/shex_rows/data/*.rows [--most 4] [--random 10] [--seed 1]
 
-PROGRAM is the built program, as `crates/shex_cli/out/shex_cli`. It stores a proof for each folder of examples/, or for each call
+PROGRAM is by default the released one, `dist/shex`. It stores a proof for each folder of examples/, or for each call
 of `validate` in documents of rows, which both have to accept, in format 2 as it is and in format 1 without its head. Then both
 look at copies of each: with every single change of the kinds in forgeries.py, or, with --most, so many of each kind; at as many
 as --random says that were changed two to four times; and, for the examples, at the proofs of other files, which are those of the
@@ -125,7 +125,7 @@ class Contest:
 def arguments_of():
     """What the command line asks for."""
     parser = argparse.ArgumentParser(description="Holds shex check and check_proof.py against each other.")
-    parser.add_argument("program", type=os.path.abspath)
+    parser.add_argument("program", nargs="?", type=os.path.abspath, default=os.path.join(ROOT, "dist", "shex"))
     parser.add_argument("--rows", nargs="+", default=[], type=os.path.abspath)
     for name, number in (("--most", None), ("--random", 1000), ("--seed", 1)):
         parser.add_argument(name, type=int, default=number)

@@ -1,9 +1,9 @@
 #!/usr/bin/env python3
 """Runs shex on mutated inputs, and keeps each input on which it does what it never may.
 
-    fuzz/fuzz.py PROGRAM [--runs 10000] [--from 0] [--seed 1] [--jobs N] [--found found]
+    fuzz/fuzz.py [PROGRAM] [--runs 10000] [--from 0] [--seed 1] [--jobs N] [--found found]
 
-PROGRAM is the built program, as `crates/shex_cli/out/shex_cli`. The seeds are the examples and the rows of crates/shex_rows/data:
+PROGRAM is by default the released one, `dist/shex`. The seeds are the examples and the rows of crates/shex_rows/data:
 each call with its files, and for each call of `validate` the proof that it stores, in both formats. In each run one file of a seed
 is mutated (a schema or an imported one in either syntax, data in either format, a shape map, or a proof of either format), by bytes,
 by tokens or by values of JSON, or the words themselves are, and the program is run; some runs are drills. It may end with the
@@ -534,7 +534,7 @@ def work(program, found, numbers, seed):
 
 def main():
     parser = argparse.ArgumentParser(description=__doc__, formatter_class=argparse.RawDescriptionHelpFormatter)
-    parser.add_argument("program")
+    parser.add_argument("program", nargs="?", default=os.path.join(ROOT, "dist", "shex"))
     parser.add_argument("--runs", type=int, default=10000)
     parser.add_argument("--from", type=int, default=0, dest="first")
     parser.add_argument("--seed", default="1")

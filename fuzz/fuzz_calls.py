@@ -1,10 +1,10 @@
 #!/usr/bin/env python3
 """Tries mutated inputs in the top call over files in memory, many calls in one run, which is some twenty times as fast as fuzz.py.
 
-    fuzz/fuzz_calls.py ROWS [--runs 100000] [--from 0] [--seed 1] [--batch 2000] [--found found]
+    fuzz/fuzz_calls.py [ROWS] [--runs 100000] [--from 0] [--seed 1] [--batch 2000] [--found found]
 
-ROWS is the built program `crates/shex_rows/out/shex_rows`, which calls what documents of rows say: here each row is a mutated input,
-with a status that no call has, so that the program prints what the call answered, printed and stored. Seeds, mutations and what has
+ROWS is by default the released program of rows, `dist/shex_rows`, which calls what documents of rows say: here each row is a mutated
+input, with a status that no call has, so that the program prints what the call answered, printed and stored. Seeds, mutations and what has
 to hold of statuses, lines and proofs are those of fuzz.py. A run of the program that ends by a signal, or takes more than a minute and
 0.05 seconds a call, is tried again in halves, down to one call. What is not as it may be is kept under `found` as a document of one row. The number of calls for each kind
 and status is printed at the end. Nothing but Python's standard library is wanted.
@@ -20,7 +20,7 @@ import subprocess
 import sys
 
 from fuzz import KINDS, PIECES, STATUSES, Seed, kind_of, mutated, seeds, words_of
-from running import folder
+from running import ROOT, folder
 
 # A call: its files, its words, and a name that it may store a file under.
 Call = collections.namedtuple("Call", "files words stored")
@@ -242,7 +242,7 @@ def tried(caller, attempts):
 
 def main():
     parser = argparse.ArgumentParser(description=__doc__, formatter_class=argparse.RawDescriptionHelpFormatter)
-    parser.add_argument("rows")
+    parser.add_argument("rows", nargs="?", default=os.path.join(ROOT, "dist", "shex_rows"))
     parser.add_argument("--runs", type=int, default=100000)
     parser.add_argument("--from", type=int, default=0, dest="first")
     parser.add_argument("--seed", default="1")

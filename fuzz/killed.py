@@ -1,9 +1,9 @@
 #!/usr/bin/env python3
 """Kills shex while it stores a proof, and looks at what the file holds.
 
-    fuzz/killed.py PROGRAM [--runs 200] [--items 20000] [--seed 1] [--folder FOLDER]
+    fuzz/killed.py [PROGRAM] [--runs 200] [--items 20000] [--seed 1] [--folder FOLDER]
 
-PROGRAM is the built program, as `crates/shex_cli/out/shex_cli`. A drill stores a proof of some megabytes over an older file of that
+PROGRAM is by default the released one, `dist/shex`. A drill stores a proof of some megabytes over an older file of that
 name. Where Debian's `strace` is installed, the program is killed at each of its system calls that touches a file, from the one that
 opens the proof on: before the call is made, and behind it. Besides, it is killed at so many random times around the moment at which
 it stores. Behind each run the file has to hold what it held before or a prefix of the proof. Printed is how often it held what. The
@@ -21,7 +21,7 @@ import sys
 import tempfile
 import time
 
-from running import folder
+from running import RELEASED, folder
 
 OLD = b"an old text\n"
 
@@ -105,7 +105,7 @@ def at_times(words, where, proof, runs, seed, taken, changed):
 
 def main():
     parser = argparse.ArgumentParser(description=__doc__, formatter_class=argparse.RawDescriptionHelpFormatter)
-    parser.add_argument("program")
+    parser.add_argument("program", nargs="?", default=RELEASED)
     parser.add_argument("--runs", type=int, default=200)
     parser.add_argument("--items", type=int, default=20000)
     parser.add_argument("--seed", default="1")

@@ -1,9 +1,9 @@
 #!/usr/bin/env python3
 """Runs shex on small examples of which one file is cut, behind each of its bytes in turn.
 
-    fuzz/prefixes.py PROGRAM
+    fuzz/prefixes.py [PROGRAM]
 
-PROGRAM is the built program, as `crates/shex_cli/out/shex_cli`. A schema, data or a map that is cut is refused with status 3 and a
+PROGRAM is by default the released one, `dist/shex`. A schema, data or a map that is cut is refused with status 3 and a
 line that names the file or what refers to it, or is read and answered. A proof that is cut is refused with status 6, and its line
 names the start of the first line that is not whole; so is one behind whose end a byte follows. Printed is how often which status came
 for each file. The program ends with 1 where anything else came. Nothing but Python's standard library is wanted.
@@ -14,7 +14,7 @@ import collections
 import os
 import sys
 
-from running import EXAMPLES, folder, run, without_map, write
+from running import EXAMPLES, RELEASED, folder, run, without_map, write
 
 
 def answered(status):
@@ -58,7 +58,7 @@ def cut_proof(program, example, where, proof):
 
 def main():
     parser = argparse.ArgumentParser(description=__doc__, formatter_class=argparse.RawDescriptionHelpFormatter)
-    parser.add_argument("program")
+    parser.add_argument("program", nargs="?", default=RELEASED)
     program = os.path.abspath(parser.parse_args().program)
     faults = 0
     for example in EXAMPLES:

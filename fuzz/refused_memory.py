@@ -1,9 +1,9 @@
 #!/usr/bin/env python3
 """Runs shex on small examples while memory is refused, one number at a time.
 
-    fuzz/refused_memory.py PROGRAM [--by limit|request|both] [--only WORD] [--every 1]
+    fuzz/refused_memory.py [PROGRAM] [--by limit|request|both] [--only WORD] [--every 1]
 
-PROGRAM is the built program, as `crates/shex_cli/out/shex_cli`. Each block that the program asks for is made a mapping of its
+PROGRAM is by default the released one, `dist/shex`. Each block that the program asks for is made a mapping of its
 own (by the settings of the GNU C library), so that
 
 - by `limit`, memory for data is limited to each number of pages from one up to what the run needs: each block that would pass a
@@ -24,7 +24,7 @@ import resource
 import shutil
 import sys
 
-from running import EXAMPLES, folder, run, without_map, write
+from running import EXAMPLES, RELEASED, folder, run, without_map, write
 
 PAGE = resource.getpagesize()
 OLD = "an old text\n"
@@ -160,7 +160,7 @@ def tried(program, call, way, every):
 
 def main():
     parser = argparse.ArgumentParser(description=__doc__, formatter_class=argparse.RawDescriptionHelpFormatter)
-    parser.add_argument("program")
+    parser.add_argument("program", nargs="?", default=RELEASED)
     parser.add_argument("--by", choices=("limit", "request", "both"), default="both")
     parser.add_argument("--only", default="")
     parser.add_argument("--every", type=int, default=1)

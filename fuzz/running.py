@@ -14,6 +14,9 @@ import time
 
 ROOT = os.path.dirname(os.path.dirname(os.path.abspath(__file__)))
 
+# The released program.
+RELEASED = os.path.join(ROOT, "dist", "shex")
+
 # How much time of a processor a run may take, in seconds.
 SECONDS = 10
 

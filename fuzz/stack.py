@@ -1,9 +1,9 @@
 #!/usr/bin/env python3
 """Runs shex on inputs that nest as deeply as they may, and deeper, under a small stack.
 
-    fuzz/stack.py PROGRAM [--kilobytes 8192] [--only WORD] [--least]
+    fuzz/stack.py [PROGRAM] [--kilobytes 8192] [--only WORD] [--least]
 
-PROGRAM is the built program, as `crates/shex_cli/out/shex_cli`. Each input stands at a limit of depth, just beyond it, or far beyond
+PROGRAM is by default the released one, `dist/shex`. Each input stands at a limit of depth, just beyond it, or far beyond
 it, or makes long chains of what refers to one another. Each run has to end with the status and the line that stand here, by no
 signal, under a stack of so many kilobytes. With `--least` the least stack that is enough is looked for too. The program ends
 with 1 where a run ended otherwise. Nothing but Python's standard library is wanted.
@@ -15,7 +15,7 @@ import os
 import resource
 import sys
 
-from running import folder, run, write
+from running import RELEASED, folder, run, write
 
 # An input: its name, its files, the words, the status, and the line of the errors (none: nothing).
 Input = collections.namedtuple("Input", "name files words status err")
@@ -172,7 +172,7 @@ def least(program, one):
 
 def main():
     parser = argparse.ArgumentParser(description=__doc__, formatter_class=argparse.RawDescriptionHelpFormatter)
-    parser.add_argument("program")
+    parser.add_argument("program", nargs="?", default=RELEASED)
     parser.add_argument("--kilobytes", type=int, default=8192)
     parser.add_argument("--only", default="")
     parser.add_argument("--least", action="store_true")

@@ -1,9 +1,9 @@
 #!/usr/bin/env python3
 """Runs shex on inputs that are made to cost much for their size, at growing sizes, and prints a table.
 
-    fuzz/work_per_byte.py PROGRAM [--only WORD,WORD ..] [--scale 1] [--seconds 10] [--megabytes 6000]
+    fuzz/work_per_byte.py [PROGRAM] [--only WORD,WORD ..] [--scale 1] [--seconds 10] [--megabytes 6000]
 
-PROGRAM is the built program, as `crates/shex_cli/out/shex_cli`. Each input is within the limits or just beyond one, and has
+PROGRAM is by default the released one, `dist/shex`. Each input is within the limits or just beyond one, and has
 to be answered as it says here: by this status and, where it is refused, this line. Printed are the bytes of its files, seconds
 of a processor, megabytes at the peak, and the exponent e of the growth to the next size (time as size to the e, the size being
 that of the files that have grown). A run is ended behind `--seconds`, and memory beyond `--megabytes` is refused. Marked at the
@@ -18,7 +18,7 @@ import os
 import resource
 import sys
 
-from running import SECONDS, exponent, folder, run, write
+from running import RELEASED, SECONDS, exponent, folder, run, write
 
 MIB = 1 << 20
 
@@ -637,7 +637,7 @@ def measure(program, make, sizes, seconds, megabytes):
 
 def main():
     parser = argparse.ArgumentParser(description=__doc__, formatter_class=argparse.RawDescriptionHelpFormatter)
-    parser.add_argument("program")
+    parser.add_argument("program", nargs="?", default=RELEASED)
     parser.add_argument("--only", default="")
     parser.add_argument("--scale", type=float, default=1)
     parser.add_argument("--seconds", type=float, default=SECONDS)
