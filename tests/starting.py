@@ -372,15 +372,22 @@ class Releasing(Case):
     def test_a_line_that_was_made_by_hand(self):
         with open(os.path.join(self.clone, "dist/RELEASE"), encoding="utf-8") as file:
             lines = file.read().splitlines()
-        for at, line in enumerate(lines):
-            write(self.clone, "dist/RELEASE", "\n".join([*lines[:at], line[:-1] + "x", *lines[at + 1:]]) + "\n")
-            self.assertEqual(self.check().returncode, 1, line)
+        for at in (0, 1, len(PROGRAMS) + 1):
+            write(self.clone, "dist/RELEASE", "\n".join([*lines[:at], lines[at][:-1] + "x", *lines[at + 1:]]) + "\n")
+            self.assertEqual(self.check().returncode, 1, lines[at])
         write(self.clone, "dist/RELEASE", "\n".join(lines) + "\n")
         self.assert_holds()
 
     def test_a_file_that_was_put_there(self):
         write(self.clone, "dist/other", "")
         self.assert_refused("dist/other is no program that is released: remove it")
+
+    def test_texts_name_the_version(self):
+        with open(os.path.join(ROOT, "VERSION"), encoding="utf-8") as file:
+            version = file.read().strip()
+        for name, line in {"CHANGELOG.md": f"\n## {version}\n", **{f"man/{name}.1": f' "shex {version}" ' for name in PROGRAMS[:3]}}.items():
+            with open(os.path.join(ROOT, name), encoding="utf-8") as file:
+                self.assertIn(line, file.read(), name)
 
     def test_installing(self):
         to = os.path.join(self.folder, "a prefix")
