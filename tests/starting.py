@@ -24,6 +24,7 @@ if [ "$1" = version ]; then
     exit
 fi
 echo "$*" >>"$RT_LOG"
+[ ! -e "$RT_LOG.meanwhile" ] || sh "$RT_LOG.meanwhile"
 [ ! -e "$RT_LOG.refuses" ] || { echo 'rt: low NOT PROVED'; echo '1 passed, 1 failed'; exit 1; }
 sum=$(cat crates/low/src/* crates/low/specs/* | cksum | cut -d ' ' -f 1)
 for name in $(sed -n 's/^\([a-z_]*_cli\|[a-z_]*_rows\):.*/\1/p' crates.txt); do
@@ -233,8 +234,18 @@ class Starting(Case):
         self.shex()
         self.change("crates.txt")
         self.assert_released(self.shex())
-        write(self.clone, "crates.txt", FILES["crates.txt"].replace("shex_cli: low", "shex_cli: low other"))
-        self.assert_not_there(self.shex())
+        for line in ("shex_cli: low other", "shex_cli opt_level=1: low"):
+            write(self.clone, "crates.txt", FILES["crates.txt"].replace("shex_cli: low", line))
+            self.assert_not_there(self.shex())
+
+    def test_a_source_that_is_changed_while_it_is_proved(self):
+        self.change()
+        write(self.folder, "log.meanwhile", f"echo more >>'{self.clone}/crates/low/src/lib.rt'\n")
+        self.assert_built(self.shex(kit=self.kit))
+        os.remove(os.path.join(self.folder, "log.meanwhile"))
+        for _ in range(2):
+            self.assert_built(self.shex(kit=self.kit))
+            self.assertEqual(self.calls(), 2)
 
     def test_a_changed_proof_counts_where_nothing_is_kept(self):
         self.change("crates/low/proofs/low/Proof.antt")
