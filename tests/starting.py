@@ -18,6 +18,9 @@ ROOT = os.path.dirname(os.path.dirname(os.path.abspath(__file__)))
 PROGRAMS = ("shex", "shextool", "typing_session", "shex_rows", "text_rows")
 VALIDATE = ("validate", "a word", "", "*")
 
+# What the scripts of bin/ call, and the stand-in.
+TOOLS = "awk basename cat chmod cksum cmp cp cut dirname find grep mkdir mktemp mv nproc rm sed sh sha256sum sort tail touch wc xargs".split()
+
 RT = r"""#!/bin/sh
 if [ "$1" = version ]; then
     echo 'a stand-in 1'
@@ -71,12 +74,15 @@ class Case(unittest.TestCase):
             shutil.copy(os.path.join(ROOT, name), cls.first)
         for name, text in FILES.items():
             write(cls.first, name, text)
+        os.mkdir(os.path.join(cls.room, "tools"))
+        for name in TOOLS:
+            os.symlink(shutil.which(name), os.path.join(cls.room, "tools", name))
         write(cls.room, "kit/rt", RT)
         os.chmod(os.path.join(cls.room, "kit/rt"), 0o755)
         cls.kit = os.path.join(cls.room, "kit")
-        run(cls.first, ["rt", "ci"], cls.kit, "log")
-        made = run(cls.first, ["bin/release"], cls.kit, "log")
-        assert made.returncode == 0, made.stderr
+        for words in (["rt", "ci"], ["bin/release"]):
+            made = cls.call(cls.first, words, cls.kit, os.path.join(cls.room, "log"))
+            assert made.returncode == 0, made.stderr
         for name in os.listdir(os.path.join(cls.first, "crates")):
             shutil.rmtree(os.path.join(cls.first, "crates", name, "out"), ignore_errors=True)
 
@@ -89,9 +95,17 @@ class Case(unittest.TestCase):
         self.clone = os.path.join(self.folder, "clone")
         shutil.copytree(self.first, self.clone)
 
+    @classmethod
+    def call(cls, folder, words, kit, log):
+        """Runs a command in a folder, with the tools and with the kit, if there is one, on the path."""
+        path = ":".join([*filter(None, [kit]), os.path.join(cls.room, "tools")])
+        how = {"PATH": path, "RT_LOG": log, "HOME": "/nonexistent"}
+        words = [shutil.which(words[0], path=path) or words[0], *words[1:]]
+        return subprocess.run(words, cwd=folder, env=how, capture_output=True, encoding="utf-8", stdin=subprocess.DEVNULL, check=False)
+
     def run_in(self, *words, kit=None, folder=None):
         """Runs a command at the top of the clone, with no toolchain where no kit is named."""
-        return run(folder or self.clone, words, kit, os.path.join(self.folder, "log"))
+        return self.call(folder or self.clone, words, kit, os.path.join(self.folder, "log"))
 
     def calls(self):
         """How often the toolchain was called to prove."""
@@ -112,7 +126,7 @@ class Case(unittest.TestCase):
 
     def shown(self):
         """What the program prints that is of the sources as they are released, at the top of the clone."""
-        return run(self.clone, [os.path.join(self.first, "dist/shex"), *VALIDATE], None, "log").stdout
+        return self.run_in(os.path.join(self.first, "dist/shex"), *VALIDATE).stdout
 
     def assert_built(self, done):
         """A program was run that was made of the sources as they are."""
@@ -132,13 +146,6 @@ class Case(unittest.TestCase):
     def change(self, name="crates/low/src/lib.rt"):
         """Adds a line to a file of the clone."""
         write(self.clone, name, "changed\n", "a")
-
-
-def run(folder, words, kit, log):
-    """Runs a command in a folder with the kit's folder on the path, if there is one."""
-    path = "/usr/bin:/bin" if kit is None else f"{kit}:/usr/bin:/bin"
-    how = {"PATH": path, "RT_LOG": log, "HOME": "/nonexistent"}
-    return subprocess.run(words, cwd=folder, env=how, capture_output=True, encoding="utf-8", stdin=subprocess.DEVNULL, check=False)
 
 
 class Starting(Case):
@@ -404,10 +411,15 @@ class Releasing(Case):
         to = os.path.join(self.folder, "a prefix")
         done = self.run_in("bin/install", to)
         self.assertEqual((done.returncode, done.stderr), (0, ""))
-        self.assertEqual(run(self.folder, [os.path.join(to, "bin/shex"), "x"], None, "log").returncode, 7)
+        self.assertEqual(self.run_in(os.path.join(to, "bin/shex"), "x").returncode, 7)
         for name in PROGRAMS[:3]:
             for file in (f"bin/{name}", f"share/man/man1/{name}.1", f"share/bash-completion/completions/{name}", "share/zsh/site-functions/_shex"):
                 self.assertTrue(os.path.isfile(os.path.join(to, file)), file)
+
+    def test_words_of_no_installation(self):
+        for words in ((), ("",), ("--help",), ("a", "b")):
+            done = self.run_in("bin/install", *words)
+            self.assertEqual((done.returncode, done.stdout, done.stderr), (2, "", "usage: bin/install PREFIX\n"))
 
     def test_installing_a_program_that_is_not_released(self):
         self.change()
