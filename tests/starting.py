@@ -16,6 +16,7 @@ import unittest
 
 ROOT = os.path.dirname(os.path.dirname(os.path.abspath(__file__)))
 PROGRAMS = ("shex", "shextool", "typing_session", "shex_rows", "text_rows")
+CRATES = ("shex_cli", "shextool_cli", "typing_session_cli", "shex_rows", "text_rows")
 VALIDATE = ("validate", "a word", "", "*")
 
 # What the scripts of bin/ call, and the stand-in.
@@ -42,14 +43,14 @@ echo '6 passed, 0 failed'
 """
 
 FILES = {
-    "crates.txt": "# The crates.\nlow:\nother:\n" + "".join(f"{name}: low\n" for name in ("shex_cli", "shextool_cli", "typing_session_cli", "shex_rows", "text_rows")),
+    "crates.txt": "# The crates.\nlow:\nother:\n" + "".join(f"{name}: low\n" for name in CRATES),
     "HANDLES": "Handles allowed: none.\n",
     "crates/low/src/lib.rt": "a low thing\n",
     "crates/low/src/more.rt": "more of it\n",
     "crates/low/specs/Lib.antt": "what it promises\n",
     "crates/low/proofs/low/Proof.antt": "why it holds\n",
     "crates/other/src/lib.rt": "another thing\n",
-    **{f"crates/{name}/src/main.rt": f"the program {name}\n" for name in ("shex_cli", "shextool_cli", "typing_session_cli", "shex_rows", "text_rows")},
+    **{f"crates/{name}/src/main.rt": f"the program {name}\n" for name in CRATES},
 }
 
 
@@ -284,7 +285,8 @@ class Starting(Case):
 
     def test_words_that_are_answered_without_building(self):
         self.change()
-        for name, words in (("shex", ()), ("shex", ("valdate", "--schema")), ("shex", ("validate",)), ("shextool", ("convrt", "x")), ("shextool", ()), ("typing_session", ("x",))):
+        for line in ("shex", "shex valdate --schema", "shex validate", "shextool", "shextool convrt x", "typing_session x"):
+            name, *words = line.split()
             done = self.run_in(f"bin/{name}", *words, kit=self.kit)
             self.assertEqual((done.returncode, done.stdout, done.stderr), (2, "", f"{name}: words: Arguments\n"))
         self.assertEqual(self.calls(), 0)
