@@ -1,3 +1,5 @@
+pub mod Upheld
+pub mod Tallies
 pub mod Membered
 pub mod Fine
 pub mod Gathered

@@ -1,6 +1,6 @@
 -- What a look at a pair comes to while pairs are removed.
 use Rattle.std.proofs.Common.{◌≡◌, ℕ, ◌<◌, ◌⊎◌, inl, inr, List, [], ◌∷◌, ◌++◌, refl, sym, subst}
-use Rattle.std.specs.Prelude.{◌↔◌, Contains, Some, option_map, slice_get, slice_set}
+use Rattle.std.specs.Prelude.{◌↔◌, Contains, None, Option, Some, option_map, slice_get, slice_set}
 use Rattle.schema_tree.specs.declared.schema.Pair.{Pair}
 use Rattle.schema_tree.specs.declared.verdicts.Lean.TheVariants.{Possible}
 use Rattle.schema_tree.specs.declared.verdicts.Place.{Place}
@@ -14,13 +14,42 @@ use Rattle.bag_match.specs.declared.outcome.Outcome.TheVariants.{Placed, Never}
 use Rattle.lists.proofs.Members.{not_in_none}
 use Rattle.removal_laws.proofs.Removing.{start, stays, went}
 use Rattle.typing_refiner.specs.declared.ground.Ground.{Ground}
-use Rattle.typing_refiner.specs.Ready.{GoesBack, IsAmong, IsBefore, IsOpen, IsReady, IsRemoving, known_of}
+use Rattle.typing_refiner.specs.Ready.{GoesBack, IsAmong, IsBefore, IsNarrowOf, IsOpen, IsReady, IsRemoving, known_of}
 use Rattle.typing_refiner.proofs.Outcomes.{never_cannot, placed_can}
+use Rattle.typing_refiner.proofs.Upheld.{decide_among}
+use Rattle.schema_tree.specs.Places.{PairCanMatch}
+use Rattle.removal_laws.proofs.Known.{match_known}
+use Rattle.typing_refiner.specs.Holding.{CanMatchAt}
+use Rattle.typing_refiner.specs.Records.{known_without}
 
 -- the outcome of a look at the pair of a number
 abbrev pub IsLook : Ground → Known → List Verdict → ℕ → Outcome → Type 0
 IsLook h elsewhere marks at o = (p : Pair) → slice_get h.table.now at ≡ Some p →
     IsOutcome h.schema.now h.terms.now h.graph.now.triples (known_of h elsewhere marks) Possible p o
+
+-- of the pairs that need one that went, those that can match all the same are not to be looked at
+settled_back : (h : Ground) (elsewhere lower : Known) (k : ℕ) (marks : List Verdict) (gone : List Pair) (at : ℕ) (agenda next : List ℕ) →
+    ((q : ℕ) → Contains next q → Contains agenda q ⊎ GoesBack h k at marks Unknown q) → ((q : ℕ) → Contains agenda q → Contains next q) →
+    ((q : ℕ) → GoesBack h k at marks Unknown q → Contains next q ⊎ CanMatchAt h (known_of h elsewhere marks) q) →
+    IsRemoving h elsewhere lower k marks gone (λ i. Contains agenda i ⊎ GoesBack h k at marks Unknown i) → IsRemoving h elsewhere lower k marks gone (λ i. Contains next i)
+settled_back h elsewhere lower k marks gone at agenda next put kept settled r = record {
+  in_turn = r.in_turn;
+  knows = r.knows;
+  fresh = r.fresh;
+  new = r.new;
+  settled = rest;
+  open_to = λ i c. r.open_to i (put i c);
+}
+  where
+    rest : (i : ℕ) (p : Pair) → slice_get h.table.now i ≡ Some p → IsNarrowOf h k p → slice_get marks i ≡ Some Unknown → ¬ Contains next i →
+        PairCanMatch h.schema.now h.terms.now h.graph.now.triples (known_without lower gone) Possible p
+    rest i p there narrow mark out = elim (decide_among (option_map (λ v. v.items) (slice_get h.needing.now at)) i) [
+      | inr apart ↦ r.settled i p there narrow mark (λ todo. elim todo [ inl on ↦ out (kept i on) | inr back ↦ apart back.0 ])
+      | inl among ↦ elim (settled i (among, ((p, there, narrow), mark))) [
+        | inl on ↦ absurd (out on)
+        | inr can ↦ match_known h.schema.now h.terms.now h.graph.now.triples (known_of h elsewhere marks) (known_without lower gone) Possible p r.knows (can p there)
+      ]
+    ]
 
 module _ (h : Ground) (ready : IsReady h) (elsewhere lower : Known) (k : ℕ) (marks : List Verdict) (gone : List Pair) (at : ℕ) (agenda : List ℕ)
     (r : IsRemoving h elsewhere lower k marks gone (λ i. Contains agenda i ⊎ (i ≡ at))) (o : Outcome) (look : IsLook h elsewhere marks at o) where
@@ -30,27 +59,31 @@ module _ (h : Ground) (ready : IsReady h) (elsewhere lower : Known) (k : ℕ) (m
       stays h.schema.now h.terms.now h.graph.now.triples h.strata.now h.table.now h.budget elsewhere ready.distinct lower k marks gone at p here (λ i. Contains agenda i) r
       (placed_can h.schema.now h.terms.now h.graph.now.triples (known_of h elsewhere marks) Possible p o places is (look p here))
 
-  pub further : (states : List State) → o ≡ Never states → ((i : ℕ) → Contains agenda i → at < i) → (p : Pair) → slice_get h.table.now at ≡ Some p →
-      (next : List ℕ) → ((q : ℕ) → Contains next q ↔ (Contains agenda q ⊎ GoesBack h k at (slice_set marks at No) Unknown q)) →
-      IsRemoving h elsewhere lower k (slice_set marks at No) (gone ++ p ∷ []) (λ i. Contains next i)
-  further states is least p here next put =
+  abbrev Back : List Verdict → ℕ → Type 0
+  Back ms i = Contains agenda i ⊎ GoesBack h k at ms Unknown i
+
+  further : (states : List State) → o ≡ Never states → ((i : ℕ) → Contains agenda i → at < i) → (p : Pair) → slice_get h.table.now at ≡ Some p →
+      IsRemoving h elsewhere lower k (slice_set marks at No) (gone ++ p ∷ []) (Back (slice_set marks at No))
+  further states is least p here =
       went h.schema.now h.terms.now h.graph.now.triples h.strata.now h.table.now h.budget elsewhere ready.distinct lower k marks gone at p here (λ i. Contains agenda i) r
       (never_cannot h.schema.now h.terms.now h.graph.now.triples (known_of h elsewhere marks) Possible p o states is (look p here)) least
-      (λ i. IsAmong (option_map (λ v. v.items) (slice_get h.needing.now at)) i) (λ i. Contains next i)
+      (λ i. IsAmong (option_map (λ v. v.items) (slice_get h.needing.now at)) i) (Back (slice_set marks at No))
       (λ i q there need. ready.needing at i p q here there need)
       (λ i. (
-        (λ c. elim ((put i).0 c) [ inl l ↦ inl l | inr t ↦ inr (t.0, t.1.0, t.1.1) ]),
-        (λ c. elim c [ inl l ↦ (put i).1 (inl l) | inr t ↦ (put i).1 (inr (t.0, (t.1, t.2))) ]),
+        (λ c. elim c [ inl l ↦ inl l | inr t ↦ inr (t.0, t.1.0, t.1.1) ]),
+        (λ c. elim c [ inl l ↦ inl l | inr t ↦ inr (t.0, (t.1, t.2)) ]),
       ))
 
   pub further_as : (states : List State) → o ≡ Never states → ((i : ℕ) → Contains agenda i → at < i) → (p : Pair) → slice_get h.table.now at ≡ Some p →
-      (marks' : List Verdict) → marks' ≡ slice_set marks at No → (gone' : List Pair) → gone' ≡ gone ++ p ∷ [] →
-      (next : List ℕ) → ((q : ℕ) → Contains next q ↔ (Contains agenda q ⊎ GoesBack h k at marks' Unknown q)) →
+      (marks' : List Verdict) → marks' ≡ slice_set marks at No → (gone' : List Pair) → gone' ≡ gone ++ p ∷ [] → (next : List ℕ) →
+      ((q : ℕ) → Contains next q → Contains agenda q ⊎ GoesBack h k at marks' Unknown q) → ((q : ℕ) → Contains agenda q → Contains next q) →
+      ((q : ℕ) → GoesBack h k at marks' Unknown q → Contains next q ⊎ CanMatchAt h (known_of h elsewhere marks') q) →
       IsRemoving h elsewhere lower k marks' gone' (λ i. Contains next i)
-  further_as states is least p here marks' marked gone' more next put =
-      subst (λ ms. IsRemoving h elsewhere lower k ms gone' (λ i. Contains next i)) (sym marked)
-      (subst (λ ps. IsRemoving h elsewhere lower k (slice_set marks at No) ps (λ i. Contains next i)) (sym more)
-      (further states is least p here next (subst (λ ms. (q : ℕ) → Contains next q ↔ (Contains agenda q ⊎ GoesBack h k at ms Unknown q)) marked put)))
+  further_as states is least p here marks' marked gone' more next put kept settled =
+      settled_back h elsewhere lower k marks' gone' at agenda next put kept settled
+      (subst (λ ms. IsRemoving h elsewhere lower k ms gone' (Back ms)) (sym marked)
+      (subst (λ ps. IsRemoving h elsewhere lower k (slice_set marks at No) ps (Back (slice_set marks at No))) (sym more)
+      (further states is least p here)))
 
 -- the agenda as a condition that is met by the same numbers
 pub todo_same :

@@ -46,12 +46,12 @@ taken h width ready k v marks at old new o takes least =
 
 -- a pair changes its mark
 pub changed : (h : Ground) (width : Pair → ℕ) (k : ℕ) (v w : Verdict) → v ≢ w → (marks : List Verdict) (at : ℕ) (agenda next : List ℕ) (marks' : List Verdict) → marks' ≡ slice_set marks at w → Waits h k marks v at →
-    ((q : ℕ) → Contains next q ↔ (Contains agenda q ⊎ GoesBack h k at marks' v q)) → still_to_tick h width k v marks' next ≤ still_to_tick h width k v marks agenda
+    ((q : ℕ) → Contains next q → Contains agenda q ⊎ GoesBack h k at marks' v q) → still_to_tick h width k v marks' next ≤ still_to_tick h width k v marks agenda
 unfolding still_to_tick
 changed h width k v w ne marks at agenda next marks' marked waits put =
     subst (λ ms. potential (open_cost h width k) (need_test h) (length h.table.now) v ms next ≤ potential (open_cost h width k) (need_test h) (length h.table.now) v marks agenda) (sym marked)
     (mark (open_cost h width k) (need_test h) (length h.table.now) v w ne marks at (within h k at waits.0) waits.1 agenda next
-    (λ q c. elim ((put q).0 c) [ inl o ↦ inl o | inr t ↦ inr (among_true q _ t.0) ]))
+    (λ q c. elim (put q c) [ inl o ↦ inl o | inr t ↦ inr (among_true q _ t.0) ]))
 
 -- at the start
 pub opened : (h : Ground) (width : Pair → ℕ) (k : ℕ) (v : Verdict) (marks : List Verdict) (agenda : List ℕ) → still_to_tick h width k v marks agenda ≤ phase_ticks h width k

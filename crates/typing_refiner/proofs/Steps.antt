@@ -51,9 +51,9 @@ within h k i (p, is, narrow) = slice_get_within h.table.now i p is
 
 module _ (h : Ground) (k : ℕ) (v w : Verdict) (ne : v ≢ w) (marks : List Verdict) (at : ℕ) (agenda next : List ℕ) (marks' : List Verdict) (marked : marks' ≡ slice_set marks at w)
     (waits : Waits h k marks v at) (least : (i : ℕ) → Contains agenda i → at < i) (all : AllWait h k marks v agenda)
-    (put : (q : ℕ) → Contains next q ↔ (Contains agenda q ⊎ GoesBack h k at marks' v q)) where
+    (put : (q : ℕ) → Contains next q → Contains agenda q ⊎ GoesBack h k at marks' v q) where
   pub all_wait : AllWait h k marks' v next
-  all_wait i c = elim ((put i).0 c) [
+  all_wait i c = elim (put i c) [
     | inl o ↦ (let (is_open, mark) = all i o in
         (is_open, ap (λ ms. slice_get ms i) marked ∙ (set_other marks at i w (λ e. (let l = least i o in absurd (omega arith))) ∙ mark)))
     | inr t ↦ t.1

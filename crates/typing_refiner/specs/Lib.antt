@@ -9,3 +9,5 @@ pub mod Laws
 pub mod Confirmed
 pub mod Evidence
 pub mod Filing
+pub mod Witnessed
+pub mod Holding

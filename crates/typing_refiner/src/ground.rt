@@ -160,7 +160,7 @@ impl Ground<'_> {
     }
 
     /// Whether the pair of a number is open and has the mark.
-    fn waits(&self, stratum: u32, at: u32, marks: &[Verdict], mark: Verdict) -> bool
+    pub(crate) fn waits(&self, stratum: u32, at: u32, marks: &[Verdict], mark: Verdict) -> bool
         requires ready { IsReady self.now }
         ensures { IsTrue result ↔ Waits self.now stratum marks.now mark at }
     {

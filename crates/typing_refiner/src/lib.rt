@@ -10,8 +10,12 @@ pub mod marks;
 pub mod records;
 pub mod refining;
 pub mod removal;
+pub mod standing;
 pub mod strata_loop;
+pub mod triple_table;
 pub mod wanted;
+pub mod witness;
+pub mod witnesses;
 
 pub use found::Refined;
 pub use refining::{refine, refine_from};

@@ -6,11 +6,13 @@ ghost use Rattle.schema_tree.specs.declared.verdicts.Verdict.TheVariants.{Unknow
 ghost use Rattle.schema_tree.specs.declared.schema.Pair.{Pair as Held};
 ghost use Rattle.typing_refiner.specs.declared.wanted.Wanted.TheVariants as Wanteds;
 ghost use Rattle.typing_refiner.specs.Spent.{GiveWidths, look_cost, phase_ticks, still_to_tick};
-ghost use Rattle.typing_refiner.specs.Ready.{AllWait, IsBefore, IsNearer, IsOpen, IsReady, IsRemoving, Waits, count_of};
+ghost use Rattle.typing_refiner.specs.Ready.{AllWait, IsBefore, IsNearer, IsOpen, IsReady, IsRemoving, Waits, count_of, known_of};
+ghost use Rattle.typing_refiner.specs.Holding.{AllShow};
 ghost use Rattle.typing_refiner.specs.Records.{HaveStates, pairs_gone};
 
 use crate::ground::Ground;
 use crate::wanted::Wanted;
+use crate::witnesses::Witnesses;
 use agenda::Agenda;
 use bag_match::Outcome;
 use rdf_terms::items::Items;
@@ -97,6 +99,7 @@ impl Ground<'_> {
         at: u32,
         marks: &mut [Verdict],
         gone: &mut Vec<Removed>,
+        witnesses: &mut Witnesses,
         agenda: &mut Agenda,
         steps: &mut Steps<L>,
     ) -> Result<(), AllocError>
@@ -107,6 +110,8 @@ impl Ground<'_> {
         requires waits { Waits self.now stratum marks.old Unknown at }
         requires few { length gone.old.items < length self.now.table.now }
         requires all { AllWait self.now stratum marks.old Unknown agenda.old }
+        requires shows { AllShow self.now (known_of self.now (K.known kept.now) marks.old) witnesses.old.held.items }
+        ensures shows { OnOk result (AllShow self.now (known_of self.now (K.known kept.now) marks.new) witnesses.new.held.items) }
         ensures looked { OnOk result ((lower : Known) →
             IsRemoving self.now (K.known kept.now) lower stratum marks.old (map (λ r. r.pair) gone.old.items) (λ i. Contains agenda.old i ⊎ (i ≡ at)) →
             IsRemoving self.now (K.known kept.now) lower stratum marks.new (map (λ r. r.pair) gone.new.items) (λ i. Contains agenda.new i)) }
@@ -120,12 +125,16 @@ impl Ground<'_> {
         ensures paid { (width : Held → ℕ) → GiveWidths self.now width → OnOk result (steps.new + still_to_tick self.now width stratum Unknown marks.new agenda.new ≤ steps.old + (still_to_tick self.now width stratum Unknown marks.old agenda.old + look_cost self.now width at)) }
     {
         match self.look(alloc, kept, marks, Lean::Possible, at, steps)? {
-            Outcome::Placed(_) => Ok(()),
+            Outcome::Placed(places) => {
+                self.remember(alloc, kept, marks, at, places.as_slice(), witnesses)?;
+                Ok(())
+            }
             Outcome::Never(states) => {
                 let removed = self.removed(alloc, at, gone.as_slice(), states);
                 gone.push(removed)?;
                 set_mark(marks, at, Verdict::No);
-                self.put_back(stratum, at, marks, Verdict::Unknown, agenda)?;
+                let pair = self.pair_of(at);
+                self.put_back_unshown(alloc, kept, stratum, at, pair, marks, witnesses, agenda)?;
                 let _count = agenda.len();
                 Ok(())
             }
@@ -156,6 +165,7 @@ impl Ground<'_> {
         let mut agenda = Agenda::new(alloc);
         put_all(&mut agenda, members)?;
         let mut gone = Vec::new(alloc);
+        let mut witnesses = Witnesses::none(alloc);
         while let Some(at) = agenda.take_least() {
             self.remove_next(
                 alloc,
@@ -164,6 +174,7 @@ impl Ground<'_> {
                 at,
                 marks,
                 &mut gone,
+                &mut witnesses,
                 &mut agenda,
                 steps,
             )?;

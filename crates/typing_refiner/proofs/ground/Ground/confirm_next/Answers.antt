@@ -19,15 +19,15 @@ returns-clause-looked g c =
 pub returns-clause-all : goal.returns-clause-all
 returns-clause-all g c =
     all_wait c.args.self.now c.args.stratum Yes Unknown yes_unknown c.args.marks.now c.args.at c.args.agenda.now c.put_back.new.agenda c.set_mark.new.marks c.set_mark.ensures
-    c.requires.waits c.requires.least c.requires.all c.in_ok-put_back-in-Never.ensures
+    c.requires.waits c.requires.least c.requires.all (λ q. (c.in_ok-put_back-in-Never.ensures q).0)
 
 pub returns-clause-nearer : goal.returns-clause-nearer
 returns-clause-nearer g c =
     nearer c.args.self.now c.args.stratum Yes Unknown yes_unknown c.args.marks.now c.args.at c.args.agenda.now c.put_back.new.agenda c.set_mark.new.marks c.set_mark.ensures
-    c.requires.waits c.requires.least c.requires.all c.in_ok-put_back-in-Never.ensures c.len-count.ensures.few
+    c.requires.waits c.requires.least c.requires.all (λ q. (c.in_ok-put_back-in-Never.ensures q).0) c.len-count.ensures.few
 
 pub returns-clause-paid : goal.returns-clause-paid
 returns-clause-paid g c = λ width give.
     let less = changed c.args.self.now width c.args.stratum Yes Unknown yes_unknown c.args.marks.now c.args.at c.args.agenda.now c.put_back.new.agenda c.set_mark.new.marks c.set_mark.ensures
-    c.requires.waits c.in_ok-put_back-in-Never.ensures in
+    c.requires.waits (λ q. (c.in_ok-put_back-in-Never.ensures q).0) in
     let spent = c.in_ok-look.ensures.spent width give in omega (arith, less, spent)

@@ -16,6 +16,7 @@ loop-at-init g c =
       states = λ lower before. subst (HaveStates c.args.self.now lower) (sym c.new-gone.ensures.items) (none_gone c.args.self.now lower);
       paid = λ width give. (let e = opened c.args.self.now width c.args.stratum Unknown c.args.marks.now c.put_all.new.agenda in omega (arith, e));
       few = (let l = ap length c.new-gone.ensures.items in let m = count_most Unknown c.args.marks.now in let e = c.requires.marked in omega (arith, l, m, e));
+      shows = λ i w p holds there. absurd (c.none-witnesses.ensures i w holds);
       waits = λ i on. ((are i).0 on, c.requires.fresh i ((c.requires.members i).1 ((are i).0 on)));
     }
 
@@ -44,6 +45,7 @@ loop-at-preserved g c = record {
       (c.loop-at.invariant.removing lower before)) (c.loop-at.invariant.states lower before);
   paid = λ width give. (let a = (taken c.args.self.now width c.requires.ready c.args.stratum Unknown c.loop-at.marks c.in-Some.at c.loop-at.agenda c.take_least.new.self (c.loop-at.invariant.waits c.in-Some.at ((c.in-Some.ensures.taken c.in-Some.at).1 (inr refl))).0 c.in-Some.ensures.taken c.in-Some.ensures.least) in let b = c.in_ok-remove_next.ensures.paid width give in let d = c.loop-at.invariant.paid width give in omega (arith, a, b, d));
   few = (let a = c.in_ok-remove_next.ensures.few in let b = c.loop-at.invariant.few in omega (arith, a, b));
+  shows = c.in_ok-remove_next.ensures.shows;
   waits = c.in_ok-remove_next.ensures.all;
 }
 

@@ -4,7 +4,8 @@ use Rattle.schema_tree.specs.declared.schema.Pair.{Pair}
 use Rattle.schema_tree.specs.declared.verdicts.Verdict.TheVariants.{Unknown}
 use Rattle.typing_refiner.specs.Spent.{GiveWidths, phase_ticks, still_to_tick}
 use Rattle.typing_refiner.specs.Records.{HaveStates}
-use Rattle.typing_refiner.specs.Ready.{AllWait, IsBefore, IsRemoving, count_of}
+use Rattle.typing_refiner.specs.Ready.{AllWait, IsBefore, IsRemoving, count_of, known_of}
+use Rattle.typing_refiner.specs.Holding.{AllShow}
 use Rattle.typing_refiner.proofs.ground.Ground.remove.Given as goal
 
 abbrev pub invariant-loop-at : goal.invariant-loop-at
@@ -14,6 +15,7 @@ invariant-loop-at g l = record {
   states : (lower : Known) → IsBefore l.self (g.K.View.known l.kept) lower l.stratum l.fn.marks → HaveStates l.self lower l.gone.items;
   paid : (width : Pair → ℕ) → GiveWidths l.self width → l.steps + still_to_tick l.self width l.stratum Unknown l.marks l.agenda ≤ l.fn.steps + phase_ticks l.self width l.stratum;
   few : length l.gone.items + count_of Unknown l.marks ≤ length l.self.table.now;
+  shows : AllShow l.self (known_of l.self (g.K.View.known l.kept) l.marks) l.witnesses.held.items;
   waits : AllWait l.self l.stratum l.marks Unknown l.agenda;
 }
 

@@ -7,53 +7,56 @@ use Rattle.typing_refiner.proofs.Steps.{all_wait, fewer_left, nearer, unknown_no
 use Rattle.typing_refiner.proofs.Spending.{changed}
 use Rattle.typing_refiner.proofs.ground.Ground.remove_next.Goals as goal
 
-pub returns-in-Placed-clause-looked : goal.returns-in-Placed-clause-looked
-returns-in-Placed-clause-looked g c =
-    λ lower r. still c.args.self.now c.requires.ready _ lower c.args.stratum c.args.marks.now _ c.args.at c.args.agenda.now r c.in_ok-look.field-0
-    c.in_ok-look.ensures.outcome c.in-Placed.field-0 c.in-Placed.is
+pub returns-in_ok-remember-in-Placed-clause-looked : goal.returns-in_ok-remember-in-Placed-clause-looked
+returns-in_ok-remember-in-Placed-clause-looked g c =
+    λ lower r. still c.args.self.now c.requires.ready _ lower c.args.stratum c.args.marks.now _ c.args.at c.args.agenda.now r c.in_ok-places.field-0
+    c.in_ok-places.ensures.outcome c.in-Placed.places c.in-Placed.is
 
-pub returns-in-Placed-clause-all : goal.returns-in-Placed-clause-all
-returns-in-Placed-clause-all g c = c.requires.all
+pub returns-in_ok-remember-in-Placed-clause-all : goal.returns-in_ok-remember-in-Placed-clause-all
+returns-in_ok-remember-in-Placed-clause-all g c = c.requires.all
 
-pub returns-in-Placed-clause-nearer : goal.returns-in-Placed-clause-nearer
-returns-in-Placed-clause-nearer g c = inl (refl, refl)
+pub returns-in_ok-remember-in-Placed-clause-nearer : goal.returns-in_ok-remember-in-Placed-clause-nearer
+returns-in_ok-remember-in-Placed-clause-nearer g c = inl (refl, refl)
 
-pub returns-clause-looked : goal.returns-clause-looked
-returns-clause-looked g c =
-    λ lower r. further_as c.args.self.now c.requires.ready _ lower c.args.stratum c.args.marks.now _ c.args.at c.args.agenda.now r c.in_ok-look.field-0
-    c.in_ok-look.ensures.outcome c.in-Never.states c.in-Never.is c.requires.least c.removed-removed.result.pair c.removed-removed.ensures.pair
+pub returns-in_ok-put_back_unshown-in-Never-clause-looked : goal.returns-in_ok-put_back_unshown-in-Never-clause-looked
+returns-in_ok-put_back_unshown-in-Never-clause-looked g c =
+    λ lower r. further_as c.args.self.now c.requires.ready _ lower c.args.stratum c.args.marks.now _ c.args.at c.args.agenda.now r c.in_ok-places.field-0
+    c.in_ok-places.ensures.outcome c.in-Never.states c.in-Never.is c.requires.least c.removed-removed.result.pair c.removed-removed.ensures.pair
     c.set_mark.new.marks c.set_mark.ensures _ (ap (λ rs. map (λ r. r.pair) rs) c.in_ok-push-in-Never.ensures.items ∙ map-append (λ r. r.pair) c.args.gone.now.items _)
-    c.put_back.new.agenda c.in_ok-put_back-in-Never.ensures
+    c.put_back_unshown.new.agenda c.in_ok-put_back_unshown-in-Never.ensures.put c.in_ok-put_back_unshown-in-Never.ensures.kept c.in_ok-put_back_unshown-in-Never.ensures.settled
 
-pub returns-clause-all : goal.returns-clause-all
-returns-clause-all g c =
-    all_wait c.args.self.now c.args.stratum Unknown No unknown_no c.args.marks.now c.args.at c.args.agenda.now c.put_back.new.agenda c.set_mark.new.marks c.set_mark.ensures
-    c.requires.waits c.requires.least c.requires.all c.in_ok-put_back-in-Never.ensures
+pub returns-in_ok-put_back_unshown-in-Never-clause-all : goal.returns-in_ok-put_back_unshown-in-Never-clause-all
+returns-in_ok-put_back_unshown-in-Never-clause-all g c =
+    all_wait c.args.self.now c.args.stratum Unknown No unknown_no c.args.marks.now c.args.at c.args.agenda.now c.put_back_unshown.new.agenda c.set_mark.new.marks c.set_mark.ensures
+    c.requires.waits c.requires.least c.requires.all c.in_ok-put_back_unshown-in-Never.ensures.put
 
-pub returns-clause-nearer : goal.returns-clause-nearer
-returns-clause-nearer g c =
-    nearer c.args.self.now c.args.stratum Unknown No unknown_no c.args.marks.now c.args.at c.args.agenda.now c.put_back.new.agenda c.set_mark.new.marks c.set_mark.ensures
-    c.requires.waits c.requires.least c.requires.all c.in_ok-put_back-in-Never.ensures c.len-count.ensures.few
+pub returns-in_ok-put_back_unshown-in-Never-clause-nearer : goal.returns-in_ok-put_back_unshown-in-Never-clause-nearer
+returns-in_ok-put_back_unshown-in-Never-clause-nearer g c =
+    nearer c.args.self.now c.args.stratum Unknown No unknown_no c.args.marks.now c.args.at c.args.agenda.now c.put_back_unshown.new.agenda c.set_mark.new.marks c.set_mark.ensures
+    c.requires.waits c.requires.least c.requires.all c.in_ok-put_back_unshown-in-Never.ensures.put c.len-count.ensures.few
 
-pub returns-clause-paid : goal.returns-clause-paid
-returns-clause-paid g c = λ width give.
-    let less = changed c.args.self.now width c.args.stratum Unknown No unknown_no c.args.marks.now c.args.at c.args.agenda.now c.put_back.new.agenda c.set_mark.new.marks c.set_mark.ensures
-    c.requires.waits c.in_ok-put_back-in-Never.ensures in
-    let spent = c.in_ok-look.ensures.spent width give in omega (arith, less, spent)
+pub returns-in_ok-put_back_unshown-in-Never-clause-paid : goal.returns-in_ok-put_back_unshown-in-Never-clause-paid
+returns-in_ok-put_back_unshown-in-Never-clause-paid g c = λ width give.
+    let less = changed c.args.self.now width c.args.stratum Unknown No unknown_no c.args.marks.now c.args.at c.args.agenda.now c.put_back_unshown.new.agenda c.set_mark.new.marks c.set_mark.ensures
+    c.requires.waits c.in_ok-put_back_unshown-in-Never.ensures.put in
+    let spent = c.in_ok-places.ensures.spent width give in omega (arith, less, spent)
 
-pub returns-in-Placed-clause-states : goal.returns-in-Placed-clause-states
-returns-in-Placed-clause-states g c = λ lower r all. all
+pub returns-in_ok-remember-in-Placed-clause-states : goal.returns-in_ok-remember-in-Placed-clause-states
+returns-in_ok-remember-in-Placed-clause-states g c = λ lower r all. all
 
 pub removed-removed-requires-clause-few : goal.removed-removed-requires-clause-few
 removed-removed-requires-clause-few g c =
-    let e = ap length c.as_slice.ensures.value in let f = c.requires.ready.few in let l = c.requires.few in omega (arith, e, f, l)
+    let e = ap length c.as_slice-in-Never.ensures.value in let f = c.requires.ready.few in let l = c.requires.few in omega (arith, e, f, l)
 
-pub returns-clause-few : goal.returns-clause-few
-returns-clause-few g c =
+pub returns-in_ok-put_back_unshown-in-Never-clause-few : goal.returns-in_ok-put_back_unshown-in-Never-clause-few
+returns-in_ok-put_back_unshown-in-Never-clause-few g c =
     fewer_left Unknown No unknown_no c.args.marks.now c.args.at c.set_mark.new.marks c.set_mark.ensures c.requires.waits.1 c.args.gone.now.items c.push.new.self.items _ c.in_ok-push-in-Never.ensures.items
 
-pub returns-clause-states : goal.returns-clause-states
-returns-clause-states g c =
+pub returns-in_ok-put_back_unshown-in-Never-clause-states : goal.returns-in_ok-put_back_unshown-in-Never-clause-states
+returns-in_ok-put_back_unshown-in-Never-clause-states g c =
     λ lower r all. one_more_gone c.args.self.now _ lower c.args.stratum c.args.marks.now c.args.gone.now.items c.push.new.self.items _
-    c.removed-removed.result c.in_ok-look.field-0 r all c.args.at c.removed-removed.ensures.at c.in_ok-look.ensures.outcome c.removed-removed.ensures.pair c.in-Never.states c.in-Never.is
-    c.removed-removed.ensures.states (let e = ap length c.as_slice.ensures.value in let n = c.removed-removed.ensures.rank in omega (arith, e, n)) c.in_ok-push-in-Never.ensures.items
+    c.removed-removed.result c.in_ok-places.field-0 r all c.args.at c.removed-removed.ensures.at c.in_ok-places.ensures.outcome c.removed-removed.ensures.pair c.in-Never.states c.in-Never.is
+    c.removed-removed.ensures.states (let e = ap length c.as_slice-in-Never.ensures.value in let n = c.removed-removed.ensures.rank in omega (arith, e, n)) c.in_ok-push-in-Never.ensures.items
+
+pub put_back_unshown-requires-clause-shows : goal.put_back_unshown-requires-clause-shows
+put_back_unshown-requires-clause-shows g c = (c.args.marks.now, c.set_mark.ensures, c.requires.waits.1, c.requires.shows)
