@@ -7,3 +7,4 @@ pub mod Accepting
 pub mod Keeping
 pub mod Proving
 pub mod Preparing
+pub mod Placing

@@ -1,16 +1,16 @@
 //! The node lines of a proof.
 
-ghost use Rattle.std.specs.Prelude.{◌≡◌, ◌≤◌, ◌<◌, ◌+◌, ◌^◌, ◌↔◌, ◌⊎◌, ◌++◌, Contains, IfOk, Some, length, map, slice_get};
-ghost use Rattle.std.specs.List.{AllByRecursion, AllZip};
+ghost use Rattle.std.specs.Prelude.{◌≡◌, ◌≤◌, ◌<◌, ◌+◌, ◌^◌, ◌↔◌, ◌⊎◌, ◌++◌, Contains, IfOk, length, map};
+ghost use Rattle.std.specs.List.{AllByRecursion};
 ghost use Rattle.std.specs.List.Sorted.{IsStrictlySortedBy};
 ghost use Rattle.rdf_terms.specs.Order.{compare_at};
 ghost use Rattle.rdf_terms.specs.Values.{IsValue};
 ghost use Rattle.rdf_terms.specs.declared.terms.TermId.{TermId as Id};
 ghost use Rattle.proof_file.specs.Accepts.{AreNumbers};
 ghost use Rattle.schema_tree.specs.declared.schema.Answer.{Answer as Given};
-ghost use Rattle.typing_answers.specs.Numbering.{IsPlace};
+ghost use Rattle.typing_answers.specs.Numbering.{HasPlaces, place_in};
 
-use rdf_terms::order::{compare_ids, put_in_order};
+use rdf_terms::order::put_in_order;
 use rdf_terms::table::TermTable;
 use rdf_terms::terms::{Term, TermId};
 use rdf_terms::values::term_is_value;
@@ -53,34 +53,43 @@ pub(crate) fn nodes_of(
     Ok(nodes)
 }
 
-/// The number of a node among nodes in order that have it.
-pub(crate) fn place_of(terms: &TermTable, nodes: &[TermId], node: TermId) -> u32
-    requires sorted { IsStrictlySortedBy (compare_at terms.now) nodes.now }
-    requires few { length nodes.now < 2 ^ 32 }
-    requires held { Contains nodes.now node }
-    ensures { slice_get nodes.now result ≡ Some node }
-{
-    match nodes.binary_search_by(|n| compare_ids(terms, *n, node)) {
-        Ok(place) => place as u32,
-        Err(_) => unreachable!(),
-    }
-}
-
-/// The number that each node has among nodes in order that have them all.
-pub(crate) fn places_of(
+/// At the number of each node in the table, its number among the nodes.
+pub(crate) fn places_by_number(
     alloc: Global,
     terms: &TermTable,
     nodes: &[TermId],
+) -> Result<Vec<u32>, AllocError>
+    requires of_table { (n : Id) → Contains nodes.now n → n.0 < length terms.now }
+    requires few { length nodes.now < 2 ^ 32 }
+    ensures { IfOk result (λ v. HasPlaces nodes.now v.items) }
+{
+    let mut places = vec![in alloc; 0u32; terms.len()]?;
+    for (place, node) in nodes.iter().enumerate() {
+        places[node.0 as usize] = place as u32;
+    }
+    Ok(places)
+}
+
+/// The number that stands in a list at the number of a node in the table.
+pub(crate) fn place_of(by_number: &[u32], node: TermId) -> u32
+    requires { node.0 < length by_number.now }
+    ensures { result ≡ place_in by_number.now node }
+{
+    by_number[node.0 as usize]
+}
+
+/// The numbers that stand in a list at the numbers of nodes in the table.
+pub(crate) fn places_of(
+    alloc: Global,
+    by_number: &[u32],
     recorded: &[TermId],
 ) -> Result<Vec<u32>, AllocError>
-    requires sorted { IsStrictlySortedBy (compare_at terms.now) nodes.now }
-    requires few { length nodes.now < 2 ^ 32 }
-    requires held { (n : Id) → Contains recorded.now n → Contains nodes.now n }
-    ensures { IfOk result (λ v. AllZip (IsPlace nodes.now) recorded.now v.items) }
+    requires { (n : Id) → Contains recorded.now n → n.0 < length by_number.now }
+    ensures { IfOk result (λ v. v.items ≡ map (place_in by_number.now) recorded.now) }
 {
     let mut places = Vec::new(alloc);
     for node in recorded {
-        places.push(place_of(terms, nodes, *node))?;
+        places.push(place_of(by_number, *node))?;
     }
     Ok(places)
 }

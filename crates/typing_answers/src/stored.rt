@@ -12,7 +12,7 @@ ghost use Rattle.typing_answers.specs.Laws.{AreLaws};
 ghost use Rattle.typing_answers.specs.Proofs.{AreInRange, AreShownFor, IsProofOf};
 
 use crate::claims::claims_of;
-use crate::nodes::{nodes_of, places_of, terms_of};
+use crate::nodes::{nodes_of, places_by_number, places_of, terms_of};
 use crate::sections::moved_sections;
 use proof_file::Proof;
 use proof_file::head::Head;
@@ -62,11 +62,13 @@ pub fn proof_of(
     let recorded = own.as_slice();
     let distinct = nodes_of(alloc, terms, recorded, answers)?;
     let nodes = distinct.as_slice();
-    let places = places_of(alloc, terms, nodes, recorded)?;
+    let placed = places_by_number(alloc, terms, nodes)?;
+    let by_number = placed.as_slice();
+    let places = places_of(alloc, by_number, recorded)?;
     let numbers = places.as_slice();
     let renumbered = moved_sections(alloc, sections, numbers)?;
     let terms_of_nodes = terms_of(alloc, terms, nodes)?;
-    let claims = claims_of(alloc, terms, nodes, answers)?;
+    let claims = claims_of(alloc, by_number, answers)?;
     Ok(Proof {
         head,
         nodes: Items::of(terms_of_nodes),

@@ -1,12 +1,10 @@
-use Rattle.std.proofs.Common.{subst, sym, take, ◌+◌}
-use Rattle.std.specs.List.{AllZip}
-use Rattle.lists.proofs.Beside.{zip_more}
-use Rattle.typing_answers.specs.Numbering.{IsClaimOf}
+use Rattle.std.proofs.Common.{subst, sym}
+use Rattle.std.specs.Prelude.{Contains}
+use Rattle.std.proofs.lemmas.List.Elements.{Contains-get_or}
 use Rattle.typing_answers.proofs.claims.claims_of.Goals as goal
 
-pub loop-answer-preserved : goal.loop-answer-preserved
-loop-answer-preserved c = record {
-  claimed =
-      subst (AllZip (IsClaimOf c.args.nodes.now) (take (c.loop-answer.answer-index + 1) c.args.answers.now)) (sym c.in_ok-push.ensures.items)
-      (zip_more (IsClaimOf c.args.nodes.now) c.args.answers.now c.loop-answer.claims.items c.loop-answer.answer-index c.answer-item.result c.in_ok-claim_of.field-0 c.loop-answer-test.true c.answer-item.is c.loop-answer.invariant.claimed c.in_ok-claim_of.ensures);
-}
+pub claim_of-requires : goal.claim_of-requires
+claim_of-requires c =
+    let answers = c.args.answers.now in
+    let held = Contains-get_or answers c.loop-answer.answer-index c.answer-item.result c.loop-answer-test.true in
+    c.requires c.answer-item.result (subst (λ x. Contains answers x) (sym c.answer-item.is) held)

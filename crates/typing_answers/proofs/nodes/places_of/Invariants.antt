@@ -1,9 +1,6 @@
-use Rattle.std.proofs.Common.{take}
-use Rattle.std.specs.List.{AllZip}
-use Rattle.typing_answers.specs.Numbering.{IsPlace}
+use Rattle.std.proofs.Common.{◌≡◌, map, take}
+use Rattle.typing_answers.specs.Numbering.{place_in}
 use Rattle.typing_answers.proofs.nodes.places_of.Given as goal
 
 abbrev pub invariant-loop-node : goal.invariant-loop-node
-invariant-loop-node l = record {
-  placed : AllZip (IsPlace l.nodes) (take l.node-index l.recorded) l.places.items;
-}
+invariant-loop-node l = l.places.items ≡ map (place_in l.by_number) (take l.node-index l.recorded)
