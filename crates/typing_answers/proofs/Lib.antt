@@ -8,3 +8,4 @@ pub mod Keeping
 pub mod Proving
 pub mod Preparing
 pub mod Placing
+pub mod InPlace

@@ -9,24 +9,14 @@ use proof_file::{Record, Section};
 use rdf_terms::items::Items;
 use std::alloc::{AllocError, Global};
 
-/// The records, each with the number at its node's place in `places` in place of that node.
-fn moved_records(
-    alloc: Global,
-    records: Vec<Record>,
-    places: &[u32],
-) -> Result<Vec<Record>, AllocError>
-    requires { (r : Line) → Contains records.items r → r.node < length places.now }
-    ensures { IfOk result (λ v. v.items ≡ map (moved places.now) records.items) }
+/// Puts into each record the number at its node's place in `places`, in place of that node.
+fn renumber(records: &mut Vec<Record>, places: &[u32])
+    requires { (r : Line) → Contains records.old.items r → r.node < length places.now }
+    ensures { records.new.items ≡ map (moved places.now) records.old.items }
 {
-    let mut renumbered = Vec::new(alloc);
-    for record in records {
-        renumbered.push(Record {
-            node: places[record.node as usize],
-            shape: record.shape,
-            kind: record.kind,
-        })?;
+    for record in records.iter_mut() {
+        record.node = places[record.node as usize];
     }
-    Ok(renumbered)
 }
 
 /// The sections, each of whose records has the number at its node's place in `places`.
@@ -40,9 +30,11 @@ pub(crate) fn moved_sections(
 {
     let mut renumbered = Vec::new(alloc);
     for section in sections {
+        let mut records = section.records.into_vec();
+        renumber(&mut records, places);
         renumbered.push(Section {
             stratum: section.stratum,
-            records: Items::of(moved_records(alloc, section.records.into_vec(), places)?),
+            records: Items::of(records),
         })?;
     }
     Ok(renumbered)
