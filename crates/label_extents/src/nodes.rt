@@ -1,14 +1,16 @@
 //! The nodes of a graph.
 
 ghost use Rattle.std.specs.Prelude.{◌↔◌, Contains, IfOk, OnOk};
+ghost use Rattle.std.specs.List.Sorted.{IsStrictlySortedBy};
 ghost use Rattle.lists.specs.Additions.{Adds, AddsAll};
+ghost use Rattle.rdf_terms.specs.Order.{compare_at};
 ghost use Rattle.rdf_terms.specs.declared.terms.TermId.{TermId as Id};
 ghost use Rattle.label_extents.specs.Extents.{AreInOrder, IsNode};
 ghost use Rattle.label_extents.specs.Members.{ends_of};
 
 use graph_index::graph::Graph;
 use indexmap::IndexSet;
-use rdf_terms::order::put_in_order;
+use rdf_terms::joined::JoinedTexts;
 use rdf_terms::table::TermTable;
 use rdf_terms::terms::{TermId, Triple};
 use std::alloc::{AllocError, Global};
@@ -42,6 +44,18 @@ fn nodes_in(alloc: Global, triples: &[Triple]) -> Result<IndexSet<TermId>, Alloc
     Ok(nodes)
 }
 
+/// Puts nodes into the order of their texts, each once. All texts of the table are joined for it, which pays where the nodes are a
+/// good part of the table.
+fn put_in_order(alloc: Global, terms: &TermTable, nodes: &mut Vec<TermId>) -> Result<(), AllocError>
+    ensures sorted { OnOk result (IsStrictlySortedBy (compare_at terms.now) nodes.new.items) }
+    ensures same { OnOk result ((n : Id) → Contains nodes.new.items n ↔ Contains nodes.old.items n) }
+{
+    let texts = JoinedTexts::of(alloc, terms)?;
+    nodes.sort_by(|a, b| texts.compare(*a, *b))?;
+    nodes.dedup();
+    Ok(())
+}
+
 /// The nodes of a graph (RDF 1.1 Concepts, section 3.1), each once, in the order of their texts.
 pub(crate) fn nodes_of(
     alloc: Global,
@@ -52,6 +66,6 @@ pub(crate) fn nodes_of(
 {
     let met = nodes_in(alloc, graph.triples())?;
     let mut nodes: Vec<TermId> = met.as_slice().iter().copied().collect(alloc)?;
-    put_in_order(terms, &mut nodes)?;
+    put_in_order(alloc, terms, &mut nodes)?;
     Ok(nodes)
 }
