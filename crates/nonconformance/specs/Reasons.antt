@@ -1,0 +1,150 @@
+-- Why a node does not have a Shape: reasons of which each alone is enough (ShEx 2.1, section 5.5.2, Validation Definition; own: the
+-- cases).
+use Rattle.std.specs.Prelude.{ℕ, true, false, List, [], ◌∷◌, ◌≡◌, ◌<◌, ⊤, Option, Some, None, Contains, length, slice_index}
+use Rattle.rdf_terms.specs.declared.terms.Term.{Term}
+use Rattle.rdf_terms.specs.declared.terms.TermId.{TermId}
+use Rattle.rdf_terms.specs.declared.terms.Triple.{Triple}
+use Rattle.rdf_terms.specs.Graphs.{outs}
+use Rattle.tally.specs.Copies.{Copies}
+use Rattle.tally.specs.Plan.{Plan}
+use Rattle.tally.specs.Symbols.{IsUnder}
+use Rattle.schema_tree.specs.declared.schema.ExprId.{ExprId}
+use Rattle.schema_tree.specs.declared.schema.Pair.{Pair}
+use Rattle.schema_tree.specs.declared.schema.Schema.{Schema}
+use Rattle.schema_tree.specs.declared.schema.Shape.{Shape}
+use Rattle.schema_tree.specs.declared.verdicts.Lean.TheVariants.{Possible}
+use Rattle.schema_tree.specs.declared.verdicts.Place.{Place}
+use Rattle.schema_tree.specs.declared.verdicts.Place.TheVariants.{At, Rest}
+use Rattle.schema_tree.specs.Entries.{shape_at}
+use Rattle.schema_tree.specs.Matches.{SatValue}
+use Rattle.schema_tree.specs.Places.{HasPlaces, IsAllowed, MayFail, MayHold}
+use Rattle.schema_tree.specs.Relevant.{is_relevant, relevant_in_order}
+use Rattle.schema_tree.specs.Satisfies.{Sat}
+use Rattle.schema_tree.specs.Sure.{Known}
+use Rattle.nonconformance.specs.declared.reason.Reason.{Reason}
+use Rattle.nonconformance.specs.declared.reason.Reason.TheVariants.{Forbidden, Unmatched, TooFew, TooMany, Miscounted, Undealt}
+use Rattle.nonconformance.specs.Bounds.{IsFlat, TakeAtLeast, TakeAtMost}
+use Rattle.nonconformance.specs.Those.{AreThose}
+
+-- the place is one of these constraints
+abbrev pub IsOneOf : List ℕ → Place → Type 0
+IsOneOf constraints (At i) = Contains constraints i
+IsOneOf constraints Rest = ⊥
+
+-- there is no expression, or it is flat
+abbrev pub HasFlatBody : Option Plan → Type 0
+HasFlatBody None = ⊤
+HasFlatBody (Some c) = IsFlat c
+
+-- hold and fail say of a value at a node whether it may be satisfied, and whether it may not be
+module _ (hold fail : TermId → Option ExprId → Type 0) (sh : Shape) (n : TermId) where
+  -- one of the constraints may take the triple (section 5.5.2, `matches` with a triple constraint)
+  abbrev pub MayServe : List ℕ → Triple → Type 0
+  MayServe constraints t = (p : Place) × IsOneOf constraints p × IsAllowed hold fail sh n t p
+
+  -- one of them may, no other constraint may, and it may not be in the remainder
+  abbrev pub MustServe : List ℕ → Triple → Type 0
+  MustServe constraints t = MayServe constraints t × ((p : Place) → IsAllowed hold fail sh n t p → IsOneOf constraints p)
+
+  -- no triple has more than one place
+  abbrev pub HaveNoChoice : List Triple → Type 0
+  HaveNoChoice ts = (t : Triple) → Contains ts t → (p q : Place) → IsAllowed hold fail sh n t p → IsAllowed hold fail sh n t q → p ≡ q
+
+-- ts are the relevant triples: those of the neighbourhood that a constraint fits by predicate and direction
+module _ (hold fail : TermId → Option ExprId → Type 0) (g : List Triple) (sh : Shape) (n : TermId) (ts : List Triple) where
+  -- the Shape is closed, and no constraint fits the arc out (section 5.5.2, `closed` and `unmatchables`)
+  pub record IsForbidden (t : Triple) : Type 0 where
+    pub closed : sh.closed ≡ true
+    pub out : Contains (outs g n) t
+    pub alone : is_relevant sh.occs n t ≡ false
+
+  -- no constraint takes the triple, and it may not be in the remainder (section 5.5.2, `matchables` and `extra`)
+  pub record IsUnmatched (t : Triple) : Type 0 where
+    pub there : Contains ts t
+    pub nowhere : (p : Place) → ¬ IsAllowed hold fail sh n t p
+
+  -- in each match the constraints take at least so many triples together, and fewer may be taken by one of them (section 5.5.2,
+  -- `matches` with the minimum of a cardinality)
+  pub record IsTooFew (constraints : List ℕ) (least : ℕ) (found : List Triple) : Type 0 where
+    pub expression : Plan
+    pub is : sh.body ≡ Some expression
+    pub take : TakeAtLeast expression constraints least
+    pub those : AreThose (MayServe hold fail sh n constraints) ts found
+    pub short : length found < least
+
+  -- in each match they take at most so many together, and more can be taken by them alone (section 5.5.2, `matches` with the
+  -- maximum of a cardinality, and with one member of a OneOf)
+  pub record IsTooMany (constraints : List ℕ) (most : ℕ) (found : List Triple) : Type 0 where
+    pub expression : Plan
+    pub is : sh.body ≡ Some expression
+    pub take : TakeAtMost expression constraints most
+    pub those : AreThose (MustServe hold fail sh n constraints) ts found
+    pub over : most < length found
+
+  -- low and high have, for each constraint, how many triples it alone may take, and how many it may take; with no numbers between
+  -- these the expression matches
+  pub record IsMiscounted (low high : List ℕ) : Type 0 where
+    pub expression : Plan
+    pub is : sh.body ≡ Some expression
+    pub least : (i : ℕ) → i < length sh.occs →
+        (found : List Triple) × AreThose (MustServe hold fail sh n (i ∷ [])) ts found × (slice_index low i ≡ length found)
+    pub most : (i : ℕ) → i < length sh.occs →
+        (found : List Triple) × AreThose (MayServe hold fail sh n (i ∷ [])) ts found × (slice_index high i ≡ length found)
+    pub none : (counts : ℕ → ℕ) →
+        IsUnder expression (slice_index low) counts → IsUnder expression counts (slice_index high) → ¬ Copies expression counts 1
+
+  -- the reason is one why the node does not have the Shape
+  abbrev pub IsReason : Reason → Type 0
+  IsReason (Forbidden t) = IsForbidden t
+  IsReason (Unmatched t) = IsUnmatched t
+  IsReason (TooFew constraints least found) = IsTooFew constraints least found
+  IsReason (TooMany constraints most found) = IsTooMany constraints most found
+  IsReason (Miscounted low high) = IsMiscounted low high
+  IsReason Undealt = ¬ HasPlaces hold fail g sh n ts
+
+-- a reason of a node with a Shape, if it is there, where values are those of the typing T
+abbrev pub IsTrueReasonOf : Schema → List Term → List Triple → List Pair → TermId → Option Shape → Reason → Type 0
+IsTrueReasonOf s terms g T n None r = ⊥
+IsTrueReasonOf s terms g T n (Some sh) r =
+    IsReason (λ m v. SatValue (Sat s terms T m) v) (λ m v. ¬ SatValue (Sat s terms T m) v) g sh n (relevant_in_order terms g sh n) r
+
+abbrev pub IsTrueReason : Schema → List Term → List Triple → List Pair → Pair → Reason → Type 0
+IsTrueReason s terms g T p r = IsTrueReasonOf s terms g T p.node (shape_at s p.shape) r
+
+-- the same by what is known of pairs, where Unknown is possible: values count as not satisfied only where that is sure
+abbrev pub IsKnownReasonOf : Schema → List Term → List Triple → Known → TermId → Option Shape → Reason → Type 0
+IsKnownReasonOf s terms g view n None r = ⊥
+IsKnownReasonOf s terms g view n (Some sh) r =
+    IsReason (MayHold s terms view Possible) (MayFail s terms view Possible) g sh n (relevant_in_order terms g sh n) r
+
+abbrev pub IsKnownReason : Schema → List Term → List Triple → Known → Pair → Reason → Type 0
+IsKnownReason s terms g view p r = IsKnownReasonOf s terms g view p.node (shape_at s p.shape) r
+
+-- by what is known no relevant triple of the node has more than one place
+abbrev pub IsForcedOf : Schema → List Term → List Triple → Known → TermId → Option Shape → Type 0
+IsForcedOf s terms g view n None = ⊥
+IsForcedOf s terms g view n (Some sh) =
+    HaveNoChoice (MayHold s terms view Possible) (MayFail s terms view Possible) sh n (relevant_in_order terms g sh n)
+
+abbrev pub IsForced : Schema → List Term → List Triple → Known → Pair → Type 0
+IsForced s terms g view p = IsForcedOf s terms g view p.node (shape_at s p.shape)
+
+-- the expression of the Shape is flat too
+abbrev pub IsPlainCaseOf : Schema → List Term → List Triple → Known → TermId → Option Shape → Type 0
+IsPlainCaseOf s terms g view n None = ⊥
+IsPlainCaseOf s terms g view n (Some sh) = HasFlatBody sh.body × IsForcedOf s terms g view n (Some sh)
+
+abbrev pub IsPlainCase : Schema → List Term → List Triple → Known → Pair → Type 0
+IsPlainCase s terms g view p = IsPlainCaseOf s terms g view p.node (shape_at s p.shape)
+
+-- the reason names a triple, or triple constraints
+abbrev pub IsNamed : Reason → Type 0
+IsNamed (Miscounted low high) = ⊥
+IsNamed Undealt = ⊥
+IsNamed r = ⊤
+
+-- the reason is about one triple alone
+abbrev pub IsOfTriple : Reason → Type 0
+IsOfTriple (Forbidden t) = ⊤
+IsOfTriple (Unmatched t) = ⊤
+IsOfTriple r = ⊥
