@@ -14,9 +14,11 @@ use Rattle.schema_tree.specs.Loaded.{BodyOk, IsLoaded}
 use Rattle.schema_tree.specs.Places.{CanMatch, HasPlaces, MayFail, MayHold, PairCanMatch}
 use Rattle.schema_tree.specs.Relevant.{relevant_in_order}
 use Rattle.schema_tree.specs.Sure.{Known}
+use Rattle.nonconformance.specs.declared.offers.Offer.{Offer}
 use Rattle.nonconformance.specs.declared.reason.Reason.{Reason}
 use Rattle.nonconformance.specs.declared.reason.Reason.TheVariants.{Undealt}
 use Rattle.nonconformance.specs.Found.{AreFound}
+use Rattle.nonconformance.specs.Offers.{AreKnownOffers, AreKnownOffersOf, AreOffers}
 use Rattle.nonconformance.specs.Laws.{LeastIsKept, MostIsKept}
 use Rattle.nonconformance.specs.Reasons.{IsForced, IsForcedOf, IsKnownReason, IsKnownReasonOf, IsNamed, IsOfTriple, IsPlainCase, IsPlainCaseOf}
 use Rattle.nonconformance.proofs.Found.{found_forced, found_named, found_sound, found_whole}
@@ -53,3 +55,12 @@ module _ (s : Schema) (terms : List Term) (g : List Triple) (view : Known) (p : 
     told_named plain =
         let own = subst (λ x. IsPlainCaseOf s terms g view p.node x) is plain in
         found_named (MayHold s terms view Possible) (MayFail s terms view Possible) terms g sh p.node body rs found none own.0 own.1
+
+-- what is offered to the relevant triples, by a view
+pub known_offers :
+    (s : Schema) (terms : List Term) (g : List Triple) (view : Known) (p : Pair) (sh : Shape) → shape_at s p.shape ≡ Some sh →
+    (ts : List Triple) (offers : List Offer) → ts ≡ relevant_in_order terms g sh p.node →
+    AreOffers (MayHold s terms view Possible) (MayFail s terms view Possible) sh p.node ts offers → AreKnownOffers s terms g view p offers
+known_offers s terms g view p sh is ts offers same are =
+    subst (λ x. AreKnownOffersOf s terms g view p.node x offers) (sym is)
+    (subst (λ us. AreOffers (MayHold s terms view Possible) (MayFail s terms view Possible) sh p.node us offers) same are)

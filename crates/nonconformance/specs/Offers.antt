@@ -2,14 +2,21 @@
 use Rattle.std.specs.Prelude.{ℕ, List, [], ◌∷◌, ◌++◌, ◌-◌, ◌^◌, ◌≡◌, ◌<◌, ◌⊎◌, ◌&&◌, Option, Some, None, Contains}
 use Rattle.std.specs.Prelude.{length, min, nat_lt, not, slice_index, if◌then◌else◌}
 use Rattle.std.specs.List.{AllZip, flat_map, list_all, list_any}
+use Rattle.rdf_terms.specs.declared.terms.Term.{Term}
 use Rattle.rdf_terms.specs.declared.terms.TermId.{TermId}
 use Rattle.rdf_terms.specs.declared.terms.Triple.{Triple}
 use Rattle.tally.specs.Plan.{Plan}
 use Rattle.tally.specs.Span.{HasSpan, span}
 use Rattle.schema_tree.specs.declared.schema.ExprId.{ExprId}
+use Rattle.schema_tree.specs.declared.schema.Pair.{Pair}
+use Rattle.schema_tree.specs.declared.schema.Schema.{Schema}
 use Rattle.schema_tree.specs.declared.schema.Shape.{Shape}
+use Rattle.schema_tree.specs.declared.verdicts.Lean.TheVariants.{Possible}
 use Rattle.schema_tree.specs.declared.verdicts.Place.{Place}
-use Rattle.schema_tree.specs.Relevant.{is_relevant}
+use Rattle.schema_tree.specs.Entries.{shape_at}
+use Rattle.schema_tree.specs.Places.{MayFail, MayHold}
+use Rattle.schema_tree.specs.Relevant.{is_relevant, relevant_in_order}
+use Rattle.schema_tree.specs.Sure.{Known}
 use Rattle.bag_match.specs.Least.{ArePlacesFor}
 use Rattle.nonconformance.specs.declared.offers.Offer.{Offer}
 use Rattle.nonconformance.specs.declared.reason.Reason.{Reason}
@@ -20,6 +27,15 @@ use Rattle.nonconformance.specs.Bounds.{capped, is_at, least_of, most_of}
 abbrev pub AreOffers :
     (TermId → Option ExprId → Type 0) → (TermId → Option ExprId → Type 0) → Shape → TermId → List Triple → List Offer → Type 0
 AreOffers hold fail sh n ts offers = AllZip (λ t o. (o.triple ≡ t) × ArePlacesFor hold fail sh n t o.places) ts offers
+
+-- they are those of the relevant triples of a node with a Shape, if it is there, by what is known, where Unknown is possible
+abbrev pub AreKnownOffersOf : Schema → List Term → List Triple → Known → TermId → Option Shape → List Offer → Type 0
+AreKnownOffersOf s terms g view n None offers = ⊥
+AreKnownOffersOf s terms g view n (Some sh) offers =
+    AreOffers (MayHold s terms view Possible) (MayFail s terms view Possible) sh n (relevant_in_order terms g sh n) offers
+
+abbrev pub AreKnownOffers : Schema → List Term → List Triple → Known → Pair → List Offer → Type 0
+AreKnownOffers s terms g view p offers = AreKnownOffersOf s terms g view p.node (shape_at s p.shape) offers
 
 -- the triple, where one of its places is one of the constraints, and where it has some and all are
 abbrev pub serving : List ℕ → Offer → List Triple

@@ -11,7 +11,7 @@ ghost use Rattle.schema_tree.specs.Loaded.{BodyOk, IsLoaded};
 ghost use Rattle.schema_tree.specs.Places.{PairCanMatch};
 ghost use Rattle.schema_tree.specs.declared.verdicts.Lean.TheVariants.{Possible};
 ghost use Rattle.nonconformance.specs.Found.{AreFound};
-ghost use Rattle.nonconformance.specs.Offers.{AddsCounted, Concludes, IsSaidOf, counted_by, few_by, forbidden_by, many_by, unmatched_by};
+ghost use Rattle.nonconformance.specs.Offers.{AddsCounted, AreKnownOffers, Concludes, IsSaidOf, counted_by, few_by, forbidden_by, many_by, unmatched_by};
 ghost use Rattle.nonconformance.specs.Reasons.{IsForced, IsKnownReason, IsNamed, IsOfTriple, IsPlainCase};
 ghost use Rattle.nonconformance.specs.declared.reason.Reason.TheVariants.{Undealt};
 ghost use Rattle.nonconformance.specs.declared.reason.Reason.{Reason as Told};
@@ -315,4 +315,30 @@ pub fn reasons_of<V: View>(
         lean: Lean::Possible,
     };
     found_in(alloc, &judge, graph, shape, pair.node)
+}
+
+/// The relevant triples of a pair, in the order of its neighbourhood, each with the places that what is known allows for it
+/// (ShEx 2.1, section 5.5.2): what can be said where there is no way to give each triple one of them.
+pub fn offers_of<V: View>(
+    alloc: Global,
+    schema: &Schema,
+    graph: &Graph,
+    terms: &TermTable,
+    view: &V,
+    pair: Pair,
+) -> Result<Vec<Offer>, AllocError>
+    requires loaded { IsLoaded schema.now }
+    requires sealed { IsSealedWith terms.now graph.now }
+    requires shape { pair.shape.0 < length schema.now.shapes }
+    ensures { IfOk result (λ v. AreKnownOffers schema.now terms.now graph.now.triples (V.known view.now) pair v.items) }
+{
+    let shape = &schema.shapes.as_slice()[pair.shape.0 as usize];
+    let judge = Values {
+        schema,
+        terms,
+        view,
+        lean: Lean::Possible,
+    };
+    let triples = relevant(alloc, graph, shape, pair.node)?;
+    offers(alloc, &judge, shape, pair.node, &triples)
 }
