@@ -29,12 +29,13 @@ _shex_files() {
 }
 
 _shex() {
-    local program=${1##*/} word=$2 before=$3 commands='' option options=''
+    local program=${1##*/} word=$2 before=$3 commands='' parted='' option options=''
     COMPREPLY=()
     # Bash parts words at `=`.
     if [[ $word == = ]]; then
-        word=''
+        word='' parted=yes
     elif [[ $before == = ]]; then
+        parted=yes
         before=${COMP_WORDS[COMP_CWORD - 2]}
     fi
     case $program in
@@ -53,7 +54,7 @@ _shex() {
         --schema-base | --data-base) mapfile -t COMPREPLY < <(compgen -W http://localhost/ -- "$word") ;;
         --*) ;;
         *)
-            if [[ $word != -* && ${COMP_WORDS[COMP_CWORD - 1]} == = ]]; then
+            if [[ -n $parted ]]; then
                 # The file of a document that is imported.
                 _shex_files "$word" shex json shexj
                 return

@@ -34,6 +34,7 @@ FORMS = {  # what is answered to the kinds of values; to those that are not name
     "no actions": {kind: "Action" for kind in KINDS},
     "expression": {"text": READ, "object": "Form(type)"},  # so are stems and exclusions: a text or an object of certain types
     "declaration": {"object": "Form(type)"},
+    "outside": {kind: "External" for kind in KINDS},
     "value": {"text": READ, "object": "Form(value)"},  # an object without a type is a literal
     "type": {},
     "type of a stem": {"text": "Key(stem)"},  # of another type it is a literal, which has no such key
@@ -81,6 +82,7 @@ TABLE = [  # objects, each with its keys, their forms, and a text
         {"type": "Shape", "id": "S"},
         {**EXPR, "closed": ("truth", "true"), "extra": ("list", "p"), "expression": ("expression", "e"), **ANNOTATED},
     ),
+    ({"type": "ShapeExternal", "id": "S"}, {"type": ("type", "X"), "id": ("outside", "S")}),
     ({"type": "EachOf", "expressions": ["e"]}, GROUP),
     ({"type": "OneOf", "expressions": ["e"]}, GROUP),
     (

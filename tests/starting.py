@@ -20,7 +20,7 @@ CRATES = ("shex_cli", "shextool_cli", "typing_session_cli", "shex_rows", "text_r
 VALIDATE = ("validate", "a word", "", "*")
 
 # What the scripts of bin/ call, and the stand-in.
-TOOLS = "awk basename cat chmod cksum cmp cp cut dirname find grep mkdir mktemp mv nproc rm sed sh sha256sum sort tail touch wc xargs".split()
+TOOLS = "awk basename cat chmod cksum cmp cp cut dirname find grep mkdir mktemp mv nproc readlink rm sed sh sha256sum sort tail touch wc xargs".split()
 
 RT = r"""#!/bin/sh
 if [ "$1" = version ]; then
@@ -213,6 +213,26 @@ class Starting(Case):
         os.utime(os.path.join(self.clone, "crates/low/src/lib.rt"), (1, 1))
         self.assert_not_there(self.shex())
 
+    def test_a_source_whose_time_is_old_and_a_built_program(self):
+        self.change()
+        self.assert_built(self.shex(kit=self.kit))
+        self.change()
+        os.utime(os.path.join(self.clone, "crates/low/src/lib.rt"), (1, 1))
+        self.assert_built(self.shex(kit=self.kit))
+        self.assertEqual(self.calls(), 2)
+
+    def test_links_and_folders_that_are_sought(self):
+        os.symlink(os.path.join(self.clone, "bin/shex"), os.path.join(self.folder, "link"))
+        os.mkdir(os.path.join(self.folder, "other"))
+        os.symlink(os.path.join(self.clone, "bin"), os.path.join(self.folder, "other/bin"))
+        os.makedirs(os.path.join(self.folder, "sought/bin"))
+        for _ in range(2):
+            self.assert_released(self.run_in(os.path.join(self.folder, "link"), *VALIDATE))
+            self.assert_released(self.run_in(os.path.join(self.folder, "other/bin/shex"), *VALIDATE))
+            self.assert_released(self.run_in("sh", "-c", 'CDPATH=../sought; export CDPATH; bin/shex validate "a word" "" "*"'))
+        self.change()
+        self.assert_not_there(self.run_in(os.path.join(self.folder, "other/bin/shex"), *VALIDATE))
+
     def test_a_folder_of_sources_that_is_removed(self):
         self.shex()
         shutil.rmtree(os.path.join(self.clone, "crates/low/specs"))
@@ -397,6 +417,20 @@ class Releasing(Case):
             self.assertEqual(self.check().returncode, 1, lines[at])
         write(self.clone, "dist/RELEASE", "\n".join(lines) + "\n")
         self.assert_holds()
+
+    def test_a_line_that_was_added(self):
+        write(self.clone, "dist/RELEASE", "sources shex 0\n", "a")
+        self.assert_refused("dist/RELEASE has other lines than those of these programs: bin/release renews it")
+
+    def test_a_source_that_is_changed_while_programs_are_built(self):
+        os.remove(os.path.join(self.clone, "crates/shextool_cli/out/shextool_cli"))
+        write(self.folder, "log.meanwhile", f"echo more >>'{self.clone}/crates/low/src/lib.rt'\n")
+        done = self.run_in("bin/release", kit=self.kit)
+        self.assertEqual(done.returncode, 1)
+        self.assertTrue(done.stderr.endswith("release: a source was changed while the programs were built: call bin/release again\n"), done)
+        os.remove(os.path.join(self.folder, "log.meanwhile"))
+        self.assertEqual(self.run_in("bin/release", "--current", "shex").returncode, 1)
+        self.assert_renewed()
 
     def test_a_file_that_was_put_there(self):
         write(self.clone, "dist/other", "")
