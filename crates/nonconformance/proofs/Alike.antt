@@ -18,7 +18,7 @@ use Rattle.schema_tree.specs.declared.verdicts.Verdict.TheVariants.{Yes, No}
 use Rattle.schema_tree.specs.Entries.{pair_of, shape_at}
 use Rattle.schema_tree.specs.Matches.{SatValue, fits, other_end}
 use Rattle.schema_tree.specs.Needs.{Needs}
-use Rattle.schema_tree.specs.Places.{AreAllowed, HasPlaces, IsAllowed, MayFail, MayHold}
+use Rattle.schema_tree.specs.Places.{AreAllowed, IsAllowed, MayFail, MayHold}
 use Rattle.schema_tree.specs.Relevant.{is_forward, relevant_in_order}
 use Rattle.schema_tree.specs.Satisfies.{Sat}
 use Rattle.schema_tree.specs.Sure.{Known, PairIs}
@@ -27,8 +27,8 @@ use Rattle.schema_tree.proofs.Leans.{all_weaker_allowed}
 use Rattle.schema_tree.proofs.Needed.{in_graph, need_of}
 use Rattle.schema_tree.proofs.ToPlaces.{forward_parts}
 use Rattle.nonconformance.specs.declared.reason.Reason.{Reason}
-use Rattle.nonconformance.specs.declared.reason.Reason.TheVariants.{Forbidden, Unmatched, TooFew, TooMany, Miscounted, Undealt}
-use Rattle.nonconformance.specs.Reasons.{IsKnownReason, IsKnownReasonOf, IsMiscounted, IsReason, IsTooFew, IsTooMany, IsTrueReason, IsTrueReasonOf, MayServe, MustServe}
+use Rattle.nonconformance.specs.declared.reason.Reason.TheVariants.{Forbidden, Unmatched, TooFew, TooMany, NoMatchingCounts, NoMatchingPlaces}
+use Rattle.nonconformance.specs.Reasons.{IsKnownReason, HasNoMatchingCounts, HasNoMatchingPlaces, IsKnownReasonOf, IsReason, IsTooFew, IsTooMany, IsTrueReason, IsTrueReasonOf, IsUnmatched, MayServe, MustServe}
 use Rattle.nonconformance.specs.Those.{AreThose}
 use Rattle.nonconformance.proofs.Items.{those_alike}
 
@@ -56,31 +56,44 @@ module _ (hold fail hold' fail' : TermId → Option ExprId → Type 0) (g : List
   all_back (t ∷ us) [] inside a = a
   all_back (t ∷ us) (p ∷ ps) inside a = (back t (inside t (is_first t us)) p a.0, all_back us ps (λ u c. inside u (is_later t us u c)) a.1)
 
-  places_back : HasPlaces hold' fail' g sh n ts → HasPlaces hold fail g sh n ts
-  places_back h = record { open_to = h.open_to; places = h.places; allowed = all_back ts h.places (λ t c. c) h.allowed; spelled = h.spelled }
-
   few_alike : (cs : List ℕ) (least : ℕ) (found : List Triple) → IsTooFew hold fail g sh n ts cs least found → IsTooFew hold' fail' g sh n ts cs least found
   few_alike cs least found h = record { expression = h.expression; is = h.is; take = h.take; those = may_those cs found h.those; short = h.short }
 
   many_alike : (cs : List ℕ) (most : ℕ) (found : List Triple) → IsTooMany hold fail g sh n ts cs most found → IsTooMany hold' fail' g sh n ts cs most found
   many_alike cs most found h = record { expression = h.expression; is = h.is; take = h.take; those = must_those cs found h.those; over = h.over }
 
-  miscounted_alike : (low high : List ℕ) → IsMiscounted hold fail g sh n ts low high → IsMiscounted hold' fail' g sh n ts low high
-  miscounted_alike low high h = record {
+  counts_alike : (low high : List ℕ) → HasNoMatchingCounts hold fail g sh n ts low high → HasNoMatchingCounts hold' fail' g sh n ts low high
+  counts_alike low high h = record {
     expression = h.expression;
     is = h.is;
+    low_is = h.low_is;
+    high_is = h.high_is;
     least = λ i lt. let (found, those, same) = h.least i lt in (found, must_those (i ∷ []) found those, same);
     most = λ i lt. let (found, those, same) = h.most i lt in (found, may_those (i ∷ []) found those, same);
     none = h.none;
   }
 
+  unmatched_alike : (t : Triple) → IsUnmatched hold fail g sh n ts t → IsUnmatched hold' fail' g sh n ts t
+  unmatched_alike t h = record { there = h.there; nowhere = λ p a. h.nowhere p (back t h.there p a) }
+
+module _ (hold fail hold' fail' : TermId → Option ExprId → Type 0) (g : List Triple) (sh : Shape) (n : TermId) (ts : List Triple)
+    (to : (t : Triple) → Contains ts t → (p : Place) → IsAllowed hold fail sh n t p → IsAllowed hold' fail' sh n t p)
+    (back : (t : Triple) → Contains ts t → (p : Place) → IsAllowed hold' fail' sh n t p → IsAllowed hold fail sh n t p) where
+  places_alike : HasNoMatchingPlaces hold fail g sh n ts → HasNoMatchingPlaces hold' fail' g sh n ts
+  places_alike h = record {
+    permitted = λ t r. h.permitted t (record { closed = r.closed; out = r.out; alone = r.alone });
+    matched = λ t r. h.matched t (unmatched_alike hold' fail' hold fail g sh n ts back to t r);
+    counted = λ low high r. h.counted low high (counts_alike hold' fail' hold fail g sh n ts back to low high r);
+    none = λ places allowed. h.none places (all_back hold fail hold' fail' g sh n ts to back ts places (λ t c. c) allowed);
+  }
+
   pub reason_alike : (r : Reason) → IsReason hold fail g sh n ts r → IsReason hold' fail' g sh n ts r
   reason_alike (Forbidden t) h = record { closed = h.closed; out = h.out; alone = h.alone }
-  reason_alike (Unmatched t) h = record { there = h.there; nowhere = λ p a. h.nowhere p (back t h.there p a) }
-  reason_alike (TooFew cs least found) h = few_alike cs least found h
-  reason_alike (TooMany cs most found) h = many_alike cs most found h
-  reason_alike (Miscounted low high) h = miscounted_alike low high h
-  reason_alike Undealt h = λ a. h (places_back a)
+  reason_alike (Unmatched t) h = unmatched_alike hold fail hold' fail' g sh n ts to back t h
+  reason_alike (TooFew cs least found) h = few_alike hold fail hold' fail' g sh n ts to back cs least found h
+  reason_alike (TooMany cs most found) h = many_alike hold fail hold' fail' g sh n ts to back cs most found h
+  reason_alike (NoMatchingCounts low high) h = counts_alike hold fail hold' fail' g sh n ts to back low high h
+  reason_alike NoMatchingPlaces h = places_alike h
 
 module _ (nodes : NodesAreDecided) (s : Schema) (terms : List Term) (g : List Triple) (view : Known) (T : List Pair) (p : Pair)
     (needed : (q : Pair) → Needs s g p q → (Contains T q → PairIs view q Yes) × (¬ Contains T q → PairIs view q No)) where

@@ -1,11 +1,9 @@
 -- Each reason is enough: where there is one, no places are.
-use Rattle.std.proofs.Common.{◌≡◌, ℕ, ◌<◌, ◌≤◌, refl, arith, subst, ap, not, length, List, [], ◌∷◌}
+use Rattle.std.proofs.Common.{◌≡◌, ℕ, ◌<◌, ◌≤◌, refl, arith, subst, length, List, [], ◌∷◌}
 use Rattle.std.specs.Prelude.{Option, Some, None, slice_index}
-use Rattle.lists.proofs.Members.{any_true}
 use Rattle.rdf_terms.specs.declared.terms.Term.{Term}
 use Rattle.rdf_terms.specs.declared.terms.TermId.{TermId}
 use Rattle.rdf_terms.specs.declared.terms.Triple.{Triple}
-use Rattle.rdf_terms.specs.Graphs.{outs}
 use Rattle.rdf_terms.specs.Order.{neighbourhood}
 use Rattle.tally.specs.Copies.{Copies}
 use Rattle.schema_tree.specs.declared.schema.ExprId.{ExprId}
@@ -18,21 +16,19 @@ use Rattle.schema_tree.specs.Laws.{OrderIsWhole, ShapesArePlaces}
 use Rattle.schema_tree.specs.Loaded.{BodyOk, IsLoaded}
 use Rattle.schema_tree.specs.Matches.{SatValue}
 use Rattle.schema_tree.specs.Places.{CanMatch, HaveCounts, HasPlaces, MayFail, MayHold, PairCanMatch, times}
-use Rattle.schema_tree.specs.Relevant.{is_relevant, relevant_in_order}
+use Rattle.schema_tree.specs.Relevant.{relevant_in_order}
 use Rattle.schema_tree.specs.Satisfies.{Sat}
 use Rattle.schema_tree.specs.Shapes.{ShapeOk}
 use Rattle.schema_tree.specs.Sure.{Known}
 use Rattle.nonconformance.specs.declared.reason.Reason.{Reason}
-use Rattle.nonconformance.specs.declared.reason.Reason.TheVariants.{Forbidden, Unmatched, TooFew, TooMany, Miscounted, Undealt}
+use Rattle.nonconformance.specs.declared.reason.Reason.TheVariants.{Forbidden, Unmatched, TooFew, TooMany, NoMatchingCounts, NoMatchingPlaces}
 use Rattle.nonconformance.specs.Bounds.{served}
-use Rattle.nonconformance.specs.Reasons.{IsForbidden, IsKnownReason, IsKnownReasonOf, IsMiscounted, IsReason, IsTooFew, IsTooMany, IsTrueReason, IsTrueReasonOf, IsUnmatched}
+use Rattle.nonconformance.specs.Reasons.{IsKnownReason, IsKnownReasonOf, HasNoMatchingCounts, IsReason, IsTooFew, IsTooMany, IsTrueReason, IsTrueReasonOf, IsUnmatched}
 use Rattle.nonconformance.proofs.Alone.{served_alone}
+use Rattle.nonconformance.proofs.Hindered.{shut_by}
 use Rattle.nonconformance.proofs.Serving.{all_stand, allowed_of, served_few, served_many}
 
 module _ (hold fail : TermId → Option ExprId → Type 0) (g : List Triple) (sh : Shape) (n : TermId) (ts : List Triple) where
-  shut_by : (t : Triple) → IsForbidden hold fail g sh n ts t → ¬ HasPlaces hold fail g sh n ts
-  shut_by t r places = places.open_to (r.closed, any_true (λ u. not (is_relevant sh.occs n u)) (outs g n) t r.out (ap not r.alone))
-
   unmatched_by : (t : Triple) → IsUnmatched hold fail g sh n ts t → ¬ HasPlaces hold fail g sh n ts
   unmatched_by t r places =
       let (p, allowed) = allowed_of hold fail sh n ts places.places t places.allowed r.there in
@@ -56,8 +52,8 @@ module _ (hold fail : TermId → Option ExprId → Type 0) (g : List Triple) (sh
       let over : most < length found = r.over in
       absurd (omega arith)
 
-  miscounted_by : BodyOk sh.occs sh.body → (low high : List ℕ) → IsMiscounted hold fail g sh n ts low high → ¬ HasPlaces hold fail g sh n ts
-  miscounted_by ok low high r places =
+  counts_by : BodyOk sh.occs sh.body → (low high : List ℕ) → HasNoMatchingCounts hold fail g sh n ts low high → ¬ HasPlaces hold fail g sh n ts
+  counts_by ok low high r places =
       let body : BodyOk sh.occs (Some r.expression) = subst (λ b. BodyOk sh.occs b) r.is ok in
       let counts : Copies r.expression (times places.places) 1 = subst (λ b. HaveCounts b (times places.places)) r.is places.spelled in
       r.none (times places.places)
@@ -76,12 +72,12 @@ module _ (hold fail : TermId → Option ExprId → Type 0) (g : List Triple) (sh
       at_most a b c d e h f = omega arith
 
   pub enough : BodyOk sh.occs sh.body → (r : Reason) → IsReason hold fail g sh n ts r → ¬ HasPlaces hold fail g sh n ts
-  enough ok (Forbidden t) h = shut_by t h
+  enough ok (Forbidden t) h = λ places. places.open_to (shut_by hold fail g sh n ts t h)
   enough ok (Unmatched t) h = unmatched_by t h
   enough ok (TooFew cs least found) h = few_by ok cs least found h
   enough ok (TooMany cs most found) h = many_by ok cs most found h
-  enough ok (Miscounted low high) h = miscounted_by ok low high h
-  enough ok Undealt h = h
+  enough ok (NoMatchingCounts low high) h = counts_by ok low high h
+  enough ok NoMatchingPlaces h = λ places. h.none places.places places.allowed places.spelled
 
 -- under a typing
 pub true_enough :

@@ -21,17 +21,17 @@ use Rattle.tally.specs.Plan.{Plan}
 use Rattle.schema_tree.specs.declared.schema.ExprId.{ExprId}
 use Rattle.schema_tree.specs.declared.schema.Shape.{Shape}
 use Rattle.schema_tree.specs.Loaded.{BodyOk}
-use Rattle.schema_tree.specs.Places.{HasPlaces, IsAllowed}
+use Rattle.schema_tree.specs.Places.{HasPlaces, IsAllowed, IsShut}
 use Rattle.schema_tree.specs.Relevant.{is_relevant, relevant_in_order}
 use Rattle.bag_match.proofs.Neighbours.{relevant_few}
 use Rattle.nonconformance.specs.declared.offers.Offer.{Offer}
 use Rattle.nonconformance.specs.declared.reason.Reason.{Reason}
-use Rattle.nonconformance.specs.declared.reason.Reason.TheVariants.{Forbidden, Unmatched, TooFew, TooMany, Miscounted, Undealt}
+use Rattle.nonconformance.specs.declared.reason.Reason.TheVariants.{Forbidden, Unmatched, TooFew, TooMany, NoMatchingCounts, NoMatchingPlaces}
 use Rattle.nonconformance.specs.Laws.{LeastIsKept, MostIsKept}
 use Rattle.nonconformance.specs.Offers.{AddsCounted, AreOffers, Concludes, forbidden_by, unmatched_at, unmatched_by}
 use Rattle.nonconformance.specs.Found.{AreFound, single_reasons}
-use Rattle.nonconformance.specs.Reasons.{HasFlatBody, HaveNoChoice, IsNamed, IsOfTriple, IsReason}
-use Rattle.nonconformance.proofs.Naming.{named_before, never_empty, never_undealt}
+use Rattle.nonconformance.specs.Reasons.{HasFlatBody, HaveNoChoice, IsNamed, IsOfTriple, IsReason, IsUnmatched}
+use Rattle.nonconformance.proofs.Naming.{left_none, named_before, never_empty, never_without_places, not_shut, old_none}
 use Rattle.nonconformance.proofs.Offering.{all_counted, all_flat, all_unmatched, concluded_are, forbidden_are}
 
 module _ (hold fail : TermId → Option ExprId → Type 0) (terms : List Term) (g : List Triple) (sh : Shape) (n : TermId) where
@@ -73,11 +73,53 @@ module _ (hold fail : TermId → Option ExprId → Type 0) (terms : List Term) (
         is = subst (λ z. Concludes (length sh.occs) sh.body z r₃ rs) d last;
       }
 
+  into : (t : Triple) → Contains (outs g n) t → Contains lent_outs t
+  into t c = Contains-permutation (outs g n) lent_outs t (sorted_same (by_object terms) (outs g n)) c
+
+  forbidden_there : (t : Triple) → sh.closed ≡ true → is_relevant sh.occs n t ≡ false → Contains (forbidden_by sh n t) (Forbidden t)
+  forbidden_there t closed none = go sh.closed (is_relevant sh.occs n t) closed none
+    where
+      go : (a b : Bool) → a ≡ true → b ≡ false → Contains (cond (a && not b) (Forbidden t ∷ []) []) (Forbidden t)
+      go true true e f = absurd (true≢false f)
+      go true false e f = is_first (Forbidden t) []
+      go false b e f = absurd (true≢false (sym e))
+
+  unmatched_there : (t : Triple) (ps : List Place) → ArePlacesFor hold fail sh n t ps → ((p : Place) → ¬ IsAllowed hold fail sh n t p) → Contains (unmatched_at t ps) (Unmatched t)
+  unmatched_there t [] are nowhere = is_first (Unmatched t) []
+  unmatched_there t (p ∷ ps) are nowhere = absurd (nowhere p ((are.same p).0 (is_first p ps)))
+
+  -- each reason of one triple alone is among those of single triples
+  single_there : (offers : List Offer) → AreOffers hold fail sh n ts offers → (r : Reason) → IsOfTriple r → IsReason hold fail g sh n ts r →
+      Contains (single_reasons hold fail terms g sh n offers) r
+  single_there offers are (Forbidden t) of h =
+      Contains-append_left (flat_map (forbidden_by sh n) lent_outs) (flat_map unmatched_by offers) (Forbidden t)
+      (in_flat_map (forbidden_by sh n) lent_outs t (Forbidden t) (into t h.out) (forbidden_there t h.closed h.alone))
+  single_there offers are (Unmatched t) of h =
+      let (o, c, both) = beside _ ts offers are t h.there in
+      Contains-append_right (flat_map (forbidden_by sh n) lent_outs) (flat_map unmatched_by offers) (Unmatched t)
+      (in_flat_map unmatched_by offers o (Unmatched t) c
+      (subst (λ u. Contains (unmatched_at u o.places) (Unmatched t)) (sym both.0) (unmatched_there t o.places both.1 h.nowhere)))
+  single_there offers are (TooFew cs least found) of h = absurd of
+  single_there offers are (TooMany cs most found) of h = absurd of
+  single_there offers are (NoMatchingCounts low high) of h = absurd of
+  single_there offers are NoMatchingPlaces of h = absurd of
+
+  -- where nothing is found of single triples and of numbers, the pair is not shut, and no triple is unmatched
+  nothing_single : (rs : List Reason) (x : Found rs) → x.before ≡ [] → (¬ IsShut g sh n) × ((t : Triple) → ¬ IsUnmatched hold fail g sh n ts t)
+  nothing_single rs x e = (
+    not_shut hold fail g sh n lent_outs into (left_none (flat_map (forbidden_by sh n) lent_outs) (flat_map unmatched_by x.offers) nothing),
+    (λ t h. not_in_none (Unmatched t) (subst (λ z. Contains z (Unmatched t)) nothing (single_there x.offers x.are (Unmatched t) tt h))),
+  )
+    where
+      nothing : single_reasons hold fail terms g sh n x.offers ≡ []
+      nothing = old_none hold fail g sh n ts sh.body x.offers (single_reasons hold fail terms g sh n x.offers)
+          (subst (λ z. AddsCounted (length sh.occs) sh.body x.offers (single_reasons hold fail terms g sh n x.offers) z) e x.counted)
+
   pub found_sound :
       LeastIsKept → MostIsKept → BoxHoldsCopies → BodyOk sh.occs sh.body → (rs : List Reason) → Found rs → ¬ HasPlaces hold fail g sh n ts →
       AllByRecursion (IsReason hold fail g sh n ts) rs
   found_sound least most box ok rs x none =
-      concluded_are hold fail sh n g ts box none x.offers x.are x.before rs x.is
+      concluded_are hold fail sh n g ts box none ok x.offers x.are x.before rs (nothing_single rs x) x.is
       (all_counted hold fail sh n g ts least most ok x.offers x.are x.few _ x.before x.counted
       (all_append (IsReason hold fail g sh n ts) (flat_map (forbidden_by sh n) lent_outs) (flat_map unmatched_by x.offers)
       (all_flat hold fail sh n g ts (forbidden_by sh n) lent_outs (λ t c. forbidden_are hold fail sh n g ts t (out t c)))
@@ -86,14 +128,11 @@ module _ (hold fail : TermId → Option ExprId → Type 0) (terms : List Term) (
       out : (t : Triple) → Contains lent_outs t → Contains (outs g n) t
       out t c = Contains-permutation lent_outs (outs g n) t (IsPermutation-sym (outs g n) lent_outs (sorted_same (by_object terms) (outs g n))) c
 
-  into : (t : Triple) → Contains (outs g n) t → Contains lent_outs t
-  into t c = Contains-permutation (outs g n) lent_outs t (sorted_same (by_object terms) (outs g n)) c
-
   pub found_forced :
       IntervalHasCopies → OwnSymbolsDecide → BodyOk sh.occs sh.body → (rs : List Reason) → Found rs → ¬ HasPlaces hold fail g sh n ts → HaveNoChoice hold fail sh n ts →
-      ¬ Contains rs Undealt
+      ¬ Contains rs NoMatchingPlaces
   found_forced interval own ok rs x none one =
-      never_undealt hold fail g sh n ts lent_outs into x.offers x.are one interval own none ok x.before rs x.counted x.is
+      never_without_places hold fail g sh n ts lent_outs into x.offers x.are one interval own none ok x.before rs x.counted x.is
 
   pub found_named :
       BodyOk sh.occs sh.body → (rs : List Reason) → Found rs → ¬ HasPlaces hold fail g sh n ts → HasFlatBody sh.body → HaveNoChoice hold fail sh n ts → AllByRecursion IsNamed rs
@@ -120,30 +159,5 @@ module _ (hold fail : TermId → Option ExprId → Type 0) (terms : List Term) (
       ended [] said d = absurd (not_in_none r d)
       ended (x ∷ xs) same d = subst (λ z. Contains z r) (sym same) d
 
-  forbidden_there : (t : Triple) → sh.closed ≡ true → is_relevant sh.occs n t ≡ false → Contains (forbidden_by sh n t) (Forbidden t)
-  forbidden_there t closed none = go sh.closed (is_relevant sh.occs n t) closed none
-    where
-      go : (a b : Bool) → a ≡ true → b ≡ false → Contains (cond (a && not b) (Forbidden t ∷ []) []) (Forbidden t)
-      go true true e f = absurd (true≢false f)
-      go true false e f = is_first (Forbidden t) []
-      go false b e f = absurd (true≢false (sym e))
-
-  unmatched_there : (t : Triple) (ps : List Place) → ArePlacesFor hold fail sh n t ps → ((p : Place) → ¬ IsAllowed hold fail sh n t p) → Contains (unmatched_at t ps) (Unmatched t)
-  unmatched_there t [] are nowhere = is_first (Unmatched t) []
-  unmatched_there t (p ∷ ps) are nowhere = absurd (nowhere p ((are.same p).0 (is_first p ps)))
-
   pub found_whole : (rs : List Reason) → Found rs → (r : Reason) → IsOfTriple r → IsReason hold fail g sh n ts r → Contains rs r
-  found_whole rs x (Forbidden t) of h =
-      first_there _ sh.body x.offers x.before rs x.counted x.is (Forbidden t)
-      (Contains-append_left (flat_map (forbidden_by sh n) lent_outs) (flat_map unmatched_by x.offers) (Forbidden t)
-      (in_flat_map (forbidden_by sh n) lent_outs t (Forbidden t) (into t h.out) (forbidden_there t h.closed h.alone)))
-  found_whole rs x (Unmatched t) of h =
-      let (o, c, both) = beside _ ts x.offers x.are t h.there in
-      first_there _ sh.body x.offers x.before rs x.counted x.is (Unmatched t)
-      (Contains-append_right (flat_map (forbidden_by sh n) lent_outs) (flat_map unmatched_by x.offers) (Unmatched t)
-      (in_flat_map unmatched_by x.offers o (Unmatched t) c
-      (subst (λ u. Contains (unmatched_at u o.places) (Unmatched t)) (sym both.0) (unmatched_there t o.places both.1 h.nowhere))))
-  found_whole rs x (TooFew cs least found) of h = absurd of
-  found_whole rs x (TooMany cs most found) of h = absurd of
-  found_whole rs x (Miscounted low high) of h = absurd of
-  found_whole rs x Undealt of h = absurd of
+  found_whole rs x r of h = first_there _ sh.body x.offers x.before rs x.counted x.is r (single_there x.offers x.are r of h)

@@ -16,3 +16,6 @@ pub mod Taken
 pub mod Final
 pub mod Alike
 pub mod Told
+pub mod Boxed
+pub mod Deciding
+pub mod Hindered

@@ -14,7 +14,7 @@ use Rattle.tally.specs.Symbols.{IsDistinct}
 use Rattle.schema_tree.specs.declared.schema.ExprId.{ExprId}
 use Rattle.schema_tree.specs.declared.schema.Shape.{Shape}
 use Rattle.schema_tree.specs.declared.verdicts.Place.{Place}
-use Rattle.schema_tree.specs.Places.{HasPlaces}
+use Rattle.schema_tree.specs.Places.{HasPlaces, IsShut}
 use Rattle.schema_tree.specs.Relevant.{is_relevant}
 use Rattle.bag_match.specs.Least.{ArePlacesFor}
 use Rattle.nonconformance.specs.declared.offers.Offer.{Offer}
@@ -24,8 +24,9 @@ use Rattle.schema_tree.specs.Loaded.{BodyOk}
 use Rattle.nonconformance.specs.Bounds.{capped, is_at, least_of, most_of}
 use Rattle.nonconformance.specs.Laws.{LeastIsKept, MostIsKept}
 use Rattle.nonconformance.specs.Offers.{AddsCounted, AreOffers, Concludes, IsSaidOf, all_bound, all_serving, counted_by, few_by, forbidden_by, many_by, unmatched_at, unmatched_by}
-use Rattle.nonconformance.specs.Reasons.{IsReason, MayServe, MustServe}
+use Rattle.nonconformance.specs.Reasons.{HasNoMatchingCounts, HasNoMatchingPlaces, IsReason, IsUnmatched, MayServe, MustServe}
 use Rattle.nonconformance.specs.Those.{AreThose}
+use Rattle.nonconformance.proofs.Hindered.{by_places, no_numbers, numbers_match}
 use Rattle.nonconformance.proofs.Items.{passed}
 use Rattle.nonconformance.proofs.Serving.{at_one, one_at}
 
@@ -214,24 +215,35 @@ module _ (hold fail : TermId → Option ExprId → Type 0) (sh : Shape) (n : Ter
             (all_flat (counted_by c offers) sets (λ cs of. counted_are c is ok.0 cs offers are least most few)))
 
     pub concluded_are :
-        BoxHoldsCopies → ¬ HasPlaces hold fail g sh n ts → (offers : List Offer) → AreOffers hold fail sh n ts offers → (old new : List Reason) →
+        BoxHoldsCopies → ¬ HasPlaces hold fail g sh n ts → BodyOk sh.occs sh.body → (offers : List Offer) → AreOffers hold fail sh n ts offers →
+        (old new : List Reason) → (old ≡ [] → (¬ IsShut g sh n) × ((t : Triple) → ¬ IsUnmatched hold fail g sh n ts t)) →
         Concludes (length sh.occs) sh.body offers old new → Reasons old → Reasons new
-    concluded_are box none offers are (r ∷ rs) new same h = subst Reasons (sym same) h
-    concluded_are box none offers are [] new said h = go sh.body refl said
+    concluded_are box none ok offers are (r ∷ rs) new apart same h = subst Reasons (sym same) h
+    concluded_are box none ok offers are [] new apart said h = go sh.body refl ok said
       where
-        go : (b : Option Plan) → sh.body ≡ b → IsSaidOf (length sh.occs) b offers new → Reasons new
-        go None is same = subst Reasons (sym same) (none, tt)
-        go (Some c) is (low, high, ranges, inl (no_copy, same)) = subst Reasons (sym same) (
+        by : ((low high : List ℕ) → ¬ HasNoMatchingCounts hold fail g sh n ts low high) → HasNoMatchingPlaces hold fail g sh n ts
+        by counted = by_places hold fail g sh n ts none (apart refl).0 (apart refl).1 counted
+
+        go : (b : Option Plan) → sh.body ≡ b → BodyOk sh.occs b → IsSaidOf (length sh.occs) b offers new → Reasons new
+        go None is ok same = subst Reasons (sym same) (by (no_numbers hold fail g sh n ts is), tt)
+        go (Some c) is ok (low, high, ranges, inl (no_copy, same)) = subst Reasons (sym same) (
           record {
             expression = c;
             is = is;
+            low_is = ranges.least.0;
+            high_is = ranges.most.0;
             least = λ i lt. (all_bound (i ∷ []) offers, those_bound (i ∷ []) ts offers are, ranges.least.1 i lt);
             most = λ i lt. (all_serving (i ∷ []) offers, those_serving (i ∷ []) ts offers are, ranges.most.1 i lt);
             none = λ counts under over copies. no_copy (box c (slice_index low) counts (slice_index high) 1 under over copies);
           },
           tt,
         )
-        go (Some c) is (low, high, ranges, inr (has, same)) = subst Reasons (sym same) (none, tt)
+        go (Some c) is ok (low, high, ranges, inr (has, same)) = subst Reasons (sym same) (
+          by (numbers_match hold fail g sh n ts c is ok low high
+              (λ i lt. (all_bound (i ∷ []) offers, those_bound (i ∷ []) ts offers are, ranges.least.1 i lt))
+              (λ i lt. (all_serving (i ∷ []) offers, those_serving (i ∷ []) ts offers are, ranges.most.1 i lt)) has),
+          tt,
+        )
 
 pub some_left : (count : ℕ) (b : Option Plan) (offers : List Offer) (old new : List Reason) → Concludes count b offers old new → 0 < length new
 some_left count b offers (r ∷ rs) new same = subst (λ z. 0 < length z) (sym same) (omega arith)

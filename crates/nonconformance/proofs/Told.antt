@@ -16,7 +16,7 @@ use Rattle.schema_tree.specs.Relevant.{relevant_in_order}
 use Rattle.schema_tree.specs.Sure.{Known}
 use Rattle.nonconformance.specs.declared.offers.Offer.{Offer}
 use Rattle.nonconformance.specs.declared.reason.Reason.{Reason}
-use Rattle.nonconformance.specs.declared.reason.Reason.TheVariants.{Undealt}
+use Rattle.nonconformance.specs.declared.reason.Reason.TheVariants.{NoMatchingPlaces}
 use Rattle.nonconformance.specs.Found.{AreFound}
 use Rattle.nonconformance.specs.Offers.{AreKnownOffers, AreKnownOffersOf, AreOffers}
 use Rattle.nonconformance.specs.Laws.{LeastIsKept, MostIsKept}
@@ -46,7 +46,7 @@ module _ (s : Schema) (terms : List Term) (g : List Triple) (view : Known) (p : 
         subst (λ x. AllByRecursion (IsKnownReasonOf s terms g view p.node x) rs) (sym is)
         (found_sound (MayHold s terms view Possible) (MayFail s terms view Possible) terms g sh p.node least most box body rs found none)
 
-    pub told_forced : IntervalHasCopies → OwnSymbolsDecide → IsForced s terms g view p → ¬ Contains rs Undealt
+    pub told_forced : IntervalHasCopies → OwnSymbolsDecide → IsForced s terms g view p → ¬ Contains rs NoMatchingPlaces
     told_forced interval own forced =
         found_forced (MayHold s terms view Possible) (MayFail s terms view Possible) terms g sh p.node interval own body rs found none
         (subst (λ x. IsForcedOf s terms g view p.node x) is forced)

@@ -44,11 +44,11 @@ MatchOnce c places = AllByRecursion (IsPlaceOf c) places × Copies c (times plac
 abbrev pub TakeAtLeast : Plan → List ℕ → ℕ → Type 0
 TakeAtLeast c constraints least = (places : List Place) → MatchOnce c places → least ≤ served constraints places
 
--- and at most so many
+-- in each match these constraints take at most so many triples together
 abbrev pub TakeAtMost : Plan → List ℕ → ℕ → Type 0
 TakeAtMost c constraints most = (places : List Place) → MatchOnce c places → served constraints places ≤ most
 
--- in some match they take just so many
+-- in some match these constraints take just so many triples together
 abbrev pub MayTakeJust : Plan → List ℕ → ℕ → Type 0
 MayTakeJust c constraints count = (places : List Place) × MatchOnce c places × (served constraints places ≡ count)
 

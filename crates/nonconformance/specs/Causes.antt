@@ -46,14 +46,14 @@ module _ (s : Schema) (terms : List Term) (view : Known) (n : TermId) where
   IsCauseOf (Some (Shape i)) (Lacks j) = (j ≡ i) × PairIs view (pair_of n i) No
   IsCauseOf x cause = ⊥
 
-  -- the same of the expression of a number
+  -- it is a cause of the expression with this number
   abbrev pub IsCause : ExprId → Cause → Type 0
   IsCause e cause = IsCauseOf (entry s e) cause
 
-  -- they are all causes of an expression, and nothing else
+  -- they are the causes of an expression, if it is there, and nothing else
   abbrev pub AreCausesOf : Option Expr → List Cause → Type 0
   AreCausesOf x causes = (cause : Cause) → Contains causes cause ↔ IsCauseOf x cause
 
-  -- the same of the expression of a number
+  -- they are the causes of the expression with this number, and nothing else
   abbrev pub AreCauses : ExprId → List Cause → Type 0
   AreCauses e causes = AreCausesOf (entry s e) causes

@@ -36,7 +36,8 @@ ReasonIsEnough =
     (s : Schema) (terms : List Term) (g : List Triple) (T : List Pair) (p : Pair) (r : Reason) → IsLoaded s →
     IsTrueReason s terms g T p r → ¬ ShapeOk s terms g T p.node p.shape
 
--- so is one by what is known of pairs, for every typing that agrees with it
+-- a reason by what is known of pairs is enough: the pair cannot match by that, and the node does not have the Shape under any typing
+-- that agrees with it
 abbrev pub KnownReasonIsEnough : Type 0
 KnownReasonIsEnough =
     (s : Schema) (terms : List Term) (g : List Triple) (view : Known) (p : Pair) (r : Reason) → IsLoaded s →
@@ -50,10 +51,11 @@ KnownReasonIsTrue =
     ((q : Pair) → Needs s g p q → (Contains T q → PairIs view q Yes) × (¬ Contains T q → PairIs view q No)) →
     IsKnownReason s terms g view p r → IsTrueReason s terms g T p r
 
--- a pair of a Shape of the schema that cannot match by what is known has a reason
+-- a pair of a Shape of the schema that cannot match by what is known has a reason: a forbidden arc, an unmatched triple, numbers of
+-- triples with which nothing matches, or, where none of these is there, that nothing matches wherever each triple has an allowed place
 abbrev pub SomeReason : Type 0
 SomeReason =
-    (s : Schema) (terms : List Term) (g : List Triple) (view : Known) (p : Pair) (sh : Shape) → shape_at s p.shape ≡ Some sh →
+    (s : Schema) (terms : List Term) (g : List Triple) (view : Known) (p : Pair) (sh : Shape) → IsLoaded s → shape_at s p.shape ≡ Some sh →
     ¬ PairCanMatch s terms g view Possible p → (r : Reason) × IsKnownReason s terms g view p r
 
 -- the value of each constraint that fits an unmatched triple is sure to be not satisfied at its other end
@@ -69,7 +71,7 @@ CauseIsEnough =
     (s : Schema) (terms : List Term) (view : Known) (n : TermId) (e : ExprId) (cause : Cause) → IsLoaded s →
     IsCause s terms view n e cause → IsSure s terms view n e No
 
--- and each node that is sure not to satisfy an expression has one
+-- each node that is sure not to satisfy an expression has a cause
 abbrev pub SomeCause : Type 0
 SomeCause =
     (s : Schema) (terms : List Term) (view : Known) (n : TermId) (e : ExprId) (x : Expr) → IsLoaded s → entry s e ≡ Some x →
@@ -87,17 +89,18 @@ NoCannotMatch =
 abbrev pub ReasonsGoBack : Type 0
 ReasonsGoBack =
     (s : Schema) (terms : List Term) (g : List Triple) (f : List ℕ) (pairs : List Pair) (budget : ℕ) (lower : Known) (k : ℕ) →
-    (gone kept : List Pair) → IsRefinedAt s terms g f pairs budget lower k gone kept → ((q : Pair) → Contains lower.no q → level f q.shape < k) →
+    (gone kept : List Pair) → IsLoaded s → IsRefinedAt s terms g f pairs budget lower k gone kept →
+    ((q : Pair) → Contains lower.no q → level f q.shape < k) →
     (r : ℕ) (p : Pair) (sh : Shape) → slice_get gone r ≡ Some p → shape_at s p.shape ≡ Some sh →
     ((x : Reason) × IsKnownReason s terms g (record { yes = lower.yes; no = lower.no ++ take r gone }) p x)
     × ((q : Pair) → PairIs (record { yes = lower.yes; no = lower.no ++ take r gone }) q No →
     (level f q.shape < k) ⊎ ((j : ℕ) × (j < r) × (slice_get gone j ≡ Some q)))
 
--- so of the No pairs of refinement, which stand in the order in which they went, each has a reason by what was known when it went: those
+-- the No pairs of refinement stand in the order in which they went; each has a reason by what was known when it went: the No pairs
 -- before it, and Yes pairs of lower strata
 abbrev pub NoHasReason : Type 0
 NoHasReason =
-    (s : Schema) (terms : List Term) (g : List Triple) (f : List ℕ) (pairs : List Pair) (budget : ℕ) (known : Known) →
+    (s : Schema) (terms : List Term) (g : List Triple) (f : List ℕ) (pairs : List Pair) (budget : ℕ) (known : Known) → IsLoaded s →
     IsRefined s terms g f pairs budget known →
     (j : ℕ) (p : Pair) (sh : Shape) → slice_get known.no j ≡ Some p → shape_at s p.shape ≡ Some sh →
     (yes : List Pair) × ((r : Reason) × IsKnownReason s terms g (record { yes = yes; no = take j known.no }) p r)
@@ -108,7 +111,8 @@ NoHasReason =
 abbrev pub LeastIsKept : Type 0
 LeastIsKept = (c : Plan) (constraints : List ℕ) → IsDistinct c → TakeAtLeast c constraints (least_of constraints c)
 
--- and at most the sum of what they allow
+-- in each match of an expression in which each symbol stands once, some constraints take together at most the sum of what the members
+-- allow
 abbrev pub MostIsKept : Type 0
 MostIsKept = (c : Plan) (constraints : List ℕ) (most : ℕ) → IsDistinct c → most_of constraints c ≡ Some most → TakeAtMost c constraints most
 
@@ -116,13 +120,13 @@ MostIsKept = (c : Plan) (constraints : List ℕ) (most : ℕ) → IsDistinct c �
 abbrev pub LeastIsTaken : Type 0
 LeastIsTaken = (c : Plan) (constraints : List ℕ) → IsDistinct c → IsSound c → HasChoices c → MayTakeJust c constraints (least_of constraints c)
 
--- some match takes just the most
+-- some match takes just the most, if there is one, where no minimum is above its bound and each OneOf has a member
 abbrev pub MostIsTaken : Type 0
 MostIsTaken =
     (c : Plan) (constraints : List ℕ) (most : ℕ) → IsDistinct c → IsSound c → HasChoices c → most_of constraints c ≡ Some most →
     MayTakeJust c constraints most
 
--- and where there is no most, some match takes as many as one likes, or more
+-- where there is no most, no minimum is above its bound and each OneOf has a member, some match takes as many as one likes, or more
 abbrev pub ManyAreTaken : Type 0
 ManyAreTaken =
     (c : Plan) (constraints : List ℕ) → IsDistinct c → IsSound c → HasChoices c → most_of constraints c ≡ None →

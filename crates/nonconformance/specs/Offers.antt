@@ -20,7 +20,7 @@ use Rattle.schema_tree.specs.Sure.{Known}
 use Rattle.bag_match.specs.Least.{ArePlacesFor}
 use Rattle.nonconformance.specs.declared.offers.Offer.{Offer}
 use Rattle.nonconformance.specs.declared.reason.Reason.{Reason}
-use Rattle.nonconformance.specs.declared.reason.Reason.TheVariants.{Forbidden, Unmatched, TooFew, TooMany, Miscounted, Undealt}
+use Rattle.nonconformance.specs.declared.reason.Reason.TheVariants.{Forbidden, Unmatched, TooFew, TooMany, NoMatchingCounts, NoMatchingPlaces}
 use Rattle.nonconformance.specs.Bounds.{capped, is_at, least_of, most_of}
 
 -- the offers are those of the triples, with the places that are allowed for each
@@ -104,11 +104,11 @@ pub record AreRanges (count : ℕ) (offers : List Offer) (low high : List ℕ) :
 
 -- what is said where there is no other reason: that no numbers within the ranges match, or that there is no way
 abbrev pub IsSaidOf : ℕ → Option Plan → List Offer → List Reason → Type 0
-IsSaidOf count None offers new = new ≡ Undealt ∷ []
+IsSaidOf count None offers new = new ≡ NoMatchingPlaces ∷ []
 IsSaidOf count (Some c) offers new =
     (low high : List ℕ) × AreRanges count offers low high
-    × (((¬ HasSpan (span c (slice_index low) (slice_index high)) 1) × (new ≡ Miscounted low high ∷ []))
-    ⊎ (HasSpan (span c (slice_index low) (slice_index high)) 1 × (new ≡ Undealt ∷ [])))
+    × (((¬ HasSpan (span c (slice_index low) (slice_index high)) 1) × (new ≡ NoMatchingCounts low high ∷ []))
+    ⊎ (HasSpan (span c (slice_index low) (slice_index high)) 1 × (new ≡ NoMatchingPlaces ∷ [])))
 
 -- nothing more is said where there is another reason
 abbrev pub Concludes : ℕ → Option Plan → List Offer → List Reason → List Reason → Type 0

@@ -17,12 +17,12 @@ use Rattle.schema_tree.specs.declared.verdicts.Place.{Place}
 use Rattle.schema_tree.specs.declared.verdicts.Place.TheVariants.{At, Rest}
 use Rattle.schema_tree.specs.Entries.{shape_at}
 use Rattle.schema_tree.specs.Matches.{SatValue}
-use Rattle.schema_tree.specs.Places.{HasPlaces, IsAllowed, MayFail, MayHold}
+use Rattle.schema_tree.specs.Places.{AreAllowed, HaveCounts, IsAllowed, MayFail, MayHold, times}
 use Rattle.schema_tree.specs.Relevant.{is_relevant, relevant_in_order}
 use Rattle.schema_tree.specs.Satisfies.{Sat}
 use Rattle.schema_tree.specs.Sure.{Known}
 use Rattle.nonconformance.specs.declared.reason.Reason.{Reason}
-use Rattle.nonconformance.specs.declared.reason.Reason.TheVariants.{Forbidden, Unmatched, TooFew, TooMany, Miscounted, Undealt}
+use Rattle.nonconformance.specs.declared.reason.Reason.TheVariants.{Forbidden, Unmatched, TooFew, TooMany, NoMatchingCounts, NoMatchingPlaces}
 use Rattle.nonconformance.specs.Bounds.{IsFlat, TakeAtLeast, TakeAtMost}
 use Rattle.nonconformance.specs.Those.{AreThose}
 
@@ -42,7 +42,7 @@ module _ (hold fail : TermId → Option ExprId → Type 0) (sh : Shape) (n : Ter
   abbrev pub MayServe : List ℕ → Triple → Type 0
   MayServe constraints t = (p : Place) × IsOneOf constraints p × IsAllowed hold fail sh n t p
 
-  -- one of them may, no other constraint may, and it may not be in the remainder
+  -- one of the constraints may take the triple, no other constraint may, and it may not be in the remainder
   abbrev pub MustServe : List ℕ → Triple → Type 0
   MustServe constraints t = MayServe constraints t × ((p : Place) → IsAllowed hold fail sh n t p → IsOneOf constraints p)
 
@@ -58,7 +58,8 @@ module _ (hold fail : TermId → Option ExprId → Type 0) (g : List Triple) (sh
     pub out : Contains (outs g n) t
     pub alone : is_relevant sh.occs n t ≡ false
 
-  -- no constraint takes the triple, and it may not be in the remainder (section 5.5.2, `matchables` and `extra`)
+  -- no constraint takes the triple, and it may not be in the remainder (section 5.5.2, `matchables` and `extra`); in a closed Shape
+  -- that is also an arc from the node to itself which only an inverse constraint fits and does not take
   pub record IsUnmatched (t : Triple) : Type 0 where
     pub there : Contains ts t
     pub nowhere : (p : Place) → ¬ IsAllowed hold fail sh n t p
@@ -72,7 +73,7 @@ module _ (hold fail : TermId → Option ExprId → Type 0) (g : List Triple) (sh
     pub those : AreThose (MayServe hold fail sh n constraints) ts found
     pub short : length found < least
 
-  -- in each match they take at most so many together, and more can be taken by them alone (section 5.5.2, `matches` with the
+  -- in each match the constraints take at most so many triples together, and more can be taken by them alone (section 5.5.2, `matches` with the
   -- maximum of a cardinality, and with one member of a OneOf)
   pub record IsTooMany (constraints : List ℕ) (most : ℕ) (found : List Triple) : Type 0 where
     pub expression : Plan
@@ -81,11 +82,13 @@ module _ (hold fail : TermId → Option ExprId → Type 0) (g : List Triple) (sh
     pub those : AreThose (MustServe hold fail sh n constraints) ts found
     pub over : most < length found
 
-  -- low and high have, for each constraint, how many triples it alone may take, and how many it may take; with no numbers between
-  -- these the expression matches
-  pub record IsMiscounted (low high : List ℕ) : Type 0 where
+  -- low and high have one number for each constraint: how many triples it alone may take, and how many it may take; with no numbers
+  -- between these the expression matches
+  pub record HasNoMatchingCounts (low high : List ℕ) : Type 0 where
     pub expression : Plan
     pub is : sh.body ≡ Some expression
+    pub low_is : length low ≡ length sh.occs
+    pub high_is : length high ≡ length sh.occs
     pub least : (i : ℕ) → i < length sh.occs →
         (found : List Triple) × AreThose (MustServe hold fail sh n (i ∷ [])) ts found × (slice_index low i ≡ length found)
     pub most : (i : ℕ) → i < length sh.occs →
@@ -93,14 +96,22 @@ module _ (hold fail : TermId → Option ExprId → Type 0) (g : List Triple) (sh
     pub none : (counts : ℕ → ℕ) →
         IsUnder expression (slice_index low) counts → IsUnder expression counts (slice_index high) → ¬ Copies expression counts 1
 
+  -- no arc out is forbidden, no triple is unmatched, and numbers within the limits match; but wherever each triple has an allowed
+  -- place, the expression does not match
+  pub record HasNoMatchingPlaces : Type 0 where
+    pub permitted : (t : Triple) → ¬ IsForbidden t
+    pub matched : (t : Triple) → ¬ IsUnmatched t
+    pub counted : (low high : List ℕ) → ¬ HasNoMatchingCounts low high
+    pub none : (places : List Place) → AreAllowed hold fail sh n ts places → ¬ HaveCounts sh.body (times places)
+
   -- the reason is one why the node does not have the Shape
   abbrev pub IsReason : Reason → Type 0
   IsReason (Forbidden t) = IsForbidden t
   IsReason (Unmatched t) = IsUnmatched t
   IsReason (TooFew constraints least found) = IsTooFew constraints least found
   IsReason (TooMany constraints most found) = IsTooMany constraints most found
-  IsReason (Miscounted low high) = IsMiscounted low high
-  IsReason Undealt = ¬ HasPlaces hold fail g sh n ts
+  IsReason (NoMatchingCounts low high) = HasNoMatchingCounts low high
+  IsReason NoMatchingPlaces = HasNoMatchingPlaces
 
 -- a reason of a node with a Shape, if it is there, where values are those of the typing T
 abbrev pub IsTrueReasonOf : Schema → List Term → List Triple → List Pair → TermId → Option Shape → Reason → Type 0
@@ -111,7 +122,7 @@ IsTrueReasonOf s terms g T n (Some sh) r =
 abbrev pub IsTrueReason : Schema → List Term → List Triple → List Pair → Pair → Reason → Type 0
 IsTrueReason s terms g T p r = IsTrueReasonOf s terms g T p.node (shape_at s p.shape) r
 
--- the same by what is known of pairs, where Unknown is possible: values count as not satisfied only where that is sure
+-- a reason of a node with a Shape, if it is there, by what is known of pairs: a value that is Unknown may be satisfied, and may not be
 abbrev pub IsKnownReasonOf : Schema → List Term → List Triple → Known → TermId → Option Shape → Reason → Type 0
 IsKnownReasonOf s terms g view n None r = ⊥
 IsKnownReasonOf s terms g view n (Some sh) r =
@@ -129,7 +140,7 @@ IsForcedOf s terms g view n (Some sh) =
 abbrev pub IsForced : Schema → List Term → List Triple → Known → Pair → Type 0
 IsForced s terms g view p = IsForcedOf s terms g view p.node (shape_at s p.shape)
 
--- the expression of the Shape is flat too
+-- by what is known no relevant triple of the node has more than one place, and the expression of the Shape is flat
 abbrev pub IsPlainCaseOf : Schema → List Term → List Triple → Known → TermId → Option Shape → Type 0
 IsPlainCaseOf s terms g view n None = ⊥
 IsPlainCaseOf s terms g view n (Some sh) = HasFlatBody sh.body × IsForcedOf s terms g view n (Some sh)
@@ -139,8 +150,8 @@ IsPlainCase s terms g view p = IsPlainCaseOf s terms g view p.node (shape_at s p
 
 -- the reason names a triple, or triple constraints
 abbrev pub IsNamed : Reason → Type 0
-IsNamed (Miscounted low high) = ⊥
-IsNamed Undealt = ⊥
+IsNamed (NoMatchingCounts low high) = ⊥
+IsNamed NoMatchingPlaces = ⊥
 IsNamed r = ⊤
 
 -- the reason is about one triple alone

@@ -46,7 +46,7 @@ pub fn least_of(e: &Count, constraints: &[u16]) -> u64
     }
 }
 
-/// The sum of those of the members.
+/// The sum of the least numbers of the members.
 #[cycle(least)]
 fn least_of_each(members: &[Count], constraints: &[u16]) -> u64
     ensures { result ≡ min (least_each constraints.now (plans_of members.now)) (2 ^ 64 - 1) }
@@ -58,7 +58,7 @@ fn least_of_each(members: &[Count], constraints: &[u16]) -> u64
     sum
 }
 
-/// The least of those of the members, and 0 where there is none.
+/// The least of the least numbers of the members, and 0 where there is no member.
 #[cycle(least)]
 fn least_of_one(members: &[Count], constraints: &[u16]) -> u64
     ensures { result ≡ min (least_one constraints.now (plans_of members.now)) (2 ^ 64 - 1) }
@@ -94,7 +94,7 @@ pub fn most_of(e: &Count, constraints: &[u16]) -> Option<u64>
     }
 }
 
-/// The sum of those of the members.
+/// The sum of the greatest numbers of the members, if each has one.
 #[cycle(most)]
 fn most_of_each(members: &[Count], constraints: &[u16]) -> Option<u64>
     ensures { result ≡ capped (most_each constraints.now (plans_of members.now)) }
@@ -106,7 +106,7 @@ fn most_of_each(members: &[Count], constraints: &[u16]) -> Option<u64>
     Some(sum)
 }
 
-/// The greatest of those of the members, and 0 where there is none.
+/// The greatest of the greatest numbers of the members, if each has one, and 0 where there is no member.
 #[cycle(most)]
 fn most_of_one(members: &[Count], constraints: &[u16]) -> Option<u64>
     ensures { result ≡ capped (most_one constraints.now (plans_of members.now)) }
@@ -118,8 +118,8 @@ fn most_of_one(members: &[Count], constraints: &[u16]) -> Option<u64>
     Some(most)
 }
 
-/// So many, if there is an end, as often as the bound allows: none where it allows no repetition, and without a bound only
-/// none has an end.
+/// A greatest number, if there is one, times the maximum of a cardinality: 0 where the maximum is 0, and none where there is
+/// no maximum and the number is not 0.
 fn repeated(bound: Bound, most: Option<u64>) -> Option<u64>
     ensures { result ≡ capped (times_end bound most) }
 {
@@ -129,7 +129,7 @@ fn repeated(bound: Bound, most: Option<u64>) -> Option<u64>
     }
 }
 
-/// So many, if there is an end, so often.
+/// A greatest number, if there is one, times a maximum: 0 where the maximum is 0.
 fn repeated_up_to(max: u32, most: Option<u64>) -> Option<u64>
     ensures { result ≡ capped (times_end (Upto max) most) }
 {

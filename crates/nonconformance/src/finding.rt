@@ -13,7 +13,7 @@ ghost use Rattle.schema_tree.specs.declared.verdicts.Lean.TheVariants.{Possible}
 ghost use Rattle.nonconformance.specs.Found.{AreFound};
 ghost use Rattle.nonconformance.specs.Offers.{AddsCounted, AreKnownOffers, Concludes, IsSaidOf, counted_by, few_by, forbidden_by, many_by, unmatched_by};
 ghost use Rattle.nonconformance.specs.Reasons.{IsForced, IsKnownReason, IsNamed, IsOfTriple, IsPlainCase};
-ghost use Rattle.nonconformance.specs.declared.reason.Reason.TheVariants.{Undealt};
+ghost use Rattle.nonconformance.specs.declared.reason.Reason.TheVariants.{NoMatchingPlaces};
 ghost use Rattle.nonconformance.specs.declared.reason.Reason.{Reason as Told};
 
 use crate::bounds::{least_of, most_of};
@@ -204,18 +204,18 @@ fn push_said(
     let low = bound_counts(alloc, offers, count)?;
     let high = serving_counts(alloc, offers, count)?;
     if may_match(body, low.as_slice(), high.as_slice()) {
-        reasons.push(Reason::Undealt)?;
+        reasons.push(Reason::NoMatchingPlaces)?;
         return Ok(());
     }
-    reasons.push(Reason::Miscounted(Items::of(low), Items::of(high)))?;
+    reasons.push(Reason::NoMatchingCounts(Items::of(low), Items::of(high)))?;
     Ok(())
 }
 
 /// Puts behind the reasons that there is no way.
 fn push_no_way(reasons: &mut Vec<Reason>) -> Result<(), AllocError>
-    ensures { OnOk result (reasons.new.items ≡ reasons.old.items ++ Undealt ∷ []) }
+    ensures { OnOk result (reasons.new.items ≡ reasons.old.items ++ NoMatchingPlaces ∷ []) }
 {
-    reasons.push(Reason::Undealt)?;
+    reasons.push(Reason::NoMatchingPlaces)?;
     Ok(())
 }
 
@@ -299,7 +299,7 @@ pub fn reasons_of<V: View>(
 
     // That there is no way is said only where some triple has a choice of places. Where none has and the expression is flat,
     // each reason names a triple or triple constraints.
-    ensures forced { IsForced schema.now terms.now graph.now.triples (V.known view.now) pair → IfOk result (λ v. ¬ Contains v.items Undealt) }
+    ensures forced { IsForced schema.now terms.now graph.now.triples (V.known view.now) pair → IfOk result (λ v. ¬ Contains v.items NoMatchingPlaces) }
     ensures named { IsPlainCase schema.now terms.now graph.now.triples (V.known view.now) pair → IfOk result (λ v. AllByRecursion IsNamed v.items) }
 {
     // The laws of the numbers of triples.

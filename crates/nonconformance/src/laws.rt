@@ -24,8 +24,9 @@ pub fn reasons_are_true()
     nodes_are_decided();
 }
 
-/// Claims that each pair which cannot match has a reason, and that a pair which refinement finds to be not satisfied cannot
-/// match by all that refinement finds.
+/// Claims that each pair which cannot match has a reason, that the value of each triple constraint which fits an unmatched
+/// triple is sure to be not satisfied, and that a pair which refinement finds to be not satisfied cannot match by all that
+/// refinement finds.
 pub fn reasons_are_whole()
     ensures some { SomeReason }
     ensures values { UnmatchedHasCauses }
@@ -39,7 +40,9 @@ pub fn reasons_are_whole()
 pub fn reasons_go_back()
     ensures stratum { ReasonsGoBack }
     ensures refined { NoHasReason }
-{}
+{
+    verdict_is_one();
+}
 
 /// Claims that a node is sure not to satisfy an expression exactly where it has a cause (ShEx 2.1, sections 5.3 and 5.4).
 pub fn causes_are_exact()
