@@ -1,15 +1,16 @@
 -- What is found of a node with a Shape are reasons.
-use Rattle.std.proofs.Common.{◌≡◌, ℕ, ◌^◌, ◌<◌, ◌≤◌, refl, arith, sym, subst, ap, ◌∙◌, length, List, [], ◌∷◌, ◌++◌, Bool, true, false, true≢false, cond, not}
+use Rattle.std.proofs.Common.{◌≡◌, ℕ, ◌^◌, ◌<◌, ◌≤◌, refl, arith, inl, inr, sym, subst, ap, ◌∙◌, ◌-◌, min, length, List, [], ◌∷◌, ◌++◌, Bool, true, false, true≢false, cond, not}
+use Rattle.std.proofs.lemmas.Bool.{ltb-false}
 use Rattle.std.proofs.lemmas.List.Sorted.{Contains-permutation, IsPermutation-sym}
-use Rattle.std.specs.Prelude.{Contains, Option, ◌&&◌, Some, None}
+use Rattle.std.specs.Prelude.{Contains, Option, ◌&&◌, Some, None, nat_lt}
 use Rattle.std.specs.List.{AllByRecursion, flat_map}
 use Rattle.std.proofs.lemmas.List.Elements.{Contains-append_left, Contains-append_right}
 use Rattle.lists.proofs.Beside.{beside, same_length}
-use Rattle.lists.proofs.Members.{in_flat_map, is_first, not_in_none}
+use Rattle.lists.proofs.Members.{in_flat_map, in_one, is_first, not_in_none}
 use Rattle.bag_match.specs.Least.{ArePlacesFor}
 use Rattle.schema_tree.specs.declared.verdicts.Place.{Place}
 use Rattle.lists.proofs.Ordered.{sorted_same}
-use Rattle.lists.proofs.Quantifiers.{all_append}
+use Rattle.lists.proofs.Quantifiers.{all_append, all_at}
 use Rattle.lists.specs.Sorting.{sorted_by}
 use Rattle.rdf_terms.specs.declared.terms.Term.{Term}
 use Rattle.rdf_terms.specs.declared.terms.TermId.{TermId}
@@ -27,12 +28,15 @@ use Rattle.bag_match.proofs.Neighbours.{relevant_few}
 use Rattle.nonconformance.specs.declared.offers.Offer.{Offer}
 use Rattle.nonconformance.specs.declared.reason.Reason.{Reason}
 use Rattle.nonconformance.specs.declared.reason.Reason.TheVariants.{Forbidden, Unmatched, TooFew, TooMany, NoMatchingCounts, NoMatchingPlaces}
+use Rattle.nonconformance.specs.Bounds.{capped, least_of, most_of}
 use Rattle.nonconformance.specs.Laws.{LeastIsKept, MostIsKept}
-use Rattle.nonconformance.specs.Offers.{AddsCounted, AreOffers, Concludes, forbidden_by, unmatched_at, unmatched_by}
+use Rattle.nonconformance.specs.Offers.{AddsCounted, AreOffers, Concludes, IsSaidOf, all_bound, all_serving, counted_by, few_by, forbidden_by, many_by, unmatched_at, unmatched_by}
 use Rattle.nonconformance.specs.Found.{AreFound, single_reasons}
-use Rattle.nonconformance.specs.Reasons.{HasFlatBody, HaveNoChoice, IsNamed, IsOfTriple, IsReason, IsUnmatched}
-use Rattle.nonconformance.proofs.Naming.{left_none, named_before, never_empty, never_without_places, not_shut, old_none}
-use Rattle.nonconformance.proofs.Offering.{all_counted, all_flat, all_unmatched, concluded_are, forbidden_are}
+use Rattle.nonconformance.specs.Reasons.{CountsFor, HasFlatBody, HaveNoChoice, IsNamed, IsOfTriple, IsReason, IsUnmatched, MayServe, MustServe}
+use Rattle.nonconformance.specs.Those.{AreThose}
+use Rattle.nonconformance.proofs.Items.{those_one}
+use Rattle.nonconformance.proofs.Naming.{counted_named, forbidden_named, left_none, named_before, never_empty, never_without_places, not_shut, old_none, unmatched_named}
+use Rattle.nonconformance.proofs.Offering.{all_counted, all_flat, all_unmatched, concluded_are, forbidden_are, those_bound, those_serving}
 
 module _ (hold fail : TermId → Option ExprId → Type 0) (terms : List Term) (g : List Triple) (sh : Shape) (n : TermId) where
   abbrev ts : List Triple
@@ -161,3 +165,78 @@ module _ (hold fail : TermId → Option ExprId → Type 0) (terms : List Term) (
 
   pub found_whole : (rs : List Reason) → Found rs → (r : Reason) → IsOfTriple r → IsReason hold fail g sh n ts r → Contains rs r
   found_whole rs x r of h = first_there _ sh.body x.offers x.before rs x.counted x.is r (single_there x.offers x.are r of h)
+
+  -- what is found ahead of a conclusion is among all
+  at_last : (before rs : List Reason) (offers : List Offer) → Concludes (length sh.occs) sh.body offers before rs → (r : Reason) → Contains before r → Contains rs r
+  at_last [] rs offers said r d = absurd (not_in_none r d)
+  at_last (x ∷ xs) rs offers same r d = subst (λ z. Contains z r) (sym same) d
+
+  few_there : (found : List Triple) (cs : List ℕ) (least : ℕ) → length found < least → Contains (few_by found cs least) (TooFew cs least found)
+  few_there found cs least lt = go (nat_lt (length found) least) refl
+    where
+      go : (b : Bool) → nat_lt (length found) least ≡ b → Contains (cond b (TooFew cs least found ∷ []) []) (TooFew cs least found)
+      go true e = is_first (TooFew cs least found) []
+      go false e = absurd (let ge : least ≤ length found = ltb-false (length found) least e in omega arith)
+
+  many_there : (found : List Triple) (cs : List ℕ) (x : Option ℕ) (most : ℕ) → x ≡ Some most → most < length found → Contains (many_by found cs x) (TooMany cs most found)
+  many_there found cs x most is lt = subst (λ z. Contains (many_by found cs z) (TooMany cs most found)) (sym is) (go (nat_lt most (length found)) refl)
+    where
+      go : (b : Bool) → nat_lt most (length found) ≡ b → Contains (cond b (TooMany cs most found ∷ []) []) (TooMany cs most found)
+      go true e = is_first (TooMany cs most found) []
+      go false e = absurd (let ge : length found ≤ most = ltb-false most (length found) e in omega arith)
+
+  -- what is wrong with the number of triples for some constraints is all that is
+  counted_there :
+      (offers : List Offer) → AreOffers hold fail sh n ts offers → (c : Plan) (cs : List ℕ) (r : Reason) → CountsFor cs c r → IsReason hold fail g sh n ts r →
+      Contains (counted_by c offers cs) r
+  counted_there offers are c cs (TooFew these least found) (of, is) h =
+      let same : found ≡ all_serving cs offers =
+      those_one (MayServe hold fail sh n cs) ts found (all_serving cs offers) (subst (λ z. AreThose (MayServe hold fail sh n z) ts found) of h.those) (those_serving hold fail sh n cs ts offers are) in
+      Contains-append_left (few_by (all_serving cs offers) cs (min (least_of cs c) (2 ^ 64 - 1))) (many_by (all_bound cs offers) cs (capped (most_of cs c))) (TooFew these least found)
+      (subst (λ z. Contains (few_by (all_serving cs offers) cs (min (least_of cs c) (2 ^ 64 - 1))) (TooFew z least found)) (sym of)
+      (subst (λ k. Contains (few_by (all_serving cs offers) cs k) (TooFew cs least found)) is
+      (subst (λ z. Contains (few_by z cs least) (TooFew cs least found)) same (few_there found cs least h.short))))
+  counted_there offers are c cs (TooMany these most found) (of, is) h =
+      let same : found ≡ all_bound cs offers =
+      those_one (MustServe hold fail sh n cs) ts found (all_bound cs offers) (subst (λ z. AreThose (MustServe hold fail sh n z) ts found) of h.those) (those_bound hold fail sh n cs ts offers are) in
+      Contains-append_right (few_by (all_serving cs offers) cs (min (least_of cs c) (2 ^ 64 - 1))) (many_by (all_bound cs offers) cs (capped (most_of cs c))) (TooMany these most found)
+      (subst (λ z. Contains (many_by (all_bound cs offers) cs (capped (most_of cs c))) (TooMany z most found)) (sym of)
+      (subst (λ z. Contains (many_by z cs (capped (most_of cs c))) (TooMany cs most found)) same (many_there found cs (capped (most_of cs c)) most is h.over)))
+  counted_there offers are c cs (Forbidden t) of h = absurd of
+  counted_there offers are c cs (Unmatched t) of h = absurd of
+  counted_there offers are c cs (NoMatchingCounts low high) of h = absurd of
+  counted_there offers are c cs NoMatchingPlaces of h = absurd of
+
+  pub found_counted :
+      (rs : List Reason) → Found rs → (c : Plan) → sh.body ≡ Some c → (i : ℕ) → i < length sh.occs → (r : Reason) → CountsFor (i ∷ []) c r →
+      IsReason hold fail g sh n ts r → Contains rs r
+  found_counted rs x c is i lt r of h =
+      at_last x.before rs x.offers x.is r (by (subst (λ b. AddsCounted (length sh.occs) b x.offers (single_reasons hold fail terms g sh n x.offers) x.before) is x.counted))
+    where
+      by : AddsCounted (length sh.occs) (Some c) x.offers (single_reasons hold fail terms g sh n x.offers) x.before → Contains x.before r
+      by (sets, singles, same) =
+          subst (λ z. Contains z r) (sym same)
+          (Contains-append_right (single_reasons hold fail terms g sh n x.offers) (flat_map (counted_by c x.offers) sets) r
+          (in_flat_map (counted_by c x.offers) sets (i ∷ []) r (singles i lt) (counted_there x.offers x.are c (i ∷ []) r of h)))
+
+  -- a reason that names nothing stands alone
+  pub found_alone : (rs : List Reason) → Found rs → (r : Reason) → ¬ IsNamed r → Contains rs r → rs ≡ r ∷ []
+  found_alone rs x r unnamed there = go x.before refl
+    where
+      sole : (y : Reason) → rs ≡ y ∷ [] → rs ≡ r ∷ []
+      sole y same = same ∙ ap (λ z. z ∷ []) (in_one y r (subst (λ z. Contains z r) same there))
+
+      said : (b : Option Plan) → IsSaidOf (length sh.occs) b x.offers rs → rs ≡ r ∷ []
+      said None same = sole NoMatchingPlaces same
+      said (Some c) (low, high, ranges, inl (none, same)) = sole (NoMatchingCounts low high) same
+      said (Some c) (low, high, ranges, inr (has, same)) = sole NoMatchingPlaces same
+
+      named : AllByRecursion IsNamed x.before
+      named = counted_named (length sh.occs) sh.body x.offers (single_reasons hold fail terms g sh n x.offers) x.before x.counted
+          (all_append IsNamed (flat_map (forbidden_by sh n) lent_outs) (flat_map unmatched_by x.offers) (forbidden_named sh n lent_outs) (unmatched_named x.offers))
+
+      go : (before : List Reason) → x.before ≡ before → rs ≡ r ∷ []
+      go [] e = said sh.body (subst (λ z. Concludes (length sh.occs) sh.body x.offers z rs) e x.is)
+      go (y ∷ before) e =
+          let same : rs ≡ y ∷ before = subst (λ z. Concludes (length sh.occs) sh.body x.offers z rs) e x.is in
+          absurd (unnamed (all_at IsNamed rs r (subst (λ z. AllByRecursion IsNamed z) (sym same) (subst (λ z. AllByRecursion IsNamed z) e named)) there))

@@ -17,7 +17,7 @@ use Rattle.schema_tree.specs.Relevant.{is_relevant}
 use Rattle.nonconformance.specs.Reasons.{HasNoMatchingCounts, HasNoMatchingPlaces, IsForbidden, IsUnmatched, MayServe, MustServe}
 use Rattle.nonconformance.specs.Those.{AreThose}
 use Rattle.nonconformance.proofs.Boxed.{span_counts}
-use Rattle.nonconformance.proofs.Items.{those_same_number}
+use Rattle.nonconformance.proofs.Items.{those_one}
 
 module _ (hold fail : TermId → Option ExprId → Type 0) (g : List Triple) (sh : Shape) (n : TermId) (ts : List Triple) where
   pub shut_by : (t : Triple) → IsForbidden hold fail g sh n ts t → IsShut g sh n
@@ -60,8 +60,8 @@ module _ (hold fail : TermId → Option ExprId → Type 0) (g : List Triple) (sh
           (r.none counts)
           (λ i e. let (found, are, same) = least i (ok.3 i e) in let (others, they, others_same) = r.least i (ok.3 i e) in
           chain (slice_index low i) (slice_index these i) (counts i) (length found) same
-          (others_same ∙ those_same_number (MustServe hold fail sh n (i ∷ [])) ts others found they are) (from i e))
+          (others_same ∙ ap (λ z. length z) (those_one (MustServe hold fail sh n (i ∷ [])) ts others found they are)) (from i e))
           (λ i e. let (found, are, same) = most i (ok.3 i e) in let (others, they, others_same) = r.most i (ok.3 i e) in
           chain_up (slice_index high i) (slice_index those i) (counts i) (length found) same
-          (others_same ∙ those_same_number (MayServe hold fail sh n (i ∷ [])) ts others found they are) (to i e))
+          (others_same ∙ ap (λ z. length z) (those_one (MayServe hold fail sh n (i ∷ [])) ts others found they are)) (to i e))
           copies

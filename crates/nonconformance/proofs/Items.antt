@@ -1,5 +1,5 @@
 -- Those items of a list that have a property.
-use Rattle.std.proofs.Common.{◌≡◌, ◌∙◌, suc, ap, inl, inr, refl, sym, subst, length, List, [], ◌∷◌, ◌++◌}
+use Rattle.std.proofs.Common.{◌≡◌, ◌∙◌, ap, inl, inr, refl, sym, subst, List, [], ◌∷◌, ◌++◌}
 use Rattle.std.specs.Prelude.{◌↔◌, Contains}
 use Rattle.lists.proofs.Decided.{Decided}
 use Rattle.lists.proofs.Members.{in_rest, is_first, is_later, not_in_none}
@@ -62,18 +62,19 @@ those_alike P Q (x ∷ xs) (y ∷ found) same (inl (is, has, those)) =
 those_alike P Q (x ∷ xs) (y ∷ found) same (inr (none, those)) =
     inr ((λ q. none ((same x (is_first x xs)).1 q)), those_alike P Q xs (y ∷ found) (λ z c. same z (is_later x xs z c)) those)
 
--- lists of those items that have a property are equally long
-pub those_same_number : {X : Type 0} (P : X → Type 0) (xs these found : List X) → AreThose P xs these → AreThose P xs found → length these ≡ length found
-those_same_number P [] these found a b = ap (λ z. length z) (a ∙ sym b)
-those_same_number P (x ∷ xs) [] [] a b = refl
-those_same_number P (x ∷ xs) [] (y ∷ found) (none, a) (inl (same, has, b)) = absurd (none has)
-those_same_number P (x ∷ xs) [] (y ∷ found) (none, a) (inr (nor, b)) = those_same_number P xs [] (y ∷ found) a b
-those_same_number P (x ∷ xs) (z ∷ these) [] (inl (same, has, a)) (none, b) = absurd (none has)
-those_same_number P (x ∷ xs) (z ∷ these) [] (inr (nor, a)) (none, b) = those_same_number P xs (z ∷ these) [] a b
-those_same_number P (x ∷ xs) (z ∷ these) (y ∷ found) (inl (same, has, a)) (inl (e, is, b)) = ap suc (those_same_number P xs these found a b)
-those_same_number P (x ∷ xs) (z ∷ these) (y ∷ found) (inl (same, has, a)) (inr (none, b)) = absurd (none has)
-those_same_number P (x ∷ xs) (z ∷ these) (y ∷ found) (inr (none, a)) (inl (e, is, b)) = absurd (none is)
-those_same_number P (x ∷ xs) (z ∷ these) (y ∷ found) (inr (none, a)) (inr (nor, b)) = those_same_number P xs (z ∷ these) (y ∷ found) a b
+-- there is one list of those items that have a property
+pub those_one : {X : Type 0} (P : X → Type 0) (xs these found : List X) → AreThose P xs these → AreThose P xs found → these ≡ found
+those_one P [] these found a b = a ∙ sym b
+those_one P (x ∷ xs) [] [] a b = refl
+those_one P (x ∷ xs) [] (y ∷ found) (none, a) (inl (same, has, b)) = absurd (none has)
+those_one P (x ∷ xs) [] (y ∷ found) (none, a) (inr (nor, b)) = those_one P xs [] (y ∷ found) a b
+those_one P (x ∷ xs) (z ∷ these) [] (inl (same, has, a)) (none, b) = absurd (none has)
+those_one P (x ∷ xs) (z ∷ these) [] (inr (nor, a)) (none, b) = those_one P xs (z ∷ these) [] a b
+those_one P (x ∷ xs) (z ∷ these) (y ∷ found) (inl (same, has, a)) (inl (e, is, b)) =
+    ap (λ w. w ∷ these) (sym same ∙ e) ∙ ap (λ ws. y ∷ ws) (those_one P xs these found a b)
+those_one P (x ∷ xs) (z ∷ these) (y ∷ found) (inl (same, has, a)) (inr (none, b)) = absurd (none has)
+those_one P (x ∷ xs) (z ∷ these) (y ∷ found) (inr (none, a)) (inl (e, is, b)) = absurd (none is)
+those_one P (x ∷ xs) (z ∷ these) (y ∷ found) (inr (none, a)) (inr (nor, b)) = those_one P xs (z ∷ these) (y ∷ found) a b
 
 -- there is a list of those items that have a property, where the property is decided
 pub those_exist : {X : Type 0} (P : X → Type 0) → ((x : X) → Decided (P x)) → (xs : List X) → (found : List X) × AreThose P xs found

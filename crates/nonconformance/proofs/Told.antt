@@ -1,5 +1,5 @@
 -- What is found of a node with a Shape by a view are all that is promised of the reasons of a pair.
-use Rattle.std.proofs.Common.{◌≡◌, ◌<◌, sym, subst, length, List}
+use Rattle.std.proofs.Common.{◌≡◌, ◌∙◌, ◌<◌, sym, subst, length, List, [], ◌∷◌}
 use Rattle.std.specs.Prelude.{Contains, Some}
 use Rattle.std.specs.List.{AllByRecursion}
 use Rattle.rdf_terms.specs.declared.terms.Term.{Term}
@@ -20,8 +20,8 @@ use Rattle.nonconformance.specs.declared.reason.Reason.TheVariants.{NoMatchingPl
 use Rattle.nonconformance.specs.Found.{AreFound}
 use Rattle.nonconformance.specs.Offers.{AreKnownOffers, AreKnownOffersOf, AreOffers}
 use Rattle.nonconformance.specs.Laws.{LeastIsKept, MostIsKept}
-use Rattle.nonconformance.specs.Reasons.{IsForced, IsForcedOf, IsKnownReason, IsKnownReasonOf, IsNamed, IsOfTriple, IsPlainCase, IsPlainCaseOf}
-use Rattle.nonconformance.proofs.Found.{found_forced, found_named, found_sound, found_whole}
+use Rattle.nonconformance.specs.Reasons.{IsForced, IsForcedOf, IsKnownReason, IsKnownReasonOf, IsNamed, IsOfConstraint, IsOfTriple, IsPlainCase, IsPlainCaseOf}
+use Rattle.nonconformance.proofs.Found.{found_alone, found_counted, found_forced, found_named, found_sound, found_whole}
 use Rattle.nonconformance.proofs.Offering.{some_left}
 
 module _ (s : Schema) (terms : List Term) (g : List Triple) (view : Known) (p : Pair) (sh : Shape) (is : shape_at s p.shape ≡ Some sh) (rs : List Reason)
@@ -33,6 +33,16 @@ module _ (s : Schema) (terms : List Term) (g : List Triple) (view : Known) (p : 
   told_whole r of h =
       found_whole (MayHold s terms view Possible) (MayFail s terms view Possible) terms g sh p.node rs found r of
       (subst (λ x. IsKnownReasonOf s terms g view p.node x r) is h)
+
+  pub told_counted : (r : Reason) → IsOfConstraint s p r → IsKnownReason s terms g view p r → Contains rs r
+  told_counted r of h =
+      let same : of.shape ≡ sh = (let both : Some of.shape ≡ Some sh = sym of.there ∙ is in cc) in
+      found_counted (MayHold s terms view Possible) (MayFail s terms view Possible) terms g sh p.node rs found of.expression
+      (subst (λ x. x.body ≡ Some of.expression) same of.is) of.constraint (subst (λ x. of.constraint < length x.occs) same of.within) r of.counts
+      (subst (λ x. IsKnownReasonOf s terms g view p.node x r) is h)
+
+  pub told_alone : (r : Reason) → ¬ IsNamed r → Contains rs r → rs ≡ r ∷ []
+  told_alone r unnamed there = found_alone (MayHold s terms view Possible) (MayFail s terms view Possible) terms g sh p.node rs found r unnamed there
 
   module _ (loaded : IsLoaded s) (fails : ¬ PairCanMatch s terms g view Possible p) where
     body : BodyOk sh.occs sh.body

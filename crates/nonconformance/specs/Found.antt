@@ -19,7 +19,8 @@ module _ (hold fail : TermId → Option ExprId → Type 0) (terms : List Term) (
   abbrev pub single_reasons : List Offer → List Reason
   single_reasons offers = flat_map (forbidden_by sh n) (sorted_by (by_object terms) (outs g n)) ++ flat_map unmatched_by offers
 
-  -- first these, then what is wrong with numbers of triples, and where there is nothing, that there is no way
+  -- first the reasons of single triples, then what is wrong with numbers of triples; where there is nothing, that no numbers within the
+  -- ranges match, or that no places do
   pub record AreFound (reasons : List Reason) : Type 0 where
     pub offers : List Offer
     pub are : AreOffers hold fail sh n (relevant_in_order terms g sh n) offers

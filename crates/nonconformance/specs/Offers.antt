@@ -102,7 +102,7 @@ pub record AreRanges (count : ℕ) (offers : List Offer) (low high : List ℕ) :
   pub least : AreCounts (λ i. length (all_bound (i ∷ []) offers)) count low
   pub most : AreCounts (λ i. length (all_serving (i ∷ []) offers)) count high
 
--- what is said where there is no other reason: that no numbers within the ranges match, or that there is no way
+-- what is said where there is no other reason: that no numbers within the ranges match, or that no places do
 abbrev pub IsSaidOf : ℕ → Option Plan → List Offer → List Reason → Type 0
 IsSaidOf count None offers new = new ≡ NoMatchingPlaces ∷ []
 IsSaidOf count (Some c) offers new =

@@ -1,6 +1,6 @@
 -- Why a node does not have a Shape: reasons of which each alone is enough (ShEx 2.1, section 5.5.2, Validation Definition; own: the
 -- cases).
-use Rattle.std.specs.Prelude.{ℕ, true, false, List, [], ◌∷◌, ◌≡◌, ◌<◌, ⊤, Option, Some, None, Contains, length, slice_index}
+use Rattle.std.specs.Prelude.{ℕ, true, false, List, [], ◌∷◌, ◌-◌, ◌^◌, ◌≡◌, ◌<◌, ⊤, Option, Some, None, Contains, length, min, slice_index}
 use Rattle.rdf_terms.specs.declared.terms.Term.{Term}
 use Rattle.rdf_terms.specs.declared.terms.TermId.{TermId}
 use Rattle.rdf_terms.specs.declared.terms.Triple.{Triple}
@@ -23,7 +23,7 @@ use Rattle.schema_tree.specs.Satisfies.{Sat}
 use Rattle.schema_tree.specs.Sure.{Known}
 use Rattle.nonconformance.specs.declared.reason.Reason.{Reason}
 use Rattle.nonconformance.specs.declared.reason.Reason.TheVariants.{Forbidden, Unmatched, TooFew, TooMany, NoMatchingCounts, NoMatchingPlaces}
-use Rattle.nonconformance.specs.Bounds.{IsFlat, TakeAtLeast, TakeAtMost}
+use Rattle.nonconformance.specs.Bounds.{IsFlat, TakeAtLeast, TakeAtMost, capped, least_of, most_of}
 use Rattle.nonconformance.specs.Those.{AreThose}
 
 -- the place is one of these constraints
@@ -153,6 +153,23 @@ abbrev pub IsNamed : Reason → Type 0
 IsNamed (NoMatchingCounts low high) = ⊥
 IsNamed NoMatchingPlaces = ⊥
 IsNamed r = ⊤
+
+-- the reason says of these triple constraints that there are too few, or too many, triples for them, by the number of the expression as
+-- far as 64 bits hold it
+abbrev pub CountsFor : List ℕ → Plan → Reason → Type 0
+CountsFor constraints c (TooFew these least found) = (these ≡ constraints) × (least ≡ min (least_of constraints c) (2 ^ 64 - 1))
+CountsFor constraints c (TooMany these most found) = (these ≡ constraints) × (capped (most_of constraints c) ≡ Some most)
+CountsFor constraints c r = ⊥
+
+-- the reason says that of one triple constraint alone of the Shape of the pair
+pub record IsOfConstraint (s : Schema) (p : Pair) (r : Reason) : Type 0 where
+  pub shape : Shape
+  pub there : shape_at s p.shape ≡ Some shape
+  pub expression : Plan
+  pub is : shape.body ≡ Some expression
+  pub constraint : ℕ
+  pub within : constraint < length shape.occs
+  pub counts : CountsFor (constraint ∷ []) expression r
 
 -- the reason is about one triple alone
 abbrev pub IsOfTriple : Reason → Type 0

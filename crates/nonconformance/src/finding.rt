@@ -12,7 +12,7 @@ ghost use Rattle.schema_tree.specs.Places.{PairCanMatch};
 ghost use Rattle.schema_tree.specs.declared.verdicts.Lean.TheVariants.{Possible};
 ghost use Rattle.nonconformance.specs.Found.{AreFound};
 ghost use Rattle.nonconformance.specs.Offers.{AddsCounted, AreKnownOffers, Concludes, IsSaidOf, counted_by, few_by, forbidden_by, many_by, unmatched_by};
-ghost use Rattle.nonconformance.specs.Reasons.{IsForced, IsKnownReason, IsNamed, IsOfTriple, IsPlainCase};
+ghost use Rattle.nonconformance.specs.Reasons.{IsForced, IsKnownReason, IsNamed, IsOfConstraint, IsOfTriple, IsPlainCase};
 ghost use Rattle.nonconformance.specs.declared.reason.Reason.TheVariants.{NoMatchingPlaces};
 ghost use Rattle.nonconformance.specs.declared.reason.Reason.{Reason as Told};
 
@@ -185,7 +185,7 @@ fn push_counts(
     }
 }
 
-/// Puts behind the reasons, which are none, that no numbers of triples match, or else that there is no way.
+/// Puts behind the reasons, which are none, that no numbers of triples match, or else that no places match.
 fn push_said(
     alloc: Global,
     body: &Count,
@@ -211,8 +211,8 @@ fn push_said(
     Ok(())
 }
 
-/// Puts behind the reasons that there is no way.
-fn push_no_way(reasons: &mut Vec<Reason>) -> Result<(), AllocError>
+/// Puts behind the reasons that no places match.
+fn push_no_places(reasons: &mut Vec<Reason>) -> Result<(), AllocError>
     ensures { OnOk result (reasons.new.items ≡ reasons.old.items ++ NoMatchingPlaces ∷ []) }
 {
     reasons.push(Reason::NoMatchingPlaces)?;
@@ -242,7 +242,7 @@ fn conclude(
             offers,
             reasons,
         ),
-        None => push_no_way(reasons),
+        None => push_no_places(reasons),
     }
 }
 
@@ -275,7 +275,8 @@ fn found_in<J: Judge>(
 
 /// The reasons why a pair that cannot match by what is known does not (ShEx 2.1, section 5.5.2): each triple that CLOSED
 /// forbids, each that no triple constraint takes and that may not be left over, and the triple constraints that want more
-/// triples, or allow fewer, than there are for them. Only where there is none of these is it said that there is no way.
+/// triples, or allow fewer, than there are for them. Only where there is none of these is it said that no numbers of triples
+/// match, and only where some do, that no places match.
 pub fn reasons_of<V: View>(
     alloc: Global,
     schema: &Schema,
@@ -293,11 +294,18 @@ pub fn reasons_of<V: View>(
     ensures sound { IfOk result (λ v. AllByRecursion (IsKnownReason schema.now terms.now graph.now.triples (V.known view.now) pair) v.items) }
     ensures some { IfOk result (λ v. 0 < length v.items) }
 
-    // Each triple that is forbidden, and each that is not matched, is named.
+    // Each triple that is forbidden, and each that is not matched, is named, and each triple constraint for which alone there
+    // are too few, or too many, triples.
     ensures whole { IfOk result (λ v. (r : Told) → IsOfTriple r →
         IsKnownReason schema.now terms.now graph.now.triples (V.known view.now) pair r → Contains v.items r) }
 
-    // That there is no way is said only where some triple has a choice of places. Where none has and the expression is flat,
+    ensures counted { IfOk result (λ v. (r : Told) → IsOfConstraint schema.now pair r →
+        IsKnownReason schema.now terms.now graph.now.triples (V.known view.now) pair r → Contains v.items r) }
+
+    // A reason that names neither a triple nor triple constraints stands alone.
+    ensures alone { IfOk result (λ v. (r : Told) → ¬ IsNamed r → Contains v.items r → v.items ≡ r ∷ []) }
+
+    // That no places match is said only where some triple has a choice of places. Where none has and the expression is flat,
     // each reason names a triple or triple constraints.
     ensures forced { IsForced schema.now terms.now graph.now.triples (V.known view.now) pair → IfOk result (λ v. ¬ Contains v.items NoMatchingPlaces) }
     ensures named { IsPlainCase schema.now terms.now graph.now.triples (V.known view.now) pair → IfOk result (λ v. AllByRecursion IsNamed v.items) }
