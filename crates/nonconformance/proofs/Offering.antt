@@ -1,7 +1,8 @@
 -- What is found from the places that are allowed for triples are reasons.
-use Rattle.std.proofs.Common.{◌≡◌, ℕ, suc, ◌-◌, ◌^◌, ◌<◌, ◌≤◌, ◌⊎◌, inl, inr, refl, arith, sym, subst, ap, ◌∙◌, Bool, true, false, true≢false, cond, length, List, [], ◌∷◌, ◌++◌, min, not}
+use Rattle.std.proofs.Common.{◌≡◌, ℕ, suc, ◌+◌, ◌-◌, ◌^◌, ◌<◌, ◌≤◌, ◌⊎◌, inl, inr, refl, arith, sym, subst, ap, ◌∙◌, Bool, true, false, true≢false, cond, length, List, [], ◌∷◌, ◌++◌, min, not}
 use Rattle.std.proofs.lemmas.Bool.{ltb-true}
-use Rattle.std.specs.Prelude.{Contains, Option, Some, None, ◌&&◌, ◌||◌, nat_lt, slice_index}
+use Rattle.std.proofs.lemmas.List.Sums.{sum_by-cons}
+use Rattle.std.specs.Prelude.{Contains, Option, Some, None, ◌&&◌, ◌||◌, count_by, nat_lt, slice_index}
 use Rattle.std.specs.List.{AllByRecursion, flat_map, list_all, list_any}
 use Rattle.lists.proofs.Members.{in_rest, is_first, is_later, not_in_none}
 use Rattle.lists.proofs.Quantifiers.{all_append}
@@ -23,7 +24,7 @@ use Rattle.nonconformance.specs.declared.reason.Reason.TheVariants.{Forbidden, T
 use Rattle.schema_tree.specs.Loaded.{BodyOk}
 use Rattle.nonconformance.specs.Bounds.{capped, is_at, least_of, most_of}
 use Rattle.nonconformance.specs.Laws.{LeastIsKept, MostIsKept}
-use Rattle.nonconformance.specs.Offers.{AddsCounted, AreOffers, Concludes, IsSaidOf, all_bound, all_serving, counted_by, few_by, forbidden_by, many_by, unmatched_at, unmatched_by}
+use Rattle.nonconformance.specs.Offers.{AddsCounted, AreOffers, Concludes, IsSaidOf, all_bound, all_serving, counted_by, few_by, forbidden_by, is_bound, is_serving, many_by, unmatched_at, unmatched_by}
 use Rattle.nonconformance.specs.Reasons.{HasNoMatchingCounts, HasNoMatchingPlaces, IsReason, IsUnmatched, MayServe, MustServe}
 use Rattle.nonconformance.specs.Those.{AreThose}
 use Rattle.nonconformance.proofs.Hindered.{by_places, no_numbers, numbers_match}
@@ -85,6 +86,28 @@ bound_short cs (o ∷ os) = go (list_any (is_at cs) o.places && list_all (is_at 
     go : (b : Bool) → length (all_bound cs os) ≤ length os → length (cond b (o.triple ∷ []) [] ++ all_bound cs os) ≤ suc (length os)
     go true h = omega arith
     go false h = omega arith
+
+count_first : (q : Offer → Bool) (o : Offer) (os : List Offer) → count_by q (o ∷ os) ≡ cond (q o) 1 0 + count_by q os
+count_first q o os = sum_by-cons (λ x. cond (q x) 1 0) o os
+
+-- how many triples these are
+pub serving_number : (cs : List ℕ) (offers : List Offer) → length (all_serving cs offers) ≡ count_by (is_serving cs) offers
+serving_number cs [] = refl
+serving_number cs (o ∷ os) = go (is_serving cs o) (serving_number cs os) ∙ sym (count_first (is_serving cs) o os)
+  where
+    go : (b : Bool) → length (all_serving cs os) ≡ count_by (is_serving cs) os →
+        length (cond b (o.triple ∷ []) [] ++ all_serving cs os) ≡ cond b 1 0 + count_by (is_serving cs) os
+    go true h = omega (arith, h)
+    go false h = omega (arith, h)
+
+pub bound_number : (cs : List ℕ) (offers : List Offer) → length (all_bound cs offers) ≡ count_by (is_bound cs) offers
+bound_number cs [] = refl
+bound_number cs (o ∷ os) = go (is_bound cs o) (bound_number cs os) ∙ sym (count_first (is_bound cs) o os)
+  where
+    go : (b : Bool) → length (all_bound cs os) ≡ count_by (is_bound cs) os →
+        length (cond b (o.triple ∷ []) [] ++ all_bound cs os) ≡ cond b 1 0 + count_by (is_bound cs) os
+    go true h = omega (arith, h)
+    go false h = omega (arith, h)
 
 module _ (hold fail : TermId → Option ExprId → Type 0) (sh : Shape) (n : TermId) where
   module _ (cs : List ℕ) (t : Triple) (ps : List Place) (are : ArePlacesFor hold fail sh n t ps) where

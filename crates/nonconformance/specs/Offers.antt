@@ -1,5 +1,5 @@
 -- The places that are allowed for the relevant triples of a node, and what is found from them (own).
-use Rattle.std.specs.Prelude.{ℕ, List, [], ◌∷◌, ◌++◌, ◌-◌, ◌^◌, ◌≡◌, ◌<◌, ◌⊎◌, ◌&&◌, Option, Some, None, Contains}
+use Rattle.std.specs.Prelude.{ℕ, Bool, List, [], ◌∷◌, ◌++◌, ◌-◌, ◌^◌, ◌≡◌, ◌<◌, ◌⊎◌, ◌&&◌, Option, Some, None, Contains}
 use Rattle.std.specs.Prelude.{length, min, nat_lt, not, slice_index, if◌then◌else◌}
 use Rattle.std.specs.List.{AllZip, flat_map, list_all, list_any}
 use Rattle.rdf_terms.specs.declared.terms.Term.{Term}
@@ -37,17 +37,27 @@ AreKnownOffersOf s terms g view n (Some sh) offers =
 abbrev pub AreKnownOffers : Schema → List Term → List Triple → Known → Pair → List Offer → Type 0
 AreKnownOffers s terms g view p offers = AreKnownOffersOf s terms g view p.node (shape_at s p.shape) offers
 
--- the triple, where one of its places is one of the constraints, and where it has some and all are
+-- one of the places is one of the constraints
+abbrev pub is_serving : List ℕ → Offer → Bool
+is_serving constraints o = list_any (is_at constraints) o.places
+
+-- there are places, and all are some of the constraints
+abbrev pub is_bound : List ℕ → Offer → Bool
+is_bound constraints o = list_any (is_at constraints) o.places && list_all (is_at constraints) o.places
+
+-- the triple, where one of its places is one of the constraints
 abbrev pub serving : List ℕ → Offer → List Triple
-serving constraints o = if list_any (is_at constraints) o.places then o.triple ∷ [] else []
+serving constraints o = if is_serving constraints o then o.triple ∷ [] else []
 
+-- the triple, where it has places, and all are some of the constraints
 abbrev pub bound_to : List ℕ → Offer → List Triple
-bound_to constraints o = if list_any (is_at constraints) o.places && list_all (is_at constraints) o.places then o.triple ∷ [] else []
+bound_to constraints o = if is_bound constraints o then o.triple ∷ [] else []
 
--- the triples of all
+-- the triples of the offers of which one place is one of the constraints
 abbrev pub all_serving : List ℕ → List Offer → List Triple
 all_serving constraints offers = flat_map (serving constraints) offers
 
+-- the triples of the offers that have places, of which all are some of the constraints
 abbrev pub all_bound : List ℕ → List Offer → List Triple
 all_bound constraints offers = flat_map (bound_to constraints) offers
 

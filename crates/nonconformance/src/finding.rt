@@ -326,7 +326,7 @@ pub fn reasons_of<V: View>(
 }
 
 /// The relevant triples of a pair, in the order of its neighbourhood, each with the places that what is known allows for it
-/// (ShEx 2.1, section 5.5.2): what can be said where there is no way to give each triple one of them.
+/// (ShEx 2.1, section 5.5.2): what can be said where no places match.
 pub fn offers_of<V: View>(
     alloc: Global,
     schema: &Schema,

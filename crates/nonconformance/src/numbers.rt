@@ -1,34 +1,44 @@
 //! How many triples each triple constraint may take, and whether an expression matches with such numbers.
 
-ghost use Rattle.std.specs.Prelude.{◌≡◌, ◌↔◌, ◌<◌, ◌≤◌, ◌^◌, ◌∷◌, [], IfOk, IsTrue, length, slice_index};
+ghost use Rattle.std.specs.Prelude.{◌≡◌, ◌↔◌, ◌<◌, ◌≤◌, ◌^◌, ◌∷◌, [], IfOk, IsTrue, count_by, length, slice_index};
 ghost use Rattle.tally.specs.Plan.{plan_of};
 ghost use Rattle.tally.specs.Span.{HasSpan, IsSound, span};
 ghost use Rattle.tally.specs.Symbols.{Covers, IsDistinct};
-ghost use Rattle.nonconformance.specs.Offers.{AreCounts, all_bound, all_serving};
+ghost use Rattle.nonconformance.specs.Offers.{AreCounts, all_bound, all_serving, is_bound, is_serving};
 
-use crate::offers::{Offer, bound_to, serving};
+use crate::offers::{Offer, may_serve, must_serve};
 use std::alloc::{AllocError, Global};
 use tally::Count;
 use tally::counting::interval;
 
 /// How many triples the triple constraint alone may take.
-fn bound_count(alloc: Global, offers: &[Offer], number: u16) -> Result<u32, AllocError>
+fn bound_count(offers: &[Offer], number: u16) -> u32
     requires { length offers.now < 2 ^ 31 }
-    ensures { IfOk result (λ k. k ≡ length (all_bound (number ∷ []) offers.now)) }
+    ensures { result ≡ count_by (is_bound (number ∷ [])) offers.now }
 {
     let one = [number];
-    let found = bound_to(alloc, offers, &one)?;
-    Ok(found.len() as u32)
+    let mut count = 0;
+    for offer in offers {
+        if must_serve(offer.places.as_slice(), &one) {
+            count += 1;
+        }
+    }
+    count
 }
 
 /// How many triples the triple constraint may take.
-fn serving_count(alloc: Global, offers: &[Offer], number: u16) -> Result<u32, AllocError>
+fn serving_count(offers: &[Offer], number: u16) -> u32
     requires { length offers.now < 2 ^ 31 }
-    ensures { IfOk result (λ k. k ≡ length (all_serving (number ∷ []) offers.now)) }
+    ensures { result ≡ count_by (is_serving (number ∷ [])) offers.now }
 {
     let one = [number];
-    let found = serving(alloc, offers, &one)?;
-    Ok(found.len() as u32)
+    let mut count = 0;
+    for offer in offers {
+        if may_serve(offer.places.as_slice(), &one) {
+            count += 1;
+        }
+    }
+    count
 }
 
 /// How many triples each of so many triple constraints alone may take.
@@ -39,7 +49,7 @@ pub fn bound_counts(alloc: Global, offers: &[Offer], count: usize) -> Result<Vec
 {
     let mut numbers = Vec::new(alloc);
     for i in 0..count {
-        numbers.push(bound_count(alloc, offers, i as u16)?)?;
+        numbers.push(bound_count(offers, i as u16))?;
     }
     Ok(numbers)
 }
@@ -52,7 +62,7 @@ pub fn serving_counts(alloc: Global, offers: &[Offer], count: usize) -> Result<V
 {
     let mut numbers = Vec::new(alloc);
     for i in 0..count {
-        numbers.push(serving_count(alloc, offers, i as u16)?)?;
+        numbers.push(serving_count(offers, i as u16))?;
     }
     Ok(numbers)
 }
