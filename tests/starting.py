@@ -139,7 +139,7 @@ class Case(unittest.TestCase):
         """There is no program of these sources, and no toolchain."""
         self.assertEqual((done.returncode, done.stdout), (8, ""))
         self.assertEqual(done.stderr.splitlines(), [
-            "shex: the released program is of other sources than these",
+            "shex: the released program is not that of these sources",
             "shex: the command rt, which proves and builds the program, is not on the path",
             "shex: the program was not built",
         ])
