@@ -39,4 +39,6 @@ pub mod Counting
 pub mod Filled
 pub mod Unchosen
 pub mod Looked
+pub mod Failing
+pub mod Searching
 pub mod OnePlace

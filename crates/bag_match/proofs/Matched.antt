@@ -21,6 +21,7 @@ use Rattle.schema_tree.specs.Width.{HasWidth, width_of}
 use Rattle.schema_tree.specs.declared.schema.Pair.{Pair}
 use Rattle.std.proofs.Common.{◌+◌, ◌*◌, take}
 use Rattle.std.specs.Prelude.{Contains}
+use Rattle.bag_match.specs.Searches.{HavePlaces}
 use Rattle.bag_match.specs.Bounds.{AreApart, AreCountsOf, IsBound, degree, most_ticks}
 use Rattle.bag_match.proofs.Bounded.{few_counts}
 use Rattle.bag_match.proofs.Plain.{may_fail_uncertain, may_hold_possible}
@@ -63,6 +64,25 @@ module _ (s : Schema) (terms : List Term) (g : List Triple) (view : Known) (lean
   placed_can (Some sh) (Placed ps) h =
       ((λ p. record { open_to = h.0; places = ps; allowed = h.1.allowed; spelled = h.1.spelled }), λ c. tt)
   placed_can (Some sh) (Never states) h = ((λ p. absurd p), λ c. h.refused c)
+
+module _ (s : Schema) (terms : List Term) (g : List Triple) (view : Known) (lean : Lean) (n : TermId) where
+  -- a pair can match exactly where there are places, if it is not shut
+  pub can_of : (shape : Option Shape) (sh : Shape) (ts : List Triple) → shape ≡ Some sh → ¬ IsShut g sh n → ts ≡ relevant_in_order terms g sh n → (b : Bool) →
+      (IsTrue b ↔ HavePlaces (MayHold s terms view lean) (MayFail s terms view lean) sh n ts) → IsTrue b ↔ CanMatch s terms g view lean n shape
+  can_of shape sh ts is open_to same b told = subst (λ o. IsTrue b ↔ CanMatch s terms g view lean n o) (sym is) (go (subst (λ us. IsTrue b ↔ HavePlaces (MayHold s terms view lean) (MayFail s terms view lean) sh n us) same told))
+    where
+      go : (IsTrue b ↔ HavePlaces (MayHold s terms view lean) (MayFail s terms view lean) sh n (relevant_in_order terms g sh n)) → IsTrue b ↔ CanMatch s terms g view lean n (Some sh)
+      go h = (
+        (λ so. let (ps, allowed, spelled) = h.0 so in record { open_to = open_to; places = ps; allowed = allowed; spelled = spelled }),
+        λ can. h.1 (can.places, can.allowed, can.spelled),
+      )
+
+  -- and not where there is no such Shape, or where it is shut
+  pub can_missing : (shape : Option Shape) → shape ≡ None → IsTrue false ↔ CanMatch s terms g view lean n shape
+  can_missing shape none = subst (λ o. IsTrue false ↔ CanMatch s terms g view lean n o) (sym none) ((λ e. true≢false (sym e)), λ can. absurd can)
+
+  pub can_shut : (shape : Option Shape) (sh : Shape) → shape ≡ Some sh → IsShut g sh n → IsTrue false ↔ CanMatch s terms g view lean n shape
+  can_shut shape sh is shut = subst (λ o. IsTrue false ↔ CanMatch s terms g view lean n o) (sym is) ((λ e. absurd (true≢false (sym e))), λ can. absurd (can.open_to shut))
 
 pub placed_if_ok : {E : Type 0} (s : Schema) (terms : List Term) (g : List Triple) (view : Known) (lean : Lean) (n : TermId) (shape : Option Shape) (r : Result Outcome E) →
     IfOk r (IsOutcomeOf s terms g view lean n shape) → IfOk r (λ o. IsPlaced o ↔ CanMatch s terms g view lean n shape)

@@ -60,17 +60,18 @@ put_has (x ∷ xs) k c = go (compare_items k x) refl (put_has xs k c)
 pub put_keys : (ks new : List (Vec ℕ)) (k : Vec ℕ) → new ≡ insert_key compare_items ks k → (c : List ℕ) → Contains (lists new) c ↔ (Contains (lists ks) c ⊎ (k.items ≡ c))
 put_keys ks new k is c = subst (λ z. Puts (lists z) (lists ks) k.items c) (sym is) (put_has ks k c)
 
+-- what the test of the set finds
+pub held_there : (ks : List (Vec ℕ)) (counts : List ℕ) → list_any (λ k. is_eq (slice_cmp nat_cmp counts k.items)) ks ≡ true → Contains (lists ks) counts
+held_there [] counts none = absurd (true≢false (sym none))
+held_there (k ∷ ks) counts some = go (slice_cmp nat_cmp counts k.items) refl some (held_there ks counts)
+  where
+    go : (o : Ordering) → slice_cmp nat_cmp counts k.items ≡ o → (is_eq o || list_any (λ k. is_eq (slice_cmp nat_cmp counts k.items)) ks) ≡ true →
+        (list_any (λ k. is_eq (slice_cmp nat_cmp counts k.items)) ks ≡ true → Contains (lists ks) counts) → Contains (lists (k ∷ ks)) counts
+    go Less is some later = is_later k.items (lists ks) counts (later some)
+    go Equal is some later = subst (λ z. Contains (lists (k ∷ ks)) z) (sym (exact_bytes counts k.items is)) (is_first k.items (lists ks))
+    go Greater is some later = is_later k.items (lists ks) counts (later some)
+
 -- what the set has is there already
 pub held_keys : (ks : List (Vec ℕ)) (counts : List ℕ) → list_any (λ k. is_eq (slice_cmp nat_cmp counts k.items)) ks ≡ true → (c : List ℕ) →
     Contains (lists ks) c ↔ (Contains (lists ks) c ⊎ (counts ≡ c))
-held_keys ks counts has c = ((λ h. inl h), λ h. elim h [ inl held ↦ held | inr e ↦ subst (λ z. Contains (lists ks) z) e (there ks has) ])
-  where
-    there : (ks : List (Vec ℕ)) → list_any (λ k. is_eq (slice_cmp nat_cmp counts k.items)) ks ≡ true → Contains (lists ks) counts
-    there [] none = absurd (true≢false (sym none))
-    there (k ∷ ks) some = go (slice_cmp nat_cmp counts k.items) refl some (there ks)
-      where
-        go : (o : Ordering) → slice_cmp nat_cmp counts k.items ≡ o → (is_eq o || list_any (λ k. is_eq (slice_cmp nat_cmp counts k.items)) ks) ≡ true →
-            (list_any (λ k. is_eq (slice_cmp nat_cmp counts k.items)) ks ≡ true → Contains (lists ks) counts) → Contains (lists (k ∷ ks)) counts
-        go Less is some later = is_later k.items (lists ks) counts (later some)
-        go Equal is some later = subst (λ z. Contains (lists (k ∷ ks)) z) (sym (exact_bytes counts k.items is)) (is_first k.items (lists ks))
-        go Greater is some later = is_later k.items (lists ks) counts (later some)
+held_keys ks counts has c = ((λ h. inl h), λ h. elim h [ inl held ↦ held | inr e ↦ subst (λ z. Contains (lists ks) z) e (held_there ks counts has) ])

@@ -1,11 +1,10 @@
 -- How often occurrences stand among the places of later triples, and which counts these can still bring to a match (own).
-use Rattle.std.specs.Prelude.{ℕ, List, [], ◌∷◌, ◌≡◌, ◌⊎◌, ◌+◌, Contains, Option, Some, None, length, slice_index}
+use Rattle.std.specs.Prelude.{ℕ, List, [], ◌∷◌, ◌≡◌, ◌+◌, Contains, Option, Some, None, length, slice_index}
 use Rattle.tally.specs.Plan.{Plan}
 use Rattle.tally.specs.Span.{HasSpan, span}
 use Rattle.schema_tree.specs.declared.verdicts.Place.{Place}
 use Rattle.schema_tree.specs.Places.{times}
-use Rattle.bag_match.specs.Counts.{ArePlacesOf, raised}
-use Rattle.bag_match.specs.Least.{IsPlaceBefore}
+use Rattle.bag_match.specs.Counts.{ArePlacesOf}
 
 -- how many places of the lists are the occurrence i
 abbrev pub offers : List (List Place) → ℕ → ℕ
@@ -24,9 +23,3 @@ AreOffers occurrences lists numbers = (length numbers ≡ occurrences) × ((i : 
 abbrev pub IsHopeless : Option Plan → List ℕ → List ℕ → Type 0
 IsHopeless None counts more = ⊥
 IsHopeless (Some c) counts more = ¬ HasSpan (span c (slice_index counts) (λ i. slice_index counts i + slice_index more i)) 1
-
--- the place leads to counts that are not hopeless, and each place before it to counts that are
-abbrev pub HopesFirst : Option Plan → List ℕ → List ℕ → List Place → Place → Type 0
-HopesFirst body counts more places p =
-    Contains places p × (¬ IsHopeless body (raised counts p) more)
-    × ((q : Place) → Contains places q → IsHopeless body (raised counts q) more ⊎ (IsPlaceBefore p q ⊎ (p ≡ q)))

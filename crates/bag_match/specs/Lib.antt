@@ -4,6 +4,7 @@ pub mod Reached
 pub mod Least
 pub mod Layers
 pub mod Hopes
+pub mod Searches
 pub mod Outcomes
 pub mod Bounds
 pub mod Keys

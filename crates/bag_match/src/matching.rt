@@ -1,26 +1,28 @@
 //! Matches of pairs.
 
-ghost use Rattle.std.specs.Prelude.{◌≡◌, ◌↔◌, ◌<◌, ◌≤◌, ◌+◌, ◌*◌, ◌^◌, ℕ, List, Contains, ◌++◌, IfOk, OnOk, length};
+ghost use Rattle.std.specs.Prelude.{◌≡◌, ◌↔◌, ◌<◌, ◌≤◌, ◌+◌, ◌*◌, ◌^◌, ℕ, List, Contains, ◌++◌, IfOk, IsTrue, OnOk, length, map};
 ghost use Rattle.std.specs.List.{flat_map};
 ghost use Rattle.graph_index.specs.Contents.{IsSealedWith};
 ghost use Rattle.schema_tree.specs.Loaded.{BodyOk, IsLoaded};
 ghost use Rattle.schema_tree.specs.Places.{PairCanMatch};
 ghost use Rattle.schema_tree.specs.Width.{HasWidth};
 ghost use Rattle.bag_match.specs.Bounds.{IsBound, most_ticks};
-ghost use Rattle.bag_match.specs.Least.{AreOffered};
+ghost use Rattle.bag_match.specs.Least.{AreOffered, sole};
 ghost use Rattle.bag_match.specs.Outcomes.{IsFound, IsOutcome, IsPlaced, ticks_of};
+ghost use Rattle.bag_match.specs.Searches.{HavePlaces};
 
 use crate::arcs::{is_shut, relevant};
 use crate::layers::{Question, layer_at};
 use crate::outcome::Outcome;
 use crate::place_lists::PlaceLists;
 use crate::places::{Judge, Values};
+use crate::sole::sole_places;
 use graph_index::graph::Graph;
 use rdf_terms::items::Items;
 use rdf_terms::table::TermTable;
 use schema_tree::schema::{Pair, Schema};
 use schema_tree::sure::View;
-use schema_tree::verdicts::{Lean, State};
+use schema_tree::verdicts::{Lean, Place, State};
 use std::alloc::{AllocError, Global};
 use std::sync::ledger::Ledger;
 use tally::Steps;
@@ -73,8 +75,33 @@ impl<J: Judge> Question<'_, J> {
         }
     }
 
+    /// The least places, or the states that are reached where there are none, where each triple has one place alone, which are
+    /// these. There are no layers where their counts match.
+    fn by_sole<L: Ledger>(
+        &self,
+        alloc: Global,
+        offered: &PlaceLists,
+        places: Vec<Place>,
+        steps: &mut Steps<L>,
+    ) -> Result<Outcome, AllocError>
+        requires offered { AreOffered (J.hold self.now.judge.now) (J.fail self.now.judge.now) self.now.shape.now self.now.node self.now.triples.now (length self.now.triples.now) offered.now }
+        requires body { BodyOk self.now.shape.now.occs self.now.shape.now.body }
+        requires few { length self.now.triples.now < 2 ^ 31 }
+        requires few_occurrences { length self.now.shape.now.occs ≤ 256 }
+        requires sole { map sole places.items ≡ offered.now }
+        ensures found { IfOk result (IsFound (J.hold self.now.judge.now) (J.fail self.now.judge.now) self.now.shape.now self.now.node self.now.triples.now) }
+        ensures least { IfOk result (λ r. steps.old + ticks_of r ≤ steps.new) }
+        ensures most { (bound : ℕ) → IsBound (J.hold self.now.judge.now) (J.fail self.now.judge.now) self.now.shape.now self.now.node self.now.triples.now bound → steps.new ≤ steps.old + (length self.now.triples.now + 1) * bound }
+    {
+        if self.sole_match(alloc, offered, places.as_slice(), steps)? {
+            Ok(Outcome::Placed(Items::of(places)))
+        } else {
+            self.by_layers(alloc, offered, steps)
+        }
+    }
+
     /// The least places, or the states that are reached where there are none, where the lists are the places that are allowed
-    /// for each triple. There are no layers where the first place of each triple that leads to a living state leads on.
+    /// for each triple. There are no layers where there are places.
     fn by_choice<L: Ledger>(
         &self,
         alloc: Global,
@@ -89,14 +116,13 @@ impl<J: Judge> Question<'_, J> {
         ensures least { IfOk result (λ r. steps.old + ticks_of r ≤ steps.new) }
         ensures most { (bound : ℕ) → IsBound (J.hold self.now.judge.now) (J.fail self.now.judge.now) self.now.shape.now self.now.node self.now.triples.now bound → steps.new ≤ steps.old + (length self.now.triples.now + 1) * bound }
     {
-        match self.straight_places(alloc, offered, steps)? {
+        match self.search_places(alloc, offered, steps)? {
             Some(places) => Ok(Outcome::Placed(Items::of(places))),
             None => self.by_layers(alloc, offered, steps),
         }
     }
 
-    /// The least places, or the states that are reached where there are none. There are no layers where each triple has one
-    /// place alone and the counts of these match.
+    /// The least places, or the states that are reached where there are none.
     fn outcome<L: Ledger>(&self, alloc: Global, steps: &mut Steps<L>) -> Result<Outcome, AllocError>
         requires ready { J.ready self.now.judge.now }
         requires body { BodyOk self.now.shape.now.occs self.now.shape.now.body }
@@ -107,9 +133,25 @@ impl<J: Judge> Question<'_, J> {
         ensures most { (bound : ℕ) → IsBound (J.hold self.now.judge.now) (J.fail self.now.judge.now) self.now.shape.now self.now.node self.now.triples.now bound → steps.new ≤ steps.old + (length self.now.triples.now + 1) * bound }
     {
         let offered = self.offered(alloc)?;
-        match self.only_places(alloc, &offered, steps)? {
-            Some(places) => Ok(Outcome::Placed(Items::of(places))),
+        match sole_places(alloc, &offered)? {
+            Some(places) => self.by_sole(alloc, &offered, places, steps),
             None => self.by_choice(alloc, &offered, steps),
+        }
+    }
+
+    /// Whether there are allowed places for the triples with matching counts. No layers are made.
+    fn has_places<L: Ledger>(&self, alloc: Global, steps: &mut Steps<L>) -> Result<bool, AllocError>
+        requires ready { J.ready self.now.judge.now }
+        requires body { BodyOk self.now.shape.now.occs self.now.shape.now.body }
+        requires few { length self.now.triples.now < 2 ^ 31 }
+        requires few_occurrences { length self.now.shape.now.occs ≤ 256 }
+        ensures decided { IfOk result (λ b. IsTrue b ↔ HavePlaces (J.hold self.now.judge.now) (J.fail self.now.judge.now) self.now.shape.now self.now.node self.now.triples.now) }
+        ensures most { (bound : ℕ) → IsBound (J.hold self.now.judge.now) (J.fail self.now.judge.now) self.now.shape.now self.now.node self.now.triples.now bound → steps.new ≤ steps.old + (length self.now.triples.now + 1) * bound }
+    {
+        let offered = self.offered(alloc)?;
+        match sole_places(alloc, &offered)? {
+            Some(places) => self.sole_match(alloc, &offered, places.as_slice(), steps),
+            None => self.can_place(alloc, &offered, steps),
         }
     }
 }
@@ -158,4 +200,47 @@ pub fn match_pair<V: View, L: Ledger>(
         judge: &judge,
     };
     question.outcome(alloc, steps)
+}
+
+/// Whether there are places that are allowed for the relevant triples of a pair and have matching counts, and the pair is not
+/// shut (ShEx 2.1, section 5.5.2). Values have the verdicts that the view leaves, Unknown as `lean` says. No states are
+/// listed.
+pub fn can_match<V: View, L: Ledger>(
+    alloc: Global,
+    schema: &Schema,
+    graph: &Graph,
+    terms: &TermTable,
+    view: &V,
+    lean: Lean,
+    pair: Pair,
+    steps: &mut Steps<L>,
+) -> Result<bool, AllocError>
+    requires loaded { IsLoaded schema.now }
+    requires sealed { IsSealedWith terms.now graph.now }
+    ensures decided { IfOk result (λ b. IsTrue b ↔ PairCanMatch schema.now terms.now graph.now.triples (V.known view.now) lean pair) }
+    ensures most { (w : ℕ) → HasWidth schema.now terms.now graph.now.triples pair w → steps.new ≤ steps.old + most_ticks schema.now terms.now graph.now.triples pair w }
+{
+    let node = pair.node;
+    let Some(shape) = schema.shapes.as_slice().get(pair.shape.0 as usize) else {
+        return Ok(false);
+    };
+    if is_shut(graph, shape, node) {
+        return Ok(false);
+    }
+    // The length of a graph tells contracts that it is within the limit.
+    let _held = graph.len();
+    let triples = relevant(alloc, graph, shape, node)?;
+    let judge = Values {
+        schema,
+        terms,
+        view,
+        lean,
+    };
+    let question = Question {
+        shape,
+        node,
+        triples: &triples,
+        judge: &judge,
+    };
+    question.has_places(alloc, steps)
 }

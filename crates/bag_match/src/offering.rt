@@ -11,7 +11,7 @@ use schema_tree::verdicts::Place;
 use std::alloc::{AllocError, Global};
 
 /// Counts each of the places.
-fn add_all(counts: &mut Vec<u32>, places: &[Place])
+pub fn add_all(counts: &mut Vec<u32>, places: &[Place])
     requires there { ArePlacesOf (length counts.old.items) places.now }
     requires small { (i : ℕ) → slice_index counts.old.items i + times places.now i < 2 ^ 31 }
     ensures len { length counts.new.items ≡ length counts.old.items }

@@ -1,8 +1,9 @@
 //! Matches without a choice: each triple has one place alone.
 
-ghost use Rattle.std.specs.Prelude.{◌≡◌, ◌<◌, ◌≤◌, ◌+◌, ◌^◌, IfOk, IfSome, IsNone, length, map};
+ghost use Rattle.std.specs.Prelude.{◌≡◌, ◌↔◌, ◌<◌, ◌≤◌, ◌+◌, ◌^◌, IfOk, IfSome, IsTrue, false, length, map, true};
 ghost use Rattle.schema_tree.specs.Loaded.{BodyOk};
 ghost use Rattle.bag_match.specs.Least.{AreLeast, AreOffered, sole};
+ghost use Rattle.bag_match.specs.Searches.{HavePlaces};
 
 use crate::counts::have_counts;
 use crate::layers::Question;
@@ -14,7 +15,7 @@ use std::sync::ledger::Ledger;
 use tally::Steps;
 
 /// The place of each list, where each has one alone.
-fn sole_places(alloc: Global, offered: &PlaceLists) -> Result<Option<Vec<Place>>, AllocError>
+pub fn sole_places(alloc: Global, offered: &PlaceLists) -> Result<Option<Vec<Place>>, AllocError>
     ensures { IfOk result (λ o. IfSome o (λ v. map sole v.items ≡ offered.now)) }
 {
     let mut places = Vec::with_capacity(alloc, offered.len())?;
@@ -37,29 +38,29 @@ fn tick_all<L: Ledger>(places: &[Place], steps: &mut Steps<L>)
 }
 
 impl<J: Judge> Question<'_, J> {
-    /// The only places that are allowed, where each triple has one alone and their counts match. Neither layers nor states
-    /// are made for them.
-    pub fn only_places<L: Ledger>(
+    /// Whether the only places that are allowed, where each triple has one alone, have matching counts. Neither a search nor
+    /// states are made for them. It ticks once for each.
+    pub fn sole_match<L: Ledger>(
         &self,
         alloc: Global,
         offered: &PlaceLists,
+        places: &[Place],
         steps: &mut Steps<L>,
-    ) -> Result<Option<Vec<Place>>, AllocError>
+    ) -> Result<bool, AllocError>
         requires offered { AreOffered (J.hold self.now.judge.now) (J.fail self.now.judge.now) self.now.shape.now self.now.node self.now.triples.now (length self.now.triples.now) offered.now }
         requires body { BodyOk self.now.shape.now.occs self.now.shape.now.body }
         requires few { length self.now.triples.now < 2 ^ 31 }
-        ensures places { IfOk result (λ o. IfSome o (λ v. AreLeast (J.hold self.now.judge.now) (J.fail self.now.judge.now) self.now.shape.now self.now.node self.now.triples.now v.items)) }
-        ensures ticked { IfOk result (λ o. IfSome o (λ v. steps.new ≡ steps.old + length v.items)) }
-        ensures still { IfOk result (λ o. IsNone o → steps.new ≡ steps.old) }
+        requires sole { map sole places.now ≡ offered.now }
+        ensures least { IfOk result (λ b. b ≡ true → AreLeast (J.hold self.now.judge.now) (J.fail self.now.judge.now) self.now.shape.now self.now.node self.now.triples.now places.now) }
+        ensures decided { IfOk result (λ b. IsTrue b ↔ HavePlaces (J.hold self.now.judge.now) (J.fail self.now.judge.now) self.now.shape.now self.now.node self.now.triples.now) }
+        ensures ticked { IfOk result (λ b. b ≡ true → steps.new ≡ steps.old + length places.now) }
+        ensures still { IfOk result (λ b. b ≡ false → steps.new ≡ steps.old) }
         ensures few { steps.new ≤ steps.old + length self.now.triples.now }
     {
-        let Some(places) = sole_places(alloc, offered)? else {
-            return Ok(None);
-        };
-        if !have_counts(alloc, self.shape, places.as_slice())? {
-            return Ok(None);
+        if !have_counts(alloc, self.shape, places)? {
+            return Ok(false);
         }
-        tick_all(places.as_slice(), steps);
-        Ok(Some(places))
+        tick_all(places, steps);
+        Ok(true)
     }
 }

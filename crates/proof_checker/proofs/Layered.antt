@@ -12,7 +12,8 @@ use Rattle.schema_tree.specs.States.{IsStateBefore}
 use Rattle.lists.proofs.Fronts.{behind_front, front_or_behind, in_front}
 use Rattle.schema_tree.proofs.Rising.{behind_rise, later_rise}
 use Rattle.lists.proofs.Members.{in_rest, is_first, is_later, not_in_none}
-use Rattle.proof_checker.specs.Stated.{AreShaped, DecideSettled, IsSettled, IsShapedAt}
+use Rattle.bag_match.specs.Counts.{AreLeft}
+use Rattle.proof_checker.specs.Stated.{AreShaped, DecideSettled, IsLayer, IsSettled, IsShapedAt}
 
 -- ---- states that rise
 
@@ -47,6 +48,22 @@ past_layer (y ∷ ys) zero done r rises from within is stops x c =
 past_layer (y ∷ ys) (suc k) done r rises from within is stops x c =
     past_layer ys k done r (later_rise IsStateBefore y ys rises) (λ z h. from z (is_later y ys z h)) (omega (arith, within)) is stops x c
 
+-- so many states at the front have so many triples done, and those behind them more
+pub record IsFront (xs : List State) (done size : ℕ) : Type 0 where
+  pub within : size ≤ length xs
+  pub layer : (x : State) → Contains (take size xs) x → x.done ≡ done
+  pub later : (x : State) → Contains (drop size xs) x → done < x.done
+
+front_from : (x : State) (xs : List State) (k : ℕ) → RisesFrom IsStateBefore x xs → RisesFrom IsStateBefore x (take k xs)
+front_from x xs zero h = tt
+front_from x [] (suc k) h = tt
+front_from x (y ∷ ys) (suc k) (before, rest) = (before, front_from y ys k rest)
+
+front_rise : (xs : List State) (k : ℕ) → Rises IsStateBefore xs → Rises IsStateBefore (take k xs)
+front_rise xs zero h = tt
+front_rise [] (suc k) h = tt
+front_rise (x ∷ xs) (suc k) h = front_from x xs k h
+
 -- ---- the states that are settled so far
 
 module _ (hold fail : TermId → Option ExprId → Type 0) (sh : Shape) (n : TermId) (ts : List Triple) (states : List State) where
@@ -55,6 +72,7 @@ module _ (hold fail : TermId → Option ExprId → Type 0) (sh : Shape) (n : Ter
     pub rising : Rises IsStateBefore rest
     pub from : (x : State) → Contains rest x → done ≤ x.done
     pub held : (x : State) → Contains rest x → Contains states x
+    pub later : (x : State) → Contains states x → done ≤ x.done → Contains rest x
     pub settled : (x : State) → Contains states x → Contains rest x ⊎ IsSettled hold fail sh n ts states x
 
   module _ (done : ℕ) (rest : List State) (before : AreSettledBefore done rest) where
@@ -65,13 +83,49 @@ module _ (hold fail : TermId → Option ExprId → Type 0) (sh : Shape) (n : Ter
         let there : Contains (take k rest) x = subst (λ xs. Contains xs x) is h in
         (at x there, shaped x (before.held x (in_front rest k x there)))
 
+    -- behind a layer stand the states with one more triple done and more
+    module _ (k : ℕ) (front : IsFront rest done k) where
+      from_next : (x : State) → Contains (drop k rest) x → done + 1 ≤ x.done
+      from_next x h = let lt = front.later x h in omega (arith, lt)
+
+      all_behind : (x : State) → Contains states x → done + 1 ≤ x.done → Contains (drop k rest) x
+      all_behind x h le = elim (front_or_behind rest k x (before.later x h (omega (arith, le)))) [
+        | inl here ↦ absurd (let same = front.layer x here in omega (arith, same, le))
+        | inr there ↦ there
+      ]
+
+      pub later_rising : (later : List State) → later ≡ drop k rest → Rises IsStateBefore later
+      later_rising later behind = subst (Rises IsStateBefore) (sym behind) (behind_rise IsStateBefore rest k before.rising)
+
+      pub later_from : (later : List State) → later ≡ drop k rest → (x : State) → Contains later x → done + 1 ≤ x.done
+      later_from later behind x h = from_next x (subst (λ xs. Contains xs x) behind h)
+
+      -- those at their front are the layer behind it
+      pub next_layer : (later : List State) (size : ℕ) (left : List ℕ) → later ≡ drop k rest → IsFront later (done + 1) size →
+          AreLeft sh.occs n (drop (done + 1) ts) left → IsLayer sh n ts states (done + 1) (take size later) left
+      next_layer later size left behind ahead are = record {
+        rising = front_rise later size (later_rising later behind);
+        same = λ x at. (λ h. held x (in_front later size x h), λ h. found x at h);
+        left = are;
+      }
+        where
+          held : (x : State) → Contains later x → Contains states x
+          held x h = before.held x (behind_front rest k x (subst (λ xs. Contains xs x) behind h))
+
+          found : (x : State) → x.done ≡ done + 1 → Contains states x → Contains (take size later) x
+          found x at h = elim (front_or_behind later size x (subst (λ xs. Contains xs x) (sym behind) (all_behind x h (omega (arith, at))))) [
+            | inl here ↦ here
+            | inr there ↦ absurd (let lt = ahead.later x there in omega (arith, lt, at))
+          ]
+
     -- a layer that is settled leaves those behind it
     pub layer_settled : (layer later : List State) (k : ℕ) (b : Bool) → layer ≡ take k rest → later ≡ drop k rest →
-        ((x : State) → Contains (drop k rest) x → done < x.done) → DecideSettled hold fail sh n ts states layer b → b ≡ true → AreSettledBefore (done + 1) later
-    layer_settled layer later k b is behind more decided so = subst (λ xs. AreSettledBefore (done + 1) xs) (sym behind) (record {
+        IsFront rest done k → DecideSettled hold fail sh n ts states layer b → b ≡ true → AreSettledBefore (done + 1) later
+    layer_settled layer later k b is behind front decided so = subst (λ xs. AreSettledBefore (done + 1) xs) (sym behind) (record {
       rising = behind_rise IsStateBefore rest k before.rising;
-      from = λ x h. let lt = more x h in omega (arith, lt);
+      from = from_next k front;
       held = λ x h. before.held x (behind_front rest k x h);
+      later = all_behind k front;
       settled = λ x h. each x (before.settled x h);
     })
       where

@@ -9,3 +9,4 @@ pub mod Truthful
 pub mod Checked
 pub mod Halved
 pub mod Differing
+pub mod Formed

@@ -1,5 +1,6 @@
 -- States and their counts, one at a time.
 use Rattle.std.proofs.Common.{◌≡◌, ℕ, suc, ◌+◌, ◌<◌, ◌≤◌, ◌⊎◌, inl, inr, length, get_or, List, [], ◌∷◌, refl, arith, ap, sym, subst, ◌∙◌, Bool, true, false, take, true≢false}
+use Rattle.std.proofs.lemmas.List.Elements.{Contains-get_or}
 use Rattle.std.proofs.lemmas.Option.{slice_get-get_or}
 use Rattle.std.specs.Prelude.{Contains, IsTrue, Option, Some, ◌↔◌, slice_get, slice_index, ◌^◌, drop}
 use Rattle.rdf_terms.specs.declared.terms.TermId.{TermId}
@@ -11,7 +12,7 @@ use Rattle.schema_tree.specs.declared.verdicts.Place.{Place}
 use Rattle.schema_tree.specs.declared.verdicts.State.{State}
 use Rattle.schema_tree.specs.States.{IsCovered, IsDead, after, opening}
 use Rattle.proof_file.specs.Accepts.{AreStates}
-use Rattle.bag_match.specs.Counts.{AreLeft, raised, state_of}
+use Rattle.bag_match.specs.Counts.{AreLeft, ArePlacesOf, IsPlaceOf, raised, state_of}
 use Rattle.bag_match.specs.Least.{ArePlacesFor}
 use Rattle.proof_checker.specs.Stated.{AllLeadOn, AreShaped, DecideSettled, IsSettled, IsShapedAt}
 use Rattle.bag_match.proofs.Stepping.{after_is as after_place, drop_few, left_few, places_now}
@@ -89,19 +90,41 @@ module _ (sh : Shape) (n : TermId) (ts : List Triple) (states : List State) wher
     | inr same ↦ subst (λ r. IsCovered sh n ts states (after r x)) same own
   ]
 
+  -- the next of the places leads on or not, where counts that are the same are held
+  module _ (done : ℕ) (counts held : List ℕ) (same : held ≡ counts) (places : List Place) (i : ℕ) (d : Place) (within : i < length places) where
+    abbrev Covered : List ℕ → Type 0
+    Covered z = IsCovered sh n ts states (after (get_or places i d) (state_of done z))
+
+    pub next_leads : (IsTrue true ↔ Covered held) → AllLeadOn sh n ts states (state_of done counts) (take i places) →
+        AllLeadOn sh n ts states (state_of done counts) (take (i + 1) places)
+    next_leads leads before = one_more_leads (state_of done counts) places i d within before (subst Covered same (leads.0 refl))
+
+    pub next_leads_not : (IsTrue false ↔ Covered held) → ¬ AllLeadOn sh n ts states (state_of done counts) places
+    next_leads_not leads all =
+        true≢false (sym (leads.1 (subst Covered (sym same) (all (get_or places i d) (Contains-get_or places i d within)))))
+
+-- a place that is there among counts is there among the same counts
+pub held_there : (counts held : List ℕ) (places : List Place) (i : ℕ) (d : Place) → held ≡ counts → ArePlacesOf (length counts) places → i < length places →
+    IsPlaceOf (length held) (get_or places i d)
+held_there counts held places i d same there within =
+    subst (λ z. IsPlaceOf (length z) (get_or places i d)) (sym same) (there (get_or places i d) (Contains-get_or places i d within))
+
 module _ (hold fail : TermId → Option ExprId → Type 0) (sh : Shape) (n : TermId) (ts : List Triple) (states : List State) where
-  -- a living state with triples left is settled where each place that is allowed for the next leads on
-  pub settled_alive : (done : ℕ) (counts : List ℕ) (places : List Place) (b : Bool) → done < length ts → (¬ IsDead sh n ts (state_of done counts)) →
-      ((t : Triple) → slice_get ts done ≡ Some t → ArePlacesFor hold fail sh n t places) →
-      (IsTrue b ↔ AllLeadOn sh n ts states (state_of done counts) places) → IsTrue b ↔ IsSettled hold fail sh n ts states (state_of done counts)
-  settled_alive done counts places b within alive are all =
-      ((λ h. inr (within, λ t at p allowed. all.0 h p (((are t at).same p).1 allowed))), λ settled. back settled)
-    where
-      back : IsSettled hold fail sh n ts states (state_of done counts) → IsTrue b
-      back (inl dead) = absurd (alive dead)
-      back (inr on) =
-          let (d, offered) = places_now hold fail sh n ts done places within are in
-          all.1 (λ p h. on.1 (get_or ts done d) (slice_get-get_or ts done d within) p ((offered.same p).0 h))
+  -- a state with triples left, from which each place that is allowed for the next leads on, is settled
+  module _ (done : ℕ) (counts : List ℕ) (places : List Place) (within : done < length ts) (are : (t : Triple) → slice_get ts done ≡ Some t → ArePlacesFor hold fail sh n t places) where
+    pub settled_on : AllLeadOn sh n ts states (state_of done counts) places → IsSettled hold fail sh n ts states (state_of done counts)
+    settled_on all = inr (within, λ t at p allowed. all p (((are t at).same p).1 allowed))
+
+    -- where some place does not, the state is settled where it is dead
+    pub settled_dead : (b : Bool) → (¬ AllLeadOn sh n ts states (state_of done counts) places) →
+        (IsTrue b ↔ IsDead sh n ts (state_of done counts)) → IsTrue b ↔ IsSettled hold fail sh n ts states (state_of done counts)
+    settled_dead b stuck same = ((λ h. inl (same.0 h)), λ settled. back settled)
+      where
+        back : IsSettled hold fail sh n ts states (state_of done counts) → IsTrue b
+        back (inl dead) = same.1 dead
+        back (inr on) =
+            let (d, offered) = places_now hold fail sh n ts done places within are in
+            absurd (stuck (λ p h. on.1 (get_or ts done d) (slice_get-get_or ts done d within) p ((offered.same p).0 h)))
 
   -- a state with all triples done is settled where it is dead
   pub settled_last : (x : State) → x.done ≡ length ts → IsSettled hold fail sh n ts states x → IsDead sh n ts x

@@ -1,5 +1,5 @@
 -- What is asked of the states of a record that refutes, one at a time.
-use Rattle.std.specs.Prelude.{ℕ, Bool, false, List, ◌^◌, ◌≡◌, ◌<◌, ◌≤◌, ◌⊎◌, Contains, IsTrue, Option, Some, length, slice_get, slice_index}
+use Rattle.std.specs.Prelude.{ℕ, Bool, false, List, ◌^◌, ◌≡◌, ◌↔◌, ◌<◌, ◌≤◌, ◌⊎◌, Contains, IsTrue, Option, Some, drop, length, slice_get, slice_index}
 use Rattle.std.specs.Cmp.Lexicographic.{slice_cmp}
 use Rattle.std.specs.Ordering.{nat_cmp, ordering_then}
 use Rattle.std.specs.declared.cmp.Ordering.{Ordering}
@@ -13,6 +13,7 @@ use Rattle.schema_tree.specs.Loaded.{BodyOk}
 use Rattle.schema_tree.specs.Places.{IsAllowed}
 use Rattle.schema_tree.specs.States.{IsCovered, IsDead, after, IsStateBefore}
 use Rattle.schema_tree.specs.Rising.{Rises}
+use Rattle.bag_match.specs.Counts.{AreLeft}
 
 -- by the number of triples done, and then the counts
 abbrev pub compare_states : State → State → Ordering
@@ -24,6 +25,13 @@ pub record IsListed (sh : Shape) (ts : List Triple) (states : List State) : Type
   pub few_occurrences : length sh.occs ≤ 256
   pub few : length ts < 2 ^ 31
   pub rising : Rises IsStateBefore states
+
+-- some of these states, in their order, among which are all with so many triples done, and how many of the later triples each
+-- occurrence fits
+pub record IsLayer (sh : Shape) (n : TermId) (ts : List Triple) (states : List State) (done : ℕ) (some : List State) (counts : List ℕ) : Type 0 where
+  pub rising : Rises IsStateBefore some
+  pub same : (x : State) → x.done ≡ done → Contains some x ↔ Contains states x
+  pub left : AreLeft sh.occs n (drop done ts) counts
 
 -- the state has one count for each occurrence, and neither more triples done nor a count than there are triples
 abbrev pub IsShapedBy : ℕ → ℕ → State → Type 0

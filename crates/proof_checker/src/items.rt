@@ -145,11 +145,12 @@ impl ProofInSetting<'_> {
             return Ok(Some(Why::Places));
         }
         let triples = relevant(alloc, self.graph, shape, node)?;
-        if !are_allowed(alloc, &Form, shape, node, &triples, places)? {
-            return Ok(Some(Why::Places));
-        }
+        // Places whose values fit have the right form, so that is asked only where they do not.
         if !self.values_fit(alloc, stratum, shape, node, &triples, places)? {
-            return Ok(Some(Why::Value));
+            if are_allowed(alloc, &Form, shape, node, &triples, places)? {
+                return Ok(Some(Why::Value));
+            }
+            return Ok(Some(Why::Places));
         }
         let counts = have_counts(alloc, shape, places)?;
         Ok((!counts).then_some(Why::Counts))

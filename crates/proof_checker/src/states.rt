@@ -8,12 +8,12 @@ ghost use Rattle.bag_match.specs.Counts.{AreLeft, ArePlacesOf, IsPlaceOf, state_
 ghost use Rattle.bag_match.specs.Least.{ArePlacesFor};
 ghost use Rattle.proof_file.specs.Accepts.{AreStates};
 ghost use Rattle.schema_tree.specs.Rising.{Rises};
-ghost use Rattle.proof_checker.specs.Stated.{AllLeadOn, AreShaped, AreShapedBy, DecideSettled, IsListed, IsSettled, IsShapedBy, IsShapedAt, compare_states};
+ghost use Rattle.proof_checker.specs.Stated.{AllLeadOn, AreShaped, AreShapedBy, DecideSettled, IsLayer, IsListed, IsSettled, IsShapedBy, IsShapedAt, compare_states};
 
 use bag_match::arcs::RelevantTriples;
 use bag_match::dying::{fits_of, is_dead, pass_next};
 use bag_match::places::{Judge, allowed_places};
-use bag_match::raising::{raised, zeros};
+use bag_match::raising::{lower, raise, zeros};
 use rdf_terms::terms::TermId;
 use schema_tree::schema::Shape;
 use schema_tree::verdicts::{Place, State};
@@ -92,6 +92,16 @@ fn layer_len(states: &[State], done: usize) -> usize
     states.len()
 }
 
+/// States in their order, among which are all those that are listed with so many triples done, and how many of the later
+/// triples each occurrence fits.
+#[derive(Clone, Copy)]
+struct Layer<'a> {
+    /// The states.
+    states: &'a [State],
+    /// How many of the later triples each occurrence fits.
+    left: &'a [u32],
+}
+
 /// A Shape at a node, with its relevant triples in their order, states in their order, and what judges values.
 #[derive(Drop)]
 pub struct Listing<'a, J> {
@@ -108,42 +118,41 @@ pub struct Listing<'a, J> {
 }
 
 impl<J: Judge> Listing<'_, J> {
-    /// Whether a state with these triples done and these counts is listed or dead, where `left` says how many of the later
-    /// triples each occurrence fits.
-    fn is_covered(&self, done: usize, counts: &[u32], left: &[u32]) -> bool
+    /// Whether a state with these triples done and these counts is listed or dead, where the layer is that of these triples.
+    fn is_covered(&self, done: usize, layer: &Layer<'_>, counts: &[u32]) -> bool
         requires listed { IsListed self.now.shape.now self.now.triples.now self.now.states.now }
         requires one_each { length counts.now ≡ length self.now.shape.now.occs }
         requires small { (i : ℕ) → slice_index counts.now i < 2 ^ 31 + 1 }
         requires within { done ≤ length self.now.triples.now }
-        requires left { AreLeft self.now.shape.now.occs self.now.node (drop done self.now.triples.now) left.now }
+        requires layer { IsLayer self.now.shape.now self.now.node self.now.triples.now self.now.states.now done
+            layer.now.states.now layer.now.left.now }
         ensures { IsTrue result ↔ IsCovered self.now.shape.now self.now.node self.now.triples.now self.now.states.now (state_of done counts.now) }
     {
-        if is_listed(self.states, done as u32, counts) {
+        if is_listed(layer.states, done as u32, counts) {
             return true;
         }
-        is_dead(self.shape, counts, left)
+        is_dead(self.shape, counts, layer.left)
     }
 
-    /// Whether the state that the place leads to is listed or dead, where `behind` says how many of the triples behind the
-    /// next each occurrence fits.
-    fn leads_on(
-        &self,
-        alloc: Global,
-        done: usize,
-        counts: &[u32],
-        place: Place,
-        behind: &[u32],
-    ) -> Result<bool, AllocError>
+    /// Whether the state that the place leads to, which has one more triple done, is listed or dead. The counts are given back
+    /// as they were.
+    fn leads_on(&self, done: usize, next: &Layer<'_>, counts: &mut Vec<u32>, place: Place) -> bool
         requires listed { IsListed self.now.shape.now self.now.triples.now self.now.states.now }
-        requires one_each { length counts.now ≡ length self.now.shape.now.occs }
-        requires small { (i : ℕ) → slice_index counts.now i < 2 ^ 31 }
+        requires one_each { length counts.old.items ≡ length self.now.shape.now.occs }
+        requires small { (i : ℕ) → slice_index counts.old.items i < 2 ^ 31 }
         requires within { done < length self.now.triples.now }
-        requires there { IsPlaceOf (length counts.now) place }
-        requires behind { AreLeft self.now.shape.now.occs self.now.node (drop (done + 1) self.now.triples.now) behind.now }
-        ensures { IfOk result (λ b. IsTrue b ↔ IsCovered self.now.shape.now self.now.node self.now.triples.now self.now.states.now (after place (state_of done counts.now))) }
+        requires there { IsPlaceOf (length counts.old.items) place }
+        requires next { IsLayer self.now.shape.now self.now.node self.now.triples.now self.now.states.now (done + 1)
+            next.now.states.now next.now.left.now }
+        ensures same { counts.new.items ≡ counts.old.items }
+        ensures covered { IsTrue result ↔
+            IsCovered self.now.shape.now self.now.node self.now.triples.now self.now.states.now
+            (after place (state_of done counts.old.items)) }
     {
-        let after = raised(alloc, counts, place)?;
-        Ok(self.is_covered(done + 1, after.as_slice(), behind))
+        raise(counts, place);
+        let covered = self.is_covered(done + 1, next, counts.as_slice());
+        lower(counts, place);
+        covered
     }
 
     /// Whether each of the places does so.
@@ -151,20 +160,22 @@ impl<J: Judge> Listing<'_, J> {
         &self,
         alloc: Global,
         done: usize,
+        next: &Layer<'_>,
         counts: &[u32],
         places: &[Place],
-        behind: &[u32],
     ) -> Result<bool, AllocError>
         requires listed { IsListed self.now.shape.now self.now.triples.now self.now.states.now }
         requires one_each { length counts.now ≡ length self.now.shape.now.occs }
         requires small { (i : ℕ) → slice_index counts.now i < 2 ^ 31 }
         requires within { done < length self.now.triples.now }
         requires there { ArePlacesOf (length counts.now) places.now }
-        requires behind { AreLeft self.now.shape.now.occs self.now.node (drop (done + 1) self.now.triples.now) behind.now }
+        requires next { IsLayer self.now.shape.now self.now.node self.now.triples.now self.now.states.now (done + 1)
+            next.now.states.now next.now.left.now }
         ensures { IfOk result (λ b. IsTrue b ↔ AllLeadOn self.now.shape.now self.now.node self.now.triples.now self.now.states.now (state_of done counts.now) places.now) }
     {
+        let mut held = counts.to_vec(alloc)?;
         for place in places {
-            if !self.leads_on(alloc, done, counts, *place, behind)? {
+            if !self.leads_on(done, next, &mut held, *place) {
                 return Ok(false);
             }
         }
@@ -177,10 +188,10 @@ impl<J: Judge> Listing<'_, J> {
         &self,
         alloc: Global,
         done: usize,
+        next: &Layer<'_>,
         counts: &[u32],
         places: &[Place],
         left: &[u32],
-        behind: &[u32],
     ) -> Result<bool, AllocError>
         requires listed { IsListed self.now.shape.now self.now.triples.now self.now.states.now }
         requires one_each { length counts.now ≡ length self.now.shape.now.occs }
@@ -189,14 +200,15 @@ impl<J: Judge> Listing<'_, J> {
         requires places { (t : Triple) → slice_get self.now.triples.now done ≡ Some t →
             ArePlacesFor (J.hold self.now.judge.now) (J.fail self.now.judge.now) self.now.shape.now self.now.node t places.now }
         requires left { AreLeft self.now.shape.now.occs self.now.node (drop done self.now.triples.now) left.now }
-        requires behind { AreLeft self.now.shape.now.occs self.now.node (drop (done + 1) self.now.triples.now) behind.now }
+        requires next { IsLayer self.now.shape.now self.now.node self.now.triples.now self.now.states.now (done + 1)
+            next.now.states.now next.now.left.now }
         ensures { IfOk result (λ b. IsTrue b ↔
             IsSettled (J.hold self.now.judge.now) (J.fail self.now.judge.now) self.now.shape.now self.now.node self.now.triples.now self.now.states.now (state_of done counts.now)) }
     {
-        if is_dead(self.shape, counts, left) {
+        if self.all_lead_on(alloc, done, next, counts, places)? {
             return Ok(true);
         }
-        self.all_lead_on(alloc, done, counts, places, behind)
+        Ok(is_dead(self.shape, counts, left))
     }
 
     /// Whether each state of a layer is so. All of them have so many triples done, but not all.
@@ -204,26 +216,26 @@ impl<J: Judge> Listing<'_, J> {
         &self,
         alloc: Global,
         done: usize,
-        layer: &[State],
-        left: &[u32],
-        behind: &[u32],
+        layer: &Layer<'_>,
+        next: &Layer<'_>,
     ) -> Result<bool, AllocError>
         requires ready { J.ready self.now.judge.now }
         requires listed { IsListed self.now.shape.now self.now.triples.now self.now.states.now }
         requires within { done < length self.now.triples.now }
-        requires layer { (x : State) → Contains layer.now x → IsShapedAt self.now.shape.now self.now.triples.now done x }
-        requires left { AreLeft self.now.shape.now.occs self.now.node (drop done self.now.triples.now) left.now }
-        requires behind { AreLeft self.now.shape.now.occs self.now.node (drop (done + 1) self.now.triples.now) behind.now }
-        ensures { IfOk result (DecideSettled (J.hold self.now.judge.now) (J.fail self.now.judge.now) self.now.shape.now self.now.node self.now.triples.now self.now.states.now layer.now) }
+        requires layer { (x : State) → Contains layer.now.states.now x → IsShapedAt self.now.shape.now self.now.triples.now done x }
+        requires left { AreLeft self.now.shape.now.occs self.now.node (drop done self.now.triples.now) layer.now.left.now }
+        requires next { IsLayer self.now.shape.now self.now.node self.now.triples.now self.now.states.now (done + 1)
+            next.now.states.now next.now.left.now }
+        ensures { IfOk result (DecideSettled (J.hold self.now.judge.now) (J.fail self.now.judge.now) self.now.shape.now self.now.node self.now.triples.now self.now.states.now layer.now.states.now) }
     {
-        if layer.is_empty() {
+        if layer.states.is_empty() {
             return Ok(true);
         }
         let triple = self.triples.at(done);
         let places = allowed_places(alloc, self.judge, self.shape, self.node, triple)?;
-        for state in layer {
+        for state in layer.states {
             let counts = state.counts.as_slice();
-            if !self.is_settled(alloc, done, counts, places.as_slice(), left, behind)? {
+            if !self.is_settled(alloc, done, next, counts, places.as_slice(), layer.left)? {
                 return Ok(false);
             }
         }
@@ -273,10 +285,20 @@ impl<J: Judge> Listing<'_, J> {
     {
         let mut left = fits;
         let mut rest = self.states;
+        let mut size = layer_len(rest, 0);
         for done in 0..self.triples.len() {
-            let (layer, later) = rest.split_at(layer_len(rest, done));
+            let (states, later) = rest.split_at(size);
+            size = layer_len(later, done + 1);
             let behind = self.behind_next(alloc, done, left.as_slice())?;
-            if !self.is_layer_settled(alloc, done, layer, left.as_slice(), behind.as_slice())? {
+            let layer = Layer {
+                states,
+                left: left.as_slice(),
+            };
+            let next = Layer {
+                states: &later[..size],
+                left: behind.as_slice(),
+            };
+            if !self.is_layer_settled(alloc, done, &layer, &next)? {
                 return Ok(false);
             }
             left = behind;
@@ -303,7 +325,11 @@ impl<J: Judge> Listing<'_, J> {
         ensures { IfOk result (λ b. IsTrue b ↔ IsCovered self.now.shape.now self.now.node self.now.triples.now self.now.states.now (opening self.now.shape.now)) }
     {
         let none = zeros(alloc, self.shape.occs.as_slice().len())?;
-        Ok(self.is_covered(0, none.as_slice(), fits))
+        let all = Layer {
+            states: self.states,
+            left: fits,
+        };
+        Ok(self.is_covered(0, &all, none.as_slice()))
     }
 
     /// Whether the states show that no allowed places match.

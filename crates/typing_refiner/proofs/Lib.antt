@@ -1,5 +1,6 @@
 pub mod Upheld
 pub mod Tallies
+pub mod Stored
 pub mod Membered
 pub mod Fine
 pub mod Gathered

@@ -1,6 +1,6 @@
 -- What a look at a pair comes to while pairs are removed.
 use Rattle.std.proofs.Common.{◌≡◌, ℕ, ◌<◌, ◌⊎◌, inl, inr, List, [], ◌∷◌, ◌++◌, refl, sym, subst}
-use Rattle.std.specs.Prelude.{◌↔◌, Contains, None, Option, Some, option_map, slice_get, slice_set}
+use Rattle.std.specs.Prelude.{◌↔◌, Contains, Some, option_map, slice_get, slice_set}
 use Rattle.schema_tree.specs.declared.schema.Pair.{Pair}
 use Rattle.schema_tree.specs.declared.verdicts.Lean.TheVariants.{Possible}
 use Rattle.schema_tree.specs.declared.verdicts.Place.{Place}

@@ -1,5 +1,5 @@
 -- Counts of places of which one changes.
-use Rattle.std.proofs.Common.{◌≡◌, ◌≢◌, ◌∙◌, ℕ, zero, suc, ◌+◌, ◌^◌, ◌<◌, ◌≤◌, ◌⊎◌, inl, inr, List, [], ◌∷◌, ◌++◌, not, true≢false, refl, sym, subst, ap, arith, length, length-set, set, Bool, true, false, cond, slice_index, replicate, get_or, take}
+use Rattle.std.proofs.Common.{◌≡◌, ◌∙◌, ℕ, zero, suc, ◌+◌, ◌^◌, ◌<◌, ◌≤◌, ◌⊎◌, inl, inr, List, [], ◌∷◌, ◌++◌, refl, sym, subst, ap, arith, length, Bool, true, false, cond, slice_index, replicate, get_or, take}
 use Rattle.std.proofs.lemmas.Bool.{cases_eq, OnTrue_at}
 use Rattle.std.specs.Bool.{OnTrue}
 use Rattle.std.proofs.lemmas.List.{length-replicate, take_more}
@@ -16,7 +16,7 @@ use Rattle.schema_tree.specs.declared.schema.ExprId.{ExprId}
 use Rattle.schema_tree.specs.declared.schema.Shape.{Shape}
 use Rattle.schema_tree.specs.declared.verdicts.Place.{Place}
 use Rattle.schema_tree.specs.declared.verdicts.Place.TheVariants.{At, Rest}
-use Rattle.schema_tree.specs.Places.{AreAllowed, HaveCounts, IsAllowed, add_place, times}
+use Rattle.schema_tree.specs.Places.{AreAllowed, IsAllowed, add_place, times}
 use Rattle.bag_match.specs.Counts.{ArePlacesOf, IsPlaceOf, raised}
 use Rattle.bag_match.specs.Least.{ArePlacesFor}
 use Rattle.bag_match.proofs.Counting.{add_in_turn, add_least, times_most, zeros_alone}
@@ -174,6 +174,37 @@ module _ (hold fail : TermId → Option ExprId → Type 0) (sh : Shape) (n : Ter
   kept_if old new same distinct at t there allowed lent is for false takes = tt
   kept_if old new same distinct at t there allowed lent is for true takes =
       λ free h. kept_up old new same distinct at t there allowed for (subst (λ ps. Takes sh.body at ps old.places.items new.places.items) is takes) free h
+
+  -- a triple keeps the place that it has
+  pub kept_there : (w : Witness) → AreDistinct w.triples → (at : ℕ) (t : Triple) → slice_get w.triples at ≡ Some t → (p : Place) → slice_get w.places.items at ≡ Some p → (allowed lent : List Place) →
+      lent ≡ allowed → ArePlacesFor hold fail sh n t allowed → Contains lent p → (free : List Triple) → IsStanding hold fail sh n (t ∷ free) w → IsStanding hold fail sh n free w
+  kept_there w distinct at t there p spot allowed lent is for one free h = record { allowed = each; spelled = h.spelled }
+    where
+      each : (i : ℕ) (u : Triple) (q : Place) → slice_get w.triples i ≡ Some u → slice_get w.places.items i ≡ Some q → Contains free u ⊎ IsAllowed hold fail sh n u q
+      each i u q own place = elim (h.allowed i u q own place) [
+        | inl c ↦ elim (in_rest t free u c) [
+          | inl e ↦ inr (
+              let same : i ≡ at = distinct i at t (own ∙ ap (λ v. Some v) (sym e)) there in
+              let both : Some p ≡ Some q = sym spot ∙ (ap (λ k. slice_get w.places.items k) (sym same) ∙ place) in
+              let c : p ≡ q = cc in
+              subst (λ v. IsAllowed hold fail sh n v q) e (subst (λ r. IsAllowed hold fail sh n t r) c ((for.same p).0 (subst (λ ps. Contains ps p) is one))))
+          | inr later ↦ inl later
+        ]
+        | inr a ↦ inr a
+      ]
+
+  -- a triple that is free all the same
+  pub repeated : (w : Witness) (t : Triple) (free : List Triple) → Contains free t → IsStanding hold fail sh n (t ∷ free) w → IsStanding hold fail sh n free w
+  repeated w t free again h = record { allowed = each; spelled = h.spelled }
+    where
+      each : (i : ℕ) (u : Triple) (p : Place) → slice_get w.triples i ≡ Some u → slice_get w.places.items i ≡ Some p → Contains free u ⊎ IsAllowed hold fail sh n u p
+      each i u p is spot = elim (h.allowed i u p is spot) [
+        | inl c ↦ elim (in_rest t free u c) [
+          | inl e ↦ inl (subst (λ v. Contains free v) e again)
+          | inr later ↦ inl later
+        ]
+        | inr a ↦ inr a
+      ]
 
   -- a triple that is none of these
   pub passed : (w : Witness) (t : Triple) → ¬ Contains w.triples t → (free : List Triple) → IsStanding hold fail sh n (t ∷ free) w → IsStanding hold fail sh n free w

@@ -1,15 +1,16 @@
 -- Witnesses while pairs go.
-use Rattle.std.proofs.Common.{◌≡◌, ◌≢◌, ◌∙◌, ℕ, suc, ◌+◌, ◌<◌, ◌≤◌, ◌⊎◌, inl, inr, List, [], ◌∷◌, ◌++◌, refl, sym, subst, ap, length, drop, take, get_or, ltb, zero, Bool, true, false, map, arith}
+use Rattle.std.proofs.Common.{◌≡◌, ◌≢◌, ◌∙◌, ℕ, ◌+◌, ◌<◌, ◌≤◌, ◌⊎◌, inl, inr, List, [], ◌∷◌, ◌++◌, refl, sym, subst, ap, length, drop, take, get_or, ltb, Bool, true, false}
 use borrow.Author.Tests.{ltb-true}
 use Rattle.std.proofs.lemmas.Option.{slice_get_read}
 use Rattle.std.proofs.lemmas.Bool.{and_parts, cases_eq}
-use Rattle.std.proofs.lemmas.List.{drop_all, drop_more}
+use Rattle.std.proofs.lemmas.List.{drop_all, drop_more, nil_from_length}
 use Rattle.std.proofs.lemmas.List.Elements.{Contains-append_cases, Contains-append_left, Contains-append_right}
 use Rattle.std.specs.Bool.{OnTrue}
 use Rattle.std.specs.Global.{Box}
+use Rattle.std.specs.List.{Any}
 use Rattle.std.specs.Prelude.{◌↔◌, Contains, IfOk, IfSome, Option, Some, None, Result, Ok, Err, option_map, slice_get, slice_set}
 use Rattle.lists.proofs.Decided.{Decided, decide_member, from_test}
-use Rattle.lists.proofs.Members.{got_in, in_map, in_rest, is_first, not_in_none}
+use Rattle.lists.proofs.Members.{got_in, in_map, in_rest, not_in_none}
 use Rattle.rdf_terms.specs.declared.terms.Term.{Term}
 use Rattle.rdf_terms.specs.declared.terms.TermId.{TermId}
 use Rattle.rdf_terms.specs.declared.terms.Triple.{Triple}
@@ -30,7 +31,7 @@ use Rattle.schema_tree.specs.Entries.{pair_of, shape_at}
 use Rattle.schema_tree.specs.Matches.{fits, near_end, other_end}
 use Rattle.schema_tree.specs.Needs.{Needs}
 use Rattle.schema_tree.specs.Places.{AreAllowed, CanMatch, HaveCounts, IsAllowed, MayFail, MayHold, PairCanMatch, times}
-use Rattle.schema_tree.specs.Relevant.{is_forward, relevant_in_order}
+use Rattle.schema_tree.specs.Relevant.{relevant_in_order}
 use Rattle.schema_tree.specs.Satisfies.{Sat}
 use Rattle.schema_tree.specs.Sure.{Known, PairIs}
 use Rattle.schema_tree.proofs.Leans.{all_weaker_allowed}
@@ -49,8 +50,8 @@ use Rattle.typing_refiner.specs.declared.ground.Ground.{Ground}
 use Rattle.typing_refiner.specs.declared.witness.Witness.{Witness}
 use Rattle.typing_refiner.specs.Holding.{AllShow, AllShowBut, CanMatchAt, Holds}
 use Rattle.typing_refiner.specs.Ready.{GoesBack, IsAmong, IsReady, Waits, known_of}
-use Rattle.typing_refiner.specs.Witnessed.{IsStanding, IsTally, IsWitness, Shows, ShowsBut, all_between, between}
-use Rattle.typing_refiner.proofs.Tallies.{all_allowed, more_free, one_allowed}
+use Rattle.typing_refiner.specs.Witnessed.{FitAlike, IsStanding, IsTally, IsWitness, IsWitnessBut, IsWitnessOf, all_between, between}
+use Rattle.typing_refiner.proofs.Tallies.{all_allowed, more_free, one_allowed, repeated}
 use Rattle.typing_refiner.proofs.Waiting.{in_more}
 
 -- ---- what is known of another pair does not change with a mark
@@ -132,7 +133,7 @@ module _ (h : Ground) (a b : Known) (q : Pair) (alike : (u : Pair) → u ≢ q �
   with_standing sh free less r s = record { open_to = r.open_to; triples = r.triples; tally = r.tally; standing = s }
 
   -- it stays one where the pair is not needed
-  pub shows_on : Shows h a p w → ¬ Needs h.schema.now h.graph.now.triples p q → Shows h b p w
+  pub shows_on : IsWitnessOf h a p w → ¬ Needs h.schema.now h.graph.now.triples p q → IsWitnessOf h b p w
   shows_on (sh, is, r) none = (sh, is, with_standing sh _ _ r (record { allowed = each; spelled = r.standing.spelled }))
     where
       each : (i : ℕ) (t : Triple) (pl : Place) → slice_get w.triples i ≡ Some t → slice_get w.places.items i ≡ Some pl →
@@ -151,7 +152,7 @@ module _ (h : Ground) (a b : Known) (q : Pair) (alike : (u : Pair) → u ≢ q �
               none (subst (λ u. Needs h.schema.now h.graph.now.triples p u) same (need_of h.schema.now h.graph.now.triples p sh is t held o of fit e value j sign st))
 
   -- and else but for triples that end at its node
-  pub shows_but : Shows h a p w → ShowsBut h b q p w
+  pub shows_but : IsWitnessOf h a p w → IsWitnessBut h b q p w
   shows_but (sh, is, r) = (sh, is, with_standing sh _ _ r (record { allowed = each; spelled = r.standing.spelled }))
     where
       each : (i : ℕ) (t : Triple) (pl : Place) → slice_get w.triples i ≡ Some t → slice_get w.places.items i ≡ Some pl →
@@ -168,7 +169,7 @@ module _ (h : Ground) (a b : Known) (q : Pair) (alike : (u : Pair) → u ≢ q �
 
 -- ---- what a witness shows
 
-pub shows_can : (h : Ground) (view : Known) (p : Pair) (w : Witness) → Shows h view p w → PairCanMatch h.schema.now h.terms.now h.graph.now.triples view Possible p
+pub shows_can : (h : Ground) (view : Known) (p : Pair) (w : Witness) → IsWitnessOf h view p w → PairCanMatch h.schema.now h.terms.now h.graph.now.triples view Possible p
 shows_can h view p w (sh, is, r) =
     subst (λ x. CanMatch h.schema.now h.terms.now h.graph.now.triples view Possible p.node x) (sym is) (record {
       open_to = r.open_to;
@@ -197,7 +198,7 @@ module _ (h : Ground) (view : Known) (p : Pair) (sh : Shape) (is : shape_at h.sc
   pub places_inside : ArePlacesOf (length sh.occs) places
   places_inside = inside_allowed (MayHold h.schema.now h.terms.now view Possible) (MayFail h.schema.now h.terms.now view Possible) sh p.node _ places found.1.allowed
 
-  pub shows_it : (w : Witness) → w.triples ≡ relevant_in_order h.terms.now h.graph.now.triples sh p.node → w.places.items ≡ places → IsTally (length sh.occs) w → Shows h view p w
+  pub shows_it : (w : Witness) → w.triples ≡ relevant_in_order h.terms.now h.graph.now.triples sh p.node → w.places.items ≡ places → IsTally (length sh.occs) w → IsWitnessOf h view p w
   shows_it w triples same tally = (
     sh,
     is,
@@ -215,21 +216,19 @@ module _ (h : Ground) (view : Known) (p : Pair) (sh : Shape) (is : shape_at h.sc
 -- ---- the triples of one occurrence after the other are looked at again
 
 module _ (hold fail : TermId → Option ExprId → Type 0) (sh : Shape) (n m : TermId) where
-  next_between : (os : List Occurrence) (j : ℕ) (d : Occurrence) → j < length os →
-      all_between (drop j os) n m ≡ between (get_or os j d).inverse (get_or os j d).predicate n m ∷ all_between (drop (j + 1) os) n m
-  next_between os j d within = ap (λ zs. all_between zs n m) (drop_more os j d within)
+  pub stands_next : (rest later : List Occurrence) (o : Occurrence) → rest ≡ o ∷ later → (t : Triple) → t ≡ between o.inverse o.predicate n m → (w : Witness) →
+      IsStanding hold fail sh n (all_between rest n m) w → IsStanding hold fail sh n (t ∷ all_between later n m) w
+  stands_next rest later o cut t is w s =
+      subst (λ u. IsStanding hold fail sh n (u ∷ all_between later n m) w) (sym is) (subst (λ os. IsStanding hold fail sh n (all_between os n m) w) cut s)
 
-  pub stands_next : (os : List Occurrence) → os ≡ sh.occs → (j : ℕ) (d : Occurrence) → j < length os → (t : Triple) → t ≡ between (get_or os j d).inverse (get_or os j d).predicate n m → (w : Witness) →
-      IsStanding hold fail sh n (all_between (drop j sh.occs) n m) w → IsStanding hold fail sh n (t ∷ all_between (drop (j + 1) sh.occs) n m) w
-  stands_next os same j d within t is w s =
-      subst (λ zs. IsStanding hold fail sh n (t ∷ all_between (drop (j + 1) zs) n m) w) same
-      (subst (λ u. IsStanding hold fail sh n (u ∷ all_between (drop (j + 1) os) n m) w) (sym is)
-      (subst (λ ts. IsStanding hold fail sh n ts w) (next_between os j d within)
-      (subst (λ zs. IsStanding hold fail sh n (all_between (drop j zs) n m) w) (sym same) s)))
+  pub stands_all : (rest : List Occurrence) → length rest ≡ 0 → (w : Witness) → IsStanding hold fail sh n (all_between rest n m) w → IsStanding hold fail sh n [] w
+  stands_all rest none w s = subst (λ os. IsStanding hold fail sh n (all_between os n m) w) (nil_from_length rest none) s
 
-  pub stands_all : (os : List Occurrence) → os ≡ sh.occs → (j : ℕ) → length os ≤ j → (w : Witness) → IsStanding hold fail sh n (all_between (drop j sh.occs) n m) w → IsStanding hold fail sh n [] w
-  stands_all os same j past w s =
-      subst (λ zs. IsStanding hold fail sh n (all_between zs n m) w) (drop_all j os past) (subst (λ zs. IsStanding hold fail sh n (all_between (drop j zs) n m) w) (sym same) s)
+  -- what a later occurrence fits, too, is left to that one
+  pub left_to : (later : List Occurrence) (o : Occurrence) (t : Triple) → t ≡ between o.inverse o.predicate n m → Any (FitAlike o) later → (w : Witness) →
+      IsStanding hold fail sh n (t ∷ all_between later n m) w → IsStanding hold fail sh n (all_between later n m) w
+  left_to later o t is (k, x, within, at, (predicate, inverse)) w s = repeated hold fail sh n w t (all_between later n m)
+      (subst (λ u. Contains (all_between later n m) u) (sym (is ∙ (λ i. between (inverse i) (predicate i) n m))) (in_map (λ c. between c.inverse c.predicate n m) later x (k, within, at))) s
 
 -- ---- the witnesses of the pairs that need one that went
 
@@ -242,7 +241,7 @@ module _ (h : Ground) (ready : IsReady h) (elsewhere : Known) (marks : List Verd
   alike : (u : Pair) → u ≢ q → (v : Verdict) → PairIs (known_of h elsewhere marks) u v ↔ PairIs (known_of h elsewhere marks') u v
   alike u ne v = subst (λ ms. PairIs (known_of h elsewhere marks) u v ↔ PairIs (known_of h elsewhere ms) u v) (sym marked) (known_alike elsewhere h.table.now marks at No q here u ne v)
 
-  pub all_but : (held : List (Option (Box Witness))) → AllShow h (known_of h elsewhere marks) held →
+  pub all_but : (held : List (ℕ × Box Witness)) → AllShow h (known_of h elsewhere marks) held →
       AllShowBut h (known_of h elsewhere marks') q (option_map (λ v. v.items) (slice_get h.needing.now at)) held
   all_but held all i w p holds there = elim (decide_among (option_map (λ v. v.items) (slice_get h.needing.now at)) i) [
     | inl among ↦ inr (among, shows_but h (known_of h elsewhere marks) (known_of h elsewhere marks') q alike p w (all i w p holds there))
@@ -250,7 +249,7 @@ module _ (h : Ground) (ready : IsReady h) (elsewhere : Known) (marks : List Verd
   ]
 
 module _ (h : Ground) (view : Known) (q : Pair) where
-  any_free : (p : Pair) (w : Witness) → Shows h view p w → ShowsBut h view q p w
+  any_free : (p : Pair) (w : Witness) → IsWitnessOf h view p w → IsWitnessBut h view q p w
   any_free p w (sh, is, r) = (
     sh,
     is,
@@ -263,12 +262,12 @@ module _ (h : Ground) (view : Known) (q : Pair) where
   )
 
   -- what is known of each witness before it is looked at again
-  pub but_at : (numbers : Option (List ℕ)) (held : List (Option (Box Witness))) → AllShowBut h view q numbers held → (i : ℕ) (w : Witness) (p : Pair) → Holds held i w → slice_get h.table.now i ≡ Some p → ShowsBut h view q p w
+  pub but_at : (numbers : Option (List ℕ)) (held : List (ℕ × Box Witness)) → AllShowBut h view q numbers held → (i : ℕ) (w : Witness) (p : Pair) → Holds held i w → slice_get h.table.now i ≡ Some p → IsWitnessBut h view q p w
   but_at numbers held all i w p holds there = elim (all i w p holds there) [ inl s ↦ any_free p w s | inr t ↦ t.1 ]
 
   -- and once that of one number is
-  pub next_but : (numbers : List ℕ) (j : ℕ) (held new : List (Option (Box Witness))) → j < length numbers → AllShowBut h view q (Some (drop j numbers)) held →
-      ((i : ℕ) (w : Witness) → Holds new i w → ((i ≢ get_or numbers j 0) × Holds held i w) ⊎ ((i ≡ get_or numbers j 0) × ((p : Pair) → slice_get h.table.now i ≡ Some p → Shows h view p w))) →
+  pub next_but : (numbers : List ℕ) (j : ℕ) (held new : List (ℕ × Box Witness)) → j < length numbers → AllShowBut h view q (Some (drop j numbers)) held →
+      ((i : ℕ) (w : Witness) → Holds new i w → ((i ≢ get_or numbers j 0) × Holds held i w) ⊎ ((i ≡ get_or numbers j 0) × ((p : Pair) → slice_get h.table.now i ≡ Some p → IsWitnessOf h view p w))) →
       AllShowBut h view q (Some (drop (j + 1) numbers)) new
   next_but numbers j held new within all step i w p holds there = elim (step i w holds) [
     | inr t ↦ inl (t.1 p there)
@@ -281,32 +280,32 @@ module _ (h : Ground) (view : Known) (q : Pair) where
     ]
   ]
 
-  pub none_but : (numbers : List ℕ) (j : ℕ) (held : List (Option (Box Witness))) → length numbers ≤ j → AllShowBut h view q (Some (drop j numbers)) held → AllShow h view held
+  pub none_but : (numbers : List ℕ) (j : ℕ) (held : List (ℕ × Box Witness)) → length numbers ≤ j → AllShowBut h view q (Some (drop j numbers)) held → AllShow h view held
   none_but numbers j held past all i w p holds there = elim (all i w p holds there) [
     | inl s ↦ s
     | inr t ↦ absurd (not_in_none i (subst (λ xs. Contains xs i) (drop_all j numbers past) t.0))
   ]
 
-  pub no_numbers : (held : List (Option (Box Witness))) → AllShowBut h view q None held → AllShow h view held
+  pub no_numbers : (held : List (ℕ × Box Witness)) → AllShowBut h view q None held → AllShow h view held
   no_numbers held all i w p holds there = elim (all i w p holds there) [ inl s ↦ s | inr t ↦ absurd t.0 ]
 
 -- ---- one witness is looked at again
 
 module _ (h : Ground) (view : Known) (q p : Pair) (sh : Shape) (is : shape_at h.schema.now p.shape ≡ Some sh) where
   -- a witness is of the Shape that the pair has
-  pub but_of : (w : Witness) → ShowsBut h view q p w → IsWitness h view p sh (all_between sh.occs p.node q.node) w
+  pub but_of : (w : Witness) → IsWitnessBut h view q p w → IsWitness h view p sh (all_between sh.occs p.node q.node) w
   but_of w (own, at, r) = subst (λ x. IsWitness h view p x (all_between x.occs p.node q.node) w) (let both : Some own ≡ Some sh = sym at ∙ is in cc) r
 
-  pub shows_if : (old new : Witness) → ShowsBut h view q p old → new.triples ≡ old.triples → IsTally (length sh.occs) new → (b : Bool) →
+  pub shows_if : (old new : Witness) → IsWitnessBut h view q p old → new.triples ≡ old.triples → IsTally (length sh.occs) new → (b : Bool) →
       OnTrue b (IsStanding (MayHold h.schema.now h.terms.now view Possible) (MayFail h.schema.now h.terms.now view Possible) sh p.node (all_between sh.occs p.node q.node) old →
-      IsStanding (MayHold h.schema.now h.terms.now view Possible) (MayFail h.schema.now h.terms.now view Possible) sh p.node [] new) → OnTrue b (Shows h view p new)
+      IsStanding (MayHold h.schema.now h.terms.now view Possible) (MayFail h.schema.now h.terms.now view Possible) sh p.node [] new) → OnTrue b (IsWitnessOf h view p new)
   shows_if old new but triples tally false stands = tt
   shows_if old new but triples tally true stands =
       let r = but_of old but in (sh, is, record { open_to = r.open_to; triples = triples ∙ r.triples; tally = tally; standing = stands r.standing })
 
-  pub shows_ok : {E : Type 0} (old new : Witness) → ShowsBut h view q p old → new.triples ≡ old.triples → IsTally (length sh.occs) new → (r : Result Bool E) →
+  pub shows_ok : {E : Type 0} (old new : Witness) → IsWitnessBut h view q p old → new.triples ≡ old.triples → IsTally (length sh.occs) new → (r : Result Bool E) →
       IfOk r (λ b. OnTrue b (IsStanding (MayHold h.schema.now h.terms.now view Possible) (MayFail h.schema.now h.terms.now view Possible) sh p.node (all_between sh.occs p.node q.node) old →
-      IsStanding (MayHold h.schema.now h.terms.now view Possible) (MayFail h.schema.now h.terms.now view Possible) sh p.node [] new)) → IfOk r (λ b. OnTrue b (Shows h view p new))
+      IsStanding (MayHold h.schema.now h.terms.now view Possible) (MayFail h.schema.now h.terms.now view Possible) sh p.node [] new)) → IfOk r (λ b. OnTrue b (IsWitnessOf h view p new))
   shows_ok old new but triples tally (Ok b) stands = shows_if old new but triples tally b stands
   shows_ok old new but triples tally (Err e) stands = tt
 
@@ -333,15 +332,15 @@ module _ (h : Ground) (view : Known) (k : ℕ) (marks : List Verdict) (numbers :
   ]
 
 -- a witness that stands shows it at its number
-pub can_at : (h : Ground) (view : Known) (i : ℕ) (p : Pair) (w : Witness) → slice_get h.table.now i ≡ Some p → Shows h view p w → CanMatchAt h view i
+pub can_at : (h : Ground) (view : Known) (i : ℕ) (p : Pair) (w : Witness) → slice_get h.table.now i ≡ Some p → IsWitnessOf h view p w → CanMatchAt h view i
 can_at h view i p w there shows u at = subst (λ z. PairCanMatch h.schema.now h.terms.now h.graph.now.triples view Possible z) (let both : Some p ≡ Some u = sym there ∙ at in cc) (shows_can h view p w shows)
 
 -- what is held once a witness is put
-pub put_shows : (h : Ground) (view : Known) (old new : List (Option (Box Witness))) (at : ℕ) (x : Witness) → AllShow h view old →
-    ((i : ℕ) (w : Witness) → Holds new i w → Holds old i w ⊎ ((i ≡ at) × (w ≡ x))) → (p : Pair) → slice_get h.table.now at ≡ Some p → Shows h view p x → AllShow h view new
+pub put_shows : (h : Ground) (view : Known) (old new : List (ℕ × Box Witness)) (at : ℕ) (x : Witness) → AllShow h view old →
+    ((i : ℕ) (w : Witness) → Holds new i w → Holds old i w ⊎ ((i ≡ at) × (w ≡ x))) → (p : Pair) → slice_get h.table.now at ≡ Some p → IsWitnessOf h view p x → AllShow h view new
 put_shows h view old new at x all step p here shows i w u holds there = elim (step i w holds) [
   | inl o ↦ all i w u o there
-  | inr t ↦ subst (λ z. Shows h view u z) (sym t.1) (subst (λ z. Shows h view z x)
+  | inr t ↦ subst (λ z. IsWitnessOf h view u z) (sym t.1) (subst (λ z. IsWitnessOf h view z x)
       (let both : Some p ≡ Some u = sym here ∙ (ap (λ k. slice_get h.table.now k) (sym t.0) ∙ there) in cc) shows)
 ]
 
@@ -349,29 +348,29 @@ put_shows h view old new at x all step p here shows i w u holds there = elim (st
 pub shows_some : {E : Type 0} (h : Ground) (p : Pair) (sh : Shape) (places : List Place) → shape_at h.schema.now p.shape ≡ Some sh → (ts : List Triple) →
     ts ≡ relevant_in_order h.terms.now h.graph.now.triples sh p.node → (r : Result (Option Witness) E) → IfOk r (λ o. IfSome o (λ w. w.triples ≡ ts)) → IfOk r (λ o. IfSome o (λ w. w.places.items ≡ places)) →
     IfOk r (λ o. IfSome o (λ w. IsTally (length sh.occs) w)) →
-    IfOk r (λ o. IfSome o (λ w. (view : Known) → IsOutcome h.schema.now h.terms.now h.graph.now.triples view Possible p (Placed places) → Shows h view p w))
+    IfOk r (λ o. IfSome o (λ w. (view : Known) → IsOutcome h.schema.now h.terms.now h.graph.now.triples view Possible p (Placed places) → IsWitnessOf h view p w))
 shows_some h p sh places is ts order (Ok (Some w)) a b c = λ view outcome. shows_it h view p sh is places outcome w (a ∙ order) b c
 shows_some h p sh places is ts order (Ok None) a b c = tt
 shows_some h p sh places is ts order (Err e) a b c = tt
 
 -- ---- one witness is taken out and put back
 
-module _ (h : Ground) (view : Known) (other : ℕ) (old mid : List (Option (Box Witness)))
+module _ (h : Ground) (view : Known) (other : ℕ) (old mid : List (ℕ × Box Witness))
     (left : (i : ℕ) (w : Witness) → Holds mid i w → (i ≢ other) × Holds old i w) where
-  abbrev Stays : List (Option (Box Witness)) → Type 0
+  abbrev Stays : List (ℕ × Box Witness) → Type 0
   Stays new = (i : ℕ) (w : Witness) → Holds new i w →
-      ((i ≢ other) × Holds old i w) ⊎ ((i ≡ other) × ((p : Pair) → slice_get h.table.now i ≡ Some p → Shows h view p w))
+      ((i ≢ other) × Holds old i w) ⊎ ((i ≡ other) × ((p : Pair) → slice_get h.table.now i ≡ Some p → IsWitnessOf h view p w))
 
   pub out_stays : Stays mid
   out_stays i w holds = inl (left i w holds)
 
-  pub back_stays : (pair : Pair) → slice_get h.table.now other ≡ Some pair → (x : Witness) → Shows h view pair x → (new : List (Option (Box Witness))) →
+  pub back_stays : (pair : Pair) → slice_get h.table.now other ≡ Some pair → (x : Witness) → IsWitnessOf h view pair x → (new : List (ℕ × Box Witness)) →
       ((i : ℕ) (w : Witness) → Holds new i w → Holds mid i w ⊎ ((i ≡ other) × (w ≡ x))) → Stays new
   back_stays pair there x shows new put i w holds = elim (put i w holds) [
     | inl m ↦ inl (left i w m)
     | inr t ↦ inr (
       t.0,
-      λ p at. subst (λ z. Shows h view p z) (sym t.1) (subst (λ z. Shows h view z x)
+      λ p at. subst (λ z. IsWitnessOf h view p z) (sym t.1) (subst (λ z. IsWitnessOf h view z x)
           (let both : Some pair ≡ Some p = sym there ∙ (ap (λ k. slice_get h.table.now k) (sym t.0) ∙ at) in cc) shows),
     )
   ]
@@ -385,7 +384,7 @@ module _ (h : Ground) (k at : ℕ) (marks : List Verdict) (needing lent : List �
   pub from_back : (q : ℕ) → GoesBack h k at marks Unknown q → Contains lent q
   from_back q t = subst (λ ys. Contains ys q) (sym same) (subst (λ o. IsAmong o q) is t.0)
 
-  pub lent_but : (view : Known) (q : Pair) (held : List (Option (Box Witness))) → AllShowBut h view q (option_map (λ v. v.items) (slice_get h.needing.now at)) held → AllShowBut h view q (Some lent) held
+  pub lent_but : (view : Known) (q : Pair) (held : List (ℕ × Box Witness)) → AllShowBut h view q (option_map (λ v. v.items) (slice_get h.needing.now at)) held → AllShowBut h view q (Some lent) held
   lent_but view q held all = subst (λ ys. AllShowBut h view q (Some ys) held) (sym same) (subst (λ o. AllShowBut h view q o held) is all)
 
   module _ (view : Known) (first next : List ℕ) where
@@ -394,38 +393,6 @@ module _ (h : Ground) (k at : ℕ) (marks : List Verdict) (needing lent : List �
 
     pub settled_of : ((q : ℕ) → Contains lent q → Waits h k marks Unknown q → Contains next q ⊎ CanMatchAt h view q) → (q : ℕ) → GoesBack h k at marks Unknown q → Contains next q ⊎ CanMatchAt h view q
     settled_of settled q t = settled q (from_back q t) t.1
-
--- ---- the lists of witnesses
-
-none_push : (held : List (Option (Box Witness))) (i : ℕ) (b : Box Witness) → slice_get (held ++ None ∷ []) i ≡ Some (Some b) → slice_get held i ≡ Some (Some b)
-none_push [] zero b is = absurd (let bad : ⊥ = cc in bad)
-none_push [] (suc i) b is = absurd (let bad : ⊥ = cc in bad)
-none_push (x ∷ xs) zero b is = is
-none_push (x ∷ xs) (suc i) b is = none_push xs i b is
-
-pub none_more : (held new : List (Option (Box Witness))) → new ≡ held ++ None ∷ [] → ((i : ℕ) (w : Witness) → ¬ Holds held i w) → (i : ℕ) (w : Witness) → ¬ Holds new i w
-none_more held new is free i w (b, at, same) = free i w (b, none_push held i b (ap (λ xs. slice_get xs i) (sym is) ∙ at), same)
-
-set_value : {X : Type 0} (xs : List X) (at : ℕ) (v x : X) → slice_get (slice_set xs at v) at ≡ Some x → v ≡ x
-set_value [] at v x is = absurd (let bad : ⊥ = cc in bad)
-set_value (y ∷ ys) zero v x is = cc
-set_value (y ∷ ys) (suc at) v x is = set_value ys at v x is
-
-pub left_out : (old new : List (Option (Box Witness))) (at : ℕ) → new ≡ slice_set old at None → (i : ℕ) (w : Witness) → Holds new i w → (i ≢ at) × Holds old i w
-left_out old new at is i w (b, there, same) = elim (cases_eq i at) [
-  | inl e ↦ absurd (let v = set_value old at None (Some b) (subst (λ k. slice_get (slice_set old at None) k ≡ Some (Some b)) e (ap (λ xs. slice_get xs i) (sym is) ∙ there)) in let bad : ⊥ = cc in bad)
-  | inr ne ↦ (ne, (b, sym (set_other old at i None ne) ∙ (ap (λ xs. slice_get xs i) (sym is) ∙ there), same))
-]
-
-pub put_there : (old new : List (Option (Box Witness))) (at : ℕ) (x : Box Witness) → new ≡ slice_set old at (Some x) → (i : ℕ) (w : Witness) → Holds new i w → Holds old i w ⊎ ((i ≡ at) × (w ≡ x.value))
-put_there old new at x is i w (b, there, same) = elim (cases_eq i at) [
-  | inl e ↦ inr (
-    e,
-    (let v = set_value old at (Some x) (Some b) (subst (λ k. slice_get (slice_set old at (Some x)) k ≡ Some (Some b)) e (ap (λ xs. slice_get xs i) (sym is) ∙ there)) in
-        let own : x ≡ b = cc in sym same ∙ ap (λ c. c.value) (sym own)),
-  )
-  | inr ne ↦ inl (b, sym (set_other old at i (Some x) ne) ∙ (ap (λ xs. slice_get xs i) (sym is) ∙ there), same)
-]
 
 -- the pair of a number, read
 pub table_read : (h : Ground) (ps : List Pair) (i : ℕ) (p : Pair) → ps ≡ h.table.now → true ≡ ltb i (length ps) → p ≡ get_or ps i p → slice_get h.table.now i ≡ Some p

@@ -1,27 +1,38 @@
 -- Witnesses that are held by the numbers of their pairs (own).
-use Rattle.std.specs.Prelude.{ℕ, List, ◌≡◌, ◌⊎◌, Option, Some, option_map, slice_get}
+use Rattle.std.specs.Prelude.{ℕ, List, ◌≡◌, ◌⊎◌, Option, Some, length, nat_eq, slice_get}
 use Rattle.std.specs.Global.{Box}
+use Rattle.std.specs.List.{sum_by}
+use Rattle.std.specs.Map.{lookup}
 use Rattle.schema_tree.specs.declared.schema.Pair.{Pair}
 use Rattle.schema_tree.specs.Places.{PairCanMatch}
 use Rattle.schema_tree.specs.declared.verdicts.Lean.TheVariants.{Possible}
 use Rattle.schema_tree.specs.Sure.{Known}
 use Rattle.typing_refiner.specs.Ready.{IsAmong}
-use Rattle.typing_refiner.specs.Witnessed.{Shows, ShowsBut}
+use Rattle.typing_refiner.specs.Witnessed.{IsWitnessBut, IsWitnessOf}
 use Rattle.typing_refiner.specs.declared.ground.Ground.{Ground}
 use Rattle.typing_refiner.specs.declared.witness.Witness.{Witness}
 
 -- the witness is held at the number
-abbrev pub Holds : List (Option (Box Witness)) → ℕ → Witness → Type 0
-Holds held i w = (b : Box Witness) × (slice_get held i ≡ Some (Some b)) × (b.value ≡ w)
+abbrev pub Holds : List (ℕ × Box Witness) → ℕ → Witness → Type 0
+Holds held i w = (b : Box Witness) × (lookup (nat_eq i) held ≡ Some b) × (b.value ≡ w)
+
+-- how many triples the witnesses have together
+abbrev pub triples_of : List (ℕ × Box Witness) → ℕ
+triples_of held = sum_by (λ e. length e.1.value.triples) held
+
+-- and how many at most
+abbrev pub most_triples : ℕ
+most_triples = 4194304
 
 -- each witness that is held shows that the pair of its number can match
-abbrev pub AllShow : Ground → Known → List (Option (Box Witness)) → Type 0
-AllShow h view held = (i : ℕ) (w : Witness) (p : Pair) → Holds held i w → slice_get h.table.now i ≡ Some p → Shows h view p w
+abbrev pub AllShow : Ground → Known → List (ℕ × Box Witness) → Type 0
+AllShow h view held = (i : ℕ) (w : Witness) (p : Pair) → Holds held i w → slice_get h.table.now i ≡ Some p → IsWitnessOf h view p w
 
 -- the same, but for triples that end at the node of another pair, where the number is one of these
-abbrev pub AllShowBut : Ground → Known → Pair → Option (List ℕ) → List (Option (Box Witness)) → Type 0
+abbrev pub AllShowBut : Ground → Known → Pair → Option (List ℕ) → List (ℕ × Box Witness) → Type 0
 AllShowBut h view q numbers held =
-    (i : ℕ) (w : Witness) (p : Pair) → Holds held i w → slice_get h.table.now i ≡ Some p → Shows h view p w ⊎ (IsAmong numbers i × ShowsBut h view q p w)
+    (i : ℕ) (w : Witness) (p : Pair) → Holds held i w → slice_get h.table.now i ≡ Some p →
+    IsWitnessOf h view p w ⊎ (IsAmong numbers i × IsWitnessBut h view q p w)
 
 -- the pair of the number can match under the view
 abbrev pub CanMatchAt : Ground → Known → ℕ → Type 0

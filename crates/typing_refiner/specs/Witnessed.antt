@@ -14,7 +14,6 @@ use Rattle.schema_tree.specs.Relevant.{relevant_in_order}
 use Rattle.schema_tree.specs.Sure.{Known}
 use Rattle.tally.specs.Plan.{Plan}
 use Rattle.bag_match.specs.Counts.{ArePlacesOf}
-use Rattle.typing_refiner.specs.Ready.{IsAmong}
 use Rattle.typing_refiner.specs.declared.ground.Ground.{Ground}
 use Rattle.typing_refiner.specs.declared.witness.Witness.{Witness}
 
@@ -41,6 +40,10 @@ module _ (hold fail : TermId → Option ExprId → Type 0) (sh : Shape) (n : Ter
         Contains free t ⊎ IsAllowed hold fail sh n t p
     pub spelled : HaveCounts sh.body (times w.places.items)
 
+-- two occurrences fit the same triples: they have one predicate and one direction
+abbrev pub FitAlike : Occurrence → Occurrence → Type 0
+FitAlike a b = (a.predicate ≡ b.predicate) × (a.inverse ≡ b.inverse)
+
 -- the triple that the occurrence fits at a node, whose other end is the second node
 abbrev pub between : Bool → TermId → TermId → TermId → Triple
 between false p n m = record { s = n; p = p; o = m }
@@ -58,10 +61,10 @@ pub record IsWitness (h : Ground) (view : Known) (p : Pair) (sh : Shape) (free :
   pub standing : IsStanding (MayHold h.schema.now h.terms.now view Possible) (MayFail h.schema.now h.terms.now view Possible) sh p.node free w
 
 -- the same of a pair with a Shape, where no triple is free
-abbrev pub Shows : Ground → Known → Pair → Witness → Type 0
-Shows h view p w = (sh : Shape) × (shape_at h.schema.now p.shape ≡ Some sh) × IsWitness h view p sh [] w
+abbrev pub IsWitnessOf : Ground → Known → Pair → Witness → Type 0
+IsWitnessOf h view p w = (sh : Shape) × (shape_at h.schema.now p.shape ≡ Some sh) × IsWitness h view p sh [] w
 
 -- where the triples that end at the node of another pair are free
-abbrev pub ShowsBut : Ground → Known → Pair → Pair → Witness → Type 0
-ShowsBut h view q p w =
+abbrev pub IsWitnessBut : Ground → Known → Pair → Pair → Witness → Type 0
+IsWitnessBut h view q p w =
     (sh : Shape) × (shape_at h.schema.now p.shape ≡ Some sh) × IsWitness h view p sh (all_between sh.occs p.node q.node) w

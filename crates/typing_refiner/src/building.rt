@@ -11,7 +11,7 @@ ghost use Rattle.typing_refiner.specs.Building.{AreAddedAt, AreWidths, AreEmpty,
 
 use bag_match::width;
 use demand::links::{Link, links};
-use demand::needs::needs;
+use demand::needs::needs_into;
 use demand::table::{PairError, PairTable};
 use graph_index::graph::Graph;
 use rdf_terms::items::Items;
@@ -98,7 +98,7 @@ pub(crate) fn table_of(alloc: Global, pairs: &[Pair]) -> Result<PairTable, Alloc
     requires few { length pairs.now ≤ max_pairs }
     ensures { IfOk result (λ t. t ≡ pairs.now) }
 {
-    let mut table = PairTable::new(alloc);
+    let mut table = PairTable::with_room(alloc, pairs.len())?;
     for pair in pairs {
         match table.put(*pair) {
             Ok(()) => {}
@@ -165,10 +165,11 @@ pub(crate) fn needing(
     ensures { IfOk result (λ v. AreNeeds schema.now graph.now.triples table.now (map (λ l. l.items) v.items)) }
 {
     let mut lists = empty_lists(alloc, table.len())?;
+    let mut found = Vec::new(alloc);
     let mut number = 0;
     while number < table.len() {
         let pair = table.as_slice()[number];
-        let found = needs(alloc, schema, links, graph, terms, pair)?;
+        needs_into(schema, links, graph, terms, pair, &mut found)?;
         add_needs(table, found.as_slice(), number as u32, &mut lists)?;
         number += 1;
     }

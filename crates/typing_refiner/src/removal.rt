@@ -110,8 +110,8 @@ impl Ground<'_> {
         requires waits { Waits self.now stratum marks.old Unknown at }
         requires few { length gone.old.items < length self.now.table.now }
         requires all { AllWait self.now stratum marks.old Unknown agenda.old }
-        requires shows { AllShow self.now (known_of self.now (K.known kept.now) marks.old) witnesses.old.held.items }
-        ensures shows { OnOk result (AllShow self.now (known_of self.now (K.known kept.now) marks.new) witnesses.new.held.items) }
+        requires shows { AllShow self.now (known_of self.now (K.known kept.now) marks.old) witnesses.old }
+        ensures shows { OnOk result (AllShow self.now (known_of self.now (K.known kept.now) marks.new) witnesses.new) }
         ensures looked { OnOk result ((lower : Known) →
             IsRemoving self.now (K.known kept.now) lower stratum marks.old (map (λ r. r.pair) gone.old.items) (λ i. Contains agenda.old i ⊎ (i ≡ at)) →
             IsRemoving self.now (K.known kept.now) lower stratum marks.new (map (λ r. r.pair) gone.new.items) (λ i. Contains agenda.new i)) }

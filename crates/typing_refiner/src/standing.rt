@@ -1,7 +1,8 @@
 //! Witnesses that are looked at again when a pair that they need has gone.
 
-ghost use Rattle.std.specs.Prelude.{ℕ, List, [], ◌≡◌, ◌≢◌, ◌<◌, ◌≤◌, ◌↔◌, ◌⊎◌, Contains, IfOk, IfSome, OnOk, Some, length, slice_get, slice_set};
+ghost use Rattle.std.specs.Prelude.{ℕ, List, [], ◌≡◌, ◌≢◌, ◌<◌, ◌≤◌, ◌↔◌, ◌⊎◌, Contains, IfOk, IfSome, IsTrue, OnOk, Some, length, slice_get, slice_set};
 ghost use Rattle.std.specs.Bool.{OnTrue};
+ghost use Rattle.std.specs.List.{Any};
 ghost use Rattle.bag_match.specs.Outcomes.{IsOutcome};
 ghost use Rattle.bag_match.specs.declared.outcome.Outcome.TheVariants.{Placed};
 ghost use Rattle.schema_tree.specs.declared.schema.Pair.{Pair as Held};
@@ -12,7 +13,7 @@ ghost use Rattle.schema_tree.specs.Loaded.{BodyOk};
 ghost use Rattle.schema_tree.specs.Sure.{Known};
 ghost use Rattle.typing_refiner.specs.Holding.{AllShow, AllShowBut, CanMatchAt, Holds};
 ghost use Rattle.typing_refiner.specs.Ready.{GoesBack, IsAmong, IsReady, Waits, known_of};
-ghost use Rattle.typing_refiner.specs.Witnessed.{IsStanding, IsTally, Shows, ShowsBut, all_between, between};
+ghost use Rattle.typing_refiner.specs.Witnessed.{FitAlike, IsStanding, IsTally, IsWitnessBut, IsWitnessOf, all_between, between};
 ghost use Rattle.typing_refiner.specs.declared.witness.Witness.{Witness as Found};
 
 use crate::ground::Ground;
@@ -43,6 +44,20 @@ fn between(occ: Occurrence, node: TermId, end: TermId) -> Triple
     }
 }
 
+/// Whether two occurrences have one predicate and one direction.
+fn fit_alike(a: Occurrence, b: Occurrence) -> bool
+    ensures { IsTrue result ↔ FitAlike a b }
+{
+    a.predicate == b.predicate && a.inverse == b.inverse
+}
+
+/// Whether an occurrence has the predicate and the direction of one of these.
+fn is_repeated(occs: &[Occurrence], occ: Occurrence) -> bool
+    ensures { IsTrue result ↔ Any (FitAlike occ) occs.now }
+{
+    occs.iter().any(|other| fit_alike(occ, *other))
+}
+
 /// Whether a witness stands, once its triples that end at a node are looked at again.
 fn stands_at<J: Judge>(
     alloc: Global,
@@ -62,8 +77,17 @@ fn stands_at<J: Judge>(
         IsStanding (J.hold judge.now) (J.fail judge.now) shape.now node (all_between shape.now.occs node end) witness.old →
         IsStanding (J.hold judge.now) (J.fail judge.now) shape.now node [] witness.new)) }
 {
-    for occ in shape.occs.as_slice() {
-        if !witness.keeps(alloc, judge, shape, node, between(*occ, node, end))? {
+    let mut rest = shape.occs.as_slice();
+    while let Some((occ, later)) = rest.split_first() {
+        rest = later;
+        let triple = between(*occ, node, end);
+        let Some(at) = witness.triples.find(triple) else {
+            continue;
+        };
+        if is_repeated(later, *occ) {
+            continue;
+        }
+        if !witness.keeps(alloc, judge, shape, node, triple, at)? {
             return Ok(false);
         }
     }
@@ -82,8 +106,8 @@ impl Ground<'_> {
         witness: &mut Witness,
     ) -> Result<bool, AllocError>
         requires ready { IsReady self.now }
-        requires shows { ShowsBut self.now (known_of self.now (K.known kept.now) marks.now) gone pair witness.old }
-        ensures { IfOk result (λ b. OnTrue b (Shows self.now (known_of self.now (K.known kept.now) marks.now) pair witness.new)) }
+        requires shows { IsWitnessBut self.now (known_of self.now (K.known kept.now) marks.now) gone pair witness.old }
+        ensures { IfOk result (λ b. OnTrue b (IsWitnessOf self.now (known_of self.now (K.known kept.now) marks.now) pair witness.new)) }
     {
         let Some(shape) = self.schema.shapes.as_slice().get(pair.shape.0 as usize) else {
             return Ok(false);
@@ -114,11 +138,11 @@ impl Ground<'_> {
         witnesses: &mut Witnesses,
     ) -> Result<bool, AllocError>
         requires ready { IsReady self.now }
-        requires shows { (w : Found) (p : Held) → Holds witnesses.old.held.items other w → slice_get self.now.table.now other ≡ Some p →
-            ShowsBut self.now (known_of self.now (K.known kept.now) marks.now) gone p w }
-        ensures witnesses { OnOk result ((i : ℕ) (w : Found) → Holds witnesses.new.held.items i w →
-            ((i ≢ other) × Holds witnesses.old.held.items i w)
-            ⊎ ((i ≡ other) × ((p : Held) → slice_get self.now.table.now i ≡ Some p → Shows self.now (known_of self.now (K.known kept.now) marks.now) p w))) }
+        requires shows { (w : Found) (p : Held) → Holds witnesses.old other w → slice_get self.now.table.now other ≡ Some p →
+            IsWitnessBut self.now (known_of self.now (K.known kept.now) marks.now) gone p w }
+        ensures witnesses { OnOk result ((i : ℕ) (w : Found) → Holds witnesses.new i w →
+            ((i ≢ other) × Holds witnesses.old i w)
+            ⊎ ((i ≡ other) × ((p : Held) → slice_get self.now.table.now i ≡ Some p → IsWitnessOf self.now (known_of self.now (K.known kept.now) marks.now) p w))) }
         ensures shown { IfOk result (λ b. OnTrue b (CanMatchAt self.now (known_of self.now (K.known kept.now) marks.now) other)) }
     {
         let Some(mut witness) = witnesses.take(other) else {
@@ -130,7 +154,7 @@ impl Ground<'_> {
         if !self.stands(alloc, kept, marks, *pair, gone, &mut witness)? {
             return Ok(false);
         }
-        witnesses.put(other, witness);
+        witnesses.put(other, witness)?;
         Ok(true)
     }
 
@@ -147,11 +171,11 @@ impl Ground<'_> {
         agenda: &mut Agenda,
     ) -> Result<(), AllocError>
         requires ready { IsReady self.now }
-        requires shows { (w : Found) (p : Held) → Holds witnesses.old.held.items other w → slice_get self.now.table.now other ≡ Some p →
-            ShowsBut self.now (known_of self.now (K.known kept.now) marks.now) gone p w }
-        ensures witnesses { OnOk result ((i : ℕ) (w : Found) → Holds witnesses.new.held.items i w →
-            ((i ≢ other) × Holds witnesses.old.held.items i w)
-            ⊎ ((i ≡ other) × ((p : Held) → slice_get self.now.table.now i ≡ Some p → Shows self.now (known_of self.now (K.known kept.now) marks.now) p w))) }
+        requires shows { (w : Found) (p : Held) → Holds witnesses.old other w → slice_get self.now.table.now other ≡ Some p →
+            IsWitnessBut self.now (known_of self.now (K.known kept.now) marks.now) gone p w }
+        ensures witnesses { OnOk result ((i : ℕ) (w : Found) → Holds witnesses.new i w →
+            ((i ≢ other) × Holds witnesses.old i w)
+            ⊎ ((i ≡ other) × ((p : Held) → slice_get self.now.table.now i ≡ Some p → IsWitnessOf self.now (known_of self.now (K.known kept.now) marks.now) p w))) }
         ensures put { OnOk result ((q : ℕ) → Contains agenda.new q → Contains agenda.old q ⊎ ((q ≡ other) × Waits self.now stratum marks.now Unknown q)) }
         ensures kept { OnOk result ((q : ℕ) → Contains agenda.old q → Contains agenda.new q) }
         ensures settled { OnOk result (Waits self.now stratum marks.now Unknown other →
@@ -163,7 +187,7 @@ impl Ground<'_> {
         if !self.waits(stratum, other, marks, Verdict::Unknown) {
             return Ok(());
         }
-        witnesses.note_back(alloc, self.table.len(), other)?;
+        witnesses.note_back(other)?;
         agenda.put(other)?;
         Ok(())
     }
@@ -182,8 +206,8 @@ impl Ground<'_> {
         agenda: &mut Agenda,
     ) -> Result<(), AllocError>
         requires ready { IsReady self.now }
-        requires shows { AllShowBut self.now (known_of self.now (K.known kept.now) marks.now) gone (Some numbers.now) witnesses.old.held.items }
-        ensures shows { OnOk result (AllShow self.now (known_of self.now (K.known kept.now) marks.now) witnesses.new.held.items) }
+        requires shows { AllShowBut self.now (known_of self.now (K.known kept.now) marks.now) gone (Some numbers.now) witnesses.old }
+        ensures shows { OnOk result (AllShow self.now (known_of self.now (K.known kept.now) marks.now) witnesses.new) }
         ensures put { OnOk result ((q : ℕ) → Contains agenda.new q → Contains agenda.old q ⊎ (Contains numbers.now q × Waits self.now stratum marks.now Unknown q)) }
         ensures kept { OnOk result ((q : ℕ) → Contains agenda.old q → Contains agenda.new q) }
         ensures settled { OnOk result ((q : ℕ) → Contains numbers.now q → Waits self.now stratum marks.now Unknown q →
@@ -211,8 +235,8 @@ impl Ground<'_> {
         requires ready { IsReady self.now }
         requires pair { slice_get self.now.table.now at ≡ Some gone }
         requires shows { (before : List Mark) × (marks.now ≡ slice_set before at No) × (slice_get before at ≡ Some Unknown)
-            × AllShow self.now (known_of self.now (K.known kept.now) before) witnesses.old.held.items }
-        ensures shows { OnOk result (AllShow self.now (known_of self.now (K.known kept.now) marks.now) witnesses.new.held.items) }
+            × AllShow self.now (known_of self.now (K.known kept.now) before) witnesses.old }
+        ensures shows { OnOk result (AllShow self.now (known_of self.now (K.known kept.now) marks.now) witnesses.new) }
         ensures put { OnOk result ((q : ℕ) → Contains agenda.new q → Contains agenda.old q ⊎ GoesBack self.now stratum at marks.now Unknown q) }
         ensures kept { OnOk result ((q : ℕ) → Contains agenda.old q → Contains agenda.new q) }
         ensures settled { OnOk result ((q : ℕ) → GoesBack self.now stratum at marks.now Unknown q →
@@ -244,17 +268,17 @@ impl Ground<'_> {
         requires there { at < length self.now.table.now }
         requires placed { (p : Held) → slice_get self.now.table.now at ≡ Some p →
             IsOutcome self.now.schema.now self.now.terms.now self.now.graph.now.triples (known_of self.now (K.known kept.now) marks.now) Possible p (Placed places.now) }
-        requires shows { AllShow self.now (known_of self.now (K.known kept.now) marks.now) witnesses.old.held.items }
-        ensures { OnOk result (AllShow self.now (known_of self.now (K.known kept.now) marks.now) witnesses.new.held.items) }
+        requires shows { AllShow self.now (known_of self.now (K.known kept.now) marks.now) witnesses.old }
+        ensures { OnOk result (AllShow self.now (known_of self.now (K.known kept.now) marks.now) witnesses.new) }
     {
-        if places.len() < FEW || !witnesses.was_back(at) {
+        if places.len() < FEW || !witnesses.wants(at, places.len()) {
             return Ok(());
         }
         let pair = self.pair_of(at);
         match self.witness_of(alloc, pair, places)? {
             Some(witness) => {
                 let held = Box::new(alloc, witness)?;
-                witnesses.put(at, held);
+                witnesses.put(at, held)?;
                 Ok(())
             }
             None => Ok(()),
@@ -271,7 +295,7 @@ impl Ground<'_> {
         requires ready { IsReady self.now }
         requires placed { (view : Known) × IsOutcome self.now.schema.now self.now.terms.now self.now.graph.now.triples view Possible pair (Placed places.now) }
         ensures { IfOk result (λ o. IfSome o (λ w. (view : Known) →
-            IsOutcome self.now.schema.now self.now.terms.now self.now.graph.now.triples view Possible pair (Placed places.now) → Shows self.now view pair w)) }
+            IsOutcome self.now.schema.now self.now.terms.now self.now.graph.now.triples view Possible pair (Placed places.now) → IsWitnessOf self.now view pair w)) }
     {
         let Some(shape) = self.schema.shapes.as_slice().get(pair.shape.0 as usize) else {
             return Ok(None);

@@ -35,6 +35,13 @@ impl TripleTable {
         }
     }
 
+    /// How many triples there are.
+    pub fn len(&self) -> usize
+        ensures { result ≡ length self.now }
+    {
+        self.triples.len()
+    }
+
     /// Puts a triple behind the others where it is new, and answers whether it is.
     pub fn put(&mut self, triple: Triple) -> Result<bool, AllocError>
         ensures { IfOk result (λ new. OnTrue new (self.new ≡ self.old ++ triple ∷ [])) }

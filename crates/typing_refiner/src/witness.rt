@@ -3,6 +3,7 @@
 ghost use Rattle.std.specs.Prelude.{ℕ, List, ◌≡◌, ◌∷◌, ◌≤◌, ◌<◌, ◌^◌, ◌↔◌, Contains, IfOk, IfSome, IsTrue, Some, length, slice_get, slice_index, slice_set};
 ghost use Rattle.std.specs.Bool.{OnTrue};
 ghost use Rattle.bag_match.specs.Counts.{ArePlacesOf, IsPlaceOf};
+ghost use Rattle.lists.specs.Distinct.{AreDistinct};
 ghost use Rattle.rdf_terms.specs.declared.terms.Triple.{Triple as Arc};
 ghost use Rattle.schema_tree.specs.Loaded.{BodyOk};
 ghost use Rattle.schema_tree.specs.Places.{HaveCounts, times};
@@ -53,6 +54,13 @@ fn place_at(places: &[Place], at: usize) -> Place
     ensures { slice_get places.now at ≡ Some result }
 {
     places[at]
+}
+
+/// Whether a place is one of these.
+fn is_among(places: &[Place], place: Place) -> bool
+    ensures { IsTrue result ↔ Contains places.now place }
+{
+    places.contains(&place)
 }
 
 /// Puts a place at a number.
@@ -152,8 +160,8 @@ impl Witness {
         false
     }
 
-    /// Looks again at the place of a triple, gives it another one where that is wanted, and answers whether the witness
-    /// stands.
+    /// Looks again at the place of the triple of a number, gives it another one where that place is no longer allowed, and
+    /// answers whether the witness stands.
     pub fn keeps<J: Judge>(
         &mut self,
         alloc: Global,
@@ -161,23 +169,24 @@ impl Witness {
         shape: &Shape,
         node: TermId,
         triple: Triple,
+        at: usize,
     ) -> Result<bool, AllocError>
         requires ready { J.ready judge.now }
         requires body { BodyOk shape.now.occs shape.now.body }
         requires few { length shape.now.occs ≤ 256 }
         requires tally { IsTally (length shape.now.occs) self.old }
+        requires distinct { AreDistinct self.old.triples }
+        requires there { slice_get self.old.triples at ≡ Some triple }
         ensures triples { self.new.triples ≡ self.old.triples }
         ensures tally { IsTally (length shape.now.occs) self.new }
         ensures stands { IfOk result (λ b. OnTrue b ((free : List Arc) →
             IsStanding (J.hold judge.now) (J.fail judge.now) shape.now node (triple ∷ free) self.old →
             IsStanding (J.hold judge.now) (J.fail judge.now) shape.now node free self.new)) }
     {
-        match self.triples.find(triple) {
-            Some(at) => {
-                let allowed = allowed_places(alloc, judge, shape, node, triple)?;
-                Ok(self.take_one(shape, at, allowed.as_slice()))
-            }
-            None => Ok(true),
+        let allowed = allowed_places(alloc, judge, shape, node, triple)?;
+        if is_among(allowed.as_slice(), place_at(self.places.as_slice(), at)) {
+            return Ok(true);
         }
+        Ok(self.take_one(shape, at, allowed.as_slice()))
     }
 }

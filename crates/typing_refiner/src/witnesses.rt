@@ -1,111 +1,96 @@
 //! Witnesses by the numbers of their pairs.
 
-ghost use Rattle.std.specs.Prelude.{ℕ, ◌≡◌, ◌≢◌, ◌<◌, ◌⊎◌, IfOk, IfSome, Some, None, length, slice_get, slice_set};
+ghost use Rattle.std.specs.Prelude.{ℕ, [], ◌≡◌, ◌≢◌, ◌≤◌, ◌+◌, ◌⊎◌, IfSome, IsTrue, OnOk, length, ◌↔◌};
 ghost use Rattle.typing_refiner.specs.declared.witness.Witness.{Witness as Found};
-ghost use Rattle.typing_refiner.specs.Holding.{Holds};
+ghost use Rattle.typing_refiner.specs.Holding.{Holds, most_triples, triples_of};
 
 use crate::witness::Witness;
+use indexmap::{IndexMap, IndexSet};
 use std::alloc::{AllocError, Global};
-use std::mem;
+use std::marker::Model;
+
+/// How many triples the witnesses have together at most.
+const MOST_TRIPLES: usize = 4_194_304;
 
 /// The witnesses of pairs that were looked at again, by the numbers of the pairs.
 #[derive(Drop)]
 pub struct Witnesses {
     /// The witness of each pair that has one.
-    pub held: Vec<Option<Box<Witness>>>,
-    /// Whether each pair was put back on the agenda.
-    pub back: Vec<bool>,
+    held: IndexMap<u32, Box<Witness>>,
+    /// How many triples they have together.
+    triples: usize,
+    /// The pairs that were put back on the agenda.
+    back: IndexSet<u32>,
 }
 
-/// Takes the witness of a number out.
-fn take_out(held: &mut Vec<Option<Box<Witness>>>, at: usize) -> Option<Box<Witness>>
-    requires { at < length held.old.items }
-    ensures taken { slice_get held.old.items at ≡ Some result }
-    ensures left { held.new.items ≡ slice_set held.old.items at None }
-{
-    mem::replace(&mut held[at], None)
-}
+impl Model for Witnesses {
+    ghost use Rattle.std.specs.Prelude.{ℕ, List, ◌≡◌, ◌≤◌};
+    ghost use Rattle.std.specs.Global.{Box as Boxed};
+    ghost use Rattle.typing_refiner.specs.declared.witness.Witness.{Witness};
+    ghost use Rattle.typing_refiner.specs.Holding.{most_triples, triples_of};
 
-/// Puts a witness at a number.
-fn put_in(held: &mut Vec<Option<Box<Witness>>>, at: usize, witness: Box<Witness>)
-    requires { at < length held.old.items }
-    ensures { held.new.items ≡ slice_set held.old.items at (Some witness) }
-{
-    drop(mem::replace(&mut held[at], Some(witness)));
-}
+    ghost Value = { List (ℕ × Boxed Witness) };
 
-/// No witnesses, of so many pairs.
-fn none_held(alloc: Global, count: usize) -> Result<Vec<Option<Box<Witness>>>, AllocError>
-    ensures { IfOk result (λ v. (i : ℕ) (w : Found) → ¬ Holds v.items i w) }
-{
-    let mut held = Vec::new(alloc);
-    for _ in 0..count {
-        held.push(None)?;
-    }
-    Ok(held)
+    ghost view = { λ w. w.held.entries };
+
+    ghost invariant = { λ w. (w.triples ≡ triples_of w.held.entries) × (w.triples ≤ most_triples) };
 }
 
 impl Witnesses {
     /// No witnesses.
     pub fn none(alloc: Global) -> Witnesses
-        ensures { (i : ℕ) (w : Found) → ¬ Holds result.held.items i w }
+        ensures { result ≡ [] }
     {
         Witnesses {
-            held: Vec::new(alloc),
-            back: Vec::new(alloc),
+            held: IndexMap::new(alloc),
+            triples: 0,
+            back: IndexSet::new(alloc),
         }
     }
 
     /// Takes the witness of a pair out.
     pub fn take(&mut self, at: u32) -> Option<Box<Witness>>
-        ensures taken { IfSome result (λ b. slice_get self.old.held.items at ≡ Some (Some b)) }
-        ensures left { (i : ℕ) (w : Found) → Holds self.new.held.items i w → (i ≢ at) × Holds self.old.held.items i w }
+        ensures taken { IfSome result (λ b. Holds self.old at b.value) }
+        ensures left { (i : ℕ) (w : Found) → Holds self.new i w → (i ≢ at) × Holds self.old i w }
     {
-        let at = at as usize;
-        if at >= self.held.len() {
-            return None;
-        }
-        take_out(&mut self.held, at)
+        let witness = self.held.swap_remove(&at)?;
+        self.triples -= witness.triples.len();
+        Some(witness)
     }
 
-    /// Puts the witness of a pair.
-    pub fn put(&mut self, at: u32, witness: Box<Witness>)
-        ensures { (i : ℕ) (w : Found) → Holds self.new.held.items i w → Holds self.old.held.items i w ⊎ ((i ≡ at) × (w ≡ witness.value)) }
+    /// Whether there is room for a witness of so many triples.
+    fn has_room(&self, triples: usize) -> bool
+        ensures { IsTrue result ↔ (triples_of self.now + triples ≤ most_triples) }
     {
-        let at = at as usize;
-        if at < self.held.len() {
-            put_in(&mut self.held, at, witness);
-        }
+        triples <= MOST_TRIPLES - self.triples
     }
 
-    /// Makes room for witnesses of so many pairs, where there is none.
-    fn make_room(&mut self, alloc: Global, count: usize) -> Result<(), AllocError>
-        ensures { (i : ℕ) (w : Found) → Holds self.new.held.items i w → Holds self.old.held.items i w }
+    /// Puts the witness of a pair, if there is room for it.
+    pub fn put(&mut self, at: u32, witness: Box<Witness>) -> Result<(), AllocError>
+        ensures { OnOk result ((i : ℕ) (w : Found) → Holds self.new i w → Holds self.old i w ⊎ ((i ≡ at) × (w ≡ witness.value))) }
     {
-        if self.back.is_empty() {
-            self.held = none_held(alloc, count)?;
-            self.back = vec![in alloc; false; count]?;
+        drop(self.take(at));
+        let triples = witness.triples.len();
+        if !self.has_room(triples) {
+            return Ok(());
         }
+        self.held.insert(at, witness)?;
+        self.triples += triples;
         Ok(())
     }
 
-    /// Notes that a pair, one of so many, was put back on the agenda.
-    pub fn note_back(&mut self, alloc: Global, count: usize, at: u32) -> Result<(), AllocError>
-        ensures { (i : ℕ) (w : Found) → Holds self.new.held.items i w → Holds self.old.held.items i w }
+    /// Notes that a pair was put back on the agenda.
+    pub fn note_back(&mut self, at: u32) -> Result<(), AllocError>
+        ensures { OnOk result (self.new ≡ self.old) }
     {
-        self.make_room(alloc, count)?;
-        let at = at as usize;
-        if at < self.back.len() {
-            self.back[at] = true;
-        }
+        self.back.insert(at)?;
         Ok(())
     }
 
-    /// Whether a pair was put back on the agenda.
-    pub fn was_back(&self, at: u32) -> bool {
-        match self.back.get(at as usize) {
-            Some(back) => *back,
-            None => false,
-        }
+    /// Whether a witness of so many triples is to be made of a pair: the pair was put back on the agenda, and there is room.
+    pub fn wants(&self, at: u32, triples: usize) -> bool
+        ensures { IsTrue result → triples_of self.now + triples ≤ most_triples }
+    {
+        self.back.contains(&at) && self.has_room(triples)
     }
 }

@@ -1,20 +1,24 @@
-use Rattle.std.proofs.Common.{◌∙◌, false}
+use Rattle.std.proofs.Common.{◌∙◌}
 use Rattle.std.proofs.lemmas.Bool.{OnTrue_at}
-use Rattle.std.specs.Prelude.{None}
-use Rattle.typing_refiner.proofs.Upheld.{stands_all, stands_next}
+use Rattle.typing_refiner.proofs.Upheld.{left_to, stands_next}
 use Rattle.typing_refiner.specs.Witnessed.{all_between}
-use Rattle.std.proofs.Common.{◌+◌, drop}
 use Rattle.typing_refiner.proofs.standing.stands_at.Goals as goal
+
+pub loop-occ-preserved-then-is_repeated : goal.loop-occ-preserved-then-is_repeated
+loop-occ-preserved-then-is_repeated g c = record {
+  triples = c.loop-occ.invariant.triples;
+  tally = c.loop-occ.invariant.tally;
+  stands = λ h. left_to (g.J.Judge.hold c.args.judge.now) (g.J.Judge.fail c.args.judge.now) c.args.shape.now c.args.node c.args.end c.in-Some.later.now c.in-Some.occ.now
+      c.between-triple.result c.between-triple.ensures (c.is_repeated.ensures.0 c.if-is_repeated.true) c.loop-occ.witness
+      (stands_next (g.J.Judge.hold c.args.judge.now) (g.J.Judge.fail c.args.judge.now) c.args.shape.now c.args.node c.args.end c.loop-occ.rest.now c.in-Some.later.now c.in-Some.occ.now
+      c.in-Some.ensures.cases.0 c.between-triple.result c.between-triple.ensures c.loop-occ.witness (c.loop-occ.invariant.stands h));
+}
 
 pub loop-occ-preserved : goal.loop-occ-preserved
 loop-occ-preserved g c = record {
   triples = c.keeps.ensures.triples ∙ c.loop-occ.invariant.triples;
   tally = c.keeps.ensures.tally;
-  stands = λ h. OnTrue_at c.if-not-branch.false c.in_ok-keeps.ensures.stands (all_between (drop (c.loop-occ.occ-index + 1) c.args.shape.now.occs) c.args.node c.args.end)
-      (stands_next (g.J.Judge.hold c.args.judge.now) (g.J.Judge.fail c.args.judge.now) c.args.shape.now c.args.node c.args.end c.as_slice-occ-items.result.now c.as_slice-occ-items.ensures c.loop-occ.occ-index (record { inverse = false; predicate = record { 0 = 0 }; value = None })
-      c.loop-occ-test.true c.between.result c.between.ensures c.loop-occ.witness (c.loop-occ.invariant.stands h));
+  stands = λ h. OnTrue_at c.if-not-branch.false c.in_ok-keeps.ensures.stands (all_between c.in-Some.later.now c.args.node c.args.end)
+      (stands_next (g.J.Judge.hold c.args.judge.now) (g.J.Judge.fail c.args.judge.now) c.args.shape.now c.args.node c.args.end c.loop-occ.rest.now c.in-Some.later.now c.in-Some.occ.now
+      c.in-Some.ensures.cases.0 c.between-triple.result c.between-triple.ensures c.loop-occ.witness (c.loop-occ.invariant.stands h));
 }
-
-pub returns-clause-stands : goal.returns-clause-stands
-returns-clause-stands g c = λ h.
-    stands_all (g.J.Judge.hold c.args.judge.now) (g.J.Judge.fail c.args.judge.now) c.args.shape.now c.args.node c.args.end c.as_slice-occ-items.result.now c.as_slice-occ-items.ensures c.loop-occ.occ-index c.loop-occ-test.false c.loop-occ.witness (c.loop-occ.invariant.stands h)

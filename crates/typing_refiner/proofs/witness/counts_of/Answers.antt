@@ -2,7 +2,7 @@ use Rattle.std.proofs.Common.{sym, subst, ◌∙◌}
 use Rattle.schema_tree.specs.declared.verdicts.Place.TheVariants.{At}
 use Rattle.bag_match.specs.Counts.{ArePlacesOf}
 use Rattle.bag_match.proofs.Offers.{added_next, added_none, added_small, read_there}
-use Rattle.typing_refiner.proofs.Tallies.{all_counted, zeros_long, zeros_small}
+use Rattle.typing_refiner.proofs.Tallies.{zeros_long, zeros_small}
 use Rattle.typing_refiner.proofs.witness.counts_of.Goals as goal
 
 pub loop-place-init : goal.loop-place-init

@@ -1,4 +1,3 @@
-use Rattle.std.proofs.Common.{replicate, ◌≡◌}
 use Rattle.bag_match.proofs.Offers.{AreAdded}
 use Rattle.typing_refiner.proofs.witness.counts_of.Given as goal
 

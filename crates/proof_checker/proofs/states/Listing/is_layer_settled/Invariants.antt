@@ -6,5 +6,5 @@ use Rattle.proof_checker.proofs.states.Listing.is_layer_settled.Given as goal
 
 abbrev pub invariant-loop-state : goal.invariant-loop-state
 invariant-loop-state g l =
-    (x : State) → Contains (take l.state-index l.layer) x →
+    (x : State) → Contains (take l.state-index l.layer.states.now) x →
     IsSettled (g.J.Judge.hold l.self.judge.now) (g.J.Judge.fail l.self.judge.now) l.self.shape.now l.self.node l.self.triples.now l.self.states.now x

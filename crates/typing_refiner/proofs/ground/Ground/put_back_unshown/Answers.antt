@@ -1,4 +1,4 @@
-use Rattle.std.proofs.Common.{◌⊎◌, ap, inl, refl, subst, sym, length, ltb-false}
+use Rattle.std.proofs.Common.{ap, refl, subst, sym, length, ltb-false}
 use borrow.Author.Tests.{ltb-true}
 use Rattle.std.proofs.lemmas.Option.{slice_get_past, slice_get_read}
 use Rattle.std.specs.Prelude.{option_map}
@@ -12,8 +12,8 @@ put_each_unshown-requires-clause-shows g c =
     let (before, marked, mark, all) = c.requires.shows in
     lent_but c.args.self.now c.args.stratum c.args.at c.args.marks.now c.in-Some.needing.now.items _ (ap (λ o. option_map (λ v. v.items) o) (slice_get_read c.args.self.now.needing.now (length c.args.self.now.needing.now) c.args.at c.in-Some.needing.now refl
     (ltb-true c.args.at (length c.args.self.now.needing.now) (sym c.in-Some.ensures.lookup.0)) c.in-Some.ensures.lookup.1)) c.as_slice-numbers.ensures.value
-    (known_of c.args.self.now (g.K.View.known c.args.kept.now) c.args.marks.now) c.args.gone c.args.witnesses.now.held.items
-    (all_but c.args.self.now c.requires.ready (g.K.View.known c.args.kept.now) before c.args.at c.args.gone c.requires.pair c.args.marks.now marked c.args.witnesses.now.held.items all)
+    (known_of c.args.self.now (g.K.View.known c.args.kept.now) c.args.marks.now) c.args.gone c.args.witnesses.now
+    (all_but c.args.self.now c.requires.ready (g.K.View.known c.args.kept.now) before c.args.at c.args.gone c.requires.pair c.args.marks.now marked c.args.witnesses.now all)
 
 pub returns-in_ok-put_each_unshown-in-Some-clause-put : goal.returns-in_ok-put_each_unshown-in-Some-clause-put
 returns-in_ok-put_each_unshown-in-Some-clause-put g c =
@@ -30,9 +30,9 @@ returns-in_ok-put_each_unshown-in-Some-clause-settled g c =
 pub returns-in-None-clause-shows : goal.returns-in-None-clause-shows
 returns-in-None-clause-shows g c =
     let (before, marked, mark, all) = c.requires.shows in
-    no_numbers c.args.self.now (known_of c.args.self.now (g.K.View.known c.args.kept.now) c.args.marks.now) c.args.gone c.args.witnesses.now.held.items
-    (subst (λ o. AllShowBut c.args.self.now (known_of c.args.self.now (g.K.View.known c.args.kept.now) c.args.marks.now) c.args.gone (option_map (λ v. v.items) o) c.args.witnesses.now.held.items) (slice_get_past c.args.self.now.needing.now c.args.at (ltb-false c.args.at (length c.args.self.now.needing.now) (sym c.in-None.ensures.lookup.0)))
-    (all_but c.args.self.now c.requires.ready (g.K.View.known c.args.kept.now) before c.args.at c.args.gone c.requires.pair c.args.marks.now marked c.args.witnesses.now.held.items all))
+    no_numbers c.args.self.now (known_of c.args.self.now (g.K.View.known c.args.kept.now) c.args.marks.now) c.args.gone c.args.witnesses.now
+    (subst (λ o. AllShowBut c.args.self.now (known_of c.args.self.now (g.K.View.known c.args.kept.now) c.args.marks.now) c.args.gone (option_map (λ v. v.items) o) c.args.witnesses.now) (slice_get_past c.args.self.now.needing.now c.args.at (ltb-false c.args.at (length c.args.self.now.needing.now) (sym c.in-None.ensures.lookup.0)))
+    (all_but c.args.self.now c.requires.ready (g.K.View.known c.args.kept.now) before c.args.at c.args.gone c.requires.pair c.args.marks.now marked c.args.witnesses.now all))
 
 pub returns-in-None-clause-settled : goal.returns-in-None-clause-settled
 returns-in-None-clause-settled g c = λ q t. absurd (subst (λ o. IsAmong (option_map (λ v. v.items) o) q) (slice_get_past c.args.self.now.needing.now c.args.at (ltb-false c.args.at (length c.args.self.now.needing.now) (sym c.in-None.ensures.lookup.0))) t.0)

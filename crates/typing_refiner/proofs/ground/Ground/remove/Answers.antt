@@ -5,6 +5,7 @@ use Rattle.typing_refiner.proofs.Gone.{none_gone}
 use Rattle.typing_refiner.specs.Ready.{IsOpen}
 use Rattle.typing_refiner.proofs.Removals.{begun, none_left, on_agenda, todo_same}
 use Rattle.typing_refiner.proofs.Spending.{opened, taken}
+use Rattle.typing_refiner.proofs.Stored.{none_held}
 use Rattle.typing_refiner.proofs.Steps.{count_most, count_some, unknown_no, within}
 use Rattle.typing_refiner.proofs.ground.Ground.remove.Goals as goal
 
@@ -16,7 +17,7 @@ loop-at-init g c =
       states = λ lower before. subst (HaveStates c.args.self.now lower) (sym c.new-gone.ensures.items) (none_gone c.args.self.now lower);
       paid = λ width give. (let e = opened c.args.self.now width c.args.stratum Unknown c.args.marks.now c.put_all.new.agenda in omega (arith, e));
       few = (let l = ap length c.new-gone.ensures.items in let m = count_most Unknown c.args.marks.now in let e = c.requires.marked in omega (arith, l, m, e));
-      shows = λ i w p holds there. absurd (c.none-witnesses.ensures i w holds);
+      shows = λ i w p holds there. absurd (none_held c.none-witnesses.result c.none-witnesses.ensures i w holds);
       waits = λ i on. ((are i).0 on, c.requires.fresh i ((c.requires.members i).1 ((are i).0 on)));
     }
 

@@ -15,7 +15,7 @@ invariant-loop-at g l = record {
   states : (lower : Known) → IsBefore l.self (g.K.View.known l.kept) lower l.stratum l.fn.marks → HaveStates l.self lower l.gone.items;
   paid : (width : Pair → ℕ) → GiveWidths l.self width → l.steps + still_to_tick l.self width l.stratum Unknown l.marks l.agenda ≤ l.fn.steps + phase_ticks l.self width l.stratum;
   few : length l.gone.items + count_of Unknown l.marks ≤ length l.self.table.now;
-  shows : AllShow l.self (known_of l.self (g.K.View.known l.kept) l.marks) l.witnesses.held.items;
+  shows : AllShow l.self (known_of l.self (g.K.View.known l.kept) l.marks) l.witnesses;
   waits : AllWait l.self l.stratum l.marks Unknown l.agenda;
 }
 

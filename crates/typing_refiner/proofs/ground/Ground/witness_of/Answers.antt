@@ -1,4 +1,4 @@
-use Rattle.std.proofs.Common.{◌∙◌, length, subst, sym, ap}
+use Rattle.std.proofs.Common.{length, subst, sym}
 use Rattle.bag_match.proofs.Matched.{shape_read}
 use Rattle.std.specs.Prelude.{IfOk, IfSome}
 use Rattle.bag_match.specs.Counts.{ArePlacesOf}
