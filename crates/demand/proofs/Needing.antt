@@ -1,5 +1,6 @@
 -- The pairs that a pair needs are those that its links lead to.
-use Rattle.std.proofs.Common.{◌≡◌, ◌∙◌, List, Bool, true, false, sym, ap, subst, filter}
+use Rattle.std.proofs.Common.{◌≡◌, ◌∙◌, ◌++◌, List, [], ◌∷◌, Bool, true, false, sym, ap, subst, filter, map, refl}
+use Rattle.std.proofs.lemmas.List.Concat.{flat_map-cons}
 use Rattle.std.proofs.lemmas.Bool.{and_parts, eq-eqb, eqb-true}
 use Rattle.std.specs.Cmp.Derive.{both_true}
 use Rattle.std.proofs.lemmas.List.Sorted.{Contains-permutation, IsPermutation-sym}
@@ -97,3 +98,11 @@ module _ (s : Schema) (terms : List Term) (g : List Triple) (links : List (List 
   needs_nothing none q need =
       let (own, at) = zip_there (AreLinksOf s) s.shapes links are p.shape.0 need.shape need.is in
       let e : Some own ≡ None = sym at ∙ none in absurd (cc)
+
+-- a link without Shapes leads to no pair
+pub none_led : (terms : List Term) (g : List Triple) (n : TermId) (l : Link) → l.shapes ≡ [] → needs_at terms g n l ≡ []
+none_led terms g n l none = none_of (arcs_of terms g n l.occ)
+  where
+    none_of : (ts : List Triple) → flat_map (ends_of l) ts ≡ []
+    none_of [] = refl
+    none_of (t ∷ ts) = flat_map-cons (ends_of l) t ts ∙ (ap (λ xs. map (pair_of (other_end l.occ.inverse t)) xs ++ flat_map (ends_of l) ts) none ∙ none_of ts)

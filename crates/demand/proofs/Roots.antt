@@ -2,6 +2,8 @@
 use Rattle.demand.proofs.Taken.{in_more, take_in}
 use Rattle.std.proofs.Common.{◌≡◌, ◌∙◌, ℕ, ◌<◌, ◌≤◌, ◌+◌, ◌⊎◌, inl, inr, take, List, [], refl, arith, sym, ap, subst, length, get_or, map}
 use Rattle.std.proofs.lemmas.List.{get_or-map, length-map, take_all}
+use Rattle.std.proofs.lemmas.List.Sorted.{Contains-permutation, IsPermutation-sym}
+use Rattle.std.specs.List.Sorted.{IsPermutation}
 use Rattle.std.specs.Prelude.{◌↔◌, Contains}
 use Rattle.rdf_terms.specs.declared.terms.TermId.{TermId}
 use Rattle.schema_tree.specs.declared.schema.ExprId.{ExprId}
@@ -10,7 +12,7 @@ use Rattle.schema_tree.specs.declared.schema.Schema.{Schema}
 use Rattle.schema_tree.specs.declared.schema.ShapeId.{ShapeId}
 use Rattle.schema_tree.specs.Entries.{pair_of}
 use Rattle.lists.proofs.Members.{from_flat_map, from_map, in_flat_map, in_map}
-use Rattle.demand.specs.Closing.{AddsStarts, Grows, StartsAt, StopsAtStart, StopsFor, StopsOver}
+use Rattle.demand.specs.Closing.{AddsStarts, Grows, Starts, StartsAt, StopsAtStart, StopsFor, StopsOver}
 use Rattle.demand.specs.Demand.{root, roots_of}
 use Rattle.demand.specs.Links.{AreShapesIn, StandsAny}
 use Rattle.demand.specs.declared.error.DemandError.{DemandError}
@@ -111,3 +113,17 @@ roots_done s roots i old new past h = subst (λ rs. AddsStarts s rs old new) (ta
 pub each_done : (s : Schema) (nodes : List TermId) (exprs : List ExprId) (i : ℕ) (old new : List Pair) → length exprs ≤ i → AddsStarts s (roots_of nodes (take i exprs)) old new →
     AddsStarts s (roots_of nodes exprs) old new
 each_done s nodes exprs i old new past h = subst (λ es. AddsStarts s (roots_of nodes es) old new) (take_all i exprs past) h
+
+-- in whatever order the roots stand
+module _ (s : Schema) (roots ordered : List Root) (same : IsPermutation roots ordered) (old : List Pair) where
+  start_back : (q : Pair) → Starts s ordered q → Starts s roots q
+  start_back q (r, held, st) = (r, Contains-permutation ordered roots r (IsPermutation-sym roots ordered same) held, st)
+
+  pub any_order : (new : List Pair) → AddsStarts s ordered old new → AddsStarts s roots old new
+  any_order new h q = (
+    (λ c. elim ((h q).0 c) [ inl o ↦ inl o | inr t ↦ inr (start_back q t) ]),
+    (λ c. (h q).1 (elim c [ inl o ↦ inl o | inr t ↦ inr (let (r, held, st) = t in (r, Contains-permutation roots ordered r same held, st)) ])),
+  )
+
+  pub any_order_stops : (e : DemandError) → StopsAtStart s ordered old e → StopsAtStart s roots old e
+  any_order_stops e stops = many_of _ _ (λ q c. elim c [ inl o ↦ inl o | inr t ↦ inr (start_back q t) ]) e stops

@@ -52,6 +52,23 @@ fn push_ends(link: &Link, triples: &[Triple], found: &mut Vec<Pair>) -> Result<(
     Ok(())
 }
 
+/// Adds the pairs that a link leads to from a node. No triple is sought for a link without Shapes, which leads to none.
+fn push_led(
+    graph: &Graph,
+    node: TermId,
+    link: &Link,
+    found: &mut Vec<Pair>,
+) -> Result<(), AllocError>
+    requires sealed { IsSealed graph.now }
+    ensures { (terms : List Term) → IsSealedWith terms graph.now →
+        OnOk result (found.new.items ≡ found.old.items ++ needs_at terms graph.now.triples node link.now) }
+{
+    if link.shapes.as_slice().is_empty() {
+        return Ok(());
+    }
+    push_ends(link, arcs(graph, node, link.occ), found)
+}
+
 /// Adds the pairs that the links of a Shape lead to from a node.
 fn push_needs(
     graph: &Graph,
@@ -60,11 +77,32 @@ fn push_needs(
     found: &mut Vec<Pair>,
 ) -> Result<(), AllocError>
     requires sealed { IsSealed graph.now }
-    ensures { (terms : List Term) → IsSealedWith terms graph.now → OnOk result (found.new.items ≡ found.old.items ++ flat_map (needs_at terms graph.now.triples node) links.now) }
+    ensures { (terms : List Term) → IsSealedWith terms graph.now →
+        OnOk result (found.new.items ≡ found.old.items ++ flat_map (needs_at terms graph.now.triples node) links.now) }
 {
     for link in links {
-        let triples = arcs(graph, node, link.occ);
-        push_ends(link, triples, found)?;
+        push_led(graph, node, link, found)?;
+    }
+    Ok(())
+}
+
+/// Puts the pairs that a pair needs in the place of those of the list, each as often as a triple, an occurrence and a Shape
+/// lead to it; `links` are those of the schema.
+pub fn needs_into(
+    schema: &Schema,
+    links: &[Items<Link>],
+    graph: &Graph,
+    terms: &TermTable,
+    pair: Pair,
+    found: &mut Vec<Pair>,
+) -> Result<(), AllocError>
+    requires links { AreLinks schema.now links.now }
+    requires sealed { IsSealedWith terms.now graph.now }
+    ensures { OnOk result ((q : Needed) → Contains found.new.items q ↔ Needs schema.now graph.now.triples pair q) }
+{
+    found.clear();
+    if let Some(own) = links.get(pair.shape.0 as usize) {
+        push_needs(graph, pair.node, own.as_slice(), found)?;
     }
     Ok(())
 }
@@ -84,8 +122,6 @@ pub fn needs(
     ensures { IfOk result (λ v. (q : Needed) → Contains v.items q ↔ Needs schema.now graph.now.triples pair q) }
 {
     let mut found = Vec::new(alloc);
-    if let Some(own) = links.get(pair.shape.0 as usize) {
-        push_needs(graph, pair.node, own.as_slice(), &mut found)?;
-    }
+    needs_into(schema, links, graph, terms, pair, &mut found)?;
     Ok(found)
 }

@@ -14,7 +14,7 @@ ghost use Rattle.demand.specs.Closing.{GrowsByNeeds, StopsByNeeds};
 
 use crate::error::DemandError;
 use crate::links::{Link, links};
-use crate::needs::needs;
+use crate::needs::needs_into;
 use crate::order::compare_pairs;
 use crate::seeing::see_all;
 use crate::starting::{see_each, see_roots};
@@ -81,18 +81,20 @@ fn see_needs(
     ensures grown { OnOk result (GrowsByNeeds schema.now graph.now.triples seen.old seen.new) }
     ensures stops { IfErr result (StopsByNeeds schema.now graph.now.triples seen.old) }
 {
+    let mut found = Vec::new(alloc);
     let mut at = 0;
     while at < seen.len() {
         let pair = seen.as_slice()[at];
-        let found = needs(alloc, schema, links, graph, terms, pair)?;
+        needs_into(schema, links, graph, terms, pair, &mut found)?;
         see_all(seen, found.as_slice())?;
         at += 1;
     }
     Ok(())
 }
 
-/// The pairs in the order of the texts of their nodes, and then of their Shapes.
+/// Distinct pairs in the order of the texts of their nodes, and then of their Shapes.
 fn in_order(alloc: Global, terms: &TermTable, pairs: &[Pair]) -> Result<Vec<Pair>, AllocError>
+    requires distinct { AreDistinct pairs.now }
     ensures sorted { IfOk result (λ v. IsStrictlySortedBy (compare_pairs terms.now) v.items) }
     ensures same { IfOk result (λ v. (q : Reached) → Contains v.items q ↔ Contains pairs.now q) }
     ensures few { IfOk result (λ v. length v.items ≤ length pairs.now) }
@@ -100,7 +102,6 @@ fn in_order(alloc: Global, terms: &TermTable, pairs: &[Pair]) -> Result<Vec<Pair
 {
     let mut list: Vec<Pair> = pairs.iter().copied().collect(alloc)?;
     list.sort_by(|a, b| compare_pairs(terms, *a, *b))?;
-    list.dedup();
     Ok(list)
 }
 

@@ -1,6 +1,7 @@
 //! The pairs at which roots start.
 
-ghost use Rattle.std.specs.Prelude.{◌≡◌, IfErr, OnOk, map};
+ghost use Rattle.std.specs.Prelude.{◌≡◌, IfErr, IfOk, OnOk, map};
+ghost use Rattle.std.specs.List.Sorted.{IsPermutation};
 ghost use Rattle.schema_tree.specs.Loaded.{IsLoaded};
 ghost use Rattle.demand.specs.Closing.{AddsStarts, StopsAtStart};
 ghost use Rattle.demand.specs.Demand.{root, roots_of};
@@ -41,7 +42,7 @@ fn turn_to(
 
 /// Puts the pairs at which roots start into the table. The Shapes of an expression are sought once for the roots in a row that
 /// have it.
-pub(crate) fn see_roots(
+fn see_rows(
     alloc: Global,
     schema: &Schema,
     roots: &[Root],
@@ -61,6 +62,30 @@ pub(crate) fn see_roots(
         see_node(seen, root.node, shapes.as_slice())?;
     }
     Ok(())
+}
+
+/// The roots in the order of their expressions.
+fn by_expr(alloc: Global, roots: &[Root]) -> Result<Vec<Root>, AllocError>
+    ensures { IfOk result (λ v. IsPermutation roots.now v.items) }
+{
+    let mut ordered: Vec<Root> = roots.iter().copied().collect(alloc)?;
+    ordered.sort_by(|a, b| a.expr.0.cmp(&b.expr.0))?;
+    Ok(ordered)
+}
+
+/// Puts the pairs at which roots start into the table. The Shapes of an expression are sought once for all roots that have it.
+pub(crate) fn see_roots(
+    alloc: Global,
+    schema: &Schema,
+    roots: &[Root],
+    seen: &mut PairTable,
+) -> Result<(), DemandError>
+    requires loaded { IsLoaded schema.now }
+    ensures seen { OnOk result (AddsStarts schema.now roots.now seen.old seen.new) }
+    ensures stops { IfErr result (StopsAtStart schema.now roots.now seen.old) }
+{
+    let ordered = by_expr(alloc, roots)?;
+    see_rows(alloc, schema, ordered.as_slice(), seen)
 }
 
 /// Puts the pairs at which the nodes start with an expression into the table.

@@ -6,7 +6,7 @@ ghost use Rattle.demand.specs.Orders.{max_pairs};
 
 use indexmap::IndexSet;
 use schema_tree::schema::Pair;
-use std::alloc::Global;
+use std::alloc::{AllocError, Global};
 use std::marker::Model;
 
 /// The number of pairs that a table holds at most.
@@ -47,6 +47,14 @@ impl PairTable {
         PairTable {
             pairs: IndexSet::new(alloc),
         }
+    }
+
+    /// The empty table, with room for so many pairs.
+    pub fn with_room(alloc: Global, pairs: usize) -> Result<PairTable, AllocError>
+        ensures { IfOk result (λ t. t ≡ []) }
+    {
+        let pairs = IndexSet::with_capacity(alloc, pairs)?;
+        Ok(PairTable { pairs })
     }
 
     /// How many pairs the table holds.

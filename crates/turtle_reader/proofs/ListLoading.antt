@@ -1,15 +1,17 @@
--- Triples of object lists that are loaded, one list after the other.
+-- Triples of subjects that are loaded, one object list after the other.
 use Rattle.std.proofs.Common.{◌≡◌, ℕ, ◌≤◌, length, Contains, Some, inl, List, [], ◌∷◌, ◌++◌, Result, Err, Ok, ap, map, refl, subst, sym, ◌∙◌, append_assoc}
 use Rattle.std.specs.Prelude.{slice_get}
 use Rattle.std.proofs.lemmas.List.{append-nil, map-append}
 use Rattle.lists.specs.Additions.{Adds, AddsAll, none, more}
 use Rattle.lists.specs.Distinct.{AreDistinct}
-use Rattle.lists.proofs.Additions.{adds_grows, all_parts, grown_on, kept_at, one_more as one_put, stays}
+use Rattle.lists.proofs.Additions.{adds_grows, all_parts, first_fills, grown_on, kept_at, one_more as one_put, stays}
 use Rattle.lists.proofs.Members.{got_in}
 use Rattle.rdf_terms.specs.Tables.{max_terms}
 use Rattle.graph_index.specs.Contents.{max_triples}
+use Rattle.std.specs.List.{flat_map}
 use Rattle.std.proofs.lemmas.Grind.{flat_map-append}
 use Rattle.rdf_terms.specs.declared.terms.Term.{Term}
+use Rattle.rdf_terms.specs.declared.terms.Term.TheVariants.{Iri}
 use Rattle.rdf_terms.specs.declared.terms.Triple.{Triple}
 use Rattle.graph_index.specs.declared.loading.LoadError.{LoadError}
 use Rattle.graph_index.specs.declared.loading.LoadError.TheVariants as load
@@ -19,7 +21,9 @@ use Rattle.graph_index.proofs.Loaded.{graph_full, loads_append, one_loaded, tabl
 use Rattle.data_loading.specs.Loads.{Fills, LoadsAll}
 use Rattle.data_loading.proofs.Filling.{fills_at, fills_behind}
 use Rattle.turtle_reader.specs.declared.objects.ObjectList.{ObjectList}
-use Rattle.turtle_reader.specs.Objects.{all_triples_of, triples_of, triple_with, Begins}
+use Rattle.turtle_reader.specs.declared.objects.SubjectList.{SubjectList}
+use Rattle.turtle_reader.specs.Objects.{all_triples_of, triples_about, triples_of, triple_with, Begins, Leads}
+use Rattle.turtle_reader.proofs.Adding.{one_more}
 
 -- some triples more behind those among which one finds no room
 fills_before : (terms : List Term) (graph : List Triple) (ts us : List TermTriple) → Fills terms graph ts → Fills terms graph (ts ++ us)
@@ -48,21 +52,21 @@ last_loads (Ok x) terms now_terms new_terms graph now_graph new_graph so ts l k 
 last_loads (Err load.Memory) terms now_terms new_terms graph now_graph new_graph so ts l k = tt
 last_loads (Err load.Full) terms now_terms new_terms graph now_graph new_graph so ts l k = fills_behind terms now_terms graph now_graph so ts l k
 
--- the triples of one list more
-one_more : (ls : List ObjectList) (l : ObjectList) → all_triples_of (ls ++ l ∷ []) ≡ all_triples_of ls ++ triples_of l
-one_more ls l = flat_map-append triples_of ls (l ∷ []) ∙ ap (λ (v : List TermTriple). all_triples_of ls ++ v) (append-nil (triples_of l))
+-- the triples of one subject more
+pub subject_loads : (terms now_terms new_terms : List Term) (graph now_graph new_graph : List Triple) (ls : List SubjectList) (l : SubjectList)
+    → Loads terms graph (all_triples_of ls) now_terms now_graph
+    → Loads now_terms now_graph (triples_about l) new_terms new_graph → Loads terms graph (all_triples_of (ls ++ l ∷ [])) new_terms new_graph
+subject_loads terms now_terms new_terms graph now_graph new_graph ls l h k =
+    subst (λ (v : List TermTriple). Loads terms graph v new_terms new_graph) (sym (one_more triples_about ls l))
+    (loads_append terms now_terms new_terms graph now_graph new_graph (all_triples_of ls) (triples_about l) h k)
 
-pub list_loads : (terms now_terms new_terms : List Term) (graph now_graph new_graph : List Triple) (ls : List ObjectList) (l : ObjectList) → Loads terms graph (all_triples_of ls) now_terms now_graph
-    → Loads now_terms now_graph (triples_of l) new_terms new_graph → Loads terms graph (all_triples_of (ls ++ l ∷ [])) new_terms new_graph
-list_loads terms now_terms new_terms graph now_graph new_graph ls l h k =
-    subst (λ (v : List TermTriple). Loads terms graph v new_terms new_graph) (sym (one_more ls l))
-    (loads_append terms now_terms new_terms graph now_graph new_graph (all_triples_of ls) (triples_of l) h k)
-
--- a list that is not loaded, behind others and before others
-pub list_stops : (terms now_terms new_terms : List Term) (graph now_graph new_graph : List Triple) (all ls rest : List ObjectList) (l : ObjectList) (e : LoadError) → all ≡ ls ++ l ∷ rest → Loads terms graph (all_triples_of ls) now_terms now_graph
-    → LoadsAll (Err e) now_terms now_graph (triples_of l) new_terms new_graph → LoadsAll (Err e) terms graph (all_triples_of all) new_terms new_graph
-list_stops terms now_terms new_terms graph now_graph new_graph all ls rest l e parts h k =
-    stops_at terms now_terms new_terms graph now_graph new_graph (all_triples_of all) (all_triples_of ls) (triples_of l) (all_triples_of rest) e (ap all_triples_of parts ∙ flat_map-append triples_of ls (l ∷ rest)) h k
+-- a subject that is not loaded, behind others and before others
+pub subject_stops : (terms now_terms new_terms : List Term) (graph now_graph new_graph : List Triple) (all ls rest : List SubjectList) (l : SubjectList)
+    (e : LoadError) → all ≡ ls ++ l ∷ rest → Loads terms graph (all_triples_of ls) now_terms now_graph
+    → LoadsAll (Err e) now_terms now_graph (triples_about l) new_terms new_graph → LoadsAll (Err e) terms graph (all_triples_of all) new_terms new_graph
+subject_stops terms now_terms new_terms graph now_graph new_graph all ls rest l e parts h k =
+    stops_at terms now_terms new_terms graph now_graph new_graph (all_triples_of all) (all_triples_of ls) (triples_about l) (all_triples_of rest) e
+    (ap all_triples_of parts ∙ flat_map-append triples_about ls (l ∷ rest)) h k
 
 -- the numbers of a subject and a predicate, with which triples begin, stay
 pub begins_now : (old terms new : List Term) (s p : Term) (i j : ℕ) → Begins old terms s p i j → ((behind : List Term) × (new ≡ terms ++ behind)) → Begins new new s p i j
@@ -151,3 +155,73 @@ module _ (i j : ℕ) (start now new : List Term) (graph now_graph new_graph : Li
       (ap (λ (t : Term). map (triple_with s p) xs ++ triple_with s p t ∷ []) same
       ∙ sym (ap (λ (v : List Term). map (triple_with s p) (v ++ last ∷ [])) (parts ∙ ap (λ (v : List Term). xs ++ v) none_left ∙ append-nil xs) ∙ map-append (triple_with s p) xs (last ∷ [])))
       (last_loads r old mid new graph now_graph new_graph (map (triple_with s p) xs) (triple_with s p x ∷ []) l (one mid s p m))
+
+-- a subject that finds no room before an object list and others
+first_has_no_room : (old : List Term) (graph : List Triple) (s : Term) (l : ObjectList) (ls : List ObjectList)
+    → ((¬ Contains old s) × (length old ≡ max_terms)) → Fills old graph (triples_of s l ++ flat_map (triples_of s) ls)
+first_has_no_room old graph s l ls full =
+    fills_before old graph (triples_of s l) (flat_map (triples_of s) ls)
+    (no_list load.Full old old graph graph s (Iri l.predicate) l.before.items l.last
+    (λ e o all h. first_fills max_terms old all (Iri l.predicate ∷ o ∷ []) s full h))
+
+-- a subject that finds no room before object lists
+pub no_subject : (e : LoadError) (old new : List Term) (graph new_graph : List Triple) (s : Term) (ls : List ObjectList) (last : ObjectList)
+    → (e ≡ load.Full → (¬ Contains old s) × (length old ≡ max_terms))
+    → LoadsAll (Err e) old graph (flat_map (triples_of s) (ls ++ last ∷ [])) new new_graph
+no_subject load.Memory old new graph new_graph s ls last full = tt
+no_subject load.Full old new graph new_graph s [] last full = first_has_no_room old graph s last [] (full refl)
+no_subject load.Full old new graph new_graph s (l ∷ ls) last full = first_has_no_room old graph s l (ls ++ last ∷ []) (full refl)
+
+-- the number of a subject, with which triples begin, stays
+pub leads_now : (old terms new : List Term) (s : Term) (i : ℕ) → Leads old terms s i → ((behind : List Term) × (new ≡ terms ++ behind)) → Leads new new s i
+leads_now old terms new s i b grown = let at = kept_at terms new i s grown b.subject in record { added = inl (got_in new i s at, refl); subject = at }
+
+-- the triples of some object lists of a subject of this number
+pub record Follows (i : ℕ) (start : List Term) (graph : List Triple) (ls : List ObjectList) (now : List Term) (now_graph : List Triple) : Type 0 where
+  pub grown : (behind : List Term) × (now ≡ start ++ behind)
+  pub appended : (behind : List Triple) × (now_graph ≡ graph ++ behind)
+  pub loaded : (old : List Term) (s : Term) → Leads old start s i → (mid : List Term) × Leads mid now s i
+      × Loads old graph (flat_map (triples_of s) ls) mid now_graph
+
+pub follows : (i : ℕ) (start : List Term) (graph : List Triple) → Follows i start graph [] start graph
+follows i start graph = record { grown = stays start; appended = stays graph; loaded = λ old s b. (old, b, nothing) }
+
+-- what comes of one object list more
+abbrev pub ListComes : Result (Unit {0}) LoadError → ℕ → List Term → List Triple → ObjectList → List Term → List Triple → Type 0
+ListComes r i now now_graph l new new_graph = (old : List Term) (s : Term) → Leads old now s i → LoadsAll r old now_graph (triples_of s l) new new_graph
+
+module _ (i : ℕ) (start now new : List Term) (graph now_graph new_graph : List Triple) (ls : List ObjectList) (f : Follows i start graph ls now now_graph) where
+  pub follows_on : (l : ObjectList) → ListComes (Ok tt) i now now_graph l new new_graph → ((behind : List Term) × (new ≡ now ++ behind))
+      → ((behind : List Triple) × (new_graph ≡ now_graph ++ behind)) → Follows i start graph (ls ++ l ∷ []) new new_graph
+  follows_on l one more_terms more_triples = record {
+    grown = grown_on start now new f.grown more_terms;
+    appended = grown_on graph now_graph new_graph f.appended more_triples;
+    loaded = λ old s b.
+        let (mid, m, so) = f.loaded old s b in (
+          new,
+          leads_now mid now new s i m more_terms,
+          subst (λ (v : List TermTriple). Loads old graph v new new_graph) (sym (one_more (triples_of s) ls l))
+              (loads_append old mid new graph now_graph new_graph (flat_map (triples_of s) ls) (triples_of s l) so (one mid s m)),
+        );
+  }
+
+  pub follows_wrong : (before rest : List ObjectList) (l last : ObjectList) (e : LoadError) → before ≡ ls ++ l ∷ rest
+      → ListComes (Err e) i now now_graph l new new_graph
+      → (old : List Term) (s : Term) → Leads old start s i → LoadsAll (Err e) old graph (flat_map (triples_of s) (before ++ last ∷ [])) new new_graph
+  follows_wrong before rest l last e parts one old s b =
+      let (mid, m, so) = f.loaded old s b in
+      stops_at old mid new graph now_graph new_graph (flat_map (triples_of s) (before ++ last ∷ [])) (flat_map (triples_of s) ls) (triples_of s l)
+      (flat_map (triples_of s) (rest ++ last ∷ [])) e
+      (ap (λ (v : List ObjectList). flat_map (triples_of s) (v ++ last ∷ [])) parts ∙ ap (flat_map (triples_of s)) (append_assoc ls (l ∷ rest) (last ∷ []))
+      ∙ flat_map-append (triples_of s) ls (l ∷ (rest ++ last ∷ []))) so (one mid s m)
+
+  pub follows_to_last : (r : Result (Unit {0}) LoadError) (before rest : List ObjectList) (l last : ObjectList) → before ≡ ls ++ rest → rest ≡ [] → l ≡ last
+      → ListComes r i now now_graph l new new_graph
+      → (old : List Term) (s : Term) → Leads old start s i → LoadsAll r old graph (flat_map (triples_of s) (before ++ last ∷ [])) new new_graph
+  follows_to_last r before rest l last parts none_left same one old s b =
+      let (mid, m, so) = f.loaded old s b in
+      subst (λ (v : List TermTriple). LoadsAll r old graph v new new_graph)
+      (ap (λ (k : ObjectList). flat_map (triples_of s) ls ++ triples_of s k) same
+      ∙ sym (ap (λ (v : List ObjectList). flat_map (triples_of s) (v ++ last ∷ []))
+      (parts ∙ ap (λ (v : List ObjectList). ls ++ v) none_left ∙ append-nil ls) ∙ one_more (triples_of s) ls last))
+      (last_loads r old mid new graph now_graph new_graph (flat_map (triples_of s) ls) (triples_of s l) so (one mid s m))

@@ -4,7 +4,7 @@ ghost use Rattle.std.specs.Prelude.{◌≡◌, ◌≤◌, IfOk, OnOk, IsSome};
 ghost use Rattle.iri_resolve.specs.Reference.{scheme_of};
 ghost use Rattle.rdf_lex.specs.Prefixes.{base_of};
 
-use crate::objects::{ObjectList, add_list, add_triple};
+use crate::objects::{SubjectList, add_list, add_triple};
 use crate::resource::Resource;
 use rdf_cursor::{Fault, Stop};
 use rdf_lex::Prefixes;
@@ -26,7 +26,7 @@ pub struct State {
     /// The number of the next anonymous node, at least 1.
     pub next: u64,
     /// The triples of the statement that is being read, in their order.
-    pub lists: Vec<ObjectList>,
+    pub lists: Vec<SubjectList>,
     ghost from_one: { 1 ≤ next },
     ghost absolute: { IsSome (scheme_of (base_of prefixes)) },
 }
@@ -131,7 +131,7 @@ impl State {
     }
 
     /// The triples of the statement that was read, which are taken away.
-    pub fn take_lists(&mut self) -> Vec<ObjectList>
+    pub fn take_lists(&mut self) -> Vec<SubjectList>
         ensures triples { all_triples_of result.items ≡ (scope_of self.old).triples }
         ensures rest { scope_of self.new ≡ begun (scope_of self.old) }
     {

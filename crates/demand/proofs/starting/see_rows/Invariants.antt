@@ -1,7 +1,7 @@
 use Rattle.std.proofs.Common.{take}
 use Rattle.demand.specs.Closing.{AddsStarts}
 use Rattle.demand.specs.Links.{AreShapesIn}
-use Rattle.demand.proofs.starting.see_roots.Given as goal
+use Rattle.demand.proofs.starting.see_rows.Given as goal
 
 abbrev pub invariant-loop-root : goal.invariant-loop-root
 invariant-loop-root l = record {
