@@ -135,7 +135,7 @@ def arguments_of():
 def main():
     """Compares the checkers, prints the numbers, and gives 1 where they differ or refuse a proof that was stored."""
     arguments, numbers = arguments_of(), collections.Counter()
-    folders = sorted(entry.path for entry in os.scandir(os.path.join(ROOT, "examples")))
+    folders = sorted(entry.path for entry in os.scandir(os.path.join(ROOT, "examples")) if os.path.exists(os.path.join(entry.path, "map")))
     examples = [example for path in arguments.rows for example in row_examples(path)]
     for example in examples if arguments.rows else map(folder_example, folders):
         with tempfile.TemporaryDirectory() as folder:

@@ -9,7 +9,7 @@ ShExC, with --only those tests alone whose names have the word. A test is
 
 - passed, where the program gives the answers that the manifest asks for, or refuses a schema for a fault of the kind that the test
   is about, or reads a schema in ShExC and one in ShExJ as the same;
-- left out, where the cause of the program's refusal, or a trait of a test that is refused, names a limit that README.md or
+- left out, where the cause of the program's refusal, or a trait of a test that is refused, names a limit that docs/USAGE.md or
   docs/DECISIONS.md states, or where the test wants what the checkout or this script has not: this never counts as passed;
 - failed, in all other cases.
 

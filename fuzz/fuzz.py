@@ -164,8 +164,8 @@ def of_rows(path):
 
 
 def of_examples():
-    """The seeds of the examples."""
-    for folder in sorted(glob.glob(os.path.join(ROOT, "examples", "*"))):
+    """The seeds of the examples that have a shape map."""
+    for folder in sorted(map(os.path.dirname, glob.glob(os.path.join(ROOT, "examples", "*", "map")))):
         files = {}
         for path in glob.glob(os.path.join(folder, "*")):
             with open(path, "rb") as file:

@@ -4,8 +4,8 @@
     tests/starting.py
 
 Its `rt` is a stand-in that proves nothing: `rt ci` makes programs of the sources as they stand. A program prints its name, a sum
-of the sources that it was made of, the folder that it runs in and its words, and ends with 7. Nothing but Python's standard library
-is wanted.
+of the sources that it was made of, the folder that it runs in and its words, and ends with 7. Its bin/library is another, and makes
+files with such a sum. Nothing but Python's standard library is wanted.
 """
 
 import os
@@ -16,6 +16,7 @@ import unittest
 
 ROOT = os.path.dirname(os.path.dirname(os.path.abspath(__file__)))
 PROGRAMS = ("shex", "shextool", "typing_session", "shex_rows", "text_rows")
+RELEASED = (*PROGRAMS, "libshex")
 CRATES = ("shex_cli", "shextool_cli", "typing_session_cli", "shex_rows", "text_rows")
 VALIDATE = ("validate", "a word", "", "*")
 
@@ -42,14 +43,20 @@ done
 echo '6 passed, 0 failed'
 """
 
+LIBRARY = r"""#!/bin/sh
+cd "$1/crates" && mkdir -p shex_c/out || exit 1
+for made in libshex.a libshex.so; do echo "$made of $(cat low/src/* low/specs/* | cksum)" >"shex_c/out/$made"; done
+"""
+
 FILES = {
-    "crates.txt": "# The crates.\nlow:\nother:\n" + "".join(f"{name}: low\n" for name in CRATES),
+    "crates.txt": "# The crates.\nlow:\nother:\nshex_c staticlib: low\n" + "".join(f"{name}: low\n" for name in CRATES),
     "HANDLES": "Handles allowed: none.\n",
     "crates/low/src/lib.rt": "a low thing\n",
     "crates/low/src/more.rt": "more of it\n",
     "crates/low/specs/Lib.antt": "what it promises\n",
     "crates/low/proofs/low/Proof.antt": "why it holds\n",
     "crates/other/src/lib.rt": "another thing\n",
+    "crates/shex_c/src/lib.rt": "the library\n",
     **{f"crates/{name}/src/main.rt": f"the program {name}\n" for name in CRATES},
 }
 
@@ -69,12 +76,14 @@ class Case(unittest.TestCase):
     def setUpClass(cls):
         cls.room = tempfile.mkdtemp()
         cls.first = os.path.join(cls.room, "first")
-        for part in ("bin", "man", "completions"):
+        for part in ("bin", "include", "man", "completions"):
             shutil.copytree(os.path.join(ROOT, part), os.path.join(cls.first, part))
-        for name in ("README.md", "VERSION"):
-            shutil.copy(os.path.join(ROOT, name), cls.first)
+        os.mkdir(os.path.join(cls.first, "docs"))
+        for name in ("docs/USAGE.md", "VERSION"):
+            shutil.copy(os.path.join(ROOT, name), os.path.join(cls.first, name))
         for name, text in FILES.items():
             write(cls.first, name, text)
+        write(cls.first, "bin/library", LIBRARY)
         os.mkdir(os.path.join(cls.room, "tools"))
         for name in TOOLS:
             os.symlink(shutil.which(name), os.path.join(cls.room, "tools", name))
@@ -331,6 +340,7 @@ class Releasing(Case):
     def setUp(self):
         super().setUp()
         self.run_in("rt", "ci", kit=self.kit)
+        self.run_in("bin/build", "shex_c", kit=self.kit)
 
     def check(self):
         """What bin/release --check says."""
@@ -339,13 +349,13 @@ class Releasing(Case):
     def assert_holds(self):
         """dist/ has what was built."""
         done = self.check()
-        self.assertEqual((done.returncode, done.stdout.count("\n"), done.stderr), (0, len(PROGRAMS), ""))
+        self.assertEqual((done.returncode, done.stdout.count("\n"), done.stderr), (0, len(PROGRAMS) + 1, ""))
 
     def assert_refused(self, *lines):
-        """Lines of what bin/release --check says, and no others but those of programs that hold."""
+        """Lines of what bin/release --check says, and no others but those of what holds."""
         done = self.check()
         self.assertEqual(done.returncode, 1)
-        holds = "is the program that was built of these sources"
+        holds = "built of these sources"
         self.assertEqual([line for line in done.stdout.splitlines() if holds not in line], list(lines))
 
     def assert_renewed(self):
@@ -365,19 +375,19 @@ class Releasing(Case):
 
     def test_a_changed_source(self):
         self.change()
-        self.assert_refused(*[f"{name}: its sources are not those of which dist/RELEASE tells: bin/release renews it" for name in PROGRAMS])
+        self.assert_refused(*[f"{name}: its sources are not those of which dist/RELEASE tells: bin/release renews it" for name in RELEASED])
 
     def test_a_changed_proof(self):
         self.change("crates/low/proofs/low/Proof.antt")
-        self.assert_refused(*[f"{name}: its sources are not those of which dist/RELEASE tells: bin/release renews it" for name in PROGRAMS])
+        self.assert_refused(*[f"{name}: its sources are not those of which dist/RELEASE tells: bin/release renews it" for name in RELEASED])
 
     def test_a_program_that_was_not_renewed(self):
         self.change()
         self.run_in("rt", "ci", kit=self.kit)
-        self.assert_refused(*[f"{name}: its sources are not those of which dist/RELEASE tells: bin/release renews it" for name in PROGRAMS])
+        self.assert_refused(*[f"{name}: its sources are not those of which dist/RELEASE tells: bin/release renews it" for name in RELEASED])
         calls = self.calls()
         self.assert_renewed()
-        self.assertEqual(self.calls(), calls, "what rt ci built is taken")
+        self.assertEqual(self.calls(), calls + 1, "what rt ci built is taken, and the library is built")
 
     def test_lines_that_were_renewed_without_the_program(self):
         self.change()
@@ -399,6 +409,31 @@ class Releasing(Case):
         self.assert_renewed()
         self.assertEqual(self.calls(), calls + 1)
 
+    def test_a_library_that_was_not_built_here(self):
+        shutil.rmtree(os.path.join(self.clone, "crates/shex_c/out"))
+        calls = self.calls()
+        done = self.check()
+        self.assertEqual((done.returncode, self.calls()), (0, calls + 1))
+        self.assertTrue(done.stderr.startswith("libshex: proving and building the library\n"), done)
+        self.assert_holds()
+
+    def test_a_changed_byte_of_the_library(self):
+        for file, what in (("libshex.so", "crates/shex_c/out/libshex.so"), ("shex.h", "include/shex.h"), ("shex.pc", "include/shex.pc")):
+            self.change(f"dist/{file}")
+            self.assert_refused(f"libshex: dist/{file} is not the library that was built, {what}: bin/release renews it")
+            self.assertEqual(self.run_in("bin/release", "--current", "libshex").returncode, 1)
+            self.assert_renewed()
+
+    def test_a_changed_header(self):
+        self.change("include/shex.h")
+        self.assertEqual(self.run_in("bin/release", "--current", "libshex").returncode, 1)
+        self.assert_refused("libshex: dist/shex.h is not the library that was built, include/shex.h: bin/release renews it")
+        self.assert_renewed()
+
+    def test_a_library_that_is_not_there(self):
+        os.remove(os.path.join(self.clone, "dist/libshex.a"))
+        self.assert_refused("libshex: dist/libshex.a is not there: bin/release renews it")
+
     def test_another_toolchain(self):
         write(self.folder, "kit/rt", RT.replace("a stand-in 1", "a stand-in 2"))
         os.chmod(os.path.join(self.folder, "kit/rt"), 0o755)
@@ -412,7 +447,7 @@ class Releasing(Case):
     def test_a_line_that_was_made_by_hand(self):
         with open(os.path.join(self.clone, "dist/RELEASE"), encoding="utf-8") as file:
             lines = file.read().splitlines()
-        for at in (0, 1, len(PROGRAMS) + 1):
+        for at in (0, 1, len(PROGRAMS) + 1, len(lines) - 1):
             write(self.clone, "dist/RELEASE", "\n".join([*lines[:at], lines[at][:-1] + "x", *lines[at + 1:]]) + "\n")
             self.assertEqual(self.check().returncode, 1, lines[at])
         write(self.clone, "dist/RELEASE", "\n".join(lines) + "\n")
@@ -439,7 +474,8 @@ class Releasing(Case):
     def test_texts_name_the_version(self):
         with open(os.path.join(ROOT, "VERSION"), encoding="utf-8") as file:
             version = file.read().strip()
-        for name, line in {"CHANGELOG.md": f"\n## {version}\n", **{f"man/{name}.1": f' "shex {version}" ' for name in PROGRAMS[:3]}}.items():
+        for name, line in {"CHANGELOG.md": f"\n## {version}\n", "include/shex.pc": f"\nVersion: {version}\n", "python/shex_proved/__init__.py": f'__version__ = "{version}"',
+                           **{f"man/{name}.1": f' "shex {version}" ' for name in PROGRAMS[:3]}}.items():
             with open(os.path.join(ROOT, name), encoding="utf-8") as file:
                 self.assertIn(line, file.read(), name)
 
@@ -451,6 +487,10 @@ class Releasing(Case):
         for name in PROGRAMS[:3]:
             for file in (f"bin/{name}", f"share/man/man1/{name}.1", f"share/bash-completion/completions/{name}", "share/zsh/site-functions/_shex"):
                 self.assertTrue(os.path.isfile(os.path.join(to, file)), file)
+        for file in ("lib/libshex.a", "lib/libshex.so", "include/shex.h", "lib/pkgconfig/shex.pc"):
+            self.assertTrue(os.path.isfile(os.path.join(to, file)), file)
+        with open(os.path.join(to, "lib/pkgconfig/shex.pc"), encoding="utf-8") as file:
+            self.assertTrue(file.read().startswith("libdir=${pcfiledir}/..\nincludedir=${pcfiledir}/../../include\n"))
 
     def test_words_of_no_installation(self):
         for words in ((), ("",), ("--help",), ("a", "b")):
