@@ -190,14 +190,15 @@ def tenfold(size):
     return Family(schema, selected(":p"), ":S", count, lambda n: [(f":T{short(n)}", [(":p", [str(k) for k in range(20)])])], count, 0)
 
 
-# Hubs: one node, which alone is asked about, with arcs from and to as many others.
+# Hubs: one node, which alone is asked about, with arcs from and to as many others. Its name is before theirs, so that it is looked at
+# first, and what is kept of it has to last while they fall.
 
 
 def hub(schema, size):
     """One node that has the Shape :H, to which half of the triples lead, by :p, and from which the others lead, by :q."""
     count = max(1, size // 2)
-    ends = [(":n", [(":q", [f":O{short(n)}" for n in range(count)])])]
-    return Family(schema, full(":n"), ":H", count, lambda n: ([] if n else ends) + [(f":I{short(n)}", [(":p", [":n"])])], 1, 0)
+    ends = [(":A", [(":q", [f":O{short(n)}" for n in range(count)])])]
+    return Family(schema, full(":A"), ":H", count, lambda n: ([] if n else ends) + [(f":I{short(n)}", [(":p", [":A"])])], 1, 0)
 
 
 def hub_in(size):
@@ -211,9 +212,9 @@ def hub_both(size):
 
 
 def hub_extra(size):
-    """A hub that has to have two arcs to nodes of a Shape, and may have others: two of its arcs are to such nodes."""
+    """A hub that has to have two arcs to nodes of a Shape, and may have others: two of its arcs are to such nodes, the last ones."""
     family = hub(":H EXTRA :q { :q @:L {2} }\n:L { :name . }\n", max(4, size))
-    named = [(f":O{short(n)}", [(":name", ['"N"'])]) for n in range(2)]
+    named = [(f":O{short(n)}", [(":name", ['"N"'])]) for n in range(family.count - 2, family.count)]
     return family._replace(record=lambda n: family.record(n) + ([] if n else named))
 
 
@@ -222,13 +223,20 @@ def hub_recursive(size):
     return hub(":H { ^:p @:L * }\n:L { :name . ; :p @:H }\n", size)
 
 
+def hub_failing(size):
+    """A hub that has not its Shape, since none of the arcs in that it wants comes from a node of a Shape."""
+    family = hub(":H { ^:p . * ; ^:e @:L + }\n:L { :name . }\n", size)
+    last = [(":E", [(":e", [":A"])])]
+    return family._replace(record=lambda n: family.record(n) + ([] if n else last), conformant=0, nonconformant=1)
+
+
 FAMILIES = {
     family.__name__: family
-    for family in (clinical, catalogue, ring, chain, clusters, values, strata, alone, overlapping, tenfold, hub_in, hub_both, hub_extra, hub_recursive)
+    for family in (clinical, catalogue, ring, chain, clusters, values, strata, alone, overlapping, tenfold, hub_in, hub_both, hub_extra, hub_recursive, hub_failing)
 }
 
-# These grow in no triples beyond their bounds.
-BOUNDED = {"overlapping": 200, "tenfold": 2000}
+# These grow in no triples beyond their bounds; that of `hub_failing` is for its proof, which has all states.
+BOUNDED = {"overlapping": 200, "tenfold": 2000, "hub_failing": 2000}
 
 
 # How they are written.

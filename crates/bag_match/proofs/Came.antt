@@ -95,14 +95,16 @@ module _ (hold fail : TermId → Option ExprId → Type 0) (sh : Shape) (n : Ter
       let few = found_few ts j d layer places cs within layer_is places_are found apart bound b in
       omega (arith, few, most)
 
-  pub bound_some : (ts : List Triple) (bound : ℕ) → IsBound hold fail sh n ts bound → 1 ≤ bound
-  bound_some ts bound b = b.few 0 ((opening sh).counts ∷ []) ((λ c. not_in_none (opening sh).counts c), tt) (λ c h.
-      subst (λ z. AreCountsOf hold fail sh n (take 0 ts) z) (in_one (opening sh).counts c h)
-      ([], none ts, length-map sh.occs (λ o. 0), opening_at sh))
+  pub opening_came : (ts : List Triple) → AreCountsOf hold fail sh n (take 0 ts) (opening sh).counts
+  opening_came ts = ([], none ts, length-map sh.occs (λ o. 0), opening_at sh)
     where
       none : (us : List Triple) → AreAllowed hold fail sh n (take 0 us) []
       none [] = tt
       none (u ∷ us) = tt
+
+  pub bound_some : (ts : List Triple) (bound : ℕ) → IsBound hold fail sh n ts bound → 1 ≤ bound
+  bound_some ts bound b = b.few 0 ((opening sh).counts ∷ []) ((λ c. not_in_none (opening sh).counts c), tt) (λ c h.
+      subst (λ z. AreCountsOf hold fail sh n (take 0 ts) z) (in_one (opening sh).counts c h) (opening_came ts))
 
 -- ---- ticks
 

@@ -1,23 +1,20 @@
--- The layers one behind the other, and what follows where the last is empty.
-use Rattle.std.proofs.Common.{◌≡◌, ℕ, zero, suc, ◌+◌, ◌<◌, ◌≤◌, ◌⊎◌, inl, inr, length, get_or, List, [], ◌∷◌, refl, arith, ap, sym, subst, ◌∙◌, Bool, true, false, true≢false}
-use Rattle.std.proofs.lemmas.List.{length-append}
-use Rattle.std.proofs.lemmas.Bool.{cases_lt, eqb-true}
+-- The layers one behind the other, and what their states show where none has all triples done.
+use Rattle.std.proofs.Common.{◌≡◌, ℕ, zero, suc, ◌+◌, ◌<◌, ◌≤◌, ◌⊎◌, inl, inr, length, get_or, List, [], ◌∷◌, refl, arith, ap, sym, subst}
+use Rattle.std.proofs.lemmas.Bool.{cases_lt}
 use Rattle.std.proofs.lemmas.List.Elements.{Contains-append_cases, Contains-append_left, Contains-append_right}
 use Rattle.std.proofs.lemmas.Option.{slice_get-get_or, slice_get_within}
-use Rattle.std.specs.Prelude.{Contains, Option, Some, slice_get, slice_index, nat_eq}
+use Rattle.std.specs.Prelude.{Contains, Option, Some, slice_get, slice_index}
 use Rattle.std.specs.List.{flat_map}
 use Rattle.rdf_terms.specs.declared.terms.TermId.{TermId}
 use Rattle.rdf_terms.specs.declared.terms.Triple.{Triple}
 use Rattle.schema_tree.specs.declared.schema.ExprId.{ExprId}
 use Rattle.schema_tree.specs.declared.schema.Shape.{Shape}
 use Rattle.schema_tree.specs.declared.verdicts.State.{State}
-use Rattle.schema_tree.specs.declared.verdicts.Place.{Place}
-use Rattle.schema_tree.specs.Places.{AreAllowed, IsShut}
+use Rattle.schema_tree.specs.Places.{IsShut}
 use Rattle.schema_tree.specs.States.{AreClosed, IsCovered, after, opening, IsStateBefore}
 use Rattle.schema_tree.proofs.Closed.{decide_dead, states_refute}
-use Rattle.lists.proofs.Members.{is_first, not_in_none}
+use Rattle.lists.proofs.Members.{not_in_none}
 use Rattle.bag_match.specs.Layers.{AreLayers, IsLayer}
-use Rattle.bag_match.specs.Least.{AreLeast}
 use Rattle.bag_match.specs.Outcomes.{AreListed}
 use Rattle.schema_tree.specs.Rising.{AreRising}
 use Rattle.bag_match.specs.Reached.{AreReached, IsReachedAt}
@@ -71,15 +68,6 @@ module _ (hold fail : TermId → Option ExprId → Type 0) (sh : Shape) (n : Ter
       let lt = slice_get_within ts y.done t at in
       omega (arith, d, lt)
 
-  -- before it others are reached
-  reached_before : (j i : ℕ) (x : State) → Reached j x → i ≤ j → (y : State) × Reached i y
-  reached_before zero i x h le = let same : 0 ≡ i = omega (arith, le) in (x, subst (λ k. Reached k x) same h)
-  reached_before (suc j) i x h le = go (λ lower. let (y, reached, more) = h.0 in reached_before j i y reached lower) (cases_lt j i)
-    where
-      go : (i ≤ j → (y : State) × Reached i y) → (j < i) ⊎ (i ≤ j) → (y : State) × Reached i y
-      go deeper (inl lt) = let same : suc j ≡ i = omega (arith, lt, le) in (x, subst (λ k. Reached k x) same h)
-      go deeper (inr lower) = deeper lower
-
   module _ (layers : List (List State)) (h : AreLayers hold fail sh n ts (length ts) layers) where
     follow : Follow 0 layers
     follow k xs e = subst (λ i. IsLayer hold fail sh n ts i xs) (let same : k ≡ 0 + k = omega arith in same) (h.each k xs e)
@@ -99,33 +87,6 @@ module _ (hold fail : TermId → Option ExprId → Type 0) (sh : Shape) (n : Ter
             flat_has layers x.done (get_or layers x.done []) x e (((h.each x.done (get_or layers x.done []) e).same x).1 r)),
       );
     })
-
-    pub none_at_last : (last : List State) → slice_get layers (length ts) ≡ Some last → last ≡ [] → (x : State) → ¬ Reached (length ts) x
-    none_at_last last e none x r = not_in_none x (subst (λ z. Contains z x) none (((h.each (length ts) last e).same x).1 r))
-
-    pub some_at_last : (last : List State) → slice_get layers (length ts) ≡ Some last → ¬ (last ≡ []) → (x : State) × Reached (length ts) x
-    some_at_last [] e some = absurd (some refl)
-    some_at_last (x ∷ rest) e some = (x, ((h.each (length ts) (x ∷ rest) e).same x).0 (is_first x rest))
-
-    -- where the last layer has a state, there are at least as many as layers
-    pub many_states : (x : State) → Reached (length ts) x → length ts ≤ length (flat layers)
-    many_states x r = let c = h.count in let m = go layers (λ k xs e. filled k xs e) in omega (arith, c, m)
-      where
-        filled : (k : ℕ) (xs : List State) → slice_get layers k ≡ Some xs → 1 ≤ length xs
-        filled k xs e =
-            let lt = slice_get_within layers k xs e in
-            let c = h.count in
-            let (y, reached) = reached_before (length ts) k x r (omega (arith, lt, c)) in
-            let (i, within, is) = ((h.each k xs e).same y).1 reached in
-            omega (arith, within)
-
-        go : (ls : List (List State)) → ((k : ℕ) (xs : List State) → slice_get ls k ≡ Some xs → 1 ≤ length xs) → length ls ≤ length (flat ls)
-        go [] each = omega arith
-        go (xs ∷ ls) each =
-            let a = each 0 xs refl in
-            let b = go ls (λ k ys e. each (suc k) ys e) in
-            let c = length-append xs (flat ls) in
-            omega (arith, a, b, c)
 
   -- ---- what the states show
 
@@ -169,39 +130,3 @@ module _ (hold fail : TermId → Option ExprId → Type 0) (sh : Shape) (n : Ter
       counted = λ is. states_few;
       opened = λ is. states_open;
     }
-
-  pub listed_shut : (g : List Triple) (states : List State) → IsShut g sh n → states ≡ [] → AreListed hold fail g sh n ts states
-  listed_shut g states is none = record {
-    refused = λ h. h.open_to is;
-    shut = λ s. none;
-    reached = λ s. absurd (s is);
-    closed = λ s. absurd (s is);
-    counted = λ s. absurd (s is);
-    opened = λ s. absurd (s is);
-  }
-
--- the least places are one for each triple
-as_many_places : (hold fail : TermId → Option ExprId → Type 0) (sh : Shape) (n : TermId) (ts : List Triple) (ps : List Place) → AreAllowed hold fail sh n ts ps → length ps ≡ length ts
-as_many_places hold fail sh n [] [] h = refl
-as_many_places hold fail sh n [] (p ∷ ps) h = absurd h
-as_many_places hold fail sh n (t ∷ ts) [] h = absurd h
-as_many_places hold fail sh n (t ∷ ts) (p ∷ ps) h = ap suc (as_many_places hold fail sh n ts ps h.1)
-
-module _ (hold fail : TermId → Option ExprId → Type 0) (sh : Shape) (n : TermId) (ts : List Triple) (layers : List (List State)) (h : AreLayers hold fail sh n ts (length ts) layers) where
-  pub places_ticked : (start now : ℕ) (own least : List Place) (some : (x : State) × IsReachedAt hold fail sh n ts (length ts) x) → own ≡ least → AreLeast hold fail sh n ts least →
-      start + length (flat_map (λ xs. xs) layers) ≤ now → start + length own ≤ now
-  places_ticked start now own least (x, r) is least_are ticked =
-      let a = many_states hold fail sh n ts layers h x r in
-      let b = as_many_places hold fail sh n ts least least_are.allowed in
-      let c : length own ≡ length least = ap (λ z. length z) is in
-      omega (arith, a, b, c, ticked)
-
-nil_of : (xs : List State) → length xs ≡ 0 → xs ≡ []
-nil_of [] e = refl
-nil_of (x ∷ xs) e = absurd (omega (arith, e))
-
-pub is_none : (xs : List State) (b : Bool) → b ≡ nat_eq (length xs) 0 → b ≡ true → xs ≡ []
-is_none xs b e so = nil_of xs (eqb-true (length xs) 0 (sym e ∙ so))
-
-pub is_some : (xs : List State) (b : Bool) → b ≡ nat_eq (length xs) 0 → b ≡ false → ¬ (xs ≡ [])
-is_some xs b e not_so none = true≢false (sym (ap (λ z. nat_eq (length z) 0) none) ∙ sym e ∙ not_so)

@@ -13,11 +13,7 @@ pub mod Some
 pub mod Alive
 pub mod Stepping
 pub mod Layering
-pub mod Comparing
 pub mod Finishing
-pub mod Leading
-pub mod Finished
-pub mod OnWay
 pub mod Offers
 pub mod Hopeful
 pub mod Found
@@ -37,6 +33,7 @@ pub mod Counted
 pub mod Skipping
 pub mod Counting
 pub mod Filled
+pub mod Ticked
 pub mod Unchosen
 pub mod Looked
 pub mod Failing

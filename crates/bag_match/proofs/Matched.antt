@@ -7,15 +7,17 @@ use Rattle.graph_index.specs.Contents.{max_triples}
 use Rattle.schema_tree.specs.Entries.{shape_at}
 use Rattle.schema_tree.specs.declared.schema.ShapeId.{ShapeId}
 use Rattle.bag_match.proofs.Neighbours.{relevant_few}
-use Rattle.std.specs.Prelude.{IfOk, Option, Some, None, Result, Ok, Err, ◌↔◌, IsTrue, slice_get}
+use Rattle.std.specs.Global.{Vec}
+use Rattle.std.specs.Prelude.{IfOk, IfSome, is_some, Option, Some, None, Result, Ok, Err, ◌↔◌, IsTrue, slice_get}
 use Rattle.rdf_terms.specs.declared.terms.TermId.{TermId}
 use Rattle.rdf_terms.specs.declared.terms.Term.{Term}
 use Rattle.rdf_terms.specs.declared.terms.Triple.{Triple}
 use Rattle.schema_tree.specs.declared.schema.Schema.{Schema}
 use Rattle.schema_tree.specs.declared.schema.Shape.{Shape}
 use Rattle.schema_tree.specs.declared.verdicts.Lean.{Lean}
+use Rattle.schema_tree.specs.declared.verdicts.Place.{Place}
 use Rattle.schema_tree.specs.declared.verdicts.State.{State}
-use Rattle.schema_tree.specs.Places.{CanMatch, IsShut, MayFail, MayHold}
+use Rattle.schema_tree.specs.Places.{CanMatch, IsShut, MayFail, MayHold, PairCanMatch}
 use Rattle.schema_tree.specs.Relevant.{relevant_in_order}
 use Rattle.schema_tree.specs.Width.{HasWidth, width_of}
 use Rattle.schema_tree.specs.declared.schema.Pair.{Pair}
@@ -28,7 +30,7 @@ use Rattle.bag_match.proofs.Plain.{may_fail_uncertain, may_hold_possible}
 use Rattle.schema_tree.specs.Sure.{Known}
 use Rattle.bag_match.specs.declared.outcome.Outcome.{Outcome}
 use Rattle.bag_match.specs.declared.outcome.Outcome.TheVariants.{Placed, Never}
-use Rattle.bag_match.specs.Outcomes.{IsFound, IsMatched, IsOutcomeOf, IsPlaced}
+use Rattle.bag_match.specs.Outcomes.{AreFound, IsFound, IsMatched, IsOpenShape, IsOutcomeOf, IsPlaced}
 use Rattle.bag_match.proofs.Found.{listed}
 
 module _ (s : Schema) (terms : List Term) (g : List Triple) (view : Known) (lean : Lean) (n : TermId) where
@@ -43,11 +45,11 @@ module _ (s : Schema) (terms : List Term) (g : List Triple) (view : Known) (lean
       go (Never states) h = listed (MayHold s terms view lean) (MayFail s terms view lean) sh n ts states h.0 h.1 g open_to
 
   -- nothing is listed where there is no such Shape
-  pub missing_of : (shape : Option Shape) (states : List State) → shape ≡ None → states ≡ [] → IsOutcomeOf s terms g view lean n shape (Never states)
+  missing_of : (shape : Option Shape) (states : List State) → shape ≡ None → states ≡ [] → IsOutcomeOf s terms g view lean n shape (Never states)
   missing_of shape states none empty = subst (λ o. IsOutcomeOf s terms g view lean n o (Never states)) (sym none) empty
 
   -- nor where the pair is shut
-  pub shut_of : (shape : Option Shape) (sh : Shape) (states : List State) → shape ≡ Some sh → IsShut g sh n → states ≡ [] → IsOutcomeOf s terms g view lean n shape (Never states)
+  shut_of : (shape : Option Shape) (sh : Shape) (states : List State) → shape ≡ Some sh → IsShut g sh n → states ≡ [] → IsOutcomeOf s terms g view lean n shape (Never states)
   shut_of shape sh states is shut empty = subst (λ o. IsOutcomeOf s terms g view lean n o (Never states)) (sym is) (record {
     refused = λ places. places.open_to shut;
     shut = λ h. empty;
@@ -56,6 +58,10 @@ module _ (s : Schema) (terms : List Term) (g : List Triple) (view : Known) (lean
     counted = λ open_to. absurd (open_to shut);
     opened = λ open_to. absurd (open_to shut);
   })
+
+  pub none_of : (shape : Option Shape) (states : List State) → ((sh : Shape) → shape ≡ Some sh → IsShut g sh n) → states ≡ [] → IsOutcomeOf s terms g view lean n shape (Never states)
+  none_of None states shut empty = missing_of None states refl empty
+  none_of (Some sh) states shut empty = shut_of (Some sh) sh states refl (shut sh refl) empty
 
   -- places are given exactly where the pair can match
   pub placed_can : (shape : Option Shape) (r : Outcome) → IsOutcomeOf s terms g view lean n shape r → IsPlaced r ↔ CanMatch s terms g view lean n shape
@@ -66,23 +72,30 @@ module _ (s : Schema) (terms : List Term) (g : List Triple) (view : Known) (lean
   placed_can (Some sh) (Never states) h = ((λ p. absurd p), λ c. h.refused c)
 
 module _ (s : Schema) (terms : List Term) (g : List Triple) (view : Known) (lean : Lean) (n : TermId) where
-  -- a pair can match exactly where there are places, if it is not shut
-  pub can_of : (shape : Option Shape) (sh : Shape) (ts : List Triple) → shape ≡ Some sh → ¬ IsShut g sh n → ts ≡ relevant_in_order terms g sh n → (b : Bool) →
-      (IsTrue b ↔ HavePlaces (MayHold s terms view lean) (MayFail s terms view lean) sh n ts) → IsTrue b ↔ CanMatch s terms g view lean n shape
-  can_of shape sh ts is open_to same b told = subst (λ o. IsTrue b ↔ CanMatch s terms g view lean n o) (sym is) (go (subst (λ us. IsTrue b ↔ HavePlaces (MayHold s terms view lean) (MayFail s terms view lean) sh n us) same told))
+  -- a pair cannot match where there are no places
+  pub cannot_of : (shape : Option Shape) (sh : Shape) (ts : List Triple) → shape ≡ Some sh → ts ≡ relevant_in_order terms g sh n →
+      ¬ HavePlaces (MayHold s terms view lean) (MayFail s terms view lean) sh n ts → ¬ CanMatch s terms g view lean n shape
+  cannot_of shape sh ts is same never can = go (subst (λ o. CanMatch s terms g view lean n o) is can)
     where
-      go : (IsTrue b ↔ HavePlaces (MayHold s terms view lean) (MayFail s terms view lean) sh n (relevant_in_order terms g sh n)) → IsTrue b ↔ CanMatch s terms g view lean n (Some sh)
-      go h = (
-        (λ so. let (ps, allowed, spelled) = h.0 so in record { open_to = open_to; places = ps; allowed = allowed; spelled = spelled }),
-        λ can. h.1 (can.places, can.allowed, can.spelled),
-      )
+      go : CanMatch s terms g view lean n (Some sh) → ⊥
+      go c = never (subst (λ us. HavePlaces (MayHold s terms view lean) (MayFail s terms view lean) sh n us) (sym same) (c.places, c.allowed, c.spelled))
 
-  -- and not where there is no such Shape, or where it is shut
-  pub can_missing : (shape : Option Shape) → shape ≡ None → IsTrue false ↔ CanMatch s terms g view lean n shape
-  can_missing shape none = subst (λ o. IsTrue false ↔ CanMatch s terms g view lean n o) (sym none) ((λ e. true≢false (sym e)), λ can. absurd can)
+  -- nor where there is no such Shape, or where it is shut
+  pub cannot_none : (shape : Option Shape) → ((sh : Shape) → shape ≡ Some sh → IsShut g sh n) → ¬ CanMatch s terms g view lean n shape
+  cannot_none None shut can = can
+  cannot_none (Some sh) shut can = can.open_to (shut sh refl)
 
-  pub can_shut : (shape : Option Shape) (sh : Shape) → shape ≡ Some sh → IsShut g sh n → IsTrue false ↔ CanMatch s terms g view lean n shape
-  can_shut shape sh is shut = subst (λ o. IsTrue false ↔ CanMatch s terms g view lean n o) (sym is) ((λ e. absurd (true≢false (sym e))), λ can. absurd (can.open_to shut))
+-- what is said of places that are found is so of their list
+pub said_of : (P : List Place → Type 0) (o : Option (Vec Place)) (v : Vec Place) (ps : List Place) → o ≡ Some v → ps ≡ v.items → IfSome o (λ z. P z.items) → P ps
+said_of P o v ps is same said = subst P (sym same) (subst (λ z. IfSome z (λ x. P x.items)) is said)
+
+-- whether places are found says whether the pair can match
+pub told_of : (s : Schema) (terms : List Term) (g : List Triple) (view : Known) (lean : Lean) (p : Pair) (o : Option (List Place)) (b : Bool) → b ≡ is_some o →
+    AreFound s terms g view lean p o → IsTrue b ↔ PairCanMatch s terms g view lean p
+told_of s terms g view lean p (Some ps) b is found = subst (λ z. IsTrue z ↔ PairCanMatch s terms g view lean p) (sym is)
+    ((λ so. (placed_can s terms g view lean p.node (shape_at s p.shape) (Placed ps) found).0 tt), λ can. refl)
+told_of s terms g view lean p None b is found = subst (λ z. IsTrue z ↔ PairCanMatch s terms g view lean p) (sym is)
+    ((λ e. absurd (true≢false (sym e))), λ can. absurd (found can))
 
 pub placed_if_ok : {E : Type 0} (s : Schema) (terms : List Term) (g : List Triple) (view : Known) (lean : Lean) (n : TermId) (shape : Option Shape) (r : Result Outcome E) →
     IfOk r (IsOutcomeOf s terms g view lean n shape) → IfOk r (λ o. IsPlaced o ↔ CanMatch s terms g view lean n shape)
@@ -98,6 +111,12 @@ shape_read s i shapes sh same within at =
 
 pub shape_missing : (s : Schema) (i : ShapeId) (shapes : List Shape) → shapes ≡ s.shapes → false ≡ ltb i.0 (length shapes) → shape_at s i ≡ None
 shape_missing s i shapes same past = ap (λ l. slice_get l i.0) (sym same) ∙ slice_get_past shapes i.0 (ltb-false i.0 (length shapes) (sym past))
+
+pub open_missing : (s : Schema) (g : List Triple) (p : Pair) → shape_at s p.shape ≡ None → IsOpenShape s g p None
+open_missing s g p none sh at = absurd (let bad : ⊥ = cc in bad)
+
+pub open_shut : (s : Schema) (g : List Triple) (p : Pair) (sh : Shape) → shape_at s p.shape ≡ Some sh → IsShut g sh p.node → IsOpenShape s g p None
+open_shut s g p sh is shut other at = subst (λ z. IsShut g z p.node) (let same : sh ≡ other = cc in same) shut
 
 pub few_relevant : (terms : List Term) (g : List Triple) (sh : Shape) (n : TermId) (ts : List Triple) (held : ℕ) → ts ≡ relevant_in_order terms g sh n → held ≡ length g → held ≤ max_triples → length ts < 2 ^ 31
 few_relevant terms g sh n ts held is count few =

@@ -16,15 +16,16 @@ use Rattle.schema_tree.specs.Places.{times}
 use Rattle.schema_tree.specs.States.{no_counts}
 use Rattle.tally.specs.Laws.{IntervalHasCopies}
 use Rattle.lists.proofs.Members.{got_in, in_rest, not_in_none}
+use Rattle.bag_match.specs.Bounds.{AreCountsOf}
 use Rattle.bag_match.specs.Counts.{ArePlacesOf, IsPlaceOf, raised, state_of}
 use Rattle.bag_match.specs.Hopes.{AreOffers, IsHopeless, offers}
 use Rattle.bag_match.specs.Least.{AreLeast, AreOffered, ArePlacesFor, Finishes, FinishesLeast, IsNotBehind, IsPlaceBefore}
 use Rattle.bag_match.specs.Searches.{AreFailed, AreLost, AreTried, FinishesNever, HasFailed, IsLost, IsOpenFrom, IsSearch, IsTaken, IsWay, turns, turns_left}
+use Rattle.bag_match.proofs.Came.{came_next, opening_came}
 use Rattle.bag_match.proofs.Finishing.{finish_cons, finish_some, finish_split, walk_end, walk_start}
 use Rattle.bag_match.proofs.Hopeful.{hopeless_ends, hopes_spelled}
-use Rattle.bag_match.proofs.Leading.{rising_behind}
 use Rattle.bag_match.proofs.Offers.{for_drop, for_few, for_offered, offers_left}
-use Rattle.bag_match.proofs.Rising.{in_push}
+use Rattle.bag_match.proofs.Rising.{in_push, rising_behind}
 use Rattle.bag_match.proofs.Stepping.{drop_few, offered_at, opening_at, opening_is, places_there, raised_long, raised_most}
 
 -- ---- turns
@@ -57,6 +58,13 @@ turns_leave (places ∷ next ∷ lists) [] at from lt = omega arith
 turns_leave (places ∷ lists) (k ∷ tried) at from lt = let h = turns_leave lists tried at from (omega (arith, lt)) in omega (arith, h)
 
 -- ---- ways
+
+no_set : (left : ℕ) (c : List ℕ) → ¬ HasFailed [] left c
+no_set left c (s, e, held) = let bad : ⊥ = cc in bad
+
+-- no counts have failed yet
+pub none_failed : (hold fail : TermId → Option ExprId → Type 0) (sh : Shape) (n : TermId) (ts : List Triple) → AreFailed hold fail sh n ts []
+none_failed hold fail sh n ts done left c e has = absurd (no_set left c has)
 
 module _ (hold fail : TermId → Option ExprId → Type 0) (sh : Shape) (n : TermId) (ts : List Triple) (lists : List (List Place)) where
   abbrev Never : ℕ → List ℕ → Type 0
@@ -118,6 +126,19 @@ module _ (hold fail : TermId → Option ExprId → Type 0) (sh : Shape) (n : Ter
         let (d, t, are) = own_places j own at in
         subst (λ m. ArePlacesOf m own) (sym is) (places_there hold fail sh n ts (get_or ts j d) own are)
 
+    -- the counts at the end of a way are those of its places
+    way_came : (j : ℕ) (c : List ℕ) (ps : List Place) (ks end : List ℕ) (d : ℕ) → d ≡ j + length ps → AreCountsOf hold fail sh n (take j ts) c → Way j c ps ks end → AreCountsOf hold fail sh n (take d ts) end
+    way_came j c [] [] end d e came h =
+        let at : j ≡ d = omega (arith, e) in
+        subst (λ z. AreCountsOf hold fail sh n (take d ts) z) h (subst (λ i. AreCountsOf hold fail sh n (take i ts) c) at came)
+    way_came j c [] (k ∷ ks) end d e came h = absurd h
+    way_came j c (p ∷ ps) [] end d e came h = absurd h
+    way_came j c (p ∷ ps) (k ∷ ks) end d e came ((own, at, here, tried), h) =
+        let (t, there, are) = own_places j own at in
+        way_came (suc j) (raised c p) ps ks end d (omega (arith, e))
+        (subst (λ i. AreCountsOf hold fail sh n (take i ts) (raised c p)) (add-one j)
+        (came_next hold fail sh n ts j t c p (slice_get_within ts j (get_or ts j t) there) came ((are.same p).0 (got_in own k p here)))) h
+
     -- where all places finish nothing, neither do the counts before them
     pub never_before : (j : ℕ) (c : List ℕ) (own : List Place) → length c ≡ length sh.occs → slice_get lists j ≡ Some own → AreTried hold fail sh n ts j c own → Never j c
     never_before j c own long at tried ps fin = let (d, t, are) = own_places j own at in go d t are ps fin
@@ -132,7 +153,7 @@ module _ (hold fail : TermId → Option ExprId → Type 0) (sh : Shape) (n : Ter
     pub never_lost : (j left : ℕ) (c more : List ℕ) (failed : List (BTreeSet (Vec ℕ))) → suc j + left ≡ length ts → AreOffers (length sh.occs) (drop (suc j) lists) more →
         AreFailed hold fail sh n ts failed → IsLost sh.body more failed left c → Never (suc j) c
     never_lost j left c more failed e held failed_are (inl dead) ps = hopeless_ends hold fail sh n ts lists all (suc j) c more held dead ps
-    never_lost j left c more failed e held failed_are (inr found) ps = failed_are (suc j) left c e found ps
+    never_lost j left c more failed e held failed_are (inr found) ps = (failed_are (suc j) left c e found).0 ps
 
     -- the least places from counts on, with the place that leads to them
     taken_least : (j : ℕ) (c : List ℕ) (p : Place) (k : ℕ) → length c ≡ length sh.occs → Taken j c p k → (rest : List Place) → FinishesLeast hold fail sh n ts (state_of (suc j) (raised c p)) rest →
@@ -205,9 +226,6 @@ module _ (hold fail : TermId → Option ExprId → Type 0) (sh : Shape) (n : Ter
     abbrev pub Search : List Place → List ℕ → List ℕ → List ℕ → List (BTreeSet (Vec ℕ)) → ℕ → Type 0
     Search places tried counts more failed from = IsSearch hold fail sh n ts lists places tried counts more failed from
 
-    no_set : (left : ℕ) (c : List ℕ) → ¬ HasFailed [] left c
-    no_set left c (s, e, held) = let bad : ⊥ = cc in bad
-
     none_first : (own : List Place) (q : Place) → ¬ Contains (take 0 own) q
     none_first [] q c = not_in_none q c
     none_first (p ∷ own) q c = not_in_none q c
@@ -224,7 +242,7 @@ module _ (hold fail : TermId → Option ExprId → Type 0) (sh : Shape) (n : Ter
           within = omega arith;
           way = zeros_are counts zeros;
           left = left;
-          failed_are = λ done k c e has. absurd (no_set k c has);
+          failed_are = none_failed hold fail sh n ts;
           next = λ own at q c. absurd (none_first own q c);
           alive = λ past. alive;
         })))
@@ -240,6 +258,9 @@ module _ (hold fail : TermId → Option ExprId → Type 0) (sh : Shape) (n : Ter
 
       pub search_same : length tried ≡ length places
       search_same = way_same 0 (no_counts sh.occs) places tried counts s.way
+
+      pub search_came : AreCountsOf hold fail sh n (take (length places) ts) counts
+      search_came = way_came 0 (no_counts sh.occs) places tried counts (length places) (omega arith) (opening_came hold fail sh n ts) s.way
 
       pub search_small : length ts < 2 ^ 31 → (i : ℕ) → slice_index counts i < 2 ^ 31
       search_small few i =
@@ -284,14 +305,16 @@ module _ (hold fail : TermId → Option ExprId → Type 0) (sh : Shape) (n : Ter
         search_stops lost = never_before (length places) counts own search_long at_own (tried_now own lost)
 
     -- one more of the counts has failed
-    pub failed_more : (old new : List (BTreeSet (Vec ℕ))) (j left : ℕ) (counts lent : List ℕ) → AreFailed hold fail sh n ts old → j + left ≡ length ts → Never j counts → lent ≡ counts →
+    pub failed_more : (old new : List (BTreeSet (Vec ℕ))) (j left : ℕ) (counts lent : List ℕ) → AreFailed hold fail sh n ts old → j + left ≡ length ts → Never j counts → AreCountsOf hold fail sh n (take j ts) counts → lent ≡ counts →
         ((k : ℕ) (c : List ℕ) → HasFailed new k c → HasFailed old k c ⊎ ((k ≡ left) × (lent ≡ c))) → AreFailed hold fail sh n ts new
-    failed_more old new j left counts lent are count never same put done k c e has = elim (put k c has) [
+    failed_more old new j left counts lent are count never came same put done k c e has = elim (put k c has) [
       | inl before ↦ are done k c e before
       | inr own ↦
           let at = own.0 in
-          let here : j ≡ done = omega (arith, e, count, at) in
-          subst (λ i. Never i c) here (subst (λ z. Never j z) (sym same ∙ own.1) never)
+          let here : j ≡ done = omega (arith, e, count, at) in (
+            subst (λ i. Never i c) here (subst (λ z. Never j z) (sym same ∙ own.1) never),
+            subst (λ i. AreCountsOf hold fail sh n (take i ts) c) here (subst (λ z. AreCountsOf hold fail sh n (take j ts) z) (sym same ∙ own.1) came),
+          )
     ]
 
     -- ---- one place is given back

@@ -87,10 +87,6 @@ module _ (hold fail : TermId → Option ExprId → Type 0) (sh : Shape) (n : Ter
     λ (qs, allowed, spelled). told.1 (subst (λ z. HaveCounts sh.body (times z)) (sym (sole_only hold fail sh n ts ps lists offered is qs allowed)) spelled),
   )
 
-  -- the least places are some
-  pub least_have : (ps : List Place) → AreLeast hold fail sh n ts ps → HavePlaces hold fail sh n ts
-  least_have ps least = (ps, least.allowed, least.spelled)
-
   -- nothing finishes from the opening counts, so there are none
   pub never_none : FinishesNever hold fail sh n ts 0 (no_counts sh.occs) → ¬ HavePlaces hold fail sh n ts
   never_none never (ps, allowed, spelled) =

@@ -46,7 +46,7 @@ module _ (hold fail : TermId → Option ExprId → Type 0) (sh : Shape) (n : Ter
   abbrev pub Finishes : List Triple → State → List Place → Type 0
   Finishes ts x ps = AreAllowed hold fail sh n (drop x.done ts) ps × HaveCounts sh.body (λ i. slice_index x.counts i + times ps i)
 
-  -- and they are the least such
+  -- the places are the least that finish from the state
   abbrev pub FinishesLeast : List Triple → State → List Place → Type 0
   FinishesLeast ts x ps = Finishes ts x ps × ((qs : List Place) → Finishes ts x qs → IsNotBehind ps qs)
 

@@ -10,14 +10,19 @@ use Rattle.schema_tree.specs.declared.verdicts.Place.{Place}
 use Rattle.schema_tree.specs.Places.{AreAllowed, HaveCounts, times}
 use Rattle.schema_tree.specs.States.{no_counts}
 use Rattle.tally.specs.Plan.{Plan}
+use Rattle.bag_match.specs.Bounds.{AreCountsOf}
 use Rattle.bag_match.specs.Counts.{raised, state_of}
 use Rattle.bag_match.specs.Hopes.{AreOffers, IsHopeless}
 use Rattle.bag_match.specs.Least.{Finishes}
-use Rattle.bag_match.specs.Sets.{lists_of}
+use Rattle.bag_match.specs.Sets.{lists_in, lists_of}
 
 -- the counts are in the set of this number
 abbrev pub HasFailed : List (BTreeSet (Vec ℕ)) → ℕ → List ℕ → Type 0
 HasFailed sets left c = (s : BTreeSet (Vec ℕ)) × (slice_get sets left ≡ Some s) × Contains (lists_of s) c
+
+-- the counts that are in the set of this number
+abbrev pub failed_at : List (BTreeSet (Vec ℕ)) → ℕ → List (List ℕ)
+failed_at sets left = lists_in (slice_get sets left)
 
 -- the counts are hopeless, or are in the set of this number
 abbrev pub IsLost : Option Plan → List ℕ → List (BTreeSet (Vec ℕ)) → ℕ → List ℕ → Type 0
@@ -52,9 +57,11 @@ module _ (hold fail : TermId → Option ExprId → Type 0) (sh : Shape) (n : Ter
   abbrev pub FinishesNever : ℕ → List ℕ → Type 0
   FinishesNever done counts = (ps : List Place) → ¬ Finishes hold fail sh n ts (state_of done counts) ps
 
-  -- from none of the counts in the sets does anything finish, where so many triples have no place yet
+  -- the counts in the sets are those of allowed places for the triples before, and nothing finishes from them, where so many
+  -- triples have no place yet
   abbrev pub AreFailed : List (BTreeSet (Vec ℕ)) → Type 0
-  AreFailed sets = (done left : ℕ) (c : List ℕ) → done + left ≡ length ts → HasFailed sets left c → FinishesNever done c
+  AreFailed sets =
+      (done left : ℕ) (c : List ℕ) → done + left ≡ length ts → HasFailed sets left c → FinishesNever done c × AreCountsOf hold fail sh n (take done ts) c
 
   -- from the counts that any of the places for the next triple leads to nothing finishes
   abbrev pub AreTried : ℕ → List ℕ → List Place → Type 0

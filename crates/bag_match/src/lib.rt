@@ -16,14 +16,13 @@ mod outcome;
 mod passing;
 mod place_lists;
 pub mod places;
-mod placing;
 mod products;
 pub mod raising;
 mod search;
 mod sole;
 mod spreading;
 
-pub use matching::{can_match, match_pair};
+pub use matching::{can_match, find_match, match_pair};
 pub use outcome::Outcome;
 pub use passing::dead;
 pub use products::width;

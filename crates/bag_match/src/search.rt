@@ -1,5 +1,5 @@
-//! A search for the least places: least place first, and back where no place leads on. No counts are looked at again from
-//! which nothing finishes.
+//! A search for the least places: least place first, and back where no place leads on. From counts that failed nothing is
+//! searched again.
 
 ghost use Rattle.std.specs.Prelude.{◌≡◌, ◌<◌, ◌≤◌, ◌+◌, ◌-◌, ◌++◌, ◌∷◌, ◌⊎◌, ◌^◌, [], ℕ, List, IfOk, IfSome, IsNone, IsTrue, OnOk, Some, drop, false, length, replicate, slice_get, slice_index, suc, take, true};
 ghost use Rattle.schema_tree.specs.Loaded.{BodyOk};
@@ -132,7 +132,7 @@ pub struct Way {
     /// For each occurrence how many places of the other triples are this occurrence.
     more: Vec<u32>,
     /// Counts from which nothing finishes, by how many triples have no place there.
-    failed: Vec<BTreeSet<Vec<u32>>>,
+    pub failed: Vec<BTreeSet<Vec<u32>>>,
 }
 
 impl Way {
@@ -171,7 +171,7 @@ fn number_after(places: &[Place], at: usize) -> usize
 
 impl<J: Judge> Question<'_, J> {
     /// A search at its beginning: no triple has a place.
-    fn way(&self, alloc: Global, offered: &PlaceLists) -> Result<Way, AllocError>
+    pub fn way(&self, alloc: Global, offered: &PlaceLists) -> Result<Way, AllocError>
         requires offered { AreOffered (J.hold self.now.judge.now) (J.fail self.now.judge.now) self.now.shape.now self.now.node self.now.triples.now (length self.now.triples.now) offered.now }
         requires few { length self.now.triples.now < 2 ^ 31 }
         ensures places { IfOk result (λ w. w.places.items ≡ []) }
@@ -206,6 +206,7 @@ impl<J: Judge> Question<'_, J> {
         requires never { FinishesNever (J.hold self.now.judge.now) (J.fail self.now.judge.now) self.now.shape.now self.now.node self.now.triples.now (length way.old.places.items) way.old.counts.items }
         ensures goes { IfSome result (λ from. IsSearch (J.hold self.now.judge.now) (J.fail self.now.judge.now) self.now.shape.now self.now.node self.now.triples.now offered.now way.new.places.items way.new.tried.items way.new.counts.items way.new.more.items way.new.failed.items from) }
         ensures less { (next : ℕ) → IfSome result (λ from. turns_left offered.now way.new.tried.items from < turns_left offered.now way.old.tried.items next) }
+        ensures failed { AreFailed (J.hold self.now.judge.now) (J.fail self.now.judge.now) self.now.shape.now self.now.node self.now.triples.now way.new.failed.items }
         ensures ends { IsNone result → FinishesNever (J.hold self.now.judge.now) (J.fail self.now.judge.now) self.now.shape.now self.now.node self.now.triples.now 0 (no_counts self.now.shape.now.occs) }
     {
         let Some(place) = way.places.pop() else {
@@ -237,6 +238,7 @@ impl<J: Judge> Question<'_, J> {
         requires stands { IsSearch (J.hold self.now.judge.now) (J.fail self.now.judge.now) self.now.shape.now self.now.node self.now.triples.now offered.now way.old.places.items way.old.tried.items way.old.counts.items way.old.more.items way.old.failed.items from }
         ensures goes { IfOk result (λ o. IfSome o (λ next. IsSearch (J.hold self.now.judge.now) (J.fail self.now.judge.now) self.now.shape.now self.now.node self.now.triples.now offered.now way.new.places.items way.new.tried.items way.new.counts.items way.new.more.items way.new.failed.items next)) }
         ensures less { IfOk result (λ o. IfSome o (λ next. turns_left offered.now way.new.tried.items next < turns_left offered.now way.old.tried.items from)) }
+        ensures failed { IfOk result (λ o. AreFailed (J.hold self.now.judge.now) (J.fail self.now.judge.now) self.now.shape.now self.now.node self.now.triples.now way.new.failed.items) }
         ensures ends { IfOk result (λ o. IsNone o → FinishesNever (J.hold self.now.judge.now) (J.fail self.now.judge.now) self.now.shape.now self.now.node self.now.triples.now 0 (no_counts self.now.shape.now.occs)) }
     {
         let left = self.triples.len() - way.places.len();
@@ -262,7 +264,12 @@ impl<J: Judge> Question<'_, J> {
     }
 
     /// Whether a search from its beginning comes to places for all triples.
-    fn search(&self, alloc: Global, offered: &PlaceLists, way: &mut Way) -> Result<bool, AllocError>
+    pub fn search(
+        &self,
+        alloc: Global,
+        offered: &PlaceLists,
+        way: &mut Way,
+    ) -> Result<bool, AllocError>
         requires offered { AreOffered (J.hold self.now.judge.now) (J.fail self.now.judge.now) self.now.shape.now self.now.node self.now.triples.now (length self.now.triples.now) offered.now }
         requires body { BodyOk self.now.shape.now.occs self.now.shape.now.body }
         requires few { length self.now.triples.now < 2 ^ 31 }
@@ -273,6 +280,7 @@ impl<J: Judge> Question<'_, J> {
         requires more { AreOffers (length self.now.shape.now.occs) offered.now way.old.more.items }
         requires failed { way.old.failed.items ≡ [] }
         ensures found { IfOk result (λ b. b ≡ true → AreLeast (J.hold self.now.judge.now) (J.fail self.now.judge.now) self.now.shape.now self.now.node self.now.triples.now way.new.places.items) }
+        ensures failed { IfOk result (λ b. AreFailed (J.hold self.now.judge.now) (J.fail self.now.judge.now) self.now.shape.now self.now.node self.now.triples.now way.new.failed.items) }
         ensures none { IfOk result (λ b. b ≡ false → FinishesNever (J.hold self.now.judge.now) (J.fail self.now.judge.now) self.now.shape.now self.now.node self.now.triples.now 0 (no_counts self.now.shape.now.occs)) }
     {
         interval_has_copies();
@@ -287,27 +295,5 @@ impl<J: Judge> Question<'_, J> {
             }
         }
         Ok(true)
-    }
-
-    /// The least places, where there are any.
-    pub fn find_places(
-        &self,
-        alloc: Global,
-        offered: &PlaceLists,
-    ) -> Result<Option<Vec<Place>>, AllocError>
-        requires offered { AreOffered (J.hold self.now.judge.now) (J.fail self.now.judge.now) self.now.shape.now self.now.node self.now.triples.now (length self.now.triples.now) offered.now }
-        requires body { BodyOk self.now.shape.now.occs self.now.shape.now.body }
-        requires few { length self.now.triples.now < 2 ^ 31 }
-        requires few_occurrences { length self.now.shape.now.occs ≤ 256 }
-        ensures places { IfOk result (λ o. IfSome o (λ v. AreLeast (J.hold self.now.judge.now) (J.fail self.now.judge.now) self.now.shape.now self.now.node self.now.triples.now v.items)) }
-        ensures none { IfOk result (λ o. IsNone o → FinishesNever (J.hold self.now.judge.now) (J.fail self.now.judge.now) self.now.shape.now self.now.node self.now.triples.now 0 (no_counts self.now.shape.now.occs)) }
-    {
-        let mut way = self.way(alloc, offered)?;
-        if self.search(alloc, offered, &mut way)? {
-            let Way { places, .. } = way;
-            Ok(Some(places))
-        } else {
-            Ok(None)
-        }
     }
 }

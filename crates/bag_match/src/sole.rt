@@ -39,7 +39,7 @@ fn tick_all<L: Ledger>(places: &[Place], steps: &mut Steps<L>)
 
 impl<J: Judge> Question<'_, J> {
     /// Whether the only places that are allowed, where each triple has one alone, have matching counts. Neither a search nor
-    /// states are made for them. It ticks once for each.
+    /// states are made for them. It ticks once for each where they have.
     pub fn sole_match<L: Ledger>(
         &self,
         alloc: Global,

@@ -4,41 +4,36 @@ use Rattle.std.proofs.lemmas.Bool.{cases_eq}
 use Rattle.std.specs.Prelude.{◌↔◌, Contains, Some, option_map, slice_get, slice_set}
 use Rattle.schema_tree.specs.declared.schema.Pair.{Pair}
 use Rattle.schema_tree.specs.declared.verdicts.Lean.TheVariants.{Impossible}
-use Rattle.schema_tree.specs.declared.verdicts.Place.{Place}
-use Rattle.schema_tree.specs.declared.verdicts.State.{State}
 use Rattle.schema_tree.specs.declared.verdicts.Verdict.{Verdict}
 use Rattle.schema_tree.specs.declared.verdicts.Verdict.TheVariants.{Yes, Unknown}
 use Rattle.schema_tree.specs.Sure.{Known}
-use Rattle.bag_match.specs.Outcomes.{IsOutcome}
-use Rattle.bag_match.specs.declared.outcome.Outcome.{Outcome}
-use Rattle.bag_match.specs.declared.outcome.Outcome.TheVariants.{Placed, Never}
+use Rattle.schema_tree.specs.Places.{PairCanMatch}
 use Rattle.lists.proofs.Members.{not_in_none}
 use Rattle.removal_laws.proofs.Confirming.{begun, drops, holds}
 use Rattle.removal_laws.proofs.Known.{set_here, set_other}
 use Rattle.typing_refiner.specs.declared.ground.Ground.{Ground}
 use Rattle.typing_refiner.specs.Ready.{GoesBack, IsAmong, IsConfirming, IsLow, IsOpen, IsRaisedBy, IsReady, IsRemoving, Waits, known_of}
-use Rattle.typing_refiner.proofs.Outcomes.{never_cannot, placed_can}
 use Rattle.typing_refiner.proofs.Waiting.{in_more}
 
-abbrev pub IsLook : Ground → Known → List Verdict → ℕ → Outcome → Type 0
-IsLook h elsewhere marks at o = (p : Pair) → slice_get h.table.now at ≡ Some p →
-    IsOutcome h.schema.now h.terms.now h.graph.now.triples (known_of h elsewhere marks) Impossible p o
+-- the pair of the number can match where Unknown is impossible
+abbrev CanMatch : Ground → Known → Pair → Type 0
+CanMatch h view p = PairCanMatch h.schema.now h.terms.now h.graph.now.triples view Impossible p
 
 module _ (h : Ground) (ready : IsReady h) (elsewhere lower : Known) (k : ℕ) (marks : List Verdict) (gone : List Pair) (at : ℕ) (agenda : List ℕ)
-    (r : IsConfirming h elsewhere lower k marks gone (λ i. Contains agenda i ⊎ (i ≡ at))) (o : Outcome) (look : IsLook h elsewhere marks at o) where
-  pub still : (places : List Place) → o ≡ Placed places → IsConfirming h elsewhere lower k marks gone (λ i. Contains agenda i)
-  still places is =
+    (r : IsConfirming h elsewhere lower k marks gone (λ i. Contains agenda i ⊎ (i ≡ at))) where
+  pub still : ((p : Pair) → slice_get h.table.now at ≡ Some p → CanMatch h (known_of h elsewhere marks) p) → IsConfirming h elsewhere lower k marks gone (λ i. Contains agenda i)
+  still can =
       let (p, here, narrow) = (r.open_to at (inr refl)).0 in
       holds h.schema.now h.terms.now h.graph.now.triples h.strata.now h.table.now h.budget elsewhere ready.distinct lower k marks gone at p here (λ i. Contains agenda i) r
-      (placed_can h.schema.now h.terms.now h.graph.now.triples (known_of h elsewhere marks) Impossible p o places is (look p here))
+      (can p here)
 
-  further : (states : List State) → o ≡ Never states → ((i : ℕ) → Contains agenda i → at < i) → (next : List ℕ) →
+  further : ((p : Pair) → slice_get h.table.now at ≡ Some p → ¬ CanMatch h (known_of h elsewhere marks) p) → ((i : ℕ) → Contains agenda i → at < i) → (next : List ℕ) →
       ((q : ℕ) → Contains next q ↔ (Contains agenda q ⊎ GoesBack h k at (slice_set marks at Unknown) Yes q)) →
       IsConfirming h elsewhere lower k (slice_set marks at Unknown) gone (λ i. Contains next i)
-  further states is least next put =
+  further cannot least next put =
       let (p, here, narrow) = (r.open_to at (inr refl)).0 in
       drops h.schema.now h.terms.now h.graph.now.triples h.strata.now h.table.now h.budget elsewhere ready.distinct lower k marks gone at p here (λ i. Contains agenda i) r
-      (never_cannot h.schema.now h.terms.now h.graph.now.triples (known_of h elsewhere marks) Impossible p o states is (look p here)) least
+      (cannot p here) least
       (λ i. IsAmong (option_map (λ v. v.items) (slice_get h.needing.now at)) i) (λ i. Contains next i)
       (λ i q there need. ready.needing at i p q here there need)
       (λ i. (
@@ -46,11 +41,11 @@ module _ (h : Ground) (ready : IsReady h) (elsewhere lower : Known) (k : ℕ) (m
         (λ c. elim c [ inl l ↦ (put i).1 (inl l) | inr t ↦ (put i).1 (inr (t.0, (t.1, t.2))) ]),
       ))
 
-  pub further_as : (states : List State) → o ≡ Never states → ((i : ℕ) → Contains agenda i → at < i) → (marks' : List Verdict) → marks' ≡ slice_set marks at Unknown →
+  pub further_as : ((p : Pair) → slice_get h.table.now at ≡ Some p → ¬ CanMatch h (known_of h elsewhere marks) p) → ((i : ℕ) → Contains agenda i → at < i) → (marks' : List Verdict) → marks' ≡ slice_set marks at Unknown →
       (next : List ℕ) → ((q : ℕ) → Contains next q ↔ (Contains agenda q ⊎ GoesBack h k at marks' Yes q)) → IsConfirming h elsewhere lower k marks' gone (λ i. Contains next i)
-  further_as states is least marks' marked next put =
+  further_as cannot least marks' marked next put =
       subst (λ ms. IsConfirming h elsewhere lower k ms gone (λ i. Contains next i)) (sym marked)
-      (further states is least next (subst (λ ms. (q : ℕ) → Contains next q ↔ (Contains agenda q ⊎ GoesBack h k at ms Yes q)) marked put))
+      (further cannot least next (subst (λ ms. (q : ℕ) → Contains next q ↔ (Contains agenda q ⊎ GoesBack h k at ms Yes q)) marked put))
 
 -- the agenda as a condition that is met by the same numbers
 pub todo_same :

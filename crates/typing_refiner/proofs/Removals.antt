@@ -1,31 +1,39 @@
 -- What a look at a pair comes to while pairs are removed.
 use Rattle.std.proofs.Common.{◌≡◌, ℕ, ◌<◌, ◌⊎◌, inl, inr, List, [], ◌∷◌, ◌++◌, refl, sym, subst}
-use Rattle.std.specs.Prelude.{◌↔◌, Contains, Some, option_map, slice_get, slice_set}
+use Rattle.std.specs.Prelude.{◌↔◌, ⊤, Contains, Some, option_map, slice_get, slice_set}
 use Rattle.schema_tree.specs.declared.schema.Pair.{Pair}
 use Rattle.schema_tree.specs.declared.verdicts.Lean.TheVariants.{Possible}
-use Rattle.schema_tree.specs.declared.verdicts.Place.{Place}
 use Rattle.schema_tree.specs.declared.verdicts.State.{State}
 use Rattle.schema_tree.specs.declared.verdicts.Verdict.{Verdict}
 use Rattle.schema_tree.specs.declared.verdicts.Verdict.TheVariants.{No, Unknown}
 use Rattle.schema_tree.specs.Sure.{Known}
-use Rattle.bag_match.specs.Outcomes.{IsOutcome}
-use Rattle.bag_match.specs.declared.outcome.Outcome.{Outcome}
-use Rattle.bag_match.specs.declared.outcome.Outcome.TheVariants.{Placed, Never}
+use Rattle.bag_match.specs.declared.outcome.Outcome.TheVariants as outcomes
 use Rattle.lists.proofs.Members.{not_in_none}
 use Rattle.removal_laws.proofs.Removing.{start, stays, went}
 use Rattle.typing_refiner.specs.declared.ground.Ground.{Ground}
 use Rattle.typing_refiner.specs.Ready.{GoesBack, IsAmong, IsBefore, IsNarrowOf, IsOpen, IsReady, IsRemoving, known_of}
-use Rattle.typing_refiner.proofs.Outcomes.{never_cannot, placed_can}
+use Rattle.typing_refiner.proofs.Outcomes.{placed_can}
+use Rattle.typing_refiner.specs.Findings.{IsFinding}
+use Rattle.typing_refiner.specs.declared.removal.Finding.{Finding}
+use Rattle.typing_refiner.specs.declared.removal.Finding.TheVariants.{Goes, Placed}
 use Rattle.typing_refiner.proofs.Upheld.{decide_among}
 use Rattle.schema_tree.specs.Places.{PairCanMatch}
 use Rattle.removal_laws.proofs.Known.{match_known}
 use Rattle.typing_refiner.specs.Holding.{CanMatchAt}
 use Rattle.typing_refiner.specs.Records.{known_without}
 
--- the outcome of a look at the pair of a number
-abbrev pub IsLook : Ground → Known → List Verdict → ℕ → Outcome → Type 0
-IsLook h elsewhere marks at o = (p : Pair) → slice_get h.table.now at ≡ Some p →
-    IsOutcome h.schema.now h.terms.now h.graph.now.triples (known_of h elsewhere marks) Possible p o
+-- the pair has places
+abbrev pub IsPlaced : Finding → Type 0
+IsPlaced (Placed places) = ⊤
+IsPlaced (Goes states) = ⊥
+
+-- what a look at the pair of a number comes to
+abbrev pub IsLook : Ground → Known → List Verdict → ℕ → Finding → Type 0
+IsLook h elsewhere marks at f = (p : Pair) → slice_get h.table.now at ≡ Some p → IsFinding h (known_of h elsewhere marks) p f
+
+found_can : (h : Ground) (view : Known) (p : Pair) (f : Finding) → IsFinding h view p f → IsPlaced f → PairCanMatch h.schema.now h.terms.now h.graph.now.triples view Possible p
+found_can h view p (Placed places) found stays = placed_can h.schema.now h.terms.now h.graph.now.triples view Possible p (outcomes.Placed places) places refl found
+found_can h view p (Goes states) found stays = absurd stays
 
 -- of the pairs that need one that went, those that can match all the same are not to be looked at
 settled_back : (h : Ground) (elsewhere lower : Known) (k : ℕ) (marks : List Verdict) (gone : List Pair) (at : ℕ) (agenda next : List ℕ) →
@@ -52,21 +60,21 @@ settled_back h elsewhere lower k marks gone at agenda next put kept settled r = 
     ]
 
 module _ (h : Ground) (ready : IsReady h) (elsewhere lower : Known) (k : ℕ) (marks : List Verdict) (gone : List Pair) (at : ℕ) (agenda : List ℕ)
-    (r : IsRemoving h elsewhere lower k marks gone (λ i. Contains agenda i ⊎ (i ≡ at))) (o : Outcome) (look : IsLook h elsewhere marks at o) where
-  pub still : (places : List Place) → o ≡ Placed places → IsRemoving h elsewhere lower k marks gone (λ i. Contains agenda i)
-  still places is =
+    (r : IsRemoving h elsewhere lower k marks gone (λ i. Contains agenda i ⊎ (i ≡ at))) (f : Finding) (look : IsLook h elsewhere marks at f) where
+  pub still : IsPlaced f → IsRemoving h elsewhere lower k marks gone (λ i. Contains agenda i)
+  still left =
       let (p, here, narrow) = (r.open_to at (inr refl)).0 in
       stays h.schema.now h.terms.now h.graph.now.triples h.strata.now h.table.now h.budget elsewhere ready.distinct lower k marks gone at p here (λ i. Contains agenda i) r
-      (placed_can h.schema.now h.terms.now h.graph.now.triples (known_of h elsewhere marks) Possible p o places is (look p here))
+      (found_can h (known_of h elsewhere marks) p f (look p here) left)
 
   abbrev Back : List Verdict → ℕ → Type 0
   Back ms i = Contains agenda i ⊎ GoesBack h k at ms Unknown i
 
-  further : (states : List State) → o ≡ Never states → ((i : ℕ) → Contains agenda i → at < i) → (p : Pair) → slice_get h.table.now at ≡ Some p →
+  further : (states : List State) → f ≡ Goes states → ((i : ℕ) → Contains agenda i → at < i) → (p : Pair) → slice_get h.table.now at ≡ Some p →
       IsRemoving h elsewhere lower k (slice_set marks at No) (gone ++ p ∷ []) (Back (slice_set marks at No))
   further states is least p here =
       went h.schema.now h.terms.now h.graph.now.triples h.strata.now h.table.now h.budget elsewhere ready.distinct lower k marks gone at p here (λ i. Contains agenda i) r
-      (never_cannot h.schema.now h.terms.now h.graph.now.triples (known_of h elsewhere marks) Possible p o states is (look p here)) least
+      (subst (IsFinding h (known_of h elsewhere marks) p) is (look p here)).0 least
       (λ i. IsAmong (option_map (λ v. v.items) (slice_get h.needing.now at)) i) (Back (slice_set marks at No))
       (λ i q there need. ready.needing at i p q here there need)
       (λ i. (
@@ -74,7 +82,7 @@ module _ (h : Ground) (ready : IsReady h) (elsewhere lower : Known) (k : ℕ) (m
         (λ c. elim c [ inl l ↦ inl l | inr t ↦ inr (t.0, (t.1, t.2)) ]),
       ))
 
-  pub further_as : (states : List State) → o ≡ Never states → ((i : ℕ) → Contains agenda i → at < i) → (p : Pair) → slice_get h.table.now at ≡ Some p →
+  pub further_as : (states : List State) → f ≡ Goes states → ((i : ℕ) → Contains agenda i → at < i) → (p : Pair) → slice_get h.table.now at ≡ Some p →
       (marks' : List Verdict) → marks' ≡ slice_set marks at No → (gone' : List Pair) → gone' ≡ gone ++ p ∷ [] → (next : List ℕ) →
       ((q : ℕ) → Contains next q → Contains agenda q ⊎ GoesBack h k at marks' Unknown q) → ((q : ℕ) → Contains agenda q → Contains next q) →
       ((q : ℕ) → GoesBack h k at marks' Unknown q → Contains next q ⊎ CanMatchAt h (known_of h elsewhere marks') q) →

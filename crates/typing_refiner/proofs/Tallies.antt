@@ -1,5 +1,5 @@
 -- Counts of places of which one changes.
-use Rattle.std.proofs.Common.{◌≡◌, ◌∙◌, ℕ, zero, suc, ◌+◌, ◌^◌, ◌<◌, ◌≤◌, ◌⊎◌, inl, inr, List, [], ◌∷◌, ◌++◌, refl, sym, subst, ap, arith, length, Bool, true, false, cond, slice_index, replicate, get_or, take}
+use Rattle.std.proofs.Common.{◌≡◌, ◌≢◌, ◌∙◌, ℕ, zero, suc, ◌+◌, ◌^◌, ◌<◌, ◌≤◌, ◌⊎◌, inl, inr, List, [], ◌∷◌, ◌++◌, refl, sym, subst, ap, arith, length, Bool, true, false, cond, slice_index, replicate, get_or, take}
 use Rattle.std.proofs.lemmas.Bool.{cases_eq, OnTrue_at}
 use Rattle.std.specs.Bool.{OnTrue}
 use Rattle.std.proofs.lemmas.List.{length-replicate, take_more}
@@ -10,6 +10,7 @@ use Rattle.lists.specs.Distinct.{AreDistinct}
 use Rattle.graph_index.proofs.Held.{same_triple, triple_decides}
 use Rattle.lists.proofs.Distinct.{found_item}
 use Rattle.lists.proofs.Members.{got_in, in_rest, is_first, is_later, not_in_none}
+use Rattle.removal_laws.proofs.Known.{set_here, set_other}
 use Rattle.rdf_terms.specs.declared.terms.TermId.{TermId}
 use Rattle.rdf_terms.specs.declared.terms.Triple.{Triple}
 use Rattle.schema_tree.specs.declared.schema.ExprId.{ExprId}
@@ -24,7 +25,7 @@ use Rattle.bag_match.proofs.Offered.{allowed_there}
 use Rattle.bag_match.proofs.Offers.{AreAdded, added_all, came_of, raised_at}
 use Rattle.bag_match.proofs.Stepping.{raised_long}
 use Rattle.typing_refiner.specs.declared.witness.Witness.{Witness}
-use Rattle.typing_refiner.specs.Witnessed.{IsStanding, IsTally, Takes}
+use Rattle.typing_refiner.specs.Witnessed.{ArePlaced, IsStanding, IsTally, Takes}
 
 -- ---- one place more
 
@@ -138,6 +139,27 @@ pub zeros_small : (n : ℕ) (ps : List Place) (zeros : List ℕ) → zeros ≡ r
 zeros_small n ps zeros is few i =
     let z : slice_index zeros i ≡ 0 = ap (λ c. slice_index c i) is ∙ zeros_alone n i in let m = times_most ps i in omega (arith, z, m, few)
 
+-- a place is put at a number
+pub put_there : (mid new : List Place) (at : ℕ) (v : Place) → new ≡ slice_set mid at v → at < length mid → slice_get new at ≡ Some v
+put_there mid new at v is within = ap (λ ps. slice_get ps at) is ∙ set_here mid at (get_or mid at v) v (slice_get-get_or mid at v within)
+
+pub put_others : (old mid new : List Place) (at : ℕ) (v : Place) → new ≡ slice_set mid at v → ((i : ℕ) → i ≢ at → slice_get mid i ≡ slice_get old i) → (i : ℕ) → i ≢ at →
+    slice_get new i ≡ slice_get old i
+put_others old mid new at v is others i ne = ap (λ ps. slice_get ps i) is ∙ (set_other mid at i v ne ∙ others i ne)
+
+-- the place that stood there is put there again
+pub put_again : (old mid new : List Place) (at : ℕ) (before : Place) → slice_get old at ≡ Some before → at < length mid → new ≡ slice_set mid at before →
+    ((i : ℕ) → i ≢ at → slice_get mid i ≡ slice_get old i) → (i : ℕ) → slice_get new i ≡ slice_get old i
+put_again old mid new at before there within is others i = elim (cases_eq i at) [
+  | inl e ↦ subst (λ k. slice_get new k ≡ slice_get old k) (sym e) (put_there mid new at before is within ∙ sym there)
+  | inr ne ↦ put_others old mid new at before is others i ne
+]
+
+-- a triple has a place
+pub has_place : (n : ℕ) (old mid : Witness) → IsTally n mid → mid.triples ≡ old.triples → (at : ℕ) (t : Triple) → slice_get old.triples at ≡ Some t → at < length mid.places.items
+has_place n old mid tally same at t there =
+    subst (λ k. at < k) (sym tally.each) (subst (λ ts. at < length ts) (sym same) (slice_get_within old.triples at t there))
+
 -- ---- what stands
 
 module _ (hold fail : TermId → Option ExprId → Type 0) (sh : Shape) (n : TermId) where
@@ -145,28 +167,49 @@ module _ (hold fail : TermId → Option ExprId → Type 0) (sh : Shape) (n : Ter
   pub for_inside : (t : Triple) (ps : List Place) → ArePlacesFor hold fail sh n t ps → ArePlacesOf (length sh.occs) ps
   for_inside t ps for p c = allowed_there hold fail sh n t p ((for.same p).0 c)
 
-  -- a triple got a place that is allowed for it
+  -- a triple got a place that is allowed for it, whatever the counts
+  pub placed_up : (old new : Witness) → new.triples ≡ old.triples → AreDistinct old.triples → (at : ℕ) (t : Triple) → slice_get old.triples at ≡ Some t → (place : Place) →
+      IsAllowed hold fail sh n t place → slice_get new.places.items at ≡ Some place → ((i : ℕ) → i ≢ at → slice_get new.places.items i ≡ slice_get old.places.items i) → (free : List Triple) →
+      ArePlaced hold fail sh n (t ∷ free) old → ArePlaced hold fail sh n free new
+  placed_up old new same distinct at t there place may here others free h i u p is spot = elim (cases_eq i at) [
+    | inl e ↦ inr (
+        let a : slice_get old.triples at ≡ Some u = subst (λ k. slice_get old.triples k ≡ Some u) e (ap (λ ts. slice_get ts i) (sym same) ∙ is) in
+        let b : slice_get new.places.items at ≡ Some p = subst (λ k. slice_get new.places.items k ≡ Some p) e spot in
+        let c : t ≡ u = (let both : Some t ≡ Some u = sym there ∙ a in cc) in
+        let d : place ≡ p = (let both : Some place ≡ Some p = sym here ∙ b in cc) in
+        subst (λ v. IsAllowed hold fail sh n v p) c (subst (λ q. IsAllowed hold fail sh n t q) d may))
+    | inr ne ↦ elim (h i u p (ap (λ ts. slice_get ts i) (sym same) ∙ is) (sym (others i ne) ∙ spot)) [
+      | inl c ↦ elim (in_rest t free u c) [
+        | inl e ↦ absurd (ne (distinct i at t (ap (λ ts. slice_get ts i) (sym same) ∙ (is ∙ ap (λ v. Some v) (sym e))) there))
+        | inr later ↦ inl later
+      ]
+      | inr a ↦ inr a
+    ]
+  ]
+
+  -- more are free
+  free_too : (w : Witness) (t : Triple) (free : List Triple) → ArePlaced hold fail sh n free w → ArePlaced hold fail sh n (t ∷ free) w
+  free_too w t free h i u p is spot = elim (h i u p is spot) [ inl c ↦ inl (is_later t free u c) | inr a ↦ inr a ]
+
+  -- a triple that was not free got a place that is allowed for it
+  pub taken_up : (old new : Witness) → new.triples ≡ old.triples → AreDistinct old.triples → (at : ℕ) (t : Triple) → slice_get old.triples at ≡ Some t → (allowed lent : List Place) → lent ≡ allowed →
+      ArePlacesFor hold fail sh n t allowed → Takes sh.body at lent old.places.items new.places.items → (free : List Triple) → ArePlaced hold fail sh n free old → ArePlaced hold fail sh n free new
+  taken_up old new same distinct at t there allowed lent is for takes free h =
+      placed_up old new same distinct at t there takes.place ((for.same takes.place).0 (subst (λ ps. Contains ps takes.place) is takes.one)) takes.here takes.others free (free_too old t free h)
+
+  -- the places are as they were
+  pub given_back : (old new : Witness) → new.triples ≡ old.triples → ((i : ℕ) → slice_get new.places.items i ≡ slice_get old.places.items i) → (free : List Triple) →
+      ArePlaced hold fail sh n free old → ArePlaced hold fail sh n free new
+  given_back old new same places free h i u p is spot = h i u p (ap (λ ts. slice_get ts i) (sym same) ∙ is) (sym (places i) ∙ spot)
+
+  -- a triple got a place that is allowed for it, and the counts match
   pub kept_up : (old new : Witness) → new.triples ≡ old.triples → AreDistinct old.triples → (at : ℕ) (t : Triple) → slice_get old.triples at ≡ Some t → (allowed : List Place) →
       ArePlacesFor hold fail sh n t allowed → Takes sh.body at allowed old.places.items new.places.items → (free : List Triple) →
       IsStanding hold fail sh n (t ∷ free) old → IsStanding hold fail sh n free new
-  kept_up old new same distinct at t there allowed for takes free h = record { allowed = each; spelled = takes.spelled }
-    where
-      each : (i : ℕ) (u : Triple) (p : Place) → slice_get new.triples i ≡ Some u → slice_get new.places.items i ≡ Some p → Contains free u ⊎ IsAllowed hold fail sh n u p
-      each i u p is spot = elim (cases_eq i at) [
-        | inl e ↦ inr (
-            let a : slice_get old.triples at ≡ Some u = subst (λ k. slice_get old.triples k ≡ Some u) e (ap (λ ts. slice_get ts i) (sym same) ∙ is) in
-            let b : slice_get new.places.items at ≡ Some p = subst (λ k. slice_get new.places.items k ≡ Some p) e spot in
-            let c : t ≡ u = (let both : Some t ≡ Some u = sym there ∙ a in cc) in
-            let d : takes.place ≡ p = (let both : Some takes.place ≡ Some p = sym takes.here ∙ b in cc) in
-            subst (λ v. IsAllowed hold fail sh n v p) c (subst (λ q. IsAllowed hold fail sh n t q) d ((for.same takes.place).0 takes.one)))
-        | inr ne ↦ elim (h.allowed i u p (ap (λ ts. slice_get ts i) (sym same) ∙ is) (sym (takes.others i ne) ∙ spot)) [
-          | inl c ↦ elim (in_rest t free u c) [
-            | inl e ↦ absurd (ne (distinct i at t (ap (λ ts. slice_get ts i) (sym same) ∙ (is ∙ ap (λ v. Some v) (sym e))) there))
-            | inr later ↦ inl later
-          ]
-          | inr a ↦ inr a
-        ]
-      ]
+  kept_up old new same distinct at t there allowed for takes free h = record {
+    allowed = placed_up old new same distinct at t there takes.place ((for.same takes.place).0 takes.one) takes.here takes.others free h.allowed;
+    spelled = takes.spelled;
+  }
 
   pub kept_if : (old new : Witness) → new.triples ≡ old.triples → AreDistinct old.triples → (at : ℕ) (t : Triple) → slice_get old.triples at ≡ Some t → (allowed lent : List Place) → lent ≡ allowed →
       ArePlacesFor hold fail sh n t allowed → (b : Bool) → OnTrue b (Takes sh.body at lent old.places.items new.places.items) →
@@ -174,6 +217,16 @@ module _ (hold fail : TermId → Option ExprId → Type 0) (sh : Shape) (n : Ter
   kept_if old new same distinct at t there allowed lent is for false takes = tt
   kept_if old new same distinct at t there allowed lent is for true takes =
       λ free h. kept_up old new same distinct at t there allowed for (subst (λ ps. Takes sh.body at ps old.places.items new.places.items) is takes) free h
+
+  -- it got one, and another triple then got one from which the counts match
+  pub kept_by : (old mid : Witness) → mid.triples ≡ old.triples → AreDistinct old.triples → (at : ℕ) (t : Triple) → slice_get old.triples at ≡ Some t → (allowed lent : List Place) → lent ≡ allowed →
+      ArePlacesFor hold fail sh n t allowed → (place : Place) → Contains lent place → slice_get mid.places.items at ≡ Some place →
+      ((i : ℕ) → i ≢ at → slice_get mid.places.items i ≡ slice_get old.places.items i) → (new : Witness) (b : Bool) →
+      OnTrue b ((free : List Triple) → ArePlaced hold fail sh n free mid → IsStanding hold fail sh n free new) →
+      OnTrue b ((free : List Triple) → IsStanding hold fail sh n (t ∷ free) old → IsStanding hold fail sh n free new)
+  kept_by old mid same distinct at t there allowed lent is for place one here others new false stands = tt
+  kept_by old mid same distinct at t there allowed lent is for place one here others new true stands = λ free h.
+      stands free (placed_up old mid same distinct at t there place ((for.same place).0 (subst (λ ps. Contains ps place) is one)) here others free h.allowed)
 
   -- a triple keeps the place that it has
   pub kept_there : (w : Witness) → AreDistinct w.triples → (at : ℕ) (t : Triple) → slice_get w.triples at ≡ Some t → (p : Place) → slice_get w.places.items at ≡ Some p → (allowed lent : List Place) →

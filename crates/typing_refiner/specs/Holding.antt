@@ -20,7 +20,7 @@ Holds held i w = (b : Box Witness) × (lookup (nat_eq i) held ≡ Some b) × (b.
 abbrev pub triples_of : List (ℕ × Box Witness) → ℕ
 triples_of held = sum_by (λ e. length e.1.value.triples) held
 
--- and how many at most
+-- how many triples witnesses have together at most
 abbrev pub most_triples : ℕ
 most_triples = 4194304
 
@@ -28,7 +28,8 @@ most_triples = 4194304
 abbrev pub AllShow : Ground → Known → List (ℕ × Box Witness) → Type 0
 AllShow h view held = (i : ℕ) (w : Witness) (p : Pair) → Holds held i w → slice_get h.table.now i ≡ Some p → IsWitnessOf h view p w
 
--- the same, but for triples that end at the node of another pair, where the number is one of these
+-- each witness that is held shows that the pair of its number can match, but for triples that end at the node of another pair
+-- where the number is one of these
 abbrev pub AllShowBut : Ground → Known → Pair → Option (List ℕ) → List (ℕ × Box Witness) → Type 0
 AllShowBut h view q numbers held =
     (i : ℕ) (w : Witness) (p : Pair) → Holds held i w → slice_get h.table.now i ≡ Some p →

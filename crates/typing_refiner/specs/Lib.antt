@@ -11,3 +11,4 @@ pub mod Evidence
 pub mod Filing
 pub mod Witnessed
 pub mod Holding
+pub mod Findings

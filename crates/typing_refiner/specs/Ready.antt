@@ -48,7 +48,7 @@ IsOpen h k i = (p : Pair) × (slice_get h.table.now i ≡ Some p) × IsNarrowOf 
 abbrev pub Waits : Ground → ℕ → List Verdict → Verdict → ℕ → Type 0
 Waits h k marks mark i = IsOpen h k i × (slice_get marks i ≡ Some mark)
 
--- and it needs the pair of the other number
+-- the pair of the number needs that of the other number, is open and has the mark
 abbrev pub GoesBack : Ground → ℕ → ℕ → List Verdict → Verdict → ℕ → Type 0
 GoesBack h k at marks mark i =
     IsAmong (option_map (λ v. v.items) (slice_get h.needing.now at)) i × Waits h k marks mark i

@@ -14,7 +14,7 @@ abbrev pub cost_of_pair : Ground → (Pair → ℕ) → Option Pair → ℕ
 cost_of_pair h width None = 0
 cost_of_pair h width (Some p) = most_ticks h.schema.now h.terms.now h.graph.now.triples p (width p)
 
--- the same of the pair of a number
+-- what one look at the pair of a number ticks at most
 unfoldable pub look_cost : Ground → (Pair → ℕ) → ℕ → ℕ
 look_cost h width i = cost_of_pair h width (slice_get h.table.now i)
 
@@ -34,11 +34,11 @@ is_of h k (Some p) = nat_eq (level h.strata.now p.shape) k
 abbrev pub narrow_test : Ground → ℕ → Bool
 narrow_test h i = is_some_true (slice_get h.narrow.now i)
 
--- and it is one of the stratum
+-- the number is that of a narrow pair of the stratum
 abbrev pub open_test : Ground → ℕ → ℕ → Bool
 open_test h k i = narrow_test h i && is_of h k (slice_get h.table.now i)
 
--- the same of the open pairs of a stratum alone
+-- what one look at the pair of a number ticks at most, where it is an open pair of the stratum, and else 0
 abbrev pub open_cost : Ground → (Pair → ℕ) → ℕ → ℕ → ℕ
 open_cost h width k i = if open_test h k i then look_cost h width i else 0
 
@@ -62,6 +62,6 @@ phase_ticks h width k = phase_cost (open_cost h width k) (need_test h) (length h
 abbrev pub record_ticks_below : Ground → (Pair → ℕ) → ℕ → ℕ
 record_ticks_below h width n = total (cost_where (narrow_test h) (look_cost h width)) n
 
--- the same of all, which is what their records tick at most
+-- what one look at each narrow pair ticks at most, which is what the records of all tick at most
 unfoldable pub record_ticks : Ground → (Pair → ℕ) → ℕ
 record_ticks h width = record_ticks_below h width (length h.table.now)

@@ -38,7 +38,7 @@ module _ (s : Schema) (terms : List Term) (g : List Triple) (f : List ℕ) (budg
   AreTrue pairs verdicts =
       (U : List TermId) (T : List Pair) → IsTheTyping s terms g f U T → ((p : Pair) → Contains pairs p → Contains U p.node) → Agrees T verdicts
 
-  -- and so it is by any other stratification
+  -- by any other stratification, too, Yes is of every complete typing, and No of none
   abbrev pub AreTrueByAll : List Pair → Known → Type 0
   AreTrueByAll pairs verdicts =
       (h : List ℕ) (U : List TermId) (T : List Pair) → IsStratified s h → HoldsEnds U g → IsTheTyping s terms g h U T →

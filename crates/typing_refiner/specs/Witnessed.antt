@@ -34,10 +34,14 @@ pub record Takes (body : Option Plan) (at : ℕ) (allowed old new : List Place) 
   pub spelled : HaveCounts body (times new)
 
 module _ (hold fail : TermId → Option ExprId → Type 0) (sh : Shape) (n : TermId) where
-  -- the counts match, and each place is allowed but for triples that are free
+  -- each place is allowed but for triples that are free
+  abbrev pub ArePlaced : List Triple → Witness → Type 0
+  ArePlaced free w = (i : ℕ) (t : Triple) (p : Place) → slice_get w.triples i ≡ Some t → slice_get w.places.items i ≡ Some p →
+      Contains free t ⊎ IsAllowed hold fail sh n t p
+
+  -- each place is allowed but for triples that are free, and the counts of the places match
   pub record IsStanding (free : List Triple) (w : Witness) : Type 0 where
-    pub allowed : (i : ℕ) (t : Triple) (p : Place) → slice_get w.triples i ≡ Some t → slice_get w.places.items i ≡ Some p →
-        Contains free t ⊎ IsAllowed hold fail sh n t p
+    pub allowed : ArePlaced free w
     pub spelled : HaveCounts sh.body (times w.places.items)
 
 -- two occurrences fit the same triples: they have one predicate and one direction
@@ -60,11 +64,11 @@ pub record IsWitness (h : Ground) (view : Known) (p : Pair) (sh : Shape) (free :
   pub tally : IsTally (length sh.occs) w
   pub standing : IsStanding (MayHold h.schema.now h.terms.now view Possible) (MayFail h.schema.now h.terms.now view Possible) sh p.node free w
 
--- the same of a pair with a Shape, where no triple is free
+-- the witness shows that the pair, whose Shape the schema has, can match under the view: no triple is free
 abbrev pub IsWitnessOf : Ground → Known → Pair → Witness → Type 0
 IsWitnessOf h view p w = (sh : Shape) × (shape_at h.schema.now p.shape ≡ Some sh) × IsWitness h view p sh [] w
 
--- where the triples that end at the node of another pair are free
+-- the witness shows that the pair can match under the view but for the triples that end at the node of another pair, which are free
 abbrev pub IsWitnessBut : Ground → Known → Pair → Pair → Witness → Type 0
 IsWitnessBut h view q p w =
     (sh : Shape) × (shape_at h.schema.now p.shape ≡ Some sh) × IsWitness h view p sh (all_between sh.occs p.node q.node) w

@@ -10,7 +10,6 @@ ghost use Rattle.typing_refiner.specs.Ready.{AllWait, IsConfirming, IsLow, IsNea
 use crate::ground::{Ground, has_mark};
 use crate::removal::set_mark;
 use agenda::Agenda;
-use bag_match::Outcome;
 use schema_tree::sure::View;
 use schema_tree::verdicts::{Lean, Verdict};
 use std::alloc::{AllocError, Global};
@@ -60,15 +59,13 @@ impl Ground<'_> {
         ensures spent { (width : Held → ℕ) → GiveWidths self.now width → steps.new ≤ steps.old + look_cost self.now width at }
         ensures paid { (width : Held → ℕ) → GiveWidths self.now width → OnOk result (steps.new + still_to_tick self.now width stratum Yes marks.new agenda.new ≤ steps.old + (still_to_tick self.now width stratum Yes marks.old agenda.old + look_cost self.now width at)) }
     {
-        match self.look(alloc, kept, marks, Lean::Impossible, at, steps)? {
-            Outcome::Placed(_) => Ok(()),
-            Outcome::Never(_) => {
-                set_mark(marks, at, Verdict::Unknown);
-                self.put_back(stratum, at, marks, Verdict::Yes, agenda)?;
-                let _count = agenda.len();
-                Ok(())
-            }
+        if self.matches(alloc, kept, marks, Lean::Impossible, at, steps)? {
+            return Ok(());
         }
+        set_mark(marks, at, Verdict::Unknown);
+        self.put_back(stratum, at, marks, Verdict::Yes, agenda)?;
+        let _count = agenda.len();
+        Ok(())
     }
 
     /// Marks the open pairs of a stratum that did not go as Yes, and then those of them as Unknown that the others do not

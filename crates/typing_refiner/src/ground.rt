@@ -2,8 +2,9 @@
 
 ghost use Rattle.std.specs.Prelude.{ℕ, ◌≡◌, ◌≤◌, ◌<◌, ◌+◌, ◌⊎◌, ◌↔◌, Contains, IfOk, IsTrue, OnOk, Some, true, length, slice_get};
 ghost use Rattle.schema_tree.specs.Edges.{level};
+ghost use Rattle.schema_tree.specs.Places.{PairCanMatch};
 ghost use Rattle.schema_tree.specs.declared.schema.Pair.{Pair as Held};
-ghost use Rattle.bag_match.specs.Outcomes.{IsOutcome};
+ghost use Rattle.bag_match.specs.Outcomes.{AreFound, IsOutcome};
 ghost use Rattle.typing_refiner.specs.Records.{HasPlaces, MatchesAt};
 ghost use Rattle.typing_refiner.specs.Spent.{GiveWidths, look_cost};
 ghost use Rattle.typing_refiner.specs.Ready.{GoesBack, IsOpen, IsReady, Waits, known_of};
@@ -11,7 +12,7 @@ ghost use Rattle.typing_refiner.specs.Ready.{GoesBack, IsOpen, IsReady, Waits, k
 use crate::marks::MarkView;
 use crate::wanted::Wanted;
 use agenda::Agenda;
-use bag_match::{Outcome, match_pair};
+use bag_match::{Outcome, can_match, find_match, match_pair};
 use demand::table::PairTable;
 use graph_index::graph::Graph;
 use rdf_terms::items::Items;
@@ -96,6 +97,76 @@ impl Ground<'_> {
             kept,
         };
         match_pair(
+            alloc,
+            self.schema,
+            self.graph,
+            self.terms,
+            &view,
+            lean,
+            pair,
+            steps,
+        )
+    }
+
+    /// Whether the pair of a number can match as far as is known by the marks and by what is kept, with no list of its places
+    /// or states.
+    pub fn matches<K: View, L: Ledger>(
+        &self,
+        alloc: Global,
+        kept: &K,
+        marks: &[Verdict],
+        lean: Lean,
+        at: u32,
+        steps: &mut Steps<L>,
+    ) -> Result<bool, AllocError>
+        requires ready { IsReady self.now }
+        requires there { at < length self.now.table.now }
+        ensures decided { IfOk result (λ b. (p : Held) → slice_get self.now.table.now at ≡ Some p →
+            IsTrue b ↔ PairCanMatch self.now.schema.now self.now.terms.now self.now.graph.now.triples (known_of self.now (K.known kept.now) marks.now) lean p) }
+        ensures spent { (width : Held → ℕ) → GiveWidths self.now width → steps.new ≤ steps.old + look_cost self.now width at }
+    {
+        let pair = pair_at(self.table.as_slice(), at);
+        let view = MarkView {
+            table: self.table,
+            marks,
+            kept,
+        };
+        can_match(
+            alloc,
+            self.schema,
+            self.graph,
+            self.terms,
+            &view,
+            lean,
+            pair,
+            steps,
+        )
+    }
+
+    /// The least places of the pair of a number, where it can match as far as is known by the marks and by what is kept, with
+    /// no list of states.
+    pub fn find_places<K: View, L: Ledger>(
+        &self,
+        alloc: Global,
+        kept: &K,
+        marks: &[Verdict],
+        lean: Lean,
+        at: u32,
+        steps: &mut Steps<L>,
+    ) -> Result<Option<Items<Place>>, AllocError>
+        requires ready { IsReady self.now }
+        requires there { at < length self.now.table.now }
+        ensures found { IfOk result (λ o. (p : Held) → slice_get self.now.table.now at ≡ Some p →
+            AreFound self.now.schema.now self.now.terms.now self.now.graph.now.triples (known_of self.now (K.known kept.now) marks.now) lean p o) }
+        ensures spent { (width : Held → ℕ) → GiveWidths self.now width → steps.new ≤ steps.old + look_cost self.now width at }
+    {
+        let pair = pair_at(self.table.as_slice(), at);
+        let view = MarkView {
+            table: self.table,
+            marks,
+            kept,
+        };
+        find_match(
             alloc,
             self.schema,
             self.graph,

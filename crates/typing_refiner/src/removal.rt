@@ -1,12 +1,13 @@
 //! Removal of the pairs of a stratum that cannot match.
 
-ghost use Rattle.std.specs.Prelude.{ℕ, ◌≡◌, ◌<◌, ◌≤◌, ◌+◌, ◌⊎◌, ◌↔◌, [], Contains, IfOk, OnOk, Some, length, map, slice_get, slice_set};
+ghost use Rattle.std.specs.Prelude.{ℕ, ◌≡◌, ◌≢◌, ◌<◌, ◌≤◌, ◌+◌, ◌⊎◌, ◌↔◌, [], Contains, IfOk, OnOk, Some, length, map, slice_get, slice_set};
 ghost use Rattle.schema_tree.specs.Sure.{Known};
 ghost use Rattle.schema_tree.specs.declared.verdicts.Verdict.TheVariants.{Unknown};
 ghost use Rattle.schema_tree.specs.declared.schema.Pair.{Pair as Held};
 ghost use Rattle.typing_refiner.specs.declared.wanted.Wanted.TheVariants as Wanteds;
 ghost use Rattle.typing_refiner.specs.Spent.{GiveWidths, look_cost, phase_ticks, still_to_tick};
 ghost use Rattle.typing_refiner.specs.Ready.{AllWait, IsBefore, IsNearer, IsOpen, IsReady, IsRemoving, Waits, count_of, known_of};
+ghost use Rattle.typing_refiner.specs.Findings.{IsFinding};
 ghost use Rattle.typing_refiner.specs.Holding.{AllShow};
 ghost use Rattle.typing_refiner.specs.Records.{HaveStates, pairs_gone};
 
@@ -18,7 +19,7 @@ use bag_match::Outcome;
 use rdf_terms::items::Items;
 use schema_tree::schema::Pair;
 use schema_tree::sure::View;
-use schema_tree::verdicts::{Lean, State, Verdict};
+use schema_tree::verdicts::{Lean, Place, State, Verdict};
 use std::alloc::{AllocError, Global};
 use std::sync::ledger::Ledger;
 use tally::Steps;
@@ -34,6 +35,15 @@ pub struct Removed {
     pub rank: u32,
     /// The states.
     pub states: Items<State>,
+}
+
+/// What a look at a pair comes to while pairs are removed.
+#[derive(Debug, Drop)]
+pub enum Finding {
+    /// It can match, with these places.
+    Placed(Items<Place>),
+    /// It cannot match, and where records are wanted these states show it.
+    Goes(Items<State>),
 }
 
 /// Marks a pair.
@@ -90,6 +100,68 @@ impl Ground<'_> {
         }
     }
 
+    /// What a look at the pair of a number comes to, with its states.
+    fn look_whole<K: View, L: Ledger>(
+        &self,
+        alloc: Global,
+        kept: &K,
+        marks: &[Verdict],
+        at: u32,
+        steps: &mut Steps<L>,
+    ) -> Result<Finding, AllocError>
+        requires ready { IsReady self.now }
+        requires there { at < length self.now.table.now }
+        ensures found { IfOk result (λ f. (p : Held) → slice_get self.now.table.now at ≡ Some p → IsFinding self.now (known_of self.now (K.known kept.now) marks.now) p f) }
+        ensures spent { (width : Held → ℕ) → GiveWidths self.now width → steps.new ≤ steps.old + look_cost self.now width at }
+    {
+        match self.look(alloc, kept, marks, Lean::Possible, at, steps)? {
+            Outcome::Placed(places) => Ok(Finding::Placed(places)),
+            Outcome::Never(states) => Ok(Finding::Goes(states)),
+        }
+    }
+
+    /// What a look at the pair of a number comes to, where no record is wanted.
+    fn look_only<K: View, L: Ledger>(
+        &self,
+        alloc: Global,
+        kept: &K,
+        marks: &[Verdict],
+        at: u32,
+        steps: &mut Steps<L>,
+    ) -> Result<Finding, AllocError>
+        requires ready { IsReady self.now }
+        requires there { at < length self.now.table.now }
+        requires only { self.now.wanted ≢ Wanteds.Records }
+        ensures found { IfOk result (λ f. (p : Held) → slice_get self.now.table.now at ≡ Some p → IsFinding self.now (known_of self.now (K.known kept.now) marks.now) p f) }
+        ensures spent { (width : Held → ℕ) → GiveWidths self.now width → steps.new ≤ steps.old + look_cost self.now width at }
+    {
+        match self.find_places(alloc, kept, marks, Lean::Possible, at, steps)? {
+            Some(places) => Ok(Finding::Placed(places)),
+            None => Ok(Finding::Goes(Items::of(Vec::new(alloc)))),
+        }
+    }
+
+    /// What a look at the pair of a number comes to: its places, or, if records are wanted, the states that show that there
+    /// are none.
+    fn find<K: View, L: Ledger>(
+        &self,
+        alloc: Global,
+        kept: &K,
+        marks: &[Verdict],
+        at: u32,
+        steps: &mut Steps<L>,
+    ) -> Result<Finding, AllocError>
+        requires ready { IsReady self.now }
+        requires there { at < length self.now.table.now }
+        ensures found { IfOk result (λ f. (p : Held) → slice_get self.now.table.now at ≡ Some p → IsFinding self.now (known_of self.now (K.known kept.now) marks.now) p f) }
+        ensures spent { (width : Held → ℕ) → GiveWidths self.now width → steps.new ≤ steps.old + look_cost self.now width at }
+    {
+        match self.wanted {
+            Wanted::Records => self.look_whole(alloc, kept, marks, at, steps),
+            Wanted::Verdicts => self.look_only(alloc, kept, marks, at, steps),
+        }
+    }
+
     /// Looks at the pair of a number, the least of those that are to be looked at: where it cannot match, it goes.
     fn remove_next<K: View, L: Ledger>(
         &self,
@@ -124,12 +196,12 @@ impl Ground<'_> {
         ensures spent { (width : Held → ℕ) → GiveWidths self.now width → steps.new ≤ steps.old + look_cost self.now width at }
         ensures paid { (width : Held → ℕ) → GiveWidths self.now width → OnOk result (steps.new + still_to_tick self.now width stratum Unknown marks.new agenda.new ≤ steps.old + (still_to_tick self.now width stratum Unknown marks.old agenda.old + look_cost self.now width at)) }
     {
-        match self.look(alloc, kept, marks, Lean::Possible, at, steps)? {
-            Outcome::Placed(places) => {
+        match self.find(alloc, kept, marks, at, steps)? {
+            Finding::Placed(places) => {
                 self.remember(alloc, kept, marks, at, places.as_slice(), witnesses)?;
                 Ok(())
             }
-            Outcome::Never(states) => {
+            Finding::Goes(states) => {
                 let removed = self.removed(alloc, at, gone.as_slice(), states);
                 gone.push(removed)?;
                 set_mark(marks, at, Verdict::No);

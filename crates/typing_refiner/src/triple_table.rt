@@ -52,6 +52,13 @@ impl TripleTable {
         }
     }
 
+    /// The triple at a place, if there is one.
+    pub fn at(&self, place: usize) -> Option<Triple>
+        ensures { IfSome result (λ t. slice_get self.now place ≡ Some t) }
+    {
+        self.triples.as_slice().get(place).copied()
+    }
+
     /// The place of a triple.
     pub fn find(&self, triple: Triple) -> Option<usize>
         ensures found { IfSome result (λ i. slice_get self.now i ≡ Some triple) }

@@ -1,6 +1,6 @@
 //! Places that show that a pair matches, and that are kept up where some of them are no longer allowed.
 
-ghost use Rattle.std.specs.Prelude.{ℕ, List, ◌≡◌, ◌∷◌, ◌≤◌, ◌<◌, ◌^◌, ◌↔◌, Contains, IfOk, IfSome, IsTrue, Some, length, slice_get, slice_index, slice_set};
+ghost use Rattle.std.specs.Prelude.{ℕ, List, ◌≡◌, ◌≢◌, OnOk, ◌∷◌, ◌≤◌, ◌<◌, ◌^◌, ◌↔◌, Contains, IfOk, IfSome, IsTrue, Some, length, slice_get, slice_index, slice_set};
 ghost use Rattle.std.specs.Bool.{OnTrue};
 ghost use Rattle.bag_match.specs.Counts.{ArePlacesOf, IsPlaceOf};
 ghost use Rattle.lists.specs.Distinct.{AreDistinct};
@@ -11,7 +11,7 @@ ghost use Rattle.schema_tree.specs.declared.verdicts.Place.{Place as Spot};
 ghost use Rattle.tally.specs.Copies.{Copies};
 ghost use Rattle.tally.specs.Span.{IsSound};
 ghost use Rattle.tally.specs.Symbols.{Covers, IsDistinct};
-ghost use Rattle.typing_refiner.specs.Witnessed.{IsStanding, IsTally, Takes};
+ghost use Rattle.typing_refiner.specs.Witnessed.{ArePlaced, IsStanding, IsTally, Takes};
 
 use crate::triple_table::{TripleTable, table_of};
 use bag_match::arcs::RelevantTriples;
@@ -33,6 +33,8 @@ pub struct Witness {
     pub places: Vec<Place>,
     /// How many of the places are each occurrence.
     pub counts: Vec<u32>,
+    /// From which number on triples were tried for the place that another lost.
+    pub untried: usize,
 }
 
 /// Whether the counts spell the expression once.
@@ -102,12 +104,14 @@ impl Witness {
             return Ok(None);
         }
         let counts = counts_of(alloc, occurrences, places)?;
+        let untried = places.len();
         let places = places.to_vec(alloc)?;
         match table_of(alloc, triples)? {
             Some(triples) => Ok(Some(Witness {
                 triples,
                 places,
                 counts,
+                untried,
             })),
             None => Ok(None),
         }
@@ -119,6 +123,7 @@ impl Witness {
         requires tally { IsTally (length self.old.counts.items) self.old }
         requires inside { IsPlaceOf (length self.old.counts.items) place }
         ensures triples { self.new.triples ≡ self.old.triples }
+        ensures untried { self.new.untried ≡ self.old.untried }
         ensures places { self.new.places.items ≡ slice_set self.old.places.items at place }
         ensures long { length self.new.counts.items ≡ length self.old.counts.items }
         ensures tally { IsTally (length self.old.counts.items) self.new }
@@ -148,7 +153,9 @@ impl Witness {
         requires tally { IsTally (length shape.now.occs) self.old }
         requires inside { ArePlacesOf (length shape.now.occs) allowed.now }
         ensures triples { self.new.triples ≡ self.old.triples }
+        ensures untried { self.new.untried ≡ self.old.untried }
         ensures tally { IsTally (length shape.now.occs) self.new }
+        ensures others { (i : ℕ) → i ≢ at → slice_get self.new.places.items i ≡ slice_get self.old.places.items i }
         ensures takes { OnTrue result (Takes shape.now.body at allowed.now self.old.places.items self.new.places.items) }
     {
         for place in allowed {
@@ -158,6 +165,74 @@ impl Witness {
             }
         }
         false
+    }
+
+    /// Gives the triple of a number the first allowed place from which the counts match, and answers whether there is one.
+    /// Where there is none, it has the place that it had.
+    fn settles<J: Judge>(
+        &mut self,
+        alloc: Global,
+        judge: &J,
+        shape: &Shape,
+        node: TermId,
+        triple: Triple,
+        at: usize,
+    ) -> Result<bool, AllocError>
+        requires ready { J.ready judge.now }
+        requires body { BodyOk shape.now.occs shape.now.body }
+        requires few { length shape.now.occs ≤ 256 }
+        requires tally { IsTally (length shape.now.occs) self.old }
+        requires distinct { AreDistinct self.old.triples }
+        requires there { slice_get self.old.triples at ≡ Some triple }
+        ensures triples { self.new.triples ≡ self.old.triples }
+        ensures untried { self.new.untried ≡ self.old.untried }
+        ensures tally { IsTally (length shape.now.occs) self.new }
+        ensures placed { OnOk result ((free : List Arc) →
+            ArePlaced (J.hold judge.now) (J.fail judge.now) shape.now node free self.old →
+            ArePlaced (J.hold judge.now) (J.fail judge.now) shape.now node free self.new) }
+        ensures spelled { IfOk result (λ b. OnTrue b (HaveCounts shape.now.body (times self.new.places.items))) }
+    {
+        let allowed = allowed_places(alloc, judge, shape, node, triple)?;
+        let before = place_at(self.places.as_slice(), at);
+        if self.take_one(shape, at, allowed.as_slice()) {
+            return Ok(true);
+        }
+        self.set_place(at, before);
+        Ok(false)
+    }
+
+    /// Gives one of the triples that were not tried an allowed place from which the counts match, the last of them that has
+    /// one, and answers whether there is one.
+    fn exchange<J: Judge>(
+        &mut self,
+        alloc: Global,
+        judge: &J,
+        shape: &Shape,
+        node: TermId,
+    ) -> Result<bool, AllocError>
+        requires ready { J.ready judge.now }
+        requires body { BodyOk shape.now.occs shape.now.body }
+        requires few { length shape.now.occs ≤ 256 }
+        requires tally { IsTally (length shape.now.occs) self.old }
+        requires distinct { AreDistinct self.old.triples }
+        ensures triples { self.new.triples ≡ self.old.triples }
+        ensures tally { IsTally (length shape.now.occs) self.new }
+        ensures stands { IfOk result (λ b. OnTrue b ((free : List Arc) →
+            ArePlaced (J.hold judge.now) (J.fail judge.now) shape.now node free self.old →
+            IsStanding (J.hold judge.now) (J.fail judge.now) shape.now node free self.new)) }
+    {
+        let mut at = self.untried;
+        while at > 0 {
+            at -= 1;
+            self.untried = at;
+            let Some(triple) = self.triples.at(at) else {
+                continue;
+            };
+            if self.settles(alloc, judge, shape, node, triple, at)? {
+                return Ok(true);
+            }
+        }
+        Ok(false)
     }
 
     /// Looks again at the place of the triple of a number, gives it another one where that place is no longer allowed, and
@@ -187,6 +262,13 @@ impl Witness {
         if is_among(allowed.as_slice(), place_at(self.places.as_slice(), at)) {
             return Ok(true);
         }
-        Ok(self.take_one(shape, at, allowed.as_slice()))
+        if self.take_one(shape, at, allowed.as_slice()) {
+            return Ok(true);
+        }
+        if !is_among(allowed.as_slice(), Place::Rest) {
+            return Ok(false);
+        }
+        self.set_place(at, Place::Rest);
+        self.exchange(alloc, judge, shape, node)
     }
 }

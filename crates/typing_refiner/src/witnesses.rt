@@ -87,10 +87,15 @@ impl Witnesses {
         Ok(())
     }
 
+    /// Whether a pair was put back on the agenda.
+    pub fn was_back(&self, at: u32) -> bool {
+        self.back.contains(&at)
+    }
+
     /// Whether a witness of so many triples is to be made of a pair: the pair was put back on the agenda, and there is room.
     pub fn wants(&self, at: u32, triples: usize) -> bool
         ensures { IsTrue result → triples_of self.now + triples ≤ most_triples }
     {
-        self.back.contains(&at) && self.has_room(triples)
+        self.was_back(at) && self.has_room(triples)
     }
 }

@@ -4,7 +4,7 @@ use Rattle.schema_tree.specs.Entries.{shape_at}
 use Rattle.schema_tree.specs.Places.{MayFail, MayHold}
 use Rattle.bag_match.specs.Outcomes.{IsFound, IsOutcome}
 use Rattle.bag_match.specs.declared.outcome.Outcome.TheVariants.{Never}
-use Rattle.bag_match.proofs.Matched.{few_relevant, is_open, matched_of, missing_of, placed_can, placed_if_ok, shape_missing, shape_read, shut_of, ticks_most}
+use Rattle.bag_match.proofs.Matched.{few_relevant, matched_of, none_of, placed_can, placed_if_ok, ticks_most}
 use Rattle.bag_match.proofs.matching.match_pair.Goals as goal
 
 pub outcome-requires-clause-few : goal.outcome-requires-clause-few
@@ -15,26 +15,16 @@ outcome-requires-clause-few g c =
 pub outcome-requires-clause-few_occurrences : goal.outcome-requires-clause-few_occurrences
 outcome-requires-clause-few_occurrences g c =
     (c.requires.loaded.shapes c.args.pair.shape c.in-Some.shape.now
-    (shape_read c.args.schema.now c.args.pair.shape c.as_slice.result.now c.in-Some.shape.now c.as_slice.ensures c.in-Some.ensures.lookup.0 c.in-Some.ensures.lookup.1)).few
+    (c.in-Some.ensures c.args.terms.now c.requires.sealed).0).few
 
 pub returns-in_default-clause-outcome : goal.returns-in_default-clause-outcome
 returns-in_default-clause-outcome g c =
-    missing_of c.args.schema.now c.args.terms.now c.args.graph.now.triples (g.V.View.known c.args.view.now) c.args.lean c.args.pair.node (shape_at c.args.schema.now c.args.pair.shape) c.of.result
-    (shape_missing c.args.schema.now c.args.pair.shape c.as_slice.result.now c.as_slice.ensures c.in_default.ensures.lookup.0) (c.of.ensures ∙ c.new.ensures.items)
+    none_of c.args.schema.now c.args.terms.now c.args.graph.now.triples (g.V.View.known c.args.view.now) c.args.lean c.args.pair.node (shape_at c.args.schema.now c.args.pair.shape) c.of.result
+    (c.in_default.ensures c.args.terms.now c.requires.sealed) (c.of.ensures ∙ c.new.ensures.items)
 
 pub returns-in_default-clause-placed : goal.returns-in_default-clause-placed
 returns-in_default-clause-placed g c =
     placed_can c.args.schema.now c.args.terms.now c.args.graph.now.triples (g.V.View.known c.args.view.now) c.args.lean c.args.pair.node (shape_at c.args.schema.now c.args.pair.shape) (Never c.of.result) (returns-in_default-clause-outcome g c)
-
-pub returns-then-is_shut-clause-outcome : goal.returns-then-is_shut-clause-outcome
-returns-then-is_shut-clause-outcome g c =
-    shut_of c.args.schema.now c.args.terms.now c.args.graph.now.triples (g.V.View.known c.args.view.now) c.args.lean c.args.pair.node (shape_at c.args.schema.now c.args.pair.shape) c.in-Some.shape.now c.of-then-is_shut.result
-    (shape_read c.args.schema.now c.args.pair.shape c.as_slice.result.now c.in-Some.shape.now c.as_slice.ensures c.in-Some.ensures.lookup.0 c.in-Some.ensures.lookup.1)
-    ((c.is_shut.ensures c.args.terms.now c.requires.sealed).0 c.if-is_shut.true) (c.of-then-is_shut.ensures ∙ c.new-then-is_shut.ensures.items)
-
-pub returns-then-is_shut-clause-placed : goal.returns-then-is_shut-clause-placed
-returns-then-is_shut-clause-placed g c =
-    placed_can c.args.schema.now c.args.terms.now c.args.graph.now.triples (g.V.View.known c.args.view.now) c.args.lean c.args.pair.node (shape_at c.args.schema.now c.args.pair.shape) (Never c.of-then-is_shut.result) (returns-then-is_shut-clause-outcome g c)
 
 pub returns-clause-outcome : goal.returns-clause-outcome
 returns-clause-outcome g c =
@@ -42,8 +32,8 @@ returns-clause-outcome g c =
     (IsFound (MayHold c.args.schema.now c.args.terms.now (g.V.View.known c.args.view.now) c.args.lean) (MayFail c.args.schema.now c.args.terms.now (g.V.View.known c.args.view.now) c.args.lean) c.in-Some.shape.now c.args.pair.node c.in_ok-triples.triples)
     (IsOutcome c.args.schema.now c.args.terms.now c.args.graph.now.triples (g.V.View.known c.args.view.now) c.args.lean c.args.pair)
     (λ r found. matched_of c.args.schema.now c.args.terms.now c.args.graph.now.triples (g.V.View.known c.args.view.now) c.args.lean c.args.pair.node (shape_at c.args.schema.now c.args.pair.shape) c.in-Some.shape.now c.in_ok-triples.triples
-    (shape_read c.args.schema.now c.args.pair.shape c.as_slice.result.now c.in-Some.shape.now c.as_slice.ensures c.in-Some.ensures.lookup.0 c.in-Some.ensures.lookup.1)
-    (is_open c.args.graph.now.triples c.in-Some.shape.now c.args.pair.node c.is_shut.result (c.is_shut.ensures c.args.terms.now c.requires.sealed) c.if-is_shut.false)
+    (c.in-Some.ensures c.args.terms.now c.requires.sealed).0
+    (c.in-Some.ensures c.args.terms.now c.requires.sealed).1
     (c.in_ok-triples.ensures c.args.terms.now c.requires.sealed) r found)
     c.outcome.ensures.found
 
@@ -55,5 +45,5 @@ returns-clause-placed g c =
 pub returns-clause-most : goal.returns-clause-most
 returns-clause-most g c =
     ticks_most c.args.schema.now c.args.terms.now c.args.graph.now.triples (g.V.View.known c.args.view.now) c.args.lean c.args.pair c.in-Some.shape.now c.in_ok-triples.triples
-    (shape_read c.args.schema.now c.args.pair.shape c.as_slice.result.now c.in-Some.shape.now c.as_slice.ensures c.in-Some.ensures.lookup.0 c.in-Some.ensures.lookup.1)
+    (c.in-Some.ensures c.args.terms.now c.requires.sealed).0
     (c.in_ok-triples.ensures c.args.terms.now c.requires.sealed) c.args.steps.now c.outcome.new.steps c.outcome.ensures.most

@@ -1,8 +1,9 @@
-use Rattle.std.proofs.Common.{◌≡◌, ◌≤◌, arith, length, rules, subst}
+use Rattle.std.proofs.Common.{◌≡◌, ◌≤◌, arith, length, rules, subst, sym}
 use Rattle.std.specs.Vec.{vec_len}
 use Rattle.bag_match.specs.Hopes.{IsHopeless}
+use Rattle.bag_match.specs.Searches.{AreFailed}
 use Rattle.bag_match.proofs.Hopeful.{not_hopeless, opening_small}
-use Rattle.bag_match.proofs.Searching.{hopeless_none, search_ends, search_starts}
+use Rattle.bag_match.proofs.Searching.{hopeless_none, none_failed, search_ends, search_starts}
 use Rattle.bag_match.proofs.layers.Question.search.Goals as goal
 
 pub is_hopeless-requires-clause-small : goal.is_hopeless-requires-clause-small
@@ -31,3 +32,9 @@ returns-clause-found g c so =
     search_ends (g.J.Judge.hold c.args.self.now.judge.now) (g.J.Judge.fail c.args.self.now.judge.now) c.args.self.now.shape.now c.args.self.now.node c.args.self.now.triples.now c.args.offered.now c.requires.offered
     c.loop-alloc.way.places.items c.loop-alloc.way.tried.items c.loop-alloc.way.counts.items c.loop-alloc.way.more.items c.loop-alloc.way.failed.items c.loop-alloc.from c.loop-alloc.invariant
     c.interval_has_copies.ensures c.requires.body past
+
+pub returns-then-is_hopeless-clause-failed : goal.returns-then-is_hopeless-clause-failed
+returns-then-is_hopeless-clause-failed g c = subst (λ z. AreFailed (g.J.Judge.hold c.args.self.now.judge.now) (g.J.Judge.fail c.args.self.now.judge.now) c.args.self.now.shape.now c.args.self.now.node c.args.self.now.triples.now z) (sym c.requires.failed) (none_failed (g.J.Judge.hold c.args.self.now.judge.now) (g.J.Judge.fail c.args.self.now.judge.now) c.args.self.now.shape.now c.args.self.now.node c.args.self.now.triples.now)
+
+pub returns-clause-failed : goal.returns-clause-failed
+returns-clause-failed g c = c.loop-alloc.invariant.failed_are

@@ -4,11 +4,11 @@ use Rattle.std.specs.Prelude.{Some, slice_get}
 use Rattle.std.specs.Vec.{vec_len}
 use Rattle.bag_match.specs.Counts.{raised}
 use Rattle.bag_match.specs.Hopes.{AreOffers}
-use Rattle.bag_match.specs.Searches.{FinishesNever, IsSearch, turns_left}
+use Rattle.bag_match.specs.Searches.{AreFailed, FinishesNever, IsSearch, turns_left}
 use Rattle.lists.proofs.Members.{got_in}
 use Rattle.bag_match.proofs.Failing.{lost_same, open_same}
 use Rattle.bag_match.proofs.Hopeful.{more_small}
-use Rattle.bag_match.proofs.Searching.{failed_more, own_left, own_room, own_some, own_there, search_enters, search_long, search_same, search_small, search_stops, turns_enter}
+use Rattle.bag_match.proofs.Searching.{failed_more, own_left, own_room, own_some, own_there, search_came, search_enters, search_long, search_same, search_small, search_stops, turns_enter}
 use Rattle.bag_match.proofs.layers.Question.turn.Goals as goal
 
 pub take_all-requires-clause-there : goal.take_all-requires-clause-there
@@ -80,7 +80,7 @@ back-requires-clause-failed g c =
     let never = search_stops (g.J.Judge.hold c.args.self.now.judge.now) (g.J.Judge.fail c.args.self.now.judge.now) c.args.self.now.shape.now c.args.self.now.node c.args.self.now.triples.now c.args.offered.now c.requires.offered c.args.way.now.places.items c.args.way.now.tried.items c.args.way.now.counts.items c.args.way.now.more.items c.args.way.now.failed.items c.args.from c.requires.stands c.places_at-places.result.now at (c.len.result - c.len-2.result - 1) count c.take_all.new.counts.items now lost in
     let whole : (length c.args.way.now.places.items) + (c.len.result - c.len-2.result) ≡ length c.args.self.now.triples.now = (let a = c.len.ensures in let b = c.len-2.ensures in let e = c.requires.within in omega (arith, a, b, e, size)) in
     failed_more (g.J.Judge.hold c.args.self.now.judge.now) (g.J.Judge.fail c.args.self.now.judge.now) c.args.self.now.shape.now c.args.self.now.node c.args.self.now.triples.now c.args.offered.now c.requires.offered c.args.way.now.failed.items c.put_failed.new.failed.items (length c.args.way.now.places.items) (c.len.result - c.len-2.result) c.args.way.now.counts.items c.as_slice-in-None.result.now
-    c.requires.stands.failed_are whole never (c.as_slice-in-None.ensures.value ∙ c.first_open.ensures.same) c.in_ok-put_failed-in-None.ensures
+    c.requires.stands.failed_are whole never (search_came (g.J.Judge.hold c.args.self.now.judge.now) (g.J.Judge.fail c.args.self.now.judge.now) c.args.self.now.shape.now c.args.self.now.node c.args.self.now.triples.now c.args.offered.now c.requires.offered c.args.way.now.places.items c.args.way.now.tried.items c.args.way.now.counts.items c.args.way.now.more.items c.args.way.now.failed.items c.args.from c.requires.stands) (c.as_slice-in-None.ensures.value ∙ c.first_open.ensures.same) c.in_ok-put_failed-in-None.ensures
 
 pub back-requires-clause-never : goal.back-requires-clause-never
 back-requires-clause-never g c =
@@ -113,3 +113,6 @@ returns-in_ok-enter-in-Some-clause-less g c =
     subst (λ z. turns_left c.args.offered.now z 0 < turns_left c.args.offered.now c.args.way.now.tried.items c.args.from) (sym c.in_ok-enter-in-Some.ensures.tried)
     (turns_enter c.args.offered.now c.args.way.now.tried.items c.args.from c.in-Some.at c.places_at-places.result.now
     (subst (λ k. slice_get c.args.offered.now k ≡ Some c.places_at-places.result.now) (sym (search_same (g.J.Judge.hold c.args.self.now.judge.now) (g.J.Judge.fail c.args.self.now.judge.now) c.args.self.now.shape.now c.args.self.now.node c.args.self.now.triples.now c.args.offered.now c.requires.offered c.args.way.now.places.items c.args.way.now.tried.items c.args.way.now.counts.items c.args.way.now.more.items c.args.way.now.failed.items c.args.from c.requires.stands)) at) c.in-Some.ensures.within (slice_get_within c.places_at-places.result.now c.in-Some.at q there))
+
+pub returns-in_ok-enter-in-Some-clause-failed : goal.returns-in_ok-enter-in-Some-clause-failed
+returns-in_ok-enter-in-Some-clause-failed g c = subst (λ z. AreFailed (g.J.Judge.hold c.args.self.now.judge.now) (g.J.Judge.fail c.args.self.now.judge.now) c.args.self.now.shape.now c.args.self.now.node c.args.self.now.triples.now z) (sym c.in_ok-enter-in-Some.ensures.failed) c.requires.stands.failed_are
