@@ -13,8 +13,8 @@ use Rattle.schema_tree.proofs.Decide.{same_terms}
 use Rattle.lists.proofs.Decided.{Decided, decide_either}
 use Rattle.typing_session.specs.Edits.{IsAtEnd, ReachesEnd}
 use Rattle.typing_session.specs.Laws.{IsEdit, ReachIsSame, VerdictsStay}
-use Rattle.typing_session.proofs.Alike.{AreAlike, alike_turned, verdict_alike}
-use Rattle.typing_session.proofs.Around.{match_same, needs_same, within_same}
+use Rattle.part_laws.proofs.Alike.{AreAlike, alike_turned, verdict_alike}
+use Rattle.typing_session.proofs.Around.{can_match_same, needs_same, within_same}
 
 decide_end : (t : Triple) (p : Pair) → Decided (IsAtEnd t p)
 decide_end t p = decide_either (same_terms p.node t.s) (same_terms p.node t.o)
@@ -47,8 +47,8 @@ module _ (s : Schema) (terms : List Term) (more fewer : List Triple) (t : Triple
     (pairs : List Pair) (far : (q : Pair) → Contains pairs q → ¬ IsAtEnd t q) where
   alike : AreAlike s terms terms more fewer budget pairs
   alike = record {
-    match_alike = λ p c view lean. match_same more fewer t edit p (far p c) s terms d e view lean;
-    width_alike = λ p c. within_same more fewer t edit p (far p c) s terms budget;
+    match_alike = λ p c view lean. can_match_same more fewer t edit p (far p c) s terms d e view lean;
+    width_alike = λ p c. within_same more fewer t edit p (far p c) s terms d e budget;
   }
 
   pub closed_fewer : HoldNeeds s more pairs → HoldNeeds s fewer pairs

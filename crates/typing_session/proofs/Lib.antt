@@ -1,15 +1,10 @@
-pub mod Alike
 pub mod Asked
 pub mod Around
 pub mod Edited
 pub mod Everywhere
-pub mod Grown
 pub mod Keeping
-pub mod Lists
 pub mod Losing
-pub mod Products
 pub mod Reordered
-pub mod Sets
 pub mod Sifting
 pub mod Spreading
 pub mod Terms

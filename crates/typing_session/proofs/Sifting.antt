@@ -22,8 +22,8 @@ use Rattle.rdf_terms.specs.Order.{compare_at}
 use Rattle.schema_tree.specs.declared.schema.Pair.{Pair}
 use Rattle.schema_tree.specs.declared.schema.Schema.{Schema}
 use Rattle.demand.specs.declared.reach.Root.{Root}
-use Rattle.typing_session.proofs.Around.{id_tie, tie_parts}
-use Rattle.typing_session.proofs.Lists.{distinct_rest, first_apart, sort_strict}
+use Rattle.part_laws.proofs.Near.{id_tie, tie_parts}
+use Rattle.part_laws.proofs.Lists.{distinct_rest, first_apart, sort_strict}
 
 -- those of distinct pairs of which P holds
 pub record Sifted (P : Pair → Type 0) (xs : List Pair) : Type 0 where

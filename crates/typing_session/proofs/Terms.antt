@@ -13,7 +13,7 @@ use Rattle.rdf_terms.specs.declared.terms.Triple.{Triple}
 use Rattle.schema_tree.specs.declared.schema.Schema.{Schema}
 use Rattle.schema_tree.specs.Loaded.{IsLoaded}
 use Rattle.typing_session.specs.Kept.{pairs_of}
-use Rattle.typing_session.specs.Laws.{VerdictsOutliveGrowth}
+use Rattle.part_laws.specs.Growth.{VerdictsOutliveGrowth}
 use Rattle.typing_session.specs.Sound.{AreSound, IsHeld}
 use Rattle.typing_session.proofs.Keeping.{Entries, kept_key}
 

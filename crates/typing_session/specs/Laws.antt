@@ -1,8 +1,6 @@
 -- Laws of edits: a pair that reaches no pair at an end of a triple has the same verdict with the triple and without (own).
-use Rattle.std.specs.Prelude.{ℕ, List, ◌∷◌, ◌++◌, ◌↔◌, Contains, All, length, ◌<◌}
+use Rattle.std.specs.Prelude.{ℕ, List, ◌∷◌, ◌↔◌, Contains}
 use Rattle.std.specs.List.Sorted.{IsPermutation}
-use Rattle.graph_index.specs.Contents.{Contents, IsSealedWith}
-use Rattle.graph_index.specs.Laws.{IsOfTable}
 use Rattle.lists.specs.Distinct.{AreDistinct}
 use Rattle.locality_laws.specs.Local.{IsVerdict}
 use Rattle.rdf_terms.specs.declared.terms.Term.{Term}
@@ -31,14 +29,6 @@ VerdictsStay =
     IsEdit more t fewer → (pairs : List Pair) → AreDistinct pairs → ((q : Pair) → Contains pairs q → ¬ IsAtEnd t q) → (p : Pair) → Contains pairs p → (v : Verdict) →
     (HoldNeeds s more pairs → IsVerdict s terms more f budget p v → IsVerdict s terms fewer f budget p v)
     × (HoldNeeds s fewer pairs → IsVerdict s terms fewer f budget p v → IsVerdict s terms more f budget p v)
-
--- pairs of the table that have all that they need have the same verdicts when the table takes more terms
-abbrev pub VerdictsOutliveGrowth : Type 0
-VerdictsOutliveGrowth =
-    (s : Schema) (terms behind : List Term) (g : Contents) (f : List ℕ) (budget : ℕ) → IsLoaded s → IsSealedWith terms g → All (IsOfTable terms) g.triples →
-    (pairs : List Pair) → AreDistinct pairs → HoldNeeds s g.triples pairs → ((q : Pair) → Contains pairs q → q.node.0 < length terms) →
-    (p : Pair) → Contains pairs p → (v : Verdict) →
-    IsVerdict s terms g.triples f budget p v → IsVerdict s (terms ++ behind) g.triples f budget p v
 
 -- a pair that reaches no pair at an end of the triple has the same verdict with the triple and without
 abbrev pub VerdictIsSame : Type 0

@@ -1,10 +1,9 @@
 //! Laws of edits, for callers' proofs: each function's contract is its laws, and it does nothing but call those on which they stand.
 
-ghost use Rattle.typing_session.specs.Laws.{ReachIsSame, VerdictIsSame, VerdictsOutliveGrowth, VerdictsStay};
+ghost use Rattle.part_laws.specs.Growth.{VerdictsOutliveGrowth};
+ghost use Rattle.typing_session.specs.Laws.{ReachIsSame, VerdictIsSame, VerdictsStay};
 
-use graph_index::laws::sealing_outlives_growth;
 use locality_laws::laws::refinement_is_local;
-use node_constraint::laws::nodes_are_decided;
 use schema_tree::laws::refinement_is_one;
 
 /// Claims that what reaches no end of a triple has the same verdicts with the triple and without.
@@ -21,8 +20,5 @@ pub fn edits_are_local()
 pub fn growth_is_local()
     ensures { VerdictsOutliveGrowth }
 {
-    nodes_are_decided();
-    sealing_outlives_growth();
-    refinement_is_local();
-    refinement_is_one();
+    part_laws::laws::growth_is_local();
 }

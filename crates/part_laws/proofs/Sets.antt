@@ -1,5 +1,5 @@
 -- Graphs as lists of distinct triples, of which only membership counts.
-use Rattle.std.proofs.Common.{◌≡◌, ◌∙◌, ℕ, zero, suc, ◌≤◌, List, [], ◌∷◌, refl, arith, sym, subst, ap, Bool, true, false, true≢false, cond, eq-eqb, nat_eq, inl, inr}
+use Rattle.std.proofs.Common.{◌≡◌, ◌∙◌, ℕ, zero, suc, ◌≤◌, List, [], ◌∷◌, refl, arith, sym, subst, ap, Bool, true, false, true≢false, cond, filter, eq-eqb, nat_eq, inl, inr}
 use Rattle.std.proofs.lemmas.Bool.{and_parts}
 use Rattle.std.proofs.lemmas.List.Sums.{sum_by-cons}
 use Rattle.std.proofs.lemmas.List.Sorted.{Contains-permutation, IsPermutation-cons, IsPermutation-middle, IsPermutation-refl, IsPermutation-sym, IsPermutation-trans, sum_by-IsPermutation}
@@ -7,11 +7,12 @@ use Rattle.std.specs.List.{sum_by}
 use Rattle.std.specs.List.Sorted.{IsPermutation}
 use Rattle.std.specs.Prelude.{◌↔◌, ◌&&◌, ◌⊎◌, Contains}
 use Rattle.lists.specs.Distinct.{AreDistinct}
+use Rattle.lists.proofs.Filters.{in_filter}
 use Rattle.lists.proofs.Members.{got_in, in_rest, is_first, is_later, not_in_none}
 use Rattle.rdf_terms.specs.declared.terms.Triple.{Triple}
 use Rattle.rdf_terms.specs.Graphs.{same_id}
 use Rattle.rdf_terms.proofs.SameTerms.{same_is}
-use Rattle.typing_session.proofs.Lists.{distinct_rest, first_apart}
+use Rattle.part_laws.proofs.Lists.{distinct_rest, first_apart}
 
 abbrev same_triple : Triple → Triple → Bool
 same_triple a b = same_id a.s b.s && (same_id a.p b.p && same_id a.o b.o)
@@ -131,6 +132,15 @@ same_set (x ∷ xs) ys d e same =
       ]),
     )) in
     IsPermutation-trans (x ∷ xs) (x ∷ rest) ys (IsPermutation-cons x xs rest behind) (IsPermutation-sym ys (x ∷ rest) moved)
+
+-- those that pass a test are distinct
+pub sift_apart : (q : Triple → Bool) (xs : List Triple) → AreDistinct xs → AreDistinct (filter q xs)
+sift_apart q [] d = d
+sift_apart q (x ∷ xs) d = go (q x) (sift_apart q xs (distinct_rest x xs d))
+  where
+    go : (b : Bool) → AreDistinct (filter q xs) → AreDistinct (cond b (x ∷ filter q xs) (filter q xs))
+    go true rest = with_first x (filter q xs) (λ c. first_apart x xs d (in_filter q xs x c).0) rest
+    go false rest = rest
 
 -- what a removal leaves
 pub left_over : (old new : List Triple) (t : Triple) → AreDistinct old → IsPermutation old (t ∷ new) → AreDistinct new × (¬ Contains new t)

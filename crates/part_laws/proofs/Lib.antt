@@ -1,0 +1,12 @@
+pub mod Alike
+pub mod Answers
+pub mod Grown
+pub mod Lists
+pub mod Mapped
+pub mod Near
+pub mod Numbered
+pub mod Products
+pub mod Renumbered
+pub mod Sets
+pub mod Shards
+pub mod Texts

@@ -1,0 +1,5 @@
+pub mod Growth
+pub mod Laws
+pub mod Numbers
+pub mod Parts
+pub mod Texts

@@ -1,0 +1,19 @@
+use Rattle.std.proofs.Common.{◌∙◌, List, [], Bor, ℕ, not, sym}
+use Rattle.std.specs.Prelude.{◌&&◌}
+use Rattle.shard_checks.specs.Cover.{is_read_at}
+use Rattle.shard_checks.specs.Lines.{is_among}
+use Rattle.shard_checks.proofs.Finding.{first_here, none_more}
+use Rattle.shard_checks.proofs.covers.first_outside.Goals as goal
+
+abbrev text : Bor (List ℕ) → List ℕ
+text line = line.now
+
+pub returns-then-is_missing : goal.returns-then-is_missing
+returns-then-is_missing c = λ shard nodes back s n b.
+    sym (first_here text (λ line. is_read_at nodes back line && not (is_among line shard)) c.args.lines.now c.loop-line.line-index (record { ref_ptr = (0, 0); now = [] }) c.loop-line-test.true
+    (c.loop-line.invariant shard nodes back s n b) (sym (c.is_missing.ensures shard nodes back s n b) ∙ c.if-is_missing.true))
+
+pub loop-line-preserved : goal.loop-line-preserved
+loop-line-preserved c = λ shard nodes back s n b.
+    none_more text (λ line. is_read_at nodes back line && not (is_among line shard)) c.args.lines.now c.loop-line.line-index (record { ref_ptr = (0, 0); now = [] }) c.loop-line-test.true
+    (c.loop-line.invariant shard nodes back s n b) (sym (c.is_missing.ensures shard nodes back s n b) ∙ c.if-is_missing.false)

@@ -1,0 +1,7 @@
+pub mod Cover
+pub mod Laws
+pub mod Lines
+pub mod Reached
+pub mod Sets
+pub mod Ways
+pub mod Written
