@@ -23,7 +23,7 @@ use Rattle.session_script.specs.declared.commands.Command.{Command}
 use Rattle.session_script.specs.declared.commands.Command.TheVariants.{Add, Ask, Remove}
 use Rattle.typing_session.specs.SetLaws.{AnswersAreOfSets, ReachIsOfSets}
 use Rattle.typing_session.specs.Questions.{IsAnswer, ReachesTooMany}
-use Rattle.typing_session.proofs.Sets.{same_set}
+use Rattle.part_laws.proofs.Sets.{same_set}
 use Rattle.session_run.specs.Replies.{Reply, any_unknown, is_unknown}
 use Rattle.session_run.specs.Script.{CannotTake, Edits, HasNoRoom, IsFullFor, IsWithWithin, IsWithout, Outcome, Replies, Runs, State, Steps, Stops, answered, ended, goes, refused, stops}
 use Rattle.session_run.specs.declared.error.CommandError.{CommandError}

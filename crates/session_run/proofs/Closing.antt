@@ -5,7 +5,7 @@ use Rattle.std.proofs.lemmas.List.Folds.{list_any-append}
 use Rattle.std.specs.Prelude.{Option, Some, ◌-◌, ◌^◌}
 use Rattle.call_ends.specs.Parts.{AreQuiet}
 use Rattle.call_ends.specs.Statuses.{IsAnswering, IsCutOff, IsInterrupted, IsStatus}
-use Rattle.call_ends.proofs.Closing.{answers, by_status, comes_to, concludes, decided_by, fault_interrupts, five_says, in_part, is_status, nothing_out, quietly, seven_rose, sink_seven, three_says, told_stays, two_says, undecided_by, unprinted}
+use Rattle.call_ends.proofs.Closing.{IsOfAnswer, answers, by_status, comes_to, concludes, decided_by, fault_interrupts, five_says, in_part, is_status, nothing_out, of_answering, quietly, seven_rose, sink_seven, three_says, told_stays, two_says, undecided_by, unprinted}
 use Rattle.clap.specs.Words.{Text}
 use Rattle.command_words.specs.Checks.{Fault}
 use Rattle.lists.proofs.Members.{is_first}
@@ -40,6 +40,9 @@ use Rattle.session_run.proofs.Exclusive.{Laws, answers_agree, answers_not_absent
 -- the status of answers is 0 or 4
 pub low : (told : Told) (words : List Text) (text notes : List ℕ) (wanted : ℕ) → IsAnsweredBy told words wanted text notes → IsAnswering wanted
 low told words text notes wanted by = subst IsAnswering (sym by.answered.status_is) (by_status _)
+
+of_answer : (told : Told) (words : List Text) (text notes : List ℕ) (wanted : ℕ) → IsAnsweredBy told words wanted text notes → IsOfAnswer wanted
+of_answer told words text notes wanted by = of_answering wanted (low told words text notes wanted by)
 
 module _ (words : List Text) (files : FilesSeen) (out err : SinkSeen) (status : ℕ) (law : AnswersAreOne) where
   -- words that are at fault ask for nothing
@@ -228,28 +231,28 @@ module _ (words : List Text) (files : FilesSeen) (out err : SinkSeen) (status : 
   says_quietly at = quietly (IsWordsLine words) (IsRefusedBy files.told words) (IsFailedBy files words) (IsAnsweredBy files.told words) files out err status (quiet_answer files.told words) at ends
 
   pub says_two : status ≡ 2 → (line : List ℕ) × IsWordsLine words line × Gains err.got err.got_after line
-  says_two at = two_says (IsWordsLine words) (IsRefusedBy files.told words) (IsFailedBy files words) (IsAnsweredBy files.told words) files out err status (low files.told words) at ends
+  says_two at = two_says (IsWordsLine words) (IsRefusedBy files.told words) (IsFailedBy files words) (IsAnsweredBy files.told words) files out err status (of_answer files.told words) at ends
 
   pub says_three : status ≡ 3 → (line : List ℕ) × IsRefusedBy files.told words line × Gains err.got err.got_after line
-  says_three at = three_says (IsWordsLine words) (IsRefusedBy files.told words) (IsFailedBy files words) (IsAnsweredBy files.told words) files out err status (low files.told words) at ends
+  says_three at = three_says (IsWordsLine words) (IsRefusedBy files.told words) (IsFailedBy files words) (IsAnsweredBy files.told words) files out err status (of_answer files.told words) at ends
 
   pub says_five : status ≡ 5 → (line : List ℕ) × IsFailedBy files words line × Gains err.got err.got_after line
-  says_five at = five_says (IsWordsLine words) (IsRefusedBy files.told words) (IsFailedBy files words) (IsAnsweredBy files.told words) files out err status (low files.told words) at ends
+  says_five at = five_says (IsWordsLine words) (IsRefusedBy files.told words) (IsFailedBy files words) (IsAnsweredBy files.told words) files out err status (of_answer files.told words) at ends
 
   pub five_rose : status ≡ 5 → Rose files.faults files.faults_after
   five_rose at = (says_five at).1.rose
 
   pub seven_comes : status ≡ 7 → Rose out.faults out.faults_after ⊎ Rose err.faults err.faults_after
-  seven_comes at = seven_rose (IsWordsLine words) (IsRefusedBy files.told words) (IsFailedBy files words) (IsAnsweredBy files.told words) files out err status (low files.told words) at ends
+  seven_comes at = seven_rose (IsWordsLine words) (IsRefusedBy files.told words) (IsFailedBy files words) (IsAnsweredBy files.told words) files out err status (of_answer files.told words) at ends
 
   pub says_nothing_out : (status ≡ 2) ⊎ ((status ≡ 3) ⊎ (status ≡ 5)) → out.got_after ≡ out.got
-  says_nothing_out at = nothing_out (IsWordsLine words) (IsRefusedBy files.told words) (IsFailedBy files words) (IsAnsweredBy files.told words) files out err status (low files.told words) at ends
+  says_nothing_out at = nothing_out (IsWordsLine words) (IsRefusedBy files.told words) (IsFailedBy files words) (IsAnsweredBy files.told words) files out err status (of_answer files.told words) at ends
 
   pub says_in_part : status ≡ 7 → IsPrintedInPart words files out err
-  says_in_part at = in_part (IsWordsLine words) (IsRefusedBy files.told words) (IsFailedBy files words) (IsAnsweredBy files.told words) files out err status (low files.told words) at ends
+  says_in_part at = in_part (IsWordsLine words) (IsRefusedBy files.told words) (IsFailedBy files words) (IsAnsweredBy files.told words) files out err status (of_answer files.told words) at ends
 
   pub says_unprinted : status ≡ 8 → IsPrintedInPart words files out err ⊎ AreQuiet out err
-  says_unprinted at = unprinted (IsWordsLine words) (IsRefusedBy files.told words) (IsFailedBy files words) (IsAnsweredBy files.told words) files out err status (low files.told words) at ends
+  says_unprinted at = unprinted (IsWordsLine words) (IsRefusedBy files.told words) (IsFailedBy files words) (IsAnsweredBy files.told words) files out err status (of_answer files.told words) at ends
 
   pub says_fault : files.faults < files.faults_after → IsInterrupted status
   says_fault more = fault_interrupts (IsWordsLine words) (IsRefusedBy files.told words) (IsFailedBy files words) (IsAnsweredBy files.told words) files out err status more ends

@@ -17,7 +17,7 @@ use Rattle.rdf_terms.specs.Tables.{max_terms}
 use Rattle.rdf_terms.specs.declared.terms.Term.{Term}
 use Rattle.rdf_terms.specs.declared.terms.Triple.{Triple}
 use Rattle.typing_session.specs.Seen.{Seen, with_graph, with_kept, with_terms}
-use Rattle.typing_session.proofs.Sets.{left_over}
+use Rattle.part_laws.proofs.Sets.{left_over}
 use Rattle.session_run.specs.Running.{Keeps, state_of}
 use Rattle.session_run.specs.Script.{Edits, IsFullFor, IsWith, IsWithWithin, IsWithout}
 

@@ -4,6 +4,7 @@ ghost use Rattle.std.specs.Prelude.{List, ◌≡◌, ◌≤◌, ◌<◌, ◌-◌
 ghost use Rattle.command_words.specs.Requests.{max_budget};
 ghost use Rattle.graph_index.specs.Laws.{IsOfTable};
 ghost use Rattle.lists.specs.Distinct.{AreDistinct};
+ghost use Rattle.proof_file.specs.declared.head.Digests.{Digests};
 ghost use Rattle.schema_files.specs.Files.{IsFile};
 ghost use Rattle.schema_tree.specs.Edges.{IsStratum};
 ghost use Rattle.schema_tree.specs.Loaded.{IsLoaded};
@@ -19,7 +20,7 @@ use crate::running::run;
 use crate::said::Said;
 use crate::stop::{File, Refusal, Stop};
 use session_script::{Command, read_script};
-use shex_inputs::{Holding, read_holding};
+use shex_inputs::{Holding, Taken, Wanted, read_holding};
 use shex_io::{FetchError, Files};
 use std::alloc::{AllocError, Global};
 use tool_words::Editing;
@@ -28,7 +29,7 @@ use typing_session::Session;
 /// What the files of the schema and the data file hold.
 fn hold<F: Files>(alloc: Global, files: &mut F, editing: &Editing<'_>) -> Result<Holding, Stop>
     requires { IsFit (editing_of editing.now) }
-    ensures held { IfOk result (λ h. AreHeld (F.told files.old) (editing_of editing.now) (held_by h)) }
+    ensures held { IfOk result (λ h. (digests : Digests) × AreHeld (F.told files.old) (editing_of editing.now) (held_by h digests)) }
     ensures loaded { IfOk result (λ h. IsLoaded h.schema) }
     ensures strata { IfOk result (λ h. IsStratum h.schema h.strata) }
     ensures of_table { IfOk result (λ h. All (IsOfTable h.terms) h.graph.triples) }
@@ -37,7 +38,8 @@ fn hold<F: Files>(alloc: Global, files: &mut F, editing: &Editing<'_>) -> Result
     ensures faults_stay { OnOk result (F.faults files.new ≡ F.faults files.old) }
     ensures told_stays { F.told files.new ≡ F.told files.old }
 {
-    Ok(read_holding(alloc, files, &editing.inputs)?)
+    let Taken { holding, .. } = read_holding(alloc, files, &editing.inputs, Wanted::Contents)?;
+    Ok(holding)
 }
 
 /// The bytes of the script's file, within the limit.
@@ -62,7 +64,7 @@ fn read_commands<F: Files>(
     editing: &Editing<'_>,
     holding: &Holding,
 ) -> Result<Vec<Command>, Stop>
-    requires { AreHeld (F.told files.old) (editing_of editing.now) (held_by holding.now) }
+    requires { (digests : Digests) × AreHeld (F.told files.old) (editing_of editing.now) (held_by holding.now digests) }
     ensures script { IfOk result (λ v. HoldsScript (F.told files.old) (editing_of editing.now) v.items) }
     ensures cause { IfErr result (Explains (F.told files.old) (editing_of editing.now)) }
     ensures faults { IfErr result (FaultsAs (editing_of editing.now) (F.faults files.old) (F.faults files.new) (F.blame files.new) (F.act files.new)) }
@@ -106,8 +108,9 @@ fn answer(
     requires strata { IsStratum holding.schema holding.strata }
     requires of_table { All (IsOfTable holding.terms) holding.graph.triples }
     requires budget { budget ≤ max_budget }
-    ensures answers { IfOk result (λ said. (replies : List Reply) × EndsAs (held_by holding) budget commands.items (answered replies) × Says said replies) }
-    ensures stops { IfErr result (RunStops (held_by holding) budget commands.items) }
+    ensures answers { (digests : Digests) → IfOk result (λ said. (replies : List Reply) ×
+        EndsAs (held_by holding digests) budget commands.items (answered replies) × Says said replies) }
+    ensures stops { (digests : Digests) → IfErr result (RunStops (held_by holding digests) budget commands.items) }
 {
     let mut session = session_of(alloc, holding, budget)?;
     let said = run(alloc, &mut session, commands);

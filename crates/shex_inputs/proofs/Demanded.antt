@@ -25,3 +25,10 @@ asked_moved p q held terms associations h =
     let one : A q.held p.terms p.associations = subst (λ v. A v p.terms p.associations) held h in
     let two : A q.held q.terms p.associations = subst (λ ts. A q.held ts p.associations) terms one in
     subst (λ xs. A q.held q.terms xs) associations two
+
+-- what associations ask for over what the code holds, they ask for over what is held
+pub asked_over : (s t : Schema) (terms : List Term) (g h : List Triple) (xs ys : List Association) (ps : List Pair) → s ≡ t → g ≡ h → xs ≡ ys
+    → AreAsked s terms g (map root_of xs) ps → AreAsked t terms h (map root_of ys) ps
+asked_over s t terms g h xs ys ps schema graph same asked =
+    subst (λ zs. AreAsked t terms h (map root_of zs) ps) same
+    (subst (λ k. AreAsked t terms k (map root_of xs) ps) graph (subst (λ v. AreAsked v terms g (map root_of xs) ps) schema asked))

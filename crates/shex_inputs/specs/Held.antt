@@ -1,5 +1,5 @@
 -- What the files of the schema and the data file hold, in the numbers of one table of terms.
-use Rattle.std.specs.Prelude.{ℕ, List, [], ◌∷◌, ◌≡◌, ◌≤◌, Some, length}
+use Rattle.std.specs.Prelude.{ℕ, Bool, true, false, List, [], ◌∷◌, ◌≡◌, ◌≤◌, IfSome, Some, length}
 use Rattle.shex_io.specs.Files.{Told}
 use Rattle.lists.specs.Additions.{AddsAll}
 use Rattle.lists.specs.Distinct.{AreDistinct}
@@ -12,6 +12,7 @@ use Rattle.data_reader.specs.Documents.{Context, IsData, context_of}
 use Rattle.data_reader.specs.Formats.{format_of}
 use Rattle.proof_file.specs.declared.head.Digests.{Digests}
 use Rattle.schema_documents.specs.Tree.{Document}
+use Rattle.schema_files.specs.declared.reading.FileDigests.{FileDigests}
 use Rattle.schema_files.specs.Files.{IsFile}
 use Rattle.schema_files.specs.Sources.{AreSources, Source, documents_of, root_names, source_digests}
 use Rattle.schema_load.specs.Parts.{predicates_of}
@@ -22,6 +23,9 @@ use Rattle.schema_tree.specs.Edges.{IsStratum}
 use Rattle.sha2.specs.Sha256.{sha256}
 use Rattle.term_tokens.specs.Scopes.{Scope, scope_of}
 use Rattle.shex_inputs.specs.declared.holding.Holding.{Holding}
+use Rattle.shex_inputs.specs.declared.holding.Taken.{Taken}
+use Rattle.shex_inputs.specs.declared.wanted.Wanted.{Wanted}
+use Rattle.shex_inputs.specs.declared.wanted.Wanted.TheVariants.{Contents, Digests as Digested}
 use Rattle.shex_inputs.specs.Named.{Inputs, asked_of}
 
 -- a schema with the strata of its Shapes and a graph in the numbers of one table of terms, the base and the prefixes at the end of
@@ -35,9 +39,26 @@ pub record Held : Type 0 where
   pub names : Context
   pub files : Digests
 
--- what the code holds
-abbrev pub held_by : Holding → Held
-held_by h = record { schema = h.schema; strata = h.strata; labels = scope_of h.labels; terms = h.terms; graph = h.graph.triples; names = context_of h.names; files = h.files }
+-- what the code holds of files with these digests
+abbrev pub held_by : Holding → Digests → Held
+held_by h files = record {
+  schema = h.schema;
+  strata = h.strata;
+  labels = scope_of h.labels;
+  terms = h.terms;
+  graph = h.graph.triples;
+  names = context_of h.names;
+  files = files;
+}
+
+-- the digests of the files of a schema, and that of the bytes of the data (FIPS 180-4)
+abbrev pub digests_with : FileDigests → List ℕ → Digests
+digests_with digests bytes = record { schema = digests.root; imports = digests.imports; graph = record { 0 = sha256 bytes } }
+
+-- digests are wanted
+abbrev pub wants_digests : Wanted → Bool
+wants_digests Contents = false
+wants_digests Digested = true
 
 -- the data file holds a document of these triples, in the format of the file's name and under the base of the data, with these
 -- base and prefixes at its end
@@ -82,3 +103,9 @@ pub record IsTaken (told : Told) (i : Inputs) (h : Held) : Type 0 where
   pub holds_data : HoldsData told i h.names triples
   pub holding : IsHolding (documents_of sources) triples h
   pub digests : AreFilesOf sources holds_data.bytes h.files
+
+-- this is taken of the files, and the digests, if there are any, are theirs
+pub record HasTaken (told : Told) (i : Inputs) (t : Taken) : Type 0 where
+  pub files : Digests
+  pub taken : IsTaken told i (held_by t.holding files)
+  pub kept : IfSome t.files (λ d. d ≡ files)

@@ -1,6 +1,6 @@
 //! What the files of the schema and the data file hold.
 
-ghost use Rattle.std.specs.Prelude.{◌≡◌, ◌<◌, All, IfErr, IfOk, IsSome, List, OnOk, length, map, true};
+ghost use Rattle.std.specs.Prelude.{◌≡◌, ◌<◌, All, IfErr, IfOk, IsSome, List, OnOk, is_some, length, map, true};
 ghost use Rattle.clap.specs.Words.{Text};
 ghost use Rattle.iri_resolve.specs.Reference.{scheme_of};
 ghost use Rattle.rdf_lex.specs.Prefixes.{base_of};
@@ -14,7 +14,7 @@ ghost use Rattle.command_words.specs.Checks.{is_base};
 ghost use Rattle.schema_tree.specs.Edges.{IsStratum};
 ghost use Rattle.schema_tree.specs.Loaded.{IsLoaded};
 ghost use Rattle.term_tokens.specs.Scopes.{scope_of};
-ghost use Rattle.shex_inputs.specs.Held.{IsTaken, held_by};
+ghost use Rattle.shex_inputs.specs.Held.{HasTaken, wants_digests};
 ghost use Rattle.shex_inputs.specs.Refusals.{Takes};
 ghost use Rattle.shex_inputs.specs.Named.{asked_of, inputs_with};
 ghost use Rattle.shex_inputs.specs.Outcomes.{Explains, FaultsAs, IsBeforeMap};
@@ -23,6 +23,7 @@ use crate::data::hold;
 use crate::error::{InputError, Source, data_error, files_error};
 use crate::fetch::fetch;
 use crate::schema::{Loaded, load_schema};
+use crate::wanted::Wanted;
 use command_words::Inputs;
 use data_reader::Format;
 use graph_index::graph::Graph;
@@ -35,8 +36,8 @@ use shex_io::Files;
 use std::alloc::Global;
 use strata::list::Strata;
 
-/// A schema with the strata of its Shapes and a graph in the numbers of one table of terms, the base and the prefixes at the end
-/// of the schema file and of the data, and the digests of the files.
+/// A schema with the strata of its Shapes and a graph in the numbers of one table of terms, with the base and the prefixes at the
+/// end of the schema file and of the data.
 #[derive(Drop)]
 pub struct Holding {
     /// The terms.
@@ -51,8 +52,15 @@ pub struct Holding {
     pub graph: Graph,
     /// The base and the prefixes at the end of the data.
     pub names: Prefixes,
-    /// The digests of the files of the schema and of the data file.
-    pub files: Digests,
+}
+
+/// What is taken of the files of a schema and of data.
+#[derive(Drop)]
+pub struct Taken {
+    /// What they hold.
+    pub holding: Holding,
+    /// The digests of the files of the schema and of the data file, where they were wanted.
+    pub files: Option<Digests>,
 }
 
 /// The documents of the schema of inputs.
@@ -101,22 +109,24 @@ fn read_schema<F: Files>(
 
 /// What the files of the schema and the data file hold, whose bases have a scheme. Each is fetched and read in turn, the schema
 /// file first, then those of the documents that are imported, then the data; the first that is not taken is named. The table has
-/// the predicates of the schema first, and then the terms of the data in their order. The digest of each file is taken of the
-/// bytes that were read.
+/// the predicates of the schema first, and then the terms of the data in their order. The digest of each file, where they are
+/// wanted, is taken of the bytes that were read.
 pub fn read_holding<F: Files>(
     alloc: Global,
     files: &mut F,
     inputs: &Inputs<'_>,
-) -> Result<Holding, InputError>
+    wanted: Wanted,
+) -> Result<Taken, InputError>
     requires schema_base { is_base inputs.now.schema_base.now ≡ true }
     requires data_base { is_base inputs.now.data_base.now ≡ true }
-    ensures taken { (map_name : Text) → IfOk result (λ b. IsTaken (F.told files.old) (inputs_with inputs.now map_name) (held_by b)) }
-    ensures loaded { IfOk result (λ b. IsLoaded b.schema) }
-    ensures strata { IfOk result (λ b. IsStratum b.schema b.strata) }
-    ensures distinct { IfOk result (λ b. AreDistinct b.terms) }
-    ensures scheme { IfOk result (λ b. IsSome (scheme_of (base_of b.names))) }
-    ensures labels { IfOk result (λ b. IsSome (scheme_of (base_of b.labels))) }
-    ensures of_table { IfOk result (λ b. All (IsOfTable b.terms) b.graph.triples) }
+    ensures taken { (map_name : Text) → IfOk result (HasTaken (F.told files.old) (inputs_with inputs.now map_name)) }
+    ensures wanted { IfOk result (λ t. is_some t.files ≡ wants_digests wanted) }
+    ensures loaded { IfOk result (λ t. IsLoaded t.holding.schema) }
+    ensures strata { IfOk result (λ t. IsStratum t.holding.schema t.holding.strata) }
+    ensures distinct { IfOk result (λ t. AreDistinct t.holding.terms) }
+    ensures scheme { IfOk result (λ t. IsSome (scheme_of (base_of t.holding.names))) }
+    ensures labels { IfOk result (λ t. IsSome (scheme_of (base_of t.holding.labels))) }
+    ensures of_table { IfOk result (λ t. All (IsOfTable t.holding.terms) t.holding.graph.triples) }
     ensures before_map { IfErr result IsBeforeMap }
     ensures cause { (map_name : Text) → IfErr result (Explains (F.told files.old) (inputs_with inputs.now map_name)) }
     ensures faults { (map_name : Text) → IfErr result (FaultsAs (inputs_with inputs.now map_name) (F.faults files.old) (F.faults files.new) (F.blame files.new) (F.act files.new)) }
@@ -126,8 +136,9 @@ pub fn read_holding<F: Files>(
     let loaded = read_schema(alloc, files, inputs)?;
     let bytes = fetch(alloc, files, inputs.data, Source::Data)?;
     let format = Format::of_name(inputs.data);
-    match hold(alloc, loaded, format, inputs.data_base, bytes.as_slice()) {
-        Ok(holding) => Ok(holding),
+    let source = bytes.as_slice();
+    match hold(alloc, loaded, format, inputs.data_base, source, wanted) {
+        Ok(taken) => Ok(taken),
         Err(error) => Err(data_error(error)),
     }
 }

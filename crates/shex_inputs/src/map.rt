@@ -8,10 +8,11 @@ ghost use Rattle.graph_index.specs.Contents.{IsSealedWith};
 ghost use Rattle.graph_index.specs.Laws.{IsOfTable};
 ghost use Rattle.shape_map.specs.Maps.{IsMap};
 ghost use Rattle.term_tokens.specs.Scopes.{scope_of};
-ghost use Rattle.shape_map.specs.Selection.{UnlessMemory, refused, selected};
+ghost use Rattle.shape_map.specs.Selection.{Resolves, UnlessMemory, refused, selected};
 ghost use Rattle.demand.specs.Demand.{AreAsked, AreTooMany};
 ghost use Rattle.demand.specs.declared.error.DemandError.TheVariants as DemandErrors;
 ghost use Rattle.schema_tree.specs.Loaded.{IsLoaded};
+ghost use Rattle.proof_file.specs.declared.head.Digests.{Digests};
 ghost use Rattle.schema_tree.specs.Needs.{HoldNeeds};
 ghost use Rattle.shape_map.specs.declared.items.Item.{Item};
 ghost use Rattle.shex_inputs.specs.Asked.{EndsAs, HoldsMap, IsAskedOf, root_of};
@@ -52,11 +53,10 @@ fn associations_of(
     holding: &mut Holding,
 ) -> Result<Vec<Association>, MapError>
     requires { All (IsOfTable holding.old.terms) holding.old.graph.triples }
-    ensures ends { IfOk result (λ v. EndsAs (held_by holding.old) map.now (selected v.items holding.new.terms)) }
-    ensures stops { IfErr result (λ e. UnlessMemory e (EndsAs (held_by holding.old) map.now (refused e))) }
+    ensures ends { IfOk result (λ v. Resolves holding.old.schema holding.old.graph.triples holding.old.terms map.now (selected v.items holding.new.terms)) }
+    ensures stops { IfErr result (λ e. UnlessMemory e (Resolves holding.old.schema holding.old.graph.triples holding.old.terms map.now (refused e))) }
     ensures schema { holding.new.schema ≡ holding.old.schema }
     ensures strata { holding.new.strata ≡ holding.old.strata }
-    ensures files { holding.new.files ≡ holding.old.files }
     ensures graph { holding.new.graph.triples ≡ holding.old.graph.triples }
     ensures sealed { OnOk result (IsSealedWith holding.new.terms holding.new.graph) }
     ensures of_new_table { All (IsOfTable holding.new.terms) holding.new.graph.triples }
@@ -78,14 +78,15 @@ fn read_associations<F: Files>(
     name: &str,
     holding: &mut Holding,
 ) -> Result<Vec<Association>, InputError>
-    requires taken { IsTaken (F.told files.old) (inputs_with inputs.now name.now) (held_by holding.old) }
+    requires taken { (digests : Digests) × IsTaken (F.told files.old) (inputs_with inputs.now name.now) (held_by holding.old digests) }
     requires of_table { All (IsOfTable holding.old.terms) holding.old.graph.triples }
     requires scheme { IsSome (scheme_of (base_of holding.old.names)) }
     requires labels { IsSome (scheme_of (base_of holding.old.labels)) }
-    ensures asked { IfOk result (λ v. (items : List Item) × HoldsMap (F.told files.old) (inputs_with inputs.now name.now) (held_by holding.old) items × EndsAs (held_by holding.old) items (selected v.items holding.new.terms)) }
+    ensures asked { (digests : Digests) → IfOk result (λ v. (items : List Item) ×
+        HoldsMap (F.told files.old) (inputs_with inputs.now name.now) (held_by holding.old digests) items ×
+        EndsAs (held_by holding.old digests) items (selected v.items holding.new.terms)) }
     ensures schema { holding.new.schema ≡ holding.old.schema }
     ensures strata { holding.new.strata ≡ holding.old.strata }
-    ensures files { holding.new.files ≡ holding.old.files }
     ensures graph { holding.new.graph.triples ≡ holding.old.graph.triples }
     ensures sealed { OnOk result (IsSealedWith holding.new.terms holding.new.graph) }
     ensures of_new_table { All (IsOfTable holding.new.terms) holding.new.graph.triples }
@@ -162,16 +163,17 @@ pub fn read_map<F: Files>(
     name: &str,
     holding: &mut Holding,
 ) -> Result<Asked, InputError>
-    requires taken { IsTaken (F.told files.old) (inputs_with inputs.now name.now) (held_by holding.old) }
+    requires taken { (digests : Digests) × IsTaken (F.told files.old) (inputs_with inputs.now name.now) (held_by holding.old digests) }
     requires loaded { IsLoaded holding.old.schema }
     requires of_table { All (IsOfTable holding.old.terms) holding.old.graph.triples }
     requires scheme { IsSome (scheme_of (base_of holding.old.names)) }
     requires labels { IsSome (scheme_of (base_of holding.old.labels)) }
-    ensures asked { IfOk result (λ v. IsAskedOf (F.told files.old) (inputs_with inputs.now name.now) (record { held = held_by holding.old; terms = holding.new.terms; associations = v.associations.items; pairs = v.pairs })) }
+    ensures asked { (digests : Digests) → IsTaken (F.told files.old) (inputs_with inputs.now name.now) (held_by holding.old digests) →
+        IfOk result (λ v. IsAskedOf (F.told files.old) (inputs_with inputs.now name.now)
+        (record { held = held_by holding.old digests; terms = holding.new.terms; associations = v.associations.items; pairs = v.pairs })) }
     ensures closed { IfOk result (λ v. HoldNeeds holding.new.schema holding.new.graph.triples v.pairs) }
     ensures schema { holding.new.schema ≡ holding.old.schema }
     ensures strata { holding.new.strata ≡ holding.old.strata }
-    ensures files { holding.new.files ≡ holding.old.files }
     ensures graph { holding.new.graph.triples ≡ holding.old.graph.triples }
     ensures sealed { OnOk result (IsSealedWith holding.new.terms holding.new.graph) }
     ensures of_new_table { All (IsOfTable holding.new.terms) holding.new.graph.triples }

@@ -74,9 +74,6 @@ module _ (v : Validation) (asked : command_of (Lent.Validate v) ≡ drill_comman
   pub bases_pass : (is_base v.inputs.schema_base.now ≡ true) × (is_base v.inputs.data_base.now ≡ true)
   bases_pass = (ap (λ k. is_base k.schema_base) asked ∙ base_passes, ap (λ k. is_base k.data_base) asked ∙ base_passes)
 
-  pub taken_of_texts : (told : Told) (h : Held) → IsTaken told (inputs_with v.inputs v.map.now) h → IsTaken told (inputs_of drill_command) h
-  taken_of_texts told h taken = subst (λ k. IsTaken told (inputs_of k) h) asked taken
-
   pub replied : (told : Told) (with_proof : Bool) (d : Decided) → with_proof ≡ true → IsReply told (command_of (Lent.Validate v)) v.budget with_proof d → IsReply told drill_command default_budget true d
   replied told with_proof d wanted reply =
       subst (λ b. IsReply told drill_command default_budget b d) wanted

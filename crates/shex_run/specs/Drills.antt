@@ -1,5 +1,5 @@
 -- What a drill answers: the question that its texts spell, as if they were files that words name.
-use Rattle.std.specs.Prelude.{ℕ, Bool, true, false, List, [], ◌≡◌, ◌++◌, Some, codes, count_by, length}
+use Rattle.std.specs.Prelude.{ℕ, Bool, true, false, List, [], ◌≡◌, ◌++◌, Some, None, codes, count_by, length}
 use Rattle.std.specs.Bool.{beq}
 use Rattle.std.specs.Fmt.{decimal}
 use Rattle.clap.specs.Words.{Text}
@@ -12,7 +12,7 @@ use Rattle.shex_inputs.specs.Asked.{Question}
 use Rattle.shex_io.specs.Files.{HoldsPart, KeepsOthers, Told}
 use Rattle.shex_run.specs.Proofs.{AreAnswers, IsStoredProofOf, Stores}
 
--- what is asked of the texts: to validate the associations of the map, with a proof, under the budget where none is given
+-- what is asked of the texts: to validate the associations of the map, under the budget where none is given
 abbrev pub drill_command : Command
 drill_command = record {
   schema = schema_name;
@@ -20,7 +20,7 @@ drill_command = record {
   schema_base = default_base;
   data_base = default_base;
   imports = [];
-  task = validation map_name (Some (codes "proof")) default_budget;
+  task = validation map_name None default_budget;
 }
 
 -- these are the true answers to all that the map of a drill with n items asks

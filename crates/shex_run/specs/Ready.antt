@@ -1,5 +1,5 @@
 -- What the functions that answer promise one another.
-use Rattle.std.specs.Prelude.{ℕ, Bool, List, All, Contains, Option, Some, None, ◌≡◌, ◌≤◌, IfSome, if◌then◌else◌, is_some, length, map, slice_get}
+use Rattle.std.specs.Prelude.{ℕ, Bool, true, List, All, Contains, Option, Some, None, ◌≡◌, ◌≤◌, IfSome, if◌then◌else◌, is_some, length, map, slice_get}
 use Rattle.std.specs.List.{AllByRecursion}
 use Rattle.rdf_terms.specs.OneLine.{HasOneLine}
 use Rattle.rdf_terms.specs.declared.terms.Term.{Term}
@@ -17,6 +17,8 @@ use Rattle.shape_map.specs.declared.resolve.Association.{Association}
 use Rattle.shape_map.specs.Results.{result_text}
 use Rattle.shape_map.specs.Selection.{max_associations}
 use Rattle.command_words.specs.Asked.{Command}
+use Rattle.command_words.specs.declared.command.Command.{Command as LentCommand}
+use Rattle.command_words.specs.declared.command.Command.TheVariants as Lent
 use Rattle.shex_inputs.specs.declared.holding.Holding.{Holding}
 use Rattle.shex_drill.specs.Files.{drill_contents}
 use Rattle.shex_inputs.specs.Asked.{IsAskedOf, Question, root_of}
@@ -57,6 +59,12 @@ head_of h = record { files = h.files; strata = h.strata }
 -- the same, if it is wanted
 abbrev pub head_if : Bool → Held → Option Head
 head_if wanted h = if wanted then Some (head_of h) else None
+
+-- the command stores a proof or checks one
+abbrev pub has_proof : LentCommand → Bool
+has_proof (Lent.Validate v) = is_some v.proof
+has_proof (Lent.Check k) = true
+has_proof (Lent.Upgrade u) = true
 
 -- the associations can be answered over the schema, the table and the graph, by the pairs that they reach, and their proof can have
 -- this head, if it is one

@@ -1,6 +1,6 @@
 //! What answers a command: the text that is due, and what is stored before it is printed.
 
-ghost use Rattle.std.specs.Prelude.{◌≡◌, All, Some, IsSome, IfErr, IfOk, OnErr, OnOk, is_some};
+ghost use Rattle.std.specs.Prelude.{◌≡◌, All, Some, IsSome, IfErr, IfOk, IfSome, OnErr, OnOk, is_some, true};
 ghost use Rattle.graph_index.specs.Laws.{IsOfTable};
 ghost use Rattle.std.specs.Str.{IsUtf8};
 ghost use Rattle.shex_io.specs.Files.{Holds, HoldsPart, KeepsOthers};
@@ -10,9 +10,10 @@ ghost use Rattle.rdf_lex.specs.Prefixes.{base_of};
 ghost use Rattle.command_words.specs.Lent.{command_of};
 ghost use Rattle.command_words.specs.declared.command.Command.TheVariants as Lent;
 ghost use Rattle.schema_tree.specs.Loaded.{IsLoaded};
-ghost use Rattle.shex_inputs.specs.Held.{IsTaken, held_by};
+ghost use Rattle.proof_file.specs.declared.head.Digests.{Digests as FilesDigests};
+ghost use Rattle.shex_inputs.specs.Held.{HasTaken, IsTaken, held_by, wants_digests};
 ghost use Rattle.shex_run.specs.Endings.{IsResponse};
-ghost use Rattle.shex_run.specs.Ready.{IsReply};
+ghost use Rattle.shex_run.specs.Ready.{IsReply, has_proof};
 ghost use Rattle.shex_run.specs.Statuses.{IsAnswering};
 ghost use Rattle.shex_run.specs.Stopping.{Explains, FaultsAs, IsFit, LeavesStored, ProofStops};
 ghost use Rattle.shex_run.specs.Tasks.{inputs_of};
@@ -26,10 +27,11 @@ use crate::upgrading::{Upgraded, confirm_newest};
 use command_words::{Checking, Command, Upgrading, Validation, bases_are_lines};
 use data_reader::data_have_lines;
 use program_ends::print_both;
+use proof_file::head::Digests;
 use proof_file::write::write;
 use schema_tree::laws::width_is_one;
 use shape_map::laws::map_has_lines;
-use shex_inputs::{Holding, labels_have_lines, read_holding, read_map};
+use shex_inputs::{Holding, Taken, Wanted, labels_have_lines, read_holding, read_map};
 use shex_io::{FetchError, Files, Sink, StoreError};
 use std::alloc::Global;
 
@@ -104,20 +106,21 @@ fn are_texts(schema_base: &str, data_base: &str)
     ensures data_file { IsUtf8 data_base.now }
 {}
 
-/// The answers to the map of `validate`, with their proof where it is to be stored.
+/// The answers to the map of `validate`, with their proof where there are digests for its head.
 pub fn decide_map<F: Files>(
     alloc: Global,
     files: &mut F,
     holding: &mut Holding,
+    digests: Option<Digests>,
     validation: &Validation<'_>,
 ) -> Result<Decided, Stop>
-    requires taken { IsTaken (F.told files.old) (inputs_of (command_of (Lent.Validate validation.now))) (held_by holding.old) }
+    requires taken { HasTaken (F.told files.old) (inputs_of (command_of (Lent.Validate validation.now))) (record { holding = holding.old; files = digests }) }
     requires fit { IsFit (command_of (Lent.Validate validation.now)) }
     requires scheme { IsSome (scheme_of (base_of holding.old.names)) }
     requires labels { IsSome (scheme_of (base_of holding.old.labels)) }
     requires loaded { IsLoaded holding.old.schema }
     requires of_table { All (IsOfTable holding.old.terms) holding.old.graph.triples }
-    ensures decided { IfOk result (IsReply (F.told files.old) (command_of (Lent.Validate validation.now)) validation.now.budget (is_some validation.now.proof)) }
+    ensures decided { IfOk result (IsReply (F.told files.old) (command_of (Lent.Validate validation.now)) validation.now.budget (is_some digests)) }
     ensures cause { IfErr result (Explains (F.told files.old) (command_of (Lent.Validate validation.now))) }
     ensures faults { IfErr result (FaultsAs (command_of (Lent.Validate validation.now)) (F.faults files.old) (F.faults files.new) (F.blame files.new) (F.act files.new)) }
     ensures stored { IfErr result (LeavesStored (F.told files.old) (F.told files.new) (command_of (Lent.Validate validation.now))) }
@@ -132,7 +135,7 @@ pub fn decide_map<F: Files>(
     labels_have_lines();
     width_is_one();
     are_texts(validation.inputs.schema_base, validation.inputs.data_base);
-    let head = head_if(alloc, holding, validation.proof.is_some())?;
+    let head = head_if(alloc, holding, digests)?;
     let asked = match read_map(alloc, files, &validation.inputs, validation.map, holding) {
         Ok(asked) => asked,
         Err(error) => return Err(stop_of(error)),
@@ -190,9 +193,11 @@ fn validate<F: Files>(
     alloc: Global,
     files: &mut F,
     holding: &mut Holding,
+    digests: Option<Digests>,
     validation: &Validation<'_>,
 ) -> Result<Response, Stop>
-    requires taken { IsTaken (F.told files.old) (inputs_of (command_of (Lent.Validate validation.now))) (held_by holding.old) }
+    requires taken { HasTaken (F.told files.old) (inputs_of (command_of (Lent.Validate validation.now))) (record { holding = holding.old; files = digests }) }
+    requires digests { is_some digests ≡ is_some validation.now.proof }
     requires fit { IsFit (command_of (Lent.Validate validation.now)) }
     requires scheme { IsSome (scheme_of (base_of holding.old.names)) }
     requires labels { IsSome (scheme_of (base_of holding.old.labels)) }
@@ -205,7 +210,7 @@ fn validate<F: Files>(
     ensures stored { IfErr result (LeavesStored (F.told files.old) (F.told files.new) (command_of (Lent.Validate validation.now))) }
     ensures faults_stay { OnOk result (F.faults files.new ≡ F.faults files.old) }
 {
-    let decided = decide_map(alloc, files, holding, validation)?;
+    let decided = decide_map(alloc, files, holding, digests, validation)?;
     keep(alloc, files, validation, decided)
 }
 
@@ -214,9 +219,10 @@ fn check<F: Files>(
     alloc: Global,
     files: &mut F,
     holding: &mut Holding,
+    digests: &Digests,
     checking: &Checking<'_>,
 ) -> Result<Response, Stop>
-    requires taken { IsTaken (F.told files.old) (inputs_of (command_of (Lent.Check checking.now))) (held_by holding.old) }
+    requires taken { IsTaken (F.told files.old) (inputs_of (command_of (Lent.Check checking.now))) (held_by holding.old digests.now) }
     requires loaded { IsLoaded holding.old.schema }
     requires of_table { All (IsOfTable holding.old.terms) holding.old.graph.triples }
     ensures response { IfOk result (λ r. IsResponse (F.told files.old) (F.told files.new) (command_of (Lent.Check checking.now)) r.status r.text.items r.notes.items) }
@@ -227,7 +233,7 @@ fn check<F: Files>(
     ensures faults_stay { OnOk result (F.faults files.new ≡ F.faults files.old) }
 {
     let bytes = fetch_proof(alloc, files, checking.proof)?;
-    let text = confirm(alloc, holding, bytes.as_slice())?;
+    let text = confirm(alloc, holding, digests, bytes.as_slice())?;
     Ok(Response {
         status: 0,
         text,
@@ -240,9 +246,10 @@ fn upgrade<F: Files>(
     alloc: Global,
     files: &mut F,
     holding: &mut Holding,
+    digests: &Digests,
     upgrading: &Upgrading<'_>,
 ) -> Result<Response, Stop>
-    requires taken { IsTaken (F.told files.old) (inputs_of (command_of (Lent.Upgrade upgrading.now))) (held_by holding.old) }
+    requires taken { IsTaken (F.told files.old) (inputs_of (command_of (Lent.Upgrade upgrading.now))) (held_by holding.old digests.now) }
     requires loaded { IsLoaded holding.old.schema }
     requires of_table { All (IsOfTable holding.old.terms) holding.old.graph.triples }
     ensures response { IfOk result (λ r. IsResponse (F.told files.old) (F.told files.new) (command_of (Lent.Upgrade upgrading.now)) r.status r.text.items r.notes.items) }
@@ -253,7 +260,7 @@ fn upgrade<F: Files>(
     ensures faults_stay { OnOk result (F.faults files.new ≡ F.faults files.old) }
 {
     let bytes = fetch_proof(alloc, files, upgrading.proof)?;
-    let Upgraded { text, proof } = confirm_newest(alloc, holding, bytes)?;
+    let Upgraded { text, proof } = confirm_newest(alloc, holding, digests, bytes)?;
     store(files, File::Upgraded, upgrading.to, proof.as_slice())?;
     Ok(Response {
         status: 0,
@@ -262,23 +269,58 @@ fn upgrade<F: Files>(
     })
 }
 
-/// What the files of the schema and the data file of a command hold.
-fn hold<F: Files>(alloc: Global, files: &mut F, command: &Command<'_>) -> Result<Holding, Stop>
+/// What is wanted of the files of a command: digests, where a proof is stored or checked.
+fn wanted_of(with_proof: bool) -> Wanted
+    ensures { wants_digests result ≡ with_proof }
+{
+    if with_proof {
+        Wanted::Digests
+    } else {
+        Wanted::Contents
+    }
+}
+
+/// Whether a command stores a proof or checks one.
+fn has_proof(command: &Command<'_>) -> bool
+    ensures { result ≡ has_proof command.now }
+{
+    match command {
+        Command::Validate(validation) => validation.proof.is_some(),
+        Command::Check(_) => true,
+        Command::Upgrade(_) => true,
+    }
+}
+
+/// What is taken of the files of the schema and the data file of a command.
+fn hold<F: Files>(alloc: Global, files: &mut F, command: &Command<'_>) -> Result<Taken, Stop>
     requires { IsFit (command_of command.now) }
-    ensures taken { IfOk result (λ b. IsTaken (F.told files.old) (inputs_of (command_of command.now)) (held_by b)) }
-    ensures loaded { IfOk result (λ b. IsLoaded b.schema) }
-    ensures scheme { IfOk result (λ b. IsSome (scheme_of (base_of b.names))) }
-    ensures labels { IfOk result (λ b. IsSome (scheme_of (base_of b.labels))) }
-    ensures of_table { IfOk result (λ b. All (IsOfTable b.terms) b.graph.triples) }
+    ensures taken { IfOk result (HasTaken (F.told files.old) (inputs_of (command_of command.now))) }
+    ensures digests { IfOk result (λ t. is_some t.files ≡ has_proof command.now) }
+    ensures loaded { IfOk result (λ t. IsLoaded t.holding.schema) }
+    ensures scheme { IfOk result (λ t. IsSome (scheme_of (base_of t.holding.names))) }
+    ensures labels { IfOk result (λ t. IsSome (scheme_of (base_of t.holding.labels))) }
+    ensures of_table { IfOk result (λ t. All (IsOfTable t.holding.terms) t.holding.graph.triples) }
     ensures cause { IfErr result (Explains (F.told files.old) (command_of command.now)) }
     ensures faults { IfErr result (FaultsAs (command_of command.now) (F.faults files.old) (F.faults files.new) (F.blame files.new) (F.act files.new)) }
     ensures stored { IfErr result (LeavesStored (F.told files.old) (F.told files.new) (command_of command.now)) }
     ensures faults_stay { OnOk result (F.faults files.new ≡ F.faults files.old) }
     ensures told_stays { F.told files.new ≡ F.told files.old }
 {
-    match read_holding(alloc, files, command.inputs()) {
-        Ok(holding) => Ok(holding),
+    let wanted = wanted_of(has_proof(command));
+    match read_holding(alloc, files, command.inputs(), wanted) {
+        Ok(taken) => Ok(taken),
         Err(error) => Err(stop_of(error)),
+    }
+}
+
+/// The digests that there are.
+fn kept(digests: Option<Digests>) -> Digests
+    requires { is_some digests ≡ true }
+    ensures { (files : FilesDigests) → IfSome digests (λ d. d ≡ files) → result ≡ files }
+{
+    match digests {
+        Some(digests) => digests,
+        None => unreachable!(),
     }
 }
 
@@ -287,9 +329,11 @@ fn answer<F: Files>(
     alloc: Global,
     files: &mut F,
     holding: &mut Holding,
+    digests: Option<Digests>,
     command: &Command<'_>,
 ) -> Result<Response, Stop>
-    requires taken { IsTaken (F.told files.old) (inputs_of (command_of command.now)) (held_by holding.old) }
+    requires taken { HasTaken (F.told files.old) (inputs_of (command_of command.now)) (record { holding = holding.old; files = digests }) }
+    requires digests { is_some digests ≡ has_proof command.now }
     requires fit { IsFit (command_of command.now) }
     requires scheme { IsSome (scheme_of (base_of holding.old.names)) }
     requires labels { IsSome (scheme_of (base_of holding.old.labels)) }
@@ -303,9 +347,15 @@ fn answer<F: Files>(
     ensures faults_stay { OnOk result (F.faults files.new ≡ F.faults files.old) }
 {
     match command {
-        Command::Validate(validation) => validate(alloc, files, holding, validation),
-        Command::Check(checking) => check(alloc, files, holding, checking),
-        Command::Upgrade(upgrading) => upgrade(alloc, files, holding, upgrading),
+        Command::Validate(validation) => validate(alloc, files, holding, digests, validation),
+        Command::Check(checking) => {
+            let digests = kept(digests);
+            check(alloc, files, holding, &digests, checking)
+        }
+        Command::Upgrade(upgrading) => {
+            let digests = kept(digests);
+            upgrade(alloc, files, holding, &digests, upgrading)
+        }
     }
 }
 
@@ -323,8 +373,11 @@ pub fn respond<F: Files>(
     ensures stored { IfErr result (LeavesStored (F.told files.old) (F.told files.new) (command_of command.now)) }
     ensures faults_stay { OnOk result (F.faults files.new ≡ F.faults files.old) }
 {
-    let mut holding = hold(alloc, files, command)?;
-    let response = answer(alloc, files, &mut holding, command);
+    let Taken {
+        mut holding,
+        files: digests,
+    } = hold(alloc, files, command)?;
+    let response = answer(alloc, files, &mut holding, digests, command);
     // What is held is dropped by one call, which is proved in less time.
     drop(holding);
     response

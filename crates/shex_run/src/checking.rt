@@ -10,6 +10,7 @@ ghost use Rattle.shex_run.specs.Checking.{ConfirmStops, Confirms};
 
 use crate::stop::{Stop, check_stop};
 use proof_checker::check;
+use proof_file::head::Digests;
 use schema_tree::laws::typing_is_one;
 use shape_map::write_result;
 use shex_inputs::Holding;
@@ -17,13 +18,18 @@ use std::alloc::Global;
 
 /// The result map of the claims of a proof that is current and accepted; else it is refused for what the check finds, or fails as
 /// `Memory`. The graph is sealed first, and where the bytes are a proof of these files, the table takes up its nodes.
-pub fn confirm(alloc: Global, holding: &mut Holding, proof: &[u8]) -> Result<Vec<u8>, Stop>
+pub fn confirm(
+    alloc: Global,
+    holding: &mut Holding,
+    digests: &Digests,
+    proof: &[u8],
+) -> Result<Vec<u8>, Stop>
     requires loaded { IsLoaded holding.old.schema }
     requires strata { IsStratum holding.old.schema holding.old.strata }
     requires distinct { AreDistinct holding.old.terms }
     requires of_table { All (IsOfTable holding.old.terms) holding.old.graph.triples }
-    ensures confirmed { IfOk result (λ text. Confirms (held_by holding.old) proof.now text.items) }
-    ensures stops { IfErr result (ConfirmStops (held_by holding.old) proof.now) }
+    ensures confirmed { IfOk result (λ text. Confirms (held_by holding.old digests.now) proof.now text.items) }
+    ensures stops { IfErr result (ConfirmStops (held_by holding.old digests.now) proof.now) }
 {
     // The law by which there is a complete typing.
     typing_is_one();
@@ -33,7 +39,7 @@ pub fn confirm(alloc: Global, holding: &mut Holding, proof: &[u8]) -> Result<Vec
         &holding.schema,
         &holding.graph,
         &mut holding.terms,
-        &holding.files,
+        digests,
         proof,
     );
     // The length of a table tells contracts that it is within the limit.

@@ -1,6 +1,6 @@
 //! A drill: made inputs are validated, and the proof of the answers is checked.
 
-ghost use Rattle.std.specs.Prelude.{◌≡◌, ◌≤◌, All, IfErr, IfOk, IsSome, OnOk, Some, true};
+ghost use Rattle.std.specs.Prelude.{◌≡◌, ◌≤◌, All, IfErr, IfOk, IsSome, OnOk, Some, is_some, true};
 ghost use Rattle.iri_resolve.specs.Reference.{scheme_of};
 ghost use Rattle.rdf_lex.specs.Prefixes.{base_of};
 ghost use Rattle.graph_index.specs.Laws.{IsOfTable};
@@ -12,7 +12,7 @@ ghost use Rattle.command_words.specs.declared.command.Command.TheVariants.{Valid
 ghost use Rattle.schema_tree.specs.Edges.{IsStratum};
 ghost use Rattle.schema_tree.specs.Loaded.{IsLoaded};
 ghost use Rattle.shex_drill.specs.Files.{contents_of};
-ghost use Rattle.shex_inputs.specs.Held.{IsTaken, held_by};
+ghost use Rattle.shex_inputs.specs.Held.{HasTaken};
 ghost use Rattle.shex_run.specs.Drills.{IsDrilled, drill_command, drill_line, saying};
 ghost use Rattle.shex_run.specs.Ready.{AreTexts, IsDrillReply, IsProofOfTexts, IsReply};
 ghost use Rattle.shex_run.specs.Stopping.{DrillStops};
@@ -28,7 +28,7 @@ use drill_laws::{drill_is_decided, drill_is_taken};
 use proof_file::write::write;
 use schema_tree::schema::Answer;
 use shex_drill::{DATA_FILE, DrillFiles, MAP_FILE, SCHEMA_FILE, make};
-use shex_inputs::{Holding, InputError, inputs_are_one, read_holding};
+use shex_inputs::{InputError, Taken, Wanted, inputs_are_one, read_holding};
 use shex_io::Files;
 use std::alloc::{AllocError, Global};
 
@@ -45,8 +45,7 @@ fn drill_validation<'a>(alloc: Global) -> Validation<'a>
             imports: Vec::new(alloc),
         },
         map: MAP_FILE,
-        // A proof is made where a name is given; nothing is stored under this one.
-        proof: Some("proof"),
+        proof: None,
         budget: DEFAULT_BUDGET,
     }
 }
@@ -60,24 +59,25 @@ struct Drilled {
     proof: Vec<u8>,
 }
 
-/// What the texts of a drill hold.
-fn hold(alloc: Global, files: &mut DrillFiles, validation: &Validation<'_>) -> Result<Holding, Stop>
+/// What is taken of the texts of a drill.
+fn hold(alloc: Global, files: &mut DrillFiles, validation: &Validation<'_>) -> Result<Taken, Stop>
     requires asked { command_of (Validate validation.now) ≡ drill_command }
     requires texts { AreTexts (contents_of files.old) }
-    ensures taken { IfOk result (λ b. IsTaken (Some (contents_of files.old)) (inputs_of drill_command) (held_by b)) }
-    ensures loaded { IfOk result (λ b. IsLoaded b.schema) }
-    ensures strata { IfOk result (λ b. IsStratum b.schema b.strata) }
-    ensures distinct { IfOk result (λ b. AreDistinct b.terms) }
-    ensures scheme { IfOk result (λ b. IsSome (scheme_of (base_of b.names))) }
-    ensures labels { IfOk result (λ b. IsSome (scheme_of (base_of b.labels))) }
-    ensures of_table { IfOk result (λ b. All (IsOfTable b.terms) b.graph.triples) }
+    ensures taken { IfOk result (HasTaken (Some (contents_of files.old)) (inputs_of drill_command)) }
+    ensures digests { IfOk result (λ t. is_some t.files ≡ true) }
+    ensures loaded { IfOk result (λ t. IsLoaded t.holding.schema) }
+    ensures strata { IfOk result (λ t. IsStratum t.holding.schema t.holding.strata) }
+    ensures distinct { IfOk result (λ t. AreDistinct t.holding.terms) }
+    ensures scheme { IfOk result (λ t. IsSome (scheme_of (base_of t.holding.names))) }
+    ensures labels { IfOk result (λ t. IsSome (scheme_of (base_of t.holding.labels))) }
+    ensures of_table { IfOk result (λ t. All (IsOfTable t.holding.terms) t.holding.graph.triples) }
     ensures memory { IfErr result (λ s. s ≡ Stops.Memory) }
     ensures texts_stay { contents_of files.new ≡ contents_of files.old }
 {
     // The law by which no text of a drill is refused.
     drill_is_taken();
-    match read_holding(alloc, files, &validation.inputs) {
-        Ok(holding) => Ok(holding),
+    match read_holding(alloc, files, &validation.inputs, Wanted::Digests) {
+        Ok(taken) => Ok(taken),
         Err(error) => match error {
             InputError::Memory => Err(Stop::Memory),
             _ => unreachable!(),
@@ -99,8 +99,11 @@ fn decide_texts(
 {
     // The law by which no text of a drill is refused.
     drill_is_taken();
-    let mut holding = hold(alloc, files, validation)?;
-    let decided = decide_map(alloc, files, &mut holding, validation);
+    let Taken {
+        mut holding,
+        files: digests,
+    } = hold(alloc, files, validation)?;
+    let decided = decide_map(alloc, files, &mut holding, digests, validation);
     // What is held is dropped by one call, which is proved in less time; so below.
     drop(holding);
     match decided {
@@ -126,8 +129,14 @@ fn check_texts(
 {
     // The law by which the texts hold one thing.
     inputs_are_one();
-    let mut holding = hold(alloc, files, validation)?;
-    let confirmed = confirm(alloc, &mut holding, proof);
+    let Taken {
+        mut holding,
+        files: digests,
+    } = hold(alloc, files, validation)?;
+    let Some(digests) = digests else {
+        unreachable!();
+    };
+    let confirmed = confirm(alloc, &mut holding, &digests, proof);
     drop(holding);
     match confirmed {
         Ok(_) => Ok(()),

@@ -1,6 +1,7 @@
 //! The head of the proof that is stored.
 
-ghost use Rattle.std.specs.Prelude.{◌≡◌, IfOk};
+ghost use Rattle.std.specs.Prelude.{◌≡◌, IfOk, IfSome, is_some};
+ghost use Rattle.proof_file.specs.declared.head.Digests.{Digests as FilesDigests};
 ghost use Rattle.shex_inputs.specs.Held.{held_by};
 ghost use Rattle.shex_run.specs.Ready.{head_if, head_of};
 
@@ -20,22 +21,26 @@ fn copied_digests(alloc: Global, files: &Digests) -> Result<Digests, AllocError>
     })
 }
 
-/// The head of a proof over what is held: the digests of its files, and the strata of its Shapes.
-pub fn head_of(alloc: Global, holding: &Holding) -> Result<Head, AllocError>
-    ensures { IfOk result (λ h. h ≡ head_of (held_by holding.now)) }
+/// The head of a proof over what is held of files with these digests: the digests, and the strata of its Shapes.
+pub fn head_of(alloc: Global, holding: &Holding, digests: &Digests) -> Result<Head, AllocError>
+    ensures { IfOk result (λ h. h ≡ head_of (held_by holding.now digests.now)) }
 {
     Ok(Head {
-        files: copied_digests(alloc, &holding.files)?,
+        files: copied_digests(alloc, digests)?,
         strata: Items::of(Vec::from_slice(alloc, holding.strata.list())?),
     })
 }
 
-/// The head of a proof over what is held, if one is wanted.
-pub fn head_if(alloc: Global, holding: &Holding, wanted: bool) -> Result<Option<Head>, AllocError>
-    ensures { IfOk result (λ h. h ≡ head_if wanted (held_by holding.now)) }
+/// The head of a proof over what is held, if there are digests of the files.
+pub fn head_if(
+    alloc: Global,
+    holding: &Holding,
+    digests: Option<Digests>,
+) -> Result<Option<Head>, AllocError>
+    ensures { (files : FilesDigests) → IfSome digests (λ d. d ≡ files) → IfOk result (λ h. h ≡ head_if (is_some digests) (held_by holding.now files)) }
 {
-    if !wanted {
-        return Ok(None);
+    match digests {
+        Some(digests) => Ok(Some(head_of(alloc, holding, &digests)?)),
+        None => Ok(None),
     }
-    Ok(Some(head_of(alloc, holding)?))
 }

@@ -18,7 +18,7 @@ use crate::checking::confirm;
 use crate::head::head_of;
 use crate::stop::Stop;
 use proof_file::Proof;
-use proof_file::head::Head;
+use proof_file::head::{Digests, Head};
 use proof_file::read::{ReadError, read};
 use proof_file::write::write;
 use shex_inputs::Holding;
@@ -80,18 +80,19 @@ fn newest(alloc: Global, head: Head, bytes: Vec<u8>) -> Result<Vec<u8>, Stop>
 pub fn confirm_newest(
     alloc: Global,
     holding: &mut Holding,
+    digests: &Digests,
     proof: Vec<u8>,
 ) -> Result<Upgraded, Stop>
     requires loaded { IsLoaded holding.old.schema }
     requires strata { IsStratum holding.old.schema holding.old.strata }
     requires distinct { AreDistinct holding.old.terms }
     requires of_table { All (IsOfTable holding.old.terms) holding.old.graph.triples }
-    requires fits { AllByRecursion IsLine (head_lines (head_if true (held_by holding.old))) }
-    ensures upgrades { IfOk result (λ u. Upgrades (held_by holding.old) proof.items u.text.items u.proof.items) }
-    ensures stops { IfErr result (ConfirmStops (held_by holding.old) proof.items) }
+    requires fits { AllByRecursion IsLine (head_lines (head_if true (held_by holding.old digests.now))) }
+    ensures upgrades { IfOk result (λ u. Upgrades (held_by holding.old digests.now) proof.items u.text.items u.proof.items) }
+    ensures stops { IfErr result (ConfirmStops (held_by holding.old digests.now) proof.items) }
 {
-    let head = head_of(alloc, holding)?;
-    let text = confirm(alloc, holding, proof.as_slice())?;
+    let head = head_of(alloc, holding, digests)?;
+    let text = confirm(alloc, holding, digests, proof.as_slice())?;
     let proof = newest(alloc, head, proof)?;
     Ok(Upgraded { text, proof })
 }

@@ -21,12 +21,12 @@ run-said-requires c = record {
 }
 
 pub returns-in_err-said-clause-stops : goal.returns-in_err-said-clause-stops
-returns-in_err-said-clause-stops c =
+returns-in_err-said-clause-stops c = λ digests.
     let p = err_from_is_err_and c.from_residual-in_err-said.result c.from_residual-in_err-said.ensures.1 in
-    rw p.1 (command_stops (held_by c.args.holding) c.args.budget c.args.commands.items c.in_err-said.field-0.0 p.0
+    rw p.1 (command_stops (held_by c.args.holding digests) c.args.budget c.args.commands.items c.in_err-said.field-0.0 p.0
     (subst (λ (x : Seen). StopsOr (λ e. Runs x.schema x.strata x.budget (state_of x) [] c.args.commands.items (refused e)) c.in_err-said.field-0.0) c.in_ok-session.ensures.seen c.in_err-said.ensures.stopped) p.2)
 
 pub returns-clause-answers : goal.returns-clause-answers
-returns-clause-answers c =
+returns-clause-answers c = λ digests.
     let done = subst (λ (x : Seen). IsDone x c.args.commands.items c.in_ok-said.field-0) c.in_ok-session.ensures.seen c.in_ok-said.ensures.done in
     (done.replies, done.runs, done.says)

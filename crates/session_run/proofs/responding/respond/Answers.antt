@@ -7,7 +7,9 @@ use Rattle.session_run.proofs.Stopped.{answers_of, cause_of, faults_of}
 use Rattle.session_run.proofs.responding.respond.Goals as goal
 
 pub read_commands-requires : goal.read_commands-requires
-read_commands-requires g c = subst (λ t. AreHeld t (editing_of c.args.editing.now) (held_by c.in_ok-holding.holding)) (sym c.hold.ensures.told_stays) c.in_ok-holding.ensures.held
+read_commands-requires g c =
+    let (digests, held) = c.in_ok-holding.ensures.held in
+    (digests, subst (λ t. AreHeld t (editing_of c.args.editing.now) (held_by c.in_ok-holding.holding digests)) (sym c.hold.ensures.told_stays) held)
 
 pub returns-in-Err-clause-cause : goal.returns-in-Err-clause-cause
 returns-in-Err-clause-cause g c = subst (λ t. Explains t (editing_of c.args.editing.now) c.in-Err.stop) c.hold.ensures.told_stays c.in-Err.ensures.cause
@@ -19,17 +21,24 @@ returns-in-Err-clause-faults g c =
 
 pub returns-in-Ok-clause-answers : goal.returns-in-Ok-clause-answers
 returns-in-Ok-clause-answers g c =
-    answers_of (g.F.Files.told c.args.files.now) (editing_of c.args.editing.now) (held_by c.in_ok-holding.holding) c.in_ok-holding.ensures.held c.in-Ok.commands.items
-    (subst (λ t. HoldsScript t (editing_of c.args.editing.now) c.in-Ok.commands.items) c.hold.ensures.told_stays c.in-Ok.ensures.script) c.answer.result c.answer.ensures.answers
+    let (digests, held) = c.in_ok-holding.ensures.held in
+    answers_of (g.F.Files.told c.args.files.now) (editing_of c.args.editing.now) (held_by c.in_ok-holding.holding digests) held c.in-Ok.commands.items
+    (subst (λ t. HoldsScript t (editing_of c.args.editing.now) c.in-Ok.commands.items) c.hold.ensures.told_stays c.in-Ok.ensures.script) c.answer.result
+    (c.answer.ensures.answers digests)
 
 pub returns-in-Ok-clause-cause : goal.returns-in-Ok-clause-cause
 returns-in-Ok-clause-cause g c =
-    cause_of (g.F.Files.told c.args.files.now) (editing_of c.args.editing.now) (held_by c.in_ok-holding.holding) c.in_ok-holding.ensures.held c.in-Ok.commands.items
+    let (digests, held) = c.in_ok-holding.ensures.held in
+    cause_of (g.F.Files.told c.args.files.now) (editing_of c.args.editing.now) (held_by c.in_ok-holding.holding digests) held c.in-Ok.commands.items
     (subst (λ t. HoldsScript t (editing_of c.args.editing.now) c.in-Ok.commands.items) c.hold.ensures.told_stays c.in-Ok.ensures.script)
-    (g.F.Files.faults c.args.files.now) (g.F.Files.faults c.read_commands.new.files) (g.F.Files.blame c.read_commands.new.files) (g.F.Files.act c.read_commands.new.files) c.answer.result c.answer.ensures.stops
+    (g.F.Files.faults c.args.files.now) (g.F.Files.faults c.read_commands.new.files) (g.F.Files.blame c.read_commands.new.files)
+    (g.F.Files.act c.read_commands.new.files) c.answer.result (c.answer.ensures.stops digests)
 
 pub returns-in-Ok-clause-faults : goal.returns-in-Ok-clause-faults
 returns-in-Ok-clause-faults g c =
-    faults_of (g.F.Files.told c.args.files.now) (editing_of c.args.editing.now) (held_by c.in_ok-holding.holding) c.in_ok-holding.ensures.held c.in-Ok.commands.items
+    let (digests, held) = c.in_ok-holding.ensures.held in
+    faults_of (g.F.Files.told c.args.files.now) (editing_of c.args.editing.now) (held_by c.in_ok-holding.holding digests) held c.in-Ok.commands.items
     (subst (λ t. HoldsScript t (editing_of c.args.editing.now) c.in-Ok.commands.items) c.hold.ensures.told_stays c.in-Ok.ensures.script)
-    (g.F.Files.faults c.args.files.now) (g.F.Files.faults c.read_commands.new.files) (g.F.Files.blame c.read_commands.new.files) (g.F.Files.act c.read_commands.new.files) (c.in-Ok.ensures.faults_stay ∙ c.in_ok-holding.ensures.faults_stay) c.answer.result c.answer.ensures.stops
+    (g.F.Files.faults c.args.files.now) (g.F.Files.faults c.read_commands.new.files) (g.F.Files.blame c.read_commands.new.files)
+    (g.F.Files.act c.read_commands.new.files) (c.in-Ok.ensures.faults_stay ∙ c.in_ok-holding.ensures.faults_stay) c.answer.result
+    (c.answer.ensures.stops digests)

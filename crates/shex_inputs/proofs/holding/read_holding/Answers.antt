@@ -1,9 +1,10 @@
-use Rattle.std.proofs.Common.{◌∙◌, ap, codes, subst}
+use Rattle.std.proofs.Common.{◌∙◌, ap, codes, refl, subst}
 use Rattle.std.proofs.lemmas.Result.{err_from_is_err_and}
 use Rattle.graph_index.specs.declared.read_error.ReadError.TheVariants as ReadErrors
 use Rattle.shex_inputs.specs.declared.error.Refusal.TheVariants as Refusals
 use Rattle.shex_inputs.specs.declared.error.Source.TheVariants.{Data}
-use Rattle.shex_inputs.specs.Held.{held_by}
+use Rattle.proof_file.specs.declared.head.Digests.{Digests}
+use Rattle.shex_inputs.specs.Held.{digests_with, held_by}
 use Rattle.schema_files.specs.Files.{IsFile}
 use Rattle.schema_files.specs.Sources.{documents_of}
 use Rattle.term_tokens.specs.Scopes.{scope_of}
@@ -40,21 +41,31 @@ returns-in_err-bytes-clause-cause g c = λ map_name.
 pub returns-in-Ok-clause-taken : goal.returns-in-Ok-clause-taken
 returns-in-Ok-clause-taken g c = λ map_name.
     let (taken, digests) = c.in_ok-loaded.ensures.taken map_name in
-    let (triples, spelled, holding) = c.in-Ok.ensures.read (documents_of taken.sources) taken.is_schema in
     let l = c.in_ok-loaded.loaded in
-    are_taken (g.F.Files.told c.args.files.now) (inputs_with c.args.inputs.now map_name) (held_by c.in-Ok.holding) c.of_name-format.result l.terms l.schema l.strata (scope_of l.labels) c.in_ok-bytes.bytes.items c.as_slice.result.now triples taken (ap scope_of c.in-Ok.ensures.labels)
-    (subst (λ t. IsFile t c.args.inputs.now.data.now c.in_ok-bytes.bytes.items) c.in_ok-loaded.ensures.told_stays c.in_ok-bytes.ensures.bytes) c.of_name-format.ensures c.as_slice.ensures.value spelled holding l.digests digests c.in-Ok.ensures.schemas c.in-Ok.ensures.graph
+    let files : Digests = digests_with l.digests c.as_slice-source.result.now in
+    let (triples, spelled, holding) = c.in-Ok.ensures.read (documents_of taken.sources) files taken.is_schema in
+    record {
+      files = files;
+      taken = are_taken (g.F.Files.told c.args.files.now) (inputs_with c.args.inputs.now map_name)
+          (held_by c.in-Ok.taken.holding files) c.of_name-format.result l.terms l.schema l.strata
+          (scope_of l.labels) c.in_ok-bytes.bytes.items c.as_slice-source.result.now triples taken (ap scope_of c.in-Ok.ensures.labels)
+          (subst (λ t. IsFile t c.args.inputs.now.data.now c.in_ok-bytes.bytes.items) c.in_ok-loaded.ensures.told_stays c.in_ok-bytes.ensures.bytes)
+          c.of_name-format.ensures c.as_slice-source.ensures.value spelled holding l.digests digests refl refl;
+      kept = c.in-Ok.ensures.kept;
+    }
 
 pub returns-in-Ok-clause-strata : goal.returns-in-Ok-clause-strata
 returns-in-Ok-clause-strata g c =
     let (taken, digests) = c.in_ok-loaded.ensures.taken (codes "") in
-    let (triples, spelled, holding) = c.in-Ok.ensures.read (documents_of taken.sources) taken.is_schema in
+    let (triples, spelled, holding) = c.in-Ok.ensures.read (documents_of taken.sources)
+    (digests_with c.in_ok-loaded.loaded.digests c.as_slice-source.result.now) taken.is_schema in
     holding.is_schema.strata
 
 pub returns-in-Ok-clause-distinct : goal.returns-in-Ok-clause-distinct
 returns-in-Ok-clause-distinct g c =
     let (taken, digests) = c.in_ok-loaded.ensures.taken (codes "") in
-    let (triples, spelled, holding) = c.in-Ok.ensures.read (documents_of taken.sources) taken.is_schema in
+    let (triples, spelled, holding) = c.in-Ok.ensures.read (documents_of taken.sources)
+    (digests_with c.in_ok-loaded.loaded.digests c.as_slice-source.result.now) taken.is_schema in
     holding.distinct
 
 pub returns-in_err-bytes-clause-before_map : goal.returns-in_err-bytes-clause-before_map
@@ -68,8 +79,10 @@ returns-clause-before_map g c = refused_before_map ReadErrors.Memory (λ e. Refu
 pub returns-clause-cause : goal.returns-clause-cause
 returns-clause-cause g c = λ map_name.
     let l = c.in_ok-loaded.loaded in
-    data_explains (g.F.Files.told c.args.files.now) (inputs_with c.args.inputs.now map_name) c.of_name-format.result l.terms l.schema l.strata (scope_of l.labels) c.in_ok-bytes.bytes.items c.as_slice.result.now c.in-Err.error c.data_error.result (c.in_ok-loaded.ensures.taken map_name).0
-    (subst (λ t. IsFile t c.args.inputs.now.data.now c.in_ok-bytes.bytes.items) c.in_ok-loaded.ensures.told_stays c.in_ok-bytes.ensures.bytes) c.of_name-format.ensures c.as_slice.ensures.value c.in-Err.ensures.unread c.data_error.ensures
+    data_explains (g.F.Files.told c.args.files.now) (inputs_with c.args.inputs.now map_name) c.of_name-format.result l.terms l.schema l.strata
+    (scope_of l.labels) c.in_ok-bytes.bytes.items c.as_slice-source.result.now c.in-Err.error c.data_error.result (c.in_ok-loaded.ensures.taken map_name).0
+    (subst (λ t. IsFile t c.args.inputs.now.data.now c.in_ok-bytes.bytes.items) c.in_ok-loaded.ensures.told_stays c.in_ok-bytes.ensures.bytes)
+    c.of_name-format.ensures c.as_slice-source.ensures.value c.in-Err.ensures.unread c.data_error.ensures
 
 pub returns-clause-faults : goal.returns-clause-faults
 returns-clause-faults g c = λ map_name.

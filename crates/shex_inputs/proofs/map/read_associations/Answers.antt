@@ -10,7 +10,9 @@ use Rattle.shex_inputs.proofs.map.read_associations.Goals as goal
 
 pub returns-in-Err-clause-cause : goal.returns-in-Err-clause-cause
 returns-in-Err-clause-cause g c =
-    map_explains (g.F.Files.told c.args.files.now) (inputs_with c.args.inputs.now c.args.name.now) (held_by c.args.holding.now) c.in_ok-bytes.bytes.items c.as_slice.result.now c.in-Err.error c.map_error.result c.requires.taken c.in_ok-bytes.ensures.bytes c.as_slice.ensures.value c.in-Err.ensures.stops c.map_error.ensures
+    map_explains (g.F.Files.told c.args.files.now) (inputs_with c.args.inputs.now c.args.name.now)
+    (held_by c.args.holding.now c.requires.taken.0) c.in_ok-bytes.bytes.items c.as_slice.result.now c.in-Err.error c.map_error.result c.requires.taken.1
+    c.in_ok-bytes.ensures.bytes c.as_slice.ensures.value c.in-Err.ensures.stops c.map_error.ensures
 
 pub returns-in-Err-clause-faults : goal.returns-in-Err-clause-faults
 returns-in-Err-clause-faults g c =
@@ -18,7 +20,8 @@ returns-in-Err-clause-faults g c =
 
 pub returns-clause-cause : goal.returns-clause-cause
 returns-clause-cause g c =
-    asking_explains (g.F.Files.told c.args.files.now) (inputs_with c.args.inputs.now c.args.name.now) (held_by c.args.holding.now) c.in-Ok.map c.in-Err-associations_of.error c.map_error-in-Err-associations_of.result c.requires.taken
+    asking_explains (g.F.Files.told c.args.files.now) (inputs_with c.args.inputs.now c.args.name.now)
+    (held_by c.args.holding.now c.requires.taken.0) c.in-Ok.map c.in-Err-associations_of.error c.map_error-in-Err-associations_of.result c.requires.taken.1
     (record {
       bytes = c.in_ok-bytes.bytes.items;
       file = c.in_ok-bytes.ensures.bytes;
@@ -29,3 +32,15 @@ returns-clause-cause g c =
 pub returns-clause-faults : goal.returns-clause-faults
 returns-clause-faults g c =
     refused_faults MapErrors.Memory (λ e. Refusals.Map e) c.in-Err-associations_of.error c.map_error-in-Err-associations_of.result (inputs_with c.args.inputs.now c.args.name.now) _ _ _ _ c.map_error-in-Err-associations_of.ensures c.in_ok-bytes.ensures.faults_stay
+
+pub returns-in-Ok-associations_of-clause-asked : goal.returns-in-Ok-associations_of-clause-asked
+returns-in-Ok-associations_of-clause-asked g c = λ digests. (
+  c.in-Ok.map,
+  record {
+    bytes = c.in_ok-bytes.bytes.items;
+    file = c.in_ok-bytes.ensures.bytes;
+    spelled = subst (λ bs. IsMap (scope_of c.args.holding.now.names) (scope_of c.args.holding.now.labels) bs c.in-Ok.map) c.as_slice.ensures.value
+        c.in-Ok.ensures.found;
+  },
+  c.in-Ok-associations_of.ensures.ends,
+)

@@ -1,7 +1,7 @@
 use Rattle.std.proofs.Common.{◌∙◌, ap, subst, sym}
 use Rattle.command_words.specs.Checks.{is_base}
 use Rattle.command_words.specs.Lent.{command_of}
-use Rattle.shex_inputs.specs.Held.{IsTaken, held_by}
+use Rattle.shex_inputs.specs.Held.{HasTaken}
 use Rattle.shex_inputs.specs.Outcomes.{Explains as ExplainsInput, FaultsAs as FaultsAsInput}
 use Rattle.shex_run.specs.Stopping.{Explains, FaultsAs}
 use Rattle.shex_run.specs.Tasks.{inputs_of, map_name}
@@ -12,7 +12,8 @@ pub read_holding-requires : goal.read_holding-requires
 read_holding-requires g c = let (task, same) = c.inputs.ensures in record { schema_base = ap (λ k. is_base k.schema_base) (sym same) ∙ c.requires.schema; data_base = ap (λ k. is_base k.data_base) (sym same) ∙ c.requires.data_file }
 
 pub returns-in-Ok-clause-taken : goal.returns-in-Ok-clause-taken
-returns-in-Ok-clause-taken g c = let (task, same) = c.inputs.ensures in subst (λ k. IsTaken (g.F.Files.told c.args.files.now) (inputs_of k) (held_by c.in-Ok.holding)) (sym same) (c.in-Ok.ensures.taken (map_name task))
+returns-in-Ok-clause-taken g c = let (task, same) = c.inputs.ensures in subst (λ k. HasTaken (g.F.Files.told c.args.files.now) (inputs_of k) c.in-Ok.taken)
+    (sym same) (c.in-Ok.ensures.taken (map_name task))
 
 pub returns-in-Err-clause-cause : goal.returns-in-Err-clause-cause
 returns-in-Err-clause-cause g c =

@@ -12,7 +12,8 @@ use Rattle.shex_run.proofs.answers.upgrade.Goals as goal
 
 pub confirm_newest-requires-clause-fits : goal.confirm_newest-requires-clause-fits
 confirm_newest-requires-clause-fits g c =
-    head_fits (g.F.Files.told c.args.files.now) (inputs_of (command_of (Lent.Upgrade c.args.upgrading.now))) (held_by c.args.holding.now) c.requires.taken c.requires.loaded true
+    head_fits (g.F.Files.told c.args.files.now) (inputs_of (command_of (Lent.Upgrade c.args.upgrading.now)))
+    (held_by c.args.holding.now c.args.digests.now) c.requires.taken c.requires.loaded true
 
 pub returns-clause-response : goal.returns-clause-response
 returns-clause-response g c =
@@ -21,7 +22,7 @@ returns-clause-response g c =
     let v = c.args.upgrading.now in
     let after = g.F.Files.told c.store.new.files in
     let text = c.in_ok-text.field-0.text.items in
-    let held = held_by c.args.holding.now in
+    let held = held_by c.args.holding.now c.args.digests.now in
     let bytes = c.in_ok-bytes.bytes.items in
     subst (λ notes. IsResponse told after k 0 text notes) (sym c.new.ensures.items)
     (upgraded told k held c.requires.taken v.proof.now refl bytes c.in_ok-bytes.ensures.bytes v.to.now refl text c.as_slice.result.now
@@ -34,7 +35,7 @@ returns-in_err-store-clause-cause g c =
     let k = command_of (Lent.Upgrade c.args.upgrading.now) in
     let v = c.args.upgrading.now in
     let text = c.in_ok-text.field-0.text.items in
-    let held = held_by c.args.holding.now in
+    let held = held_by c.args.holding.now c.args.digests.now in
     let bytes = c.in_ok-bytes.bytes.items in
     let mid = c.fetch_proof.new.files in
     rw (p.1, p.2)
@@ -49,7 +50,7 @@ returns-in_err-store-clause-stored g c =
     let k = command_of (Lent.Upgrade c.args.upgrading.now) in
     let v = c.args.upgrading.now in
     let text = c.in_ok-text.field-0.text.items in
-    let held = held_by c.args.holding.now in
+    let held = held_by c.args.holding.now c.args.digests.now in
     let bytes = c.in_ok-bytes.bytes.items in
     let mid = c.fetch_proof.new.files in
     rw (p.1, p.2)
@@ -62,7 +63,8 @@ returns-in_err-bytes-clause-cause g c =
     let p = err_from_is_err_and c.from_residual.result c.from_residual.ensures.1 in
     let new = c.fetch_proof.new.files in
     rw (p.1, p.2)
-    ((fetch_stopped (g.F.Files.told c.args.files.now) (command_of (Lent.Upgrade c.args.upgrading.now)) (held_by c.args.holding.now) c.requires.taken c.args.upgrading.now.proof.now refl
+    ((fetch_stopped (g.F.Files.told c.args.files.now) (command_of (Lent.Upgrade c.args.upgrading.now))
+    (held_by c.args.holding.now c.args.digests.now) c.requires.taken c.args.upgrading.now.proof.now refl
     (g.F.Files.told new) c.fetch_proof.ensures.told_stays (g.F.Files.faults c.args.files.now) (g.F.Files.faults new) (g.F.Files.blame new) (g.F.Files.act new) c.in_err-bytes.field-0.0 c.in_err-bytes.ensures.stops).cause)
 
 pub returns-in_err-bytes-clause-faults : goal.returns-in_err-bytes-clause-faults
@@ -70,5 +72,6 @@ returns-in_err-bytes-clause-faults g c =
     let p = err_from_is_err_and c.from_residual.result c.from_residual.ensures.1 in
     let new = c.fetch_proof.new.files in
     rw (p.1, p.2)
-    ((fetch_stopped (g.F.Files.told c.args.files.now) (command_of (Lent.Upgrade c.args.upgrading.now)) (held_by c.args.holding.now) c.requires.taken c.args.upgrading.now.proof.now refl
+    ((fetch_stopped (g.F.Files.told c.args.files.now) (command_of (Lent.Upgrade c.args.upgrading.now))
+    (held_by c.args.holding.now c.args.digests.now) c.requires.taken c.args.upgrading.now.proof.now refl
     (g.F.Files.told new) c.fetch_proof.ensures.told_stays (g.F.Files.faults c.args.files.now) (g.F.Files.faults new) (g.F.Files.blame new) (g.F.Files.act new) c.in_err-bytes.field-0.0 c.in_err-bytes.ensures.stops).faults)

@@ -1,11 +1,19 @@
-use Rattle.std.proofs.Common.{subst}
+use Rattle.std.proofs.Common.{subst, sym}
 use Rattle.std.proofs.lemmas.Result.{err_from_is_err_and}
-use Rattle.std.specs.Prelude.{IfErr, IfOk}
+use Rattle.std.specs.Prelude.{IfErr, IfOk, is_some}
 use Rattle.command_words.specs.Lent.{command_of}
 use Rattle.command_words.specs.declared.command.Command.TheVariants as Lent
 use Rattle.shex_run.specs.Endings.{IsResponse}
+use Rattle.shex_run.specs.Ready.{IsReply}
 use Rattle.shex_run.specs.Stopping.{Explains, FaultsAs, LeavesStored}
 use Rattle.shex_run.proofs.answers.validate.Goals as goal
+
+pub keep-requires : goal.keep-requires
+keep-requires g c =
+    let v = c.args.validation.now in
+    let d = c.in_ok-decided.decided in
+    subst (λ t. IsReply t (command_of (Lent.Validate v)) v.budget (is_some v.proof) d) (sym c.decide_map.ensures.told_stays)
+    (subst (λ b. IsReply (g.F.Files.told c.args.files.now) (command_of (Lent.Validate v)) v.budget b d) c.requires.digests c.in_ok-decided.ensures.decided)
 
 pub returns-clause-response : goal.returns-clause-response
 returns-clause-response g c =

@@ -29,7 +29,7 @@ write_result-requires c = λ a h.
 pub returns-in-Ok-write_result-clause-confirmed : goal.returns-in-Ok-write_result-clause-confirmed
 returns-in-Ok-write_result-clause-confirmed c =
     let terms = c.check-checked.new.terms in
-    let held : Held = held_by c.args.holding.now in
+    let held : Held = held_by c.args.holding.now c.args.digests.now in
     let accepted : Accepted held c.args.proof.now terms c.in-Ok.claims = record {
       found = subst (λ ts. IsAcceptedFor held.schema held.files held.terms terms ts c.args.proof.now c.in-Ok.claims) c.seal.ensures.same c.in-Ok.ensures.accepted;
       few = subst (λ k. k ≤ max_terms) c.len-count.ensures.count c.len-count.ensures.few;
@@ -46,7 +46,7 @@ returns-in-Ok-write_result-clause-confirmed c =
 pub returns-in-Err-clause-stops : goal.returns-in-Err-clause-stops
 returns-in-Err-clause-stops c =
     let terms = c.check-checked.new.terms in
-    let held : Held = held_by c.args.holding.now in
+    let held : Held = held_by c.args.holding.now c.args.digests.now in
     let fails : FailsAs held.schema held.files held.terms terms held.graph c.args.proof.now c.in-Err.error = subst (λ ts. FailsAs held.schema held.files held.terms terms ts c.args.proof.now c.in-Err.error) c.seal.ensures.same c.in-Err.ensures.fails in
     subst (λ s. ConfirmStops held c.args.proof.now s) (sym c.check_stop.ensures)
     (stops held terms c.args.proof.now c.in-Err.error (subst (λ k. k ≤ max_terms) c.len-count.ensures.count c.len-count.ensures.few) fails)

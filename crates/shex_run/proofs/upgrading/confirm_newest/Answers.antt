@@ -7,7 +7,7 @@ use Rattle.shex_run.proofs.upgrading.confirm_newest.Goals as goal
 
 pub returns-clause-upgrades : goal.returns-clause-upgrades
 returns-clause-upgrades c =
-    let held = held_by c.args.holding.now in
+    let held = held_by c.args.holding.now c.args.digests.now in
     upgrades held c.in_ok-head.head c.args.proof.items c.in_ok-text.text.items c.in_ok-proof.proof.items c.requires.strata c.in_ok-head.ensures
     (subst (λ bytes. Confirms held bytes c.in_ok-text.text.items) c.as_slice.ensures.value c.in_ok-text.ensures.confirmed) c.in_ok-proof.ensures.newest
 
