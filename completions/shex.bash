@@ -9,6 +9,7 @@ _shex_options() {
         shex\ drill) echo --proof ;;
         shextool\ convert) echo --schema --schema-base ;;
         shextool\ extents) echo --schema --data --budget --schema-base --data-base ;;
+        shextool\ explain) echo --schema --data --map --budget --limit --json --schema-base --data-base ;;
         typing_session\ *) echo --schema --data --script --budget --schema-base --data-base ;;
     esac
 }
@@ -40,17 +41,19 @@ _shex() {
     fi
     case $program in
         shex) commands='validate check upgrade drill' ;;
-        shextool) commands='convert extents' ;;
+        shextool) commands='convert extents explain' ;;
     esac
     if [[ $COMP_CWORD -eq 1 && -n $commands ]]; then
         mapfile -t COMPREPLY < <(compgen -W "$commands" -- "$word")
         return
     fi
+    # This option has no value.
+    [[ $before != --json ]] || before=''
     case $before in
         --schema) _shex_files "$word" shex json shexj ;;
         --data) _shex_files "$word" ttl nt ;;
         --map | --proof | --to | --script) _shex_files "$word" ;;
-        --budget) ;;
+        --budget | --limit) ;;
         --schema-base | --data-base) mapfile -t COMPREPLY < <(compgen -W http://localhost/ -- "$word") ;;
         --*) ;;
         *)

@@ -39,6 +39,21 @@ unfolding status_by
 undecided_by true is = refl
 undecided_by false is = absurd (omega (arith, is))
 
+-- ---- statuses of answers
+
+-- a status below those of faults, and none of those with which a line is printed
+pub record IsOfAnswer (status : ℕ) : Type 0 where
+  pub low : status < 5
+  pub not_two : status ≢ 2
+  pub not_three : status ≢ 3
+
+pub of_answering : (status : ℕ) → IsAnswering status → IsOfAnswer status
+of_answering status (inl e) = record { low = omega (arith, e); not_two = λ at. omega (arith, e, at); not_three = λ at. omega (arith, e, at) }
+of_answering status (inr e) = record { low = omega (arith, e); not_two = λ at. omega (arith, e, at); not_three = λ at. omega (arith, e, at) }
+
+below_seven : (status : ℕ) → IsOfAnswer status → status < 7
+below_seven status of = let low : status < 5 = of.low in omega (arith, low)
+
 -- ---- one text
 
 -- printing ends with the status that is wanted, or it stopped
@@ -100,7 +115,7 @@ seven_of sink text wanted status (inl h) more = rises sink (status ≡ 7) h.2 mo
 seven_of sink text wanted status (inr cut) more = seven_of_cut sink text status cut more
 
 -- no bytes are nothing
-gains_none : (before after : Option (List ℕ)) (notes : List ℕ) → notes ≡ [] → Gains before after notes → after ≡ before
+pub gains_none : (before after : Option (List ℕ)) (notes : List ℕ) → notes ≡ [] → Gains before after notes → after ≡ before
 gains_none None None notes none gains = refl
 gains_none None (Some new) notes none gains = absurd gains
 gains_none (Some old) None notes none gains = absurd gains
@@ -171,29 +186,21 @@ module _ (Faulty Refused Failed : List ℕ → Type 0) (Answers : ℕ → List �
   whole low (failed line by same later quiet prints) = inr (inr (inr (says Failed 5 line by low quiet prints)))
   whole low (wanting left quiet also at) = absurd (omega (arith, at, low))
 
-  -- with 0 and 4 the text that answers and its notes are printed
-  low_answering : IsAnswering status → status < 7
-  low_answering (inl e) = omega (arith, e)
-  low_answering (inr e) = omega (arith, e)
+  -- with the status of an answer its text and its notes are printed
+  no_fault : IsOfAnswer status → status ≡ 5 → ⊥
+  no_fault of at = let low : status < 5 = of.low in absurd (omega (arith, low, at))
 
-  no_answering : (n : ℕ) → 4 < n → IsAnswering status → status ≡ n → ⊥
-  no_answering n above (inl e) at = absurd (omega (arith, e, at, above))
-  no_answering n above (inr e) at = absurd (omega (arith, e, at, above))
-
-  no_line : IsAnswering status → (status ≡ 2) ⊎ (status ≡ 3) → ⊥
-  no_line (inl e) (inl at) = absurd (omega (arith, e, at))
-  no_line (inl e) (inr at) = absurd (omega (arith, e, at))
-  no_line (inr e) (inl at) = absurd (omega (arith, e, at))
-  no_line (inr e) (inr at) = absurd (omega (arith, e, at))
-
-  pub answers : IsAnswering status → Ends → Gives
-  answers at ends = go (whole (low_answering at) ends)
+  pub gives : IsOfAnswer status → Ends → Gives
+  gives of ends = go (whole (below_seven status of) ends)
     where
       go : Whole → Gives
-      go (inl (is, said, same)) = absurd (no_line at (inl is))
+      go (inl (is, said, same)) = absurd (of.not_two is)
       go (inr (inl gives)) = gives
-      go (inr (inr (inl (is, said, same)))) = absurd (no_line at (inr is))
-      go (inr (inr (inr (is, said, same)))) = absurd (no_answering 5 (omega arith) at is)
+      go (inr (inr (inl (is, said, same)))) = absurd (of.not_three is)
+      go (inr (inr (inr (is, said, same)))) = absurd (no_fault of is)
+
+  pub answers : IsAnswering status → Ends → Gives
+  answers at ends = gives (of_answering status at) ends
 
   -- where an answer with 0 has no notes, nothing is printed to the error stream with it
   pub quietly : ((text notes : List ℕ) → Answers 0 text notes → notes ≡ []) → status ≡ 0 → Ends → err.got_after ≡ err.got
@@ -201,18 +208,19 @@ module _ (Faulty Refused Failed : List ℕ → Type 0) (Answers : ℕ → List �
       let (text, notes, by, printed, noted) = answers (inl at) ends in
       gains_none err.got err.got_after notes (none text notes (subst (λ n. Answers n text notes) at by)) noted
 
-  -- ---- the other statuses, where an answer has 0 or 4
+  -- an answer has 0 or 4
+  pub is_status : ((text notes : List ℕ) (wanted : ℕ) → Answers wanted text notes → IsAnswering wanted) → Ends → IsStatus status
+  is_status low ends = go (concludes IsStatus (λ line by. inr (inl refl)) (λ text notes wanted by. inl (low text notes wanted by)) (λ line by. inr (inr (inl refl))) ends)
+    where
+      go : IsStatus status ⊎ IsInterrupted status → IsStatus status
+      go (inl is) = is
+      go (inr cut) = inr (inr (inr cut))
 
-  module _ (low : (text notes : List ℕ) (wanted : ℕ) → Answers wanted text notes → IsAnswering wanted) where
+  -- ---- the other statuses, where an answer has none of them
+
+  module _ (low : (text notes : List ℕ) (wanted : ℕ) → Answers wanted text notes → IsOfAnswer wanted) where
     abbrev Line : (List ℕ → Type 0) → Type 0
     Line P = (line : List ℕ) × P line × Gains err.got err.got_after line
-
-    pub is_status : Ends → IsStatus status
-    is_status ends = go (concludes IsStatus (λ line by. inr (inl refl)) (λ text notes wanted by. inl (low text notes wanted by)) (λ line by. inr (inr (inl refl))) ends)
-      where
-        go : IsStatus status ⊎ IsInterrupted status → IsStatus status
-        go (inl is) = is
-        go (inr cut) = inr (inr (inr cut))
 
     -- 2 says what is wrong with the words, 3 with a file, 5 with a call on a file
     pub two_says : status ≡ 2 → Ends → Line Faulty
@@ -220,7 +228,7 @@ module _ (Faulty Refused Failed : List ℕ → Type 0) (Answers : ℕ → List �
       where
         go : Whole → Line Faulty
         go (inl (is, said, same)) = said
-        go (inr (inl (text, notes, by, printed, noted))) = absurd (no_line (low text notes status by) (inl at))
+        go (inr (inl (text, notes, by, printed, noted))) = absurd ((low text notes status by).not_two at)
         go (inr (inr (inl (is, said, same)))) = absurd (omega (arith, at, is))
         go (inr (inr (inr (is, said, same)))) = absurd (omega (arith, at, is))
 
@@ -229,7 +237,7 @@ module _ (Faulty Refused Failed : List ℕ → Type 0) (Answers : ℕ → List �
       where
         go : Whole → Line Refused
         go (inl (is, said, same)) = absurd (omega (arith, at, is))
-        go (inr (inl (text, notes, by, printed, noted))) = absurd (no_line (low text notes status by) (inr at))
+        go (inr (inl (text, notes, by, printed, noted))) = absurd ((low text notes status by).not_three at)
         go (inr (inr (inl (is, said, same)))) = said
         go (inr (inr (inr (is, said, same)))) = absurd (omega (arith, at, is))
 
@@ -238,7 +246,7 @@ module _ (Faulty Refused Failed : List ℕ → Type 0) (Answers : ℕ → List �
       where
         go : Whole → Line Failed
         go (inl (is, said, same)) = absurd (omega (arith, at, is))
-        go (inr (inl (text, notes, by, printed, noted))) = absurd (no_answering 5 (omega arith) (low text notes status by) at)
+        go (inr (inl (text, notes, by, printed, noted))) = absurd (no_fault (low text notes status by) at)
         go (inr (inr (inl (is, said, same)))) = absurd (omega (arith, at, is))
         go (inr (inr (inr (is, said, same)))) = said
 
@@ -248,10 +256,10 @@ module _ (Faulty Refused Failed : List ℕ → Type 0) (Answers : ℕ → List �
     low_line (inr (inl e)) = omega (arith, e)
     low_line (inr (inr e)) = omega (arith, e)
 
-    no_answer : (status ≡ 2) ⊎ ((status ≡ 3) ⊎ (status ≡ 5)) → IsAnswering status → ⊥
-    no_answer (inl e) at = no_line at (inl e)
-    no_answer (inr (inl e)) at = no_line at (inr e)
-    no_answer (inr (inr e)) at = no_answering 5 (omega arith) at e
+    no_answer : (status ≡ 2) ⊎ ((status ≡ 3) ⊎ (status ≡ 5)) → IsOfAnswer status → ⊥
+    no_answer (inl e) of = of.not_two e
+    no_answer (inr (inl e)) of = of.not_three e
+    no_answer (inr (inr e)) of = no_fault of e
 
     pub nothing_out : (status ≡ 2) ⊎ ((status ≡ 3) ⊎ (status ≡ 5)) → Ends → out.got_after ≡ out.got
     nothing_out at ends = go (whole (low_line at) ends)
@@ -261,10 +269,6 @@ module _ (Faulty Refused Failed : List ℕ → Type 0) (Answers : ℕ → List �
         go (inr (inl (text, notes, by, printed, noted))) = absurd (no_answer at (low text notes status by))
         go (inr (inr (inl (is, said, same)))) = same
         go (inr (inr (inr (is, said, same)))) = same
-
-    below_seven : (wanted : ℕ) → IsAnswering wanted → wanted < 7
-    below_seven wanted (inl e) = omega (arith, e)
-    below_seven wanted (inr e) = omega (arith, e)
 
     -- 7 comes only where a fault of a sink came
     seven_both : (text notes : List ℕ) (wanted : ℕ) → wanted < 7 → status ≡ 7 → PrintsBoth out err text notes wanted status → Rose out.faults out.faults_after ⊎ Rose err.faults err.faults_after

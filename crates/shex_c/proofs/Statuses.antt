@@ -1,7 +1,7 @@
 -- Which statuses a call in memory can have: the sinks do not fail.
 use Rattle.std.proofs.Common.{arith, inl, inr, ℕ, ◌-◌, ◌<◌, ◌≡◌, ◌≤◌, ◌⊎◌, ◌^◌}
-use Rattle.call_ends.specs.Statuses.{IsStatus as IsToolStatus}
 use Rattle.shex_run.specs.Statuses.{IsStatus}
+use Rattle.shex_tools.specs.Statuses.{IsStatus as IsToolStatus}
 
 -- a count of faults that stays 0 rose
 abbrev pub Rises : Type 0
@@ -28,7 +28,8 @@ low_or_memory status (inr (inr (inr (inr (inr (inr e)))))) failed = inr e
 
 pub tool_low_or_memory : (status : ℕ) → IsToolStatus status → (status ≡ 7 → Rises ⊎ Rises) → (status < 7) ⊎ (status ≡ 8)
 tool_low_or_memory status (inl (inl e)) failed = inl (omega (arith, e))
-tool_low_or_memory status (inl (inr e)) failed = inl (omega (arith, e))
+tool_low_or_memory status (inl (inr (inl e))) failed = inl (omega (arith, e))
+tool_low_or_memory status (inl (inr (inr e))) failed = inl (omega (arith, e))
 tool_low_or_memory status (inr (inl e)) failed = inl (omega (arith, e))
 tool_low_or_memory status (inr (inr (inl e))) failed = inl (omega (arith, e))
 tool_low_or_memory status (inr (inr (inr (inl e)))) failed = inl (omega (arith, e))

@@ -65,7 +65,7 @@ impl Call {
         Ok(Some(Call { program, words }))
     }
 
-    /// The same call.
+    /// A copy of the call.
     pub fn try_clone(&self, alloc: Global) -> Result<Call, AllocError> {
         let words = String::from_str(alloc, self.words.as_str())?;
         Ok(Call {

@@ -1,70 +1,116 @@
 -- What the ways to end say of the status.
 use Rattle.std.proofs.Common.{◌≡◌, ◌≢◌, ◌∙◌, ap, sym, subst, refl, List, ℕ, [], ◌⊎◌, inl, inr, arith, Bool, true, false}
-use Rattle.std.specs.Prelude.{Option, Some, IsTrue, if◌then◌else◌}
+use Rattle.std.specs.Prelude.{◌↔◌, Option, Some, IsTrue, if◌then◌else◌, not}
 use Rattle.clap.specs.Words.{Text}
 use Rattle.rdf_terms.specs.declared.terms.Term.{Term}
 use Rattle.schema_tree.specs.declared.schema.Pair.{Pair}
-use Rattle.schema_tree.specs.Laws.{OneRefinement, SureFollowsAnswers}
+use Rattle.schema_tree.specs.Laws.{OneRefinement, OneVerdict, SureFollowsAnswers}
 use Rattle.schema_tree.specs.Loaded.{IsLoaded}
 use Rattle.schema_tree.specs.Removal.{IsRefined}
-use Rattle.schema_tree.specs.Sure.{Known}
+use Rattle.schema_tree.specs.Sure.{IsSure, Known}
+use Rattle.schema_tree.specs.declared.schema.ExprId.{ExprId}
+use Rattle.schema_tree.specs.declared.verdicts.Verdict.{Verdict}
+use Rattle.schema_tree.specs.declared.verdicts.Verdict.TheVariants.{Unknown}
+use Rattle.rdf_terms.specs.declared.terms.TermId.{TermId}
+use Rattle.shape_map.specs.declared.resolve.Association.{Association}
+use Rattle.explanations.specs.declared.explanation.Told.{Told as Told_of}
+use Rattle.explanations.specs.Explanations.{IsTold}
+use Rattle.proof_file.specs.Accepts.{verdict_of}
+use Rattle.lists.proofs.Members.{in_map}
+use Rattle.typing_answers.proofs.Knowing.{know_alike}
+use Rattle.shex_io.specs.Sinks.{Gains}
 use Rattle.command_words.specs.Checks.{Fault}
 use Rattle.label_extents.specs.declared.finding.Extents.{Extents}
 use Rattle.label_extents.specs.Demanded.{AreDemanded, AreTooMany}
 use Rattle.label_extents.specs.Extents.{IsUndecided}
 use Rattle.program_ends.specs.Ends.{FilesSeen}
 use Rattle.program_ends.specs.Printing.{SinkSeen}
-use Rattle.call_ends.specs.Statuses.{IsAnswering, IsCutOff, IsInterrupted, status_by}
+use Rattle.call_ends.specs.Statuses.{IsAnswering as IsListing, IsCutOff, IsInterrupted, status_by}
 use Rattle.call_ends.proofs.Closing as closing
 use Rattle.shex_inputs.specs.declared.error.Source.{Source}
+use Rattle.shex_inputs.specs.Asked.{Question, root_of}
 use Rattle.shex_inputs.specs.Held.{Held}
 use Rattle.shex_io.specs.Files.{Told}
-use Rattle.tool_words.specs.Asked.{IsToolCall, IsToolFault, Listing, ToolCall, of_labels, of_schema}
+use Rattle.tool_words.specs.Asked.{Explaining, IsToolCall, IsToolFault, Listing, ToolCall, of_labels, of_reasons, of_schema}
 use Rattle.tool_words.specs.Laws.{AnswersAreOne}
 use Rattle.typing_refiner.specs.declared.building.WidePair.{WidePair}
 use Rattle.demand.proofs.Led.{not_decided}
 use Rattle.shex_tools.specs.declared.stop.Refusal.{Refusal}
 use Rattle.shex_tools.specs.Calls.{inputs_of}
-use Rattle.shex_tools.specs.Endings.{IsAnswered, IsFailedBy, IsRefusedBy, IsWordsLine, ToolEnds}
+use Rattle.shex_tools.specs.Endings.{HasFailing, IsAnswered, IsFailedBy, IsRefusedBy, IsWordsLine, ToolEnds}
 use Rattle.shex_tools.specs.Finding.{IsFound}
-use Rattle.shex_tools.specs.Outcomes.{AreHeld, AreTaken, IsAbsent, IsRefused}
+use Rattle.shex_tools.specs.Outcomes.{AreHeld, AreTaken, IsAbsent, IsQuestionOf, IsRefused}
+use Rattle.shex_tools.specs.Reasons.{AreAsAsked, HaveFailing, HaveUnknown, IsToldTruly, are_as_asked, are_undecided}
 use Rattle.shex_tools.specs.Laws.{DocumentsAreOne}
-use Rattle.shex_tools.specs.Results.{Concludes, IsAnswer, IsListed}
+use Rattle.shex_tools.specs.Results.{Concludes, IsAnswer, IsExplained, IsExplainedBy, IsListed}
+use Rattle.shex_tools.specs.Statuses.{IsAnswering, IsStatus}
 use Rattle.shex_tools.specs.Texts.{notes_by}
 use Rattle.shex_tools.proofs.Exclusive.{AreOne, answer_taken, refused_not_absent, taken_not_absent, taken_not_refused}
 use Rattle.shex_tools.proofs.Fitting.{fit}
-use Rattle.shex_tools.proofs.Unknowns.{undecided_to}
+use Rattle.shex_tools.proofs.Settled.{as_asked_by, decided_by, four_means, is_four, is_nought, is_one, known_as, known_off, known_unless, low_means, off_by, off_one, off_truth, one_means, status_answers, undecided_by, undecided_one, unknown_is, unsure_wide}
+use Rattle.shex_tools.proofs.Unknowns.{alike, undecided_to}
 use Rattle.wide_pairs.specs.Laws.{NoneIsWide}
 use Rattle.wide_pairs.specs.Lines.{wide_lines}
 
 -- ---- answers
 
 -- the status of extents is 0 or 4
-low_status : (undecided : Bool) (status : ℕ) → status ≡ status_by undecided → IsAnswering status
-low_status undecided status is = subst IsAnswering (sym is) (closing.by_status undecided)
+low_status : (undecided : Bool) (status : ℕ) → status ≡ status_by undecided → IsListing status
+low_status undecided status is = subst IsListing (sym is) (closing.by_status undecided)
+
+-- which is one of an answer
+of_listed : (status : ℕ) → IsListing status → IsAnswering status
+of_listed status (inl e) = inl e
+of_listed status (inr e) = inr (inr e)
 
 concluded : (told : Told) (call : ToolCall) (status : ℕ) (text notes : List ℕ) → IsAnswer told call status text notes → Concludes call status
 concluded told (of_schema c) status text notes answer = answer.status_is
 concluded told (of_labels l) status text notes answer = low_status answer.listed.extents.undecided status answer.listed.status_is
+concluded told (of_reasons e) status text notes answer = status_answers answer.question.associations answer.explained.explanation.answers status answer.explained.status_is
 
 low_answer : (told : Told) (call : ToolCall) (status : ℕ) (text notes : List ℕ) → IsAnswer told call status text notes → IsAnswering status
 low_answer told (of_schema c) status text notes answer = inl answer.status_is
-low_answer told (of_labels l) status text notes answer = low_status answer.listed.extents.undecided status answer.listed.status_is
+low_answer told (of_labels l) status text notes answer = of_listed status (low_status answer.listed.extents.undecided status answer.listed.status_is)
+low_answer told (of_reasons e) status text notes answer = status_answers answer.question.associations answer.explained.explanation.answers status answer.explained.status_is
 
 pub low : (told : Told) (words : List Text) (text notes : List ℕ) (wanted : ℕ) → IsAnswered told words wanted text notes → IsAnswering wanted
 low told words text notes wanted (call, is_call, answer) = low_answer told call wanted text notes answer
 
--- with 0 nothing is noted
+-- and so it is none of those of lines
+of_answering : (status : ℕ) → IsAnswering status → closing.IsOfAnswer status
+of_answering status (inl e) = record { low = omega (arith, e); not_two = λ at. omega (arith, e, at); not_three = λ at. omega (arith, e, at) }
+of_answering status (inr (inl e)) = record { low = omega (arith, e); not_two = λ at. omega (arith, e, at); not_three = λ at. omega (arith, e, at) }
+of_answering status (inr (inr e)) = record { low = omega (arith, e); not_two = λ at. omega (arith, e, at); not_three = λ at. omega (arith, e, at) }
+
+pub of_answer : (told : Told) (words : List Text) (text notes : List ℕ) (wanted : ℕ) → IsAnswered told words wanted text notes → closing.IsOfAnswer wanted
+of_answer told words text notes wanted by = of_answering wanted (low told words text notes wanted by)
+
+-- with 0 and 1 nothing is noted
 none_noted : (terms : List Term) (budget : ℕ) (undecided : Bool) (wide : List WidePair) → undecided ≡ false → notes_by terms budget undecided wide ≡ []
 unfolding notes_by
 none_noted terms budget undecided wide is = ap (λ b. notes_by terms budget b wide) is
 
-unnoted_answer : (told : Told) (call : ToolCall) (text notes : List ℕ) → IsAnswer told call 0 text notes → notes ≡ []
-unnoted_answer told (of_schema c) text notes answer = answer.notes_are
-unnoted_answer told (of_labels l) text notes answer = answer.listed.notes_are ∙ none_noted answer.held.terms l.budget answer.listed.extents.undecided answer.listed.extents.wide (closing.decided_by answer.listed.extents.undecided answer.listed.status_is)
+-- extents that end with 0 or 1 end with 0
+nought_listed : (undecided : Bool) (status : ℕ) → status ≡ status_by undecided → (status ≡ 0) ⊎ (status ≡ 1) → 0 ≡ status_by undecided
+nought_listed undecided status is (inl e) = sym e ∙ is
+nought_listed undecided status is (inr e) = absurd (other (low_status undecided status is))
+  where
+    other : IsListing status → ⊥
+    other (inl at) = omega (arith, e, at)
+    other (inr at) = omega (arith, e, at)
 
-pub unnoted : (told : Told) (words : List Text) (text notes : List ℕ) → IsAnswered told words 0 text notes → notes ≡ []
-unnoted told words text notes (call, is_call, answer) = unnoted_answer told call text notes answer
+unnoted_answer : (told : Told) (call : ToolCall) (status : ℕ) (text notes : List ℕ) → (status ≡ 0) ⊎ (status ≡ 1) → IsAnswer told call status text notes → notes ≡ []
+unnoted_answer told (of_schema c) status text notes at answer = answer.notes_are
+unnoted_answer told (of_labels l) status text notes at answer =
+    let x = answer.listed.extents in
+    answer.listed.notes_are ∙ none_noted answer.held.terms l.budget x.undecided x.wide (closing.decided_by x.undecided (nought_listed x.undecided status answer.listed.status_is at))
+unnoted_answer told (of_reasons e) status text notes at answer =
+    let x = answer.explained in
+    let told_of = x.explanation.answers in
+    x.notes_are ∙ none_noted answer.question.terms e.budget (are_undecided told_of) x.wide (low_means (are_undecided told_of) (are_as_asked answer.question.associations told_of) status x.status_is at)
+
+pub unnoted : (told : Told) (words : List Text) (status : ℕ) (text notes : List ℕ) → (status ≡ 0) ⊎ (status ≡ 1) → IsAnswered told words status text notes → notes ≡ []
+unnoted told words status text notes at (call, is_call, answer) = unnoted_answer told call status text notes at answer
 
 -- with 4 a wide pair is noted
 lines_due : (terms : List Term) (budget : ℕ) (undecided : Bool) (wide : List WidePair) → undecided ≡ true → notes_by terms budget undecided wide ≡ wide_lines terms budget wide
@@ -84,24 +130,96 @@ noted_answer law told words (of_labels l) text notes is_call answer none =
     not_decided h.schema h.terms h.graph l.budget u.node u.expr (found.only_wide u.label u.expr u.node u.declared u.is_node u.unknown) (λ p reached.
     law h.schema h.terms h.graph l.budget found.pairs x.wide (omega (arith, few)) found.wide lines p
     ((found.demanded.exactly p).1 (record { label = u.label; expr = u.expr; node = u.node; declared = u.declared; is_node = u.is_node; reaches = reached })))
+noted_answer law told words (of_reasons e) text notes is_call answer none =
+    let q = answer.question in
+    let x = answer.explained in
+    let told_of = x.explanation.answers in
+    let some : are_undecided told_of ≡ true = four_means (are_undecided told_of) (are_as_asked q.associations told_of) x.status_is in
+    let lines : wide_lines q.terms e.budget x.wide ≡ [] = sym (lines_due q.terms e.budget (are_undecided told_of) x.wide some) ∙ sym x.notes_are ∙ none in
+    let few = (fit words (of_reasons e) is_call).2 in
+    let R : Association → Told_of → Type 0 = λ a t. IsToldTruly q.held.schema q.terms q.held.graph e.budget a t in
+    let u = undecided_one R q.associations told_of x.reasons.told_truly some in
+    let a = u.association in
+    not_decided q.held.schema q.terms q.held.graph e.budget a.node a.expr (unsure_wide q.held.schema q.terms q.held.graph e.budget a u.told.verdict u.so u.related) (λ p reached.
+    law q.held.schema q.terms q.held.graph e.budget q.pairs x.wide (omega (arith, few)) x.reasons.are_wide lines p
+    ((answer.is_asked.asked.exactly p).1 (root_of a, in_map root_of q.associations a u.listed, reached)))
 
 pub four_noted : NoneIsWide → (told : Told) (words : List Text) (text notes : List ℕ) (status : ℕ) → status ≡ 4 → IsAnswered told words status text notes → notes ≢ []
 four_noted law told words text notes status at by =
     let (call, is_call, answer) = subst (λ n. IsAnswered told words n text notes) at by in noted_answer law told words call text notes is_call answer
 
--- 4 is that of extents
-of_listing : (told : Told) (words : List Text) (call : ToolCall) (text notes : List ℕ) → IsToolCall words call → IsAnswer told call 4 text notes → (l : Listing) × IsToolCall words (of_labels l)
-of_listing told words (of_schema c) text notes is_call answer = let e : 4 ≡ 0 = answer.status_is in absurd (omega (arith, e))
-of_listing told words (of_labels l) text notes is_call answer = (l, is_call)
+-- 4 is that of extents or of an explanation
+abbrev pub LeavesOut : List Text → Type 0
+LeavesOut words = ((l : Listing) × IsToolCall words (of_labels l)) ⊎ ((e : Explaining) × IsToolCall words (of_reasons e))
+
+leaves_out : (told : Told) (words : List Text) (call : ToolCall) (text notes : List ℕ) → IsToolCall words call → IsAnswer told call 4 text notes → LeavesOut words
+leaves_out told words (of_schema c) text notes is_call answer = let e : 4 ≡ 0 = answer.status_is in absurd (omega (arith, e))
+leaves_out told words (of_labels l) text notes is_call answer = inl (l, is_call)
+leaves_out told words (of_reasons e) text notes is_call answer = inr (e, is_call)
+
+-- with 1 some association is not as asked
+one_listed : (undecided : Bool) → 1 ≡ status_by undecided → ⊥
+one_listed undecided is = other (low_status undecided 1 is)
+  where
+    other : IsListing 1 → ⊥
+    other (inl at) = omega (arith, at)
+    other (inr at) = omega (arith, at)
+
+failing_answer : (told : Told) (words : List Text) (call : ToolCall) (text notes : List ℕ) → IsToolCall words call → IsAnswer told call 1 text notes → HasFailing told words
+failing_answer told words (of_schema c) text notes is_call answer = let e : 1 ≡ 0 = answer.status_is in absurd (omega (arith, e))
+failing_answer told words (of_labels l) text notes is_call answer = absurd (one_listed answer.listed.extents.undecided answer.listed.status_is)
+failing_answer told words (of_reasons e) text notes is_call answer =
+    let q = answer.question in
+    let x = answer.explained in
+    let told_of = x.explanation.answers in
+    let (known, off) = one_means (are_undecided told_of) (are_as_asked q.associations told_of) x.status_is in
+    let R : Association → Told_of → Type 0 = λ a t. IsToldTruly q.held.schema q.terms q.held.graph e.budget a t in
+    let u = off_one R q.associations told_of x.reasons.told_truly known off in
+    record {
+      explaining = e;
+      is_call = is_call;
+      question = q;
+      is_asked = answer.is_asked;
+      association = u.association;
+      listed = u.listed;
+      failing = off_truth q.held.schema q.terms q.held.graph e.budget u.association u.told.verdict u.association.want u.so.0 u.so.1 u.related;
+    }
 
 -- ---- words that are refused
 
 module _ (words : List Text) (files : FilesSeen) (out err : SinkSeen) (status : ℕ) where
-  pub four_of_listing : status ≡ 4 → ToolEnds words files out err status → (l : Listing) × IsToolCall words (of_labels l)
-  four_of_listing at ends =
-      let (text, notes, by, printed, noted) = closing.answers _ _ _ _ files out err status (inr at) ends in
+  pub gives : IsAnswering status → ToolEnds words files out err status → (text notes : List ℕ) × IsAnswered files.told words status text notes × Gains out.got out.got_after text × Gains err.got err.got_after notes
+  gives at ends = closing.gives _ _ _ _ files out err status (of_answering status at) ends
+
+  pub is_status : ToolEnds words files out err status → IsStatus status
+  is_status ends = go (closing.concludes (IsWordsLine words) (IsRefusedBy files.told words) (IsFailedBy files words) (IsAnswered files.told words) files out err status IsStatus
+      (λ line by. inr (inl refl)) (λ text notes wanted by. inl (low files.told words text notes wanted by)) (λ line by. inr (inr (inl refl))) ends)
+    where
+      go : IsStatus status ⊎ IsInterrupted status → IsStatus status
+      go (inl is) = is
+      go (inr cut) = inr (inr (inr cut))
+
+  -- with 0 and 1 nothing is printed to the error stream
+  low_at : (status ≡ 0) ⊎ (status ≡ 1) → IsAnswering status
+  low_at (inl e) = inl e
+  low_at (inr e) = inr (inl e)
+
+  pub quietly : (status ≡ 0) ⊎ (status ≡ 1) → ToolEnds words files out err status → err.got_after ≡ err.got
+  quietly at ends =
+      let (text, notes, by, printed, noted) = gives (low_at at) ends in
+      closing.gains_none err.got err.got_after notes (unnoted files.told words status text notes at by) noted
+
+  pub four_leaves_out : status ≡ 4 → ToolEnds words files out err status → LeavesOut words
+  four_leaves_out at ends =
+      let (text, notes, by, printed, noted) = gives (inr (inr at)) ends in
       let (call, is_call, answer) = subst (λ n. IsAnswered files.told words n text notes) at by in
-      of_listing files.told words call text notes is_call answer
+      leaves_out files.told words call text notes is_call answer
+
+  pub one_fails : status ≡ 1 → ToolEnds words files out err status → HasFailing files.told words
+  one_fails at ends =
+      let (text, notes, by, printed, noted) = gives (inr (inl at)) ends in
+      let (call, is_call, answer) = subst (λ n. IsAnswered files.told words n text notes) at by in
+      failing_answer files.told words call text notes is_call answer
 
   -- where the words are at fault, they are refused
   pub faulty_ends : AnswersAreOne → (f : Fault) → IsToolFault words f → ToolEnds words files out err status → (status ≡ 2) ⊎ IsCutOff status
@@ -189,3 +307,78 @@ module _ (words : List Text) (files : FilesSeen) (out err : SinkSeen) (status : 
       (λ text notes wanted answer. closing.nought_by answer.listed.extents.undecided wanted answer.listed.status_is (λ t. none ((same_unknown answer.listed.extents (same_found text notes wanted answer)).0 t)))
       (λ refusal refused. absurd (not_refused refusal refused))
       ends
+
+-- ---- explanations
+
+module _ (words : List Text) (files : FilesSeen) (out err : SinkSeen) (status : ℕ) (e : Explaining) (is_call : IsToolCall words (of_reasons e)) (law : AnswersAreOne)
+    (contents : List ℕ → Option (List ℕ)) (told : files.told ≡ Some contents) (docs : DocumentsAreOne) (one : AreOne files.told (inputs_of (of_reasons e)))
+    (refinements : OneRefinement) (follows : SureFollowsAnswers) (verdict : OneVerdict) (q : Question) (asked : IsQuestionOf files.told e q) (loaded : IsLoaded q.held.schema)
+    (verdicts : Known) (refined : IsRefined q.held.schema q.terms q.held.graph q.held.strata q.pairs e.budget verdicts) where
+  abbrev Explained : ℕ → List ℕ → List ℕ → Type 0
+  Explained wanted text notes = IsExplainedBy q.held.schema q.terms q.held.graph q.held.strata q.associations q.pairs e wanted text notes
+
+  -- what is explained is the same question
+  same_explained : (text notes : List ℕ) (wanted : ℕ) → IsExplained files.told e wanted text notes → Explained wanted text notes
+  same_explained text notes wanted answer = subst
+      (λ (k : Question). IsExplainedBy k.held.schema k.terms k.held.graph k.held.strata k.associations k.pairs e wanted text notes)
+      (one.question answer.question q answer.is_asked asked) answer.explained
+
+  -- the verdicts are the same
+  module _ (text notes : List ℕ) (wanted : ℕ) (x : Explained wanted text notes) where
+    abbrev view : Known
+    view = x.reasons.verdicts
+
+    abbrev R : Association → Told_of → Type 0
+    R a t = IsTold q.held.schema q.terms view x.reasons.explained.subjects a t
+
+    same_sure : (n : TermId) (d : ExprId) (v : Verdict) → IsSure q.held.schema q.terms verdicts n d v ↔ IsSure q.held.schema q.terms view n d v
+    same_sure n d v =
+        let (known, is, same) = x.reasons.refined in
+        let to = follows q.held.schema q.terms verdicts known loaded (alike q.held.schema q.terms q.held.graph q.held.strata e.budget q.pairs verdicts known refinements loaded refined is) n d v in
+        let back = follows q.held.schema q.terms view known loaded (know_alike view known same) n d v in
+        (λ h. back.1 (to.0 h), λ h. to.1 (back.0 h))
+
+    told_is : (a : Association) (t : Told_of) (v : Verdict) → R a t → IsSure q.held.schema q.terms verdicts a.node a.expr v → t.verdict ≡ v
+    told_is a t v h sure = verdict q.held.schema q.terms view a.node a.expr t.verdict v h.verdict ((same_sure a.node a.expr v).0 sure)
+
+    status_four : HaveUnknown q.held.schema q.terms verdicts q.associations → wanted ≡ 4
+    status_four some =
+        x.status_is ∙ is_four (are_undecided x.explanation.answers) (are_as_asked q.associations x.explanation.answers)
+        (undecided_by R q.associations x.explanation.answers x.reasons.explained.told some.association some.listed
+        (λ t h. unknown_is t.verdict (told_is some.association t Unknown h some.unknown)))
+
+    status_nought : AreAsAsked q.held.schema q.terms verdicts q.associations → wanted ≡ 0
+    status_nought each =
+        x.status_is ∙ is_nought (are_undecided x.explanation.answers) (are_as_asked q.associations x.explanation.answers)
+        (decided_by R q.associations x.explanation.answers x.reasons.explained.told (λ a t c h. (known_as t.verdict a.want (told_is a t (verdict_of a.want) h (each a c))).0))
+        (as_asked_by R q.associations x.explanation.answers x.reasons.explained.told (λ a t c h. (known_as t.verdict a.want (told_is a t (verdict_of a.want) h (each a c))).1))
+
+    status_one : (¬ HaveUnknown q.held.schema q.terms verdicts q.associations) → HaveFailing q.held.schema q.terms verdicts q.associations → wanted ≡ 1
+    status_one none some =
+        x.status_is ∙ is_one (are_undecided x.explanation.answers) (are_as_asked q.associations x.explanation.answers)
+        (decided_by R q.associations x.explanation.answers x.reasons.explained.told (λ a t c h. known_unless t.verdict (λ is. none (record {
+          association = a;
+          listed = c;
+          unknown = (same_sure a.node a.expr Unknown).1 (subst (λ v. IsSure q.held.schema q.terms view a.node a.expr v) is h.verdict);
+        }))))
+        (off_by R q.associations x.explanation.answers x.reasons.explained.told some.association some.listed
+        (λ t h. known_off t.verdict some.association.want (told_is some.association t (verdict_of (not some.association.want)) h some.failing)))
+
+  no_refusal : (refusal : Refusal) → IsRefused files.told (of_reasons e) refusal → ⊥
+  no_refusal refusal refused = taken_not_refused files.told contents told docs (of_reasons e) one (q, asked) refusal refused
+
+  explained_ends : (C : ℕ → Type 0) → ((text notes : List ℕ) (wanted : ℕ) → Explained wanted text notes → C wanted) → ToolEnds words files out err status → C status ⊎ IsInterrupted status
+  explained_ends C with ends = call_ends words files out err status (of_reasons e) is_call law C
+      (λ text notes wanted answer. with text notes wanted (same_explained text notes wanted answer))
+      (λ refusal refused. absurd (no_refusal refusal refused))
+      ends
+
+  pub unsure_ends : HaveUnknown q.held.schema q.terms verdicts q.associations → ToolEnds words files out err status → (status ≡ 4) ⊎ IsInterrupted status
+  unsure_ends some ends = explained_ends (λ n. n ≡ 4) (λ text notes wanted x. status_four text notes wanted x some) ends
+
+  pub as_asked_ends : AreAsAsked q.held.schema q.terms verdicts q.associations → ToolEnds words files out err status → (status ≡ 0) ⊎ IsInterrupted status
+  as_asked_ends each ends = explained_ends (λ n. n ≡ 0) (λ text notes wanted x. status_nought text notes wanted x each) ends
+
+  pub failing_ends : (¬ HaveUnknown q.held.schema q.terms verdicts q.associations) → HaveFailing q.held.schema q.terms verdicts q.associations →
+      ToolEnds words files out err status → (status ≡ 1) ⊎ IsInterrupted status
+  failing_ends none some ends = explained_ends (λ n. n ≡ 1) (λ text notes wanted x. status_one text notes wanted x none some) ends

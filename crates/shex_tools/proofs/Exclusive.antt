@@ -16,6 +16,7 @@ use Rattle.schema_reader.specs.Formats.{format_of}
 use Rattle.shex_inputs.specs.declared.error.Refusal.{Refusal as InputRefusal}
 use Rattle.shex_inputs.specs.declared.error.Source.{Source}
 use Rattle.shex_inputs.specs.declared.error.Source.TheVariants as Sources
+use Rattle.shex_inputs.specs.Asked.{IsAskedOf, Question}
 use Rattle.shex_inputs.specs.Held.{Held, IsTaken}
 use Rattle.shex_inputs.specs.Laws.{InputsAreOne}
 use Rattle.shex_inputs.specs.Named.{Inputs, asked_of, source_of}
@@ -23,7 +24,7 @@ use Rattle.shex_inputs.specs.Outcomes.{IsAbsent as IsInputAbsent}
 use Rattle.shex_inputs.specs.Refusals.{IsRefused as IsInputRefused}
 use Rattle.shexj_writer.specs.declared.error.WriteError.{WriteError}
 use Rattle.shexj_writer.specs.declared.error.WriteError.TheVariants as WriteErrors
-use Rattle.tool_words.specs.Asked.{ToolCall, of_labels, of_schema}
+use Rattle.tool_words.specs.Asked.{ToolCall, of_labels, of_reasons, of_schema}
 use Rattle.tool_words.specs.Requests.{Converting}
 use Rattle.shex_tools.specs.declared.stop.Refusal.{Refusal}
 use Rattle.shex_tools.specs.declared.stop.Refusal.TheVariants as Refusals
@@ -52,11 +53,13 @@ pub record AreOne (told : Told) (i : Inputs) : Type 0 where
   pub held : (h k : Held) → IsTaken told i h → IsTaken told i k → h ≡ k
   pub taken : (h : Held) (source : Source) → IsTaken told i h → source ≢ Sources.Map → ((refusal : InputRefusal) → source_of refusal ≡ source → ¬ IsInputRefused told i refusal) × (¬ IsInputAbsent told i source)
   pub left : (refusal : InputRefusal) → IsInputRefused told i refusal → (source : Source) → ¬ IsInputAbsent told i source
+  pub question : (p q : Question) → IsAskedOf told i p → IsAskedOf told i q → p ≡ q
+  pub asked : (q : Question) → IsAskedOf told i q → ((refusal : InputRefusal) → ¬ IsInputRefused told i refusal) × ((source : Source) → ¬ IsInputAbsent told i source)
 
 pub are_one : InputsAreOne → (contents : List ℕ → Option (List ℕ)) (told : Told) → told ≡ Some contents → (i : Inputs) → AreOne told i
 are_one law contents told e i =
     let (held, (one, (taken, (asked, left)))) = law contents i in
-    subst (λ t. AreOne t i) (sym e) (record { held = held; taken = taken; left = λ refusal refused. (left refusal refused).1 })
+    subst (λ t. AreOne t i) (sym e) (record { held = held; taken = taken; left = λ refusal refused. (left refusal refused).1; question = one; asked = asked })
 
 -- ---- the document of a schema file
 
@@ -111,6 +114,7 @@ module _ (told : Told) (contents : List ℕ → Option (List ℕ)) (e : told ≡
 pub answer_taken : (told : Told) (call : ToolCall) (status : ℕ) (text notes : List ℕ) → IsAnswer told call status text notes → AreTaken told call
 answer_taken told (of_schema c) status text notes answer = (answer.document, answer.held, answer.has_text)
 answer_taken told (of_labels l) status text notes answer = (answer.held, answer.taken, answer.listed.is_found.few)
+answer_taken told (of_reasons e) status text notes answer = (answer.question, answer.is_asked)
 
 module _ (told : Told) (contents : List ℕ → Option (List ℕ)) (e : told ≡ Some contents) (law : DocumentsAreOne) where
   -- where all is taken, nothing is refused
@@ -125,6 +129,9 @@ module _ (told : Told) (contents : List ℕ → Option (List ℕ)) (e : told ≡
   taken_not_refused (of_labels l) one (h, held, few) (Refusals.Input refusal) (other, refused) = (one.taken h (source_of refusal) held other).0 refusal refl refused
   taken_not_refused (of_labels l) one taken (Refusals.Unwritten x) refused = absurd refused
   taken_not_refused (of_labels l) one (h, held, few) Refusals.Pairs (k, also, many) = few (subst (λ (z : Held). AreTooMany z.schema z.graph) (one.held k h also held) many)
+  taken_not_refused (of_reasons x) one (q, asked) (Refusals.Input refusal) (read, refused) = (one.asked q asked).0 refusal refused
+  taken_not_refused (of_reasons x) one taken (Refusals.Unwritten y) refused = absurd refused
+  taken_not_refused (of_reasons x) one taken Refusals.Pairs refused = absurd refused
 
   -- and nothing is absent
   not_absent : (c : Converting) (bytes : List ℕ) → Holds told c.schema (Some bytes) → (source : Source) → IsAbsent told (of_schema c) source → ⊥
@@ -133,6 +140,7 @@ module _ (told : Told) (contents : List ℕ → Option (List ℕ)) (e : told ≡
   pub taken_not_absent : (call : ToolCall) → AreOne told (inputs_of call) → AreTaken told call → (source : Source) → IsAbsent told call source → ⊥
   taken_not_absent (of_schema c) one (doc, held, has) source absent = not_absent c held.bytes held.file.held source absent
   taken_not_absent (of_labels l) one (h, held, few) source (other, absent) = (one.taken h source held other).1 absent
+  taken_not_absent (of_reasons x) one (q, asked) source (read, absent) = (one.asked q asked).1 source absent
 
   -- nor is anything where a file is refused
   pub refused_not_absent : (call : ToolCall) → AreOne told (inputs_of call) → (refusal : Refusal) → IsRefused told call refusal → (source : Source) → IsAbsent told call source → ⊥
@@ -147,3 +155,6 @@ module _ (told : Told) (contents : List ℕ → Option (List ℕ)) (e : told ≡
   refused_not_absent (of_labels l) one (Refusals.Input refusal) (other, refused) source (read, absent) = one.left refusal refused source absent
   refused_not_absent (of_labels l) one (Refusals.Unwritten x) refused source absent = absurd refused
   refused_not_absent (of_labels l) one Refusals.Pairs (h, held, many) source (read, absent) = (one.taken h source held read).1 absent
+  refused_not_absent (of_reasons x) one (Refusals.Input refusal) (read, refused) source (also, absent) = one.left refusal refused source absent
+  refused_not_absent (of_reasons x) one (Refusals.Unwritten y) refused source absent = absurd refused
+  refused_not_absent (of_reasons x) one Refusals.Pairs refused source absent = absurd refused

@@ -5,8 +5,8 @@ use Rattle.clap.specs.Words.{Text, first_of}
 use Rattle.command_words.specs.Checks.{Inputs, is_base}
 use Rattle.command_words.specs.Commands.{rows}
 use Rattle.command_words.specs.Requests.{IsBudget, max_budget}
-use Rattle.tool_words.specs.Asked.{IsToolCall, ToolCall, of_labels, of_schema}
-use Rattle.tool_words.specs.Commands.{extents}
+use Rattle.tool_words.specs.Asked.{IsToolCall, ToolCall, of_labels, of_reasons, of_schema}
+use Rattle.tool_words.specs.Commands.{explain, extents}
 use Rattle.tool_words.specs.Requests.{Converting}
 use Rattle.shex_tools.specs.Stopping.{IsFit}
 
@@ -22,4 +22,10 @@ fit words (of_labels l) is = (
   ap (λ (k : Inputs). is_base k.schema_base) is.holds.passes.inputs.leads ∙ is.holds.passes.inputs.passes.schema,
   ap (λ (k : Inputs). is_base k.data_base) is.holds.passes.inputs.leads ∙ is.holds.passes.inputs.passes.data_file,
   subst (λ n. n ≤ max_budget) (sym is.holds.passes.budget) (budget_within (first_of (codes "budget") (rows extents is.behind)) is.holds.request.budget is.holds.asks.found.is_budget),
+)
+fit words (of_reasons e) is = (
+  ap (λ (k : Inputs). is_base k.schema_base) is.holds.passes.inputs.leads ∙ is.holds.passes.inputs.passes.schema,
+  ap (λ (k : Inputs). is_base k.data_base) is.holds.passes.inputs.leads ∙ is.holds.passes.inputs.passes.data_file,
+  subst (λ n. n ≤ max_budget) (sym is.holds.passes.budget)
+      (budget_within (first_of (codes "budget") (rows explain is.behind)) is.holds.request.budgeted.budget is.holds.asks.found.budgeted.is_budget),
 )

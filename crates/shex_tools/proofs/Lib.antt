@@ -1,7 +1,13 @@
+pub mod Asking
 pub mod Closing
 pub mod Ended
 pub mod Exclusive
 pub mod Fitting
+pub mod Judged
+pub mod Reasoned
+pub mod Settled
+pub mod Places
 pub mod Spelled
 pub mod Stopped
+pub mod TrueReasons
 pub mod Unknowns

@@ -23,7 +23,7 @@ use Rattle.shex_inputs.specs.Held.{Held}
 use Rattle.shex_inputs.specs.Outcomes.{Explains as ExplainsInput, FaultsAs as FaultsAsInput, IsBeforeMap}
 use Rattle.schema_documents.specs.Tree.{Document}
 use Rattle.shexj_writer.specs.Expressible.{IsExpressibleDocument}
-use Rattle.tool_words.specs.Asked.{Listing, ToolCall, of_labels, of_schema}
+use Rattle.tool_words.specs.Asked.{Explaining, Listing, ToolCall, of_labels, of_reasons, of_schema}
 use Rattle.tool_words.specs.Requests.{Converting}
 use Rattle.call_ends.specs.declared.response.Response.{Response}
 use Rattle.shex_tools.specs.declared.stop.Refusal.{Refusal}
@@ -116,3 +116,11 @@ when_unlisted told l h taken (Err stop) why = finding_explains told l h stop tak
 pub when_still : (call : ToolCall) (before after : ℕ) (blame : List ℕ) (act : Act) (h : Held) → after ≡ before → (r : Result Response Stop) → IfErr r (FindingStops h) → IfErr r (FaultsAs call before after blame act)
 when_still call before after blame act h still (Ok x) why = tt
 when_still call before after blame act h still (Err stop) why = finding_faults call before after blame act h stop still why
+
+-- ---- `explain`
+
+-- the schema, the data or the map are not taken
+pub asking_explains : (told : Told) (x : Explaining) (e : InputError) (stop : Stop) → ExplainsInput told (inputs_of (of_reasons x)) e → stop ≡ stop_of e → Explains told (of_reasons x) stop
+asking_explains told x (InputErrors.Refused refusal) stop why made = subst (Explains told (of_reasons x)) (sym made) (tt, why)
+asking_explains told x (InputErrors.Failed source) stop why made = subst (Explains told (of_reasons x)) (sym made) (tt, why)
+asking_explains told x InputErrors.Memory stop why made = subst (Explains told (of_reasons x)) (sym made) tt

@@ -1,6 +1,6 @@
 -- Which verdicts of refinement over the demanded pairs are Unknown is one thing.
 use Rattle.std.proofs.Common.{◌≡◌, sym, subst, ℕ, List}
-use Rattle.std.specs.Prelude.{Contains}
+use Rattle.std.specs.Prelude.{Contains, ◌↔◌}
 use Rattle.rdf_terms.specs.declared.terms.Term.{Term}
 use Rattle.rdf_terms.specs.declared.terms.Triple.{Triple}
 use Rattle.schema_tree.specs.declared.schema.Pair.{Pair}
@@ -29,6 +29,13 @@ module _ (a b : Known) (same : HaveSame a.yes b.yes) (goes : a.no ≡ b.no) wher
   same_to p Yes is = same.0 p is
   same_to p No (out, held) = (λ h. out (same.1 p h), subst (λ ps. Contains ps p) goes held)
   same_to p Unknown (out, none) = (λ h. out (same.1 p h), λ h. none (subst (λ ps. Contains ps p) (sym goes) h))
+
+-- refinements of the same pairs say the same of each
+pub alike : (s : Schema) (terms : List Term) (g : List Triple) (f : List ℕ) (budget : ℕ) (ps : List Pair) (a b : Known) → OneRefinement → IsLoaded s →
+    IsRefined s terms g f ps budget a → IsRefined s terms g f ps budget b → (p : Pair) (v : Verdict) → PairIs a p v ↔ PairIs b p v
+alike s terms g f budget ps a b one loaded first second p v =
+    let (same, goes) = one s terms g f ps budget a b loaded first second in
+    (same_to a b same goes p v, same_to b a (same.1, same.0) (sym goes) p v)
 
 pub undecided_to : (s : Schema) (terms : List Term) (g : List Triple) (f : List ℕ) (budget : ℕ) (ps qs : List Pair) (a b : Known) → OneRefinement → SureFollowsAnswers → IsLoaded s →
     AreDemanded s terms g ps → AreDemanded s terms g qs → IsRefined s terms g f ps budget a → IsRefined s terms g f qs budget b → IsUndecided s terms g a → IsUndecided s terms g b

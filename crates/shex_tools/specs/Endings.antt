@@ -1,5 +1,5 @@
 -- How a call ends, and what it has printed then.
-use Rattle.std.specs.Prelude.{ℕ, List, ◌≡◌}
+use Rattle.std.specs.Prelude.{ℕ, List, Contains, not, ◌≡◌}
 use Rattle.clap.specs.Words.{Text}
 use Rattle.shex_io.specs.Faults.{Rose}
 use Rattle.shex_io.specs.Files.{Told}
@@ -9,11 +9,15 @@ use Rattle.program_ends.specs.Ends.{EndsBy, FilesSeen}
 use Rattle.call_ends.specs.Parts.{ArePrintedInPart, IsDueBy}
 use Rattle.program_ends.specs.Printing.{SinkSeen}
 use Rattle.shex_inputs.specs.declared.error.Source.{Source}
-use Rattle.tool_words.specs.Asked.{IsToolCall, IsToolFault, ToolCall}
+use Rattle.schema_tree.specs.Truths.{IsTruth}
+use Rattle.shape_map.specs.declared.resolve.Association.{Association}
+use Rattle.shex_inputs.specs.Asked.{Question}
+use Rattle.tool_words.specs.Asked.{Explaining, IsToolCall, IsToolFault, ToolCall, of_reasons}
 use Rattle.shex_tools.specs.declared.stop.Refusal.{Refusal}
-use Rattle.shex_tools.specs.Outcomes.{IsRefused, Reaches}
+use Rattle.shex_tools.specs.Outcomes.{IsQuestionOf, IsRefused, Reaches}
 use Rattle.shex_tools.specs.Results.{IsAnswer}
-use Rattle.shex_tools.specs.Texts.{failed_line, name_of, refusal_line, words_line}
+use Rattle.shex_tools.specs.Showing.{IsRefusalText}
+use Rattle.shex_tools.specs.Texts.{failed_line, name_of, words_line}
 
 -- the line is that of the first fault of the words
 abbrev pub IsWordsLine : List Text → List ℕ → Type 0
@@ -23,13 +27,13 @@ IsWordsLine words line = (f : Fault) × IsToolFault words f × (line ≡ words_l
 abbrev pub IsAnswered : Told → List Text → ℕ → List ℕ → List ℕ → Type 0
 IsAnswered told words status text notes = (call : ToolCall) × IsToolCall words call × IsAnswer told call status text notes
 
--- the line is that of the refusal of a file that the words name
-pub record IsRefusedBy (told : Told) (words : List Text) (line : List ℕ) : Type 0 where
+-- the text is that of the refusal of a file that the words name: its line, and, of `explain`, what is shown of the place that it names
+pub record IsRefusedBy (told : Told) (words : List Text) (text : List ℕ) : Type 0 where
   pub call : ToolCall
   pub is_call : IsToolCall words call
   pub refusal : Refusal
   pub refused : IsRefused told call refusal
-  pub line_is : line ≡ refusal_line call refusal
+  pub text_is : IsRefusalText told call refusal text
 
 -- in this call a fault of the files came, at a file of the words to which the steps came and which was not fetched, and the line names it
 pub record IsFailedBy (files : FilesSeen) (words : List Text) (line : List ℕ) : Type 0 where
@@ -41,6 +45,17 @@ pub record IsFailedBy (files : FilesSeen) (words : List Text) (line : List ℕ) 
   pub name_is : files.blame ≡ name_of call source
   pub act_is : files.act ≡ Fetch
   pub line_is : line ≡ failed_line files.blame
+
+-- the words ask why the associations of a map are not as asked, and one of them is not: the complete typing does not satisfy its
+-- expression at its node where it is to, or does where it is not to
+pub record HasFailing (told : Told) (words : List Text) : Type 0 where
+  pub explaining : Explaining
+  pub is_call : IsToolCall words (of_reasons explaining)
+  pub question : Question
+  pub is_asked : IsQuestionOf told explaining question
+  pub association : Association
+  pub listed : Contains question.associations association
+  pub failing : IsTruth question.held.schema question.terms question.held.graph association.node association.expr (not association.want)
 
 -- how a call ends: the words are at fault; or there is an answer; or a file is refused; or one was not fetched; or memory ran out before
 -- anything was printed

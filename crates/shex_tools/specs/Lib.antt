@@ -1,8 +1,11 @@
 pub mod Calls
 pub mod Documents
+pub mod Statuses
+pub mod Reasons
 pub mod Laws
 pub mod Outcomes
 pub mod Texts
+pub mod Showing
 pub mod Finding
 pub mod Results
 pub mod Endings

@@ -18,18 +18,21 @@ use Rattle.shex_inputs.specs.declared.error.Refusal.TheVariants as InputRefusals
 use Rattle.shex_inputs.specs.declared.error.Source.TheVariants as Sources
 use Rattle.shexj_writer.specs.declared.error.WriteError.{WriteError}
 use Rattle.shexj_writer.specs.declared.error.WriteError.TheVariants as WriteErrors
-use Rattle.tool_words.specs.Asked.{ToolCall, of_labels, of_schema}
+use Rattle.tool_words.specs.Asked.{ToolCall, of_labels, of_reasons, of_schema}
+use Rattle.shex_tools.specs.declared.showing.Unshown.{Unshown}
+use Rattle.shex_tools.specs.declared.showing.Unshown.TheVariants as Unshowns
 use Rattle.shex_tools.specs.declared.stop.Refusal.{Refusal}
 use Rattle.shex_tools.specs.declared.stop.Refusal.TheVariants as Refusals
 use Rattle.shex_tools.specs.declared.stop.Stop.{Stop}
 use Rattle.shex_tools.specs.declared.stop.Stop.TheVariants as Stops
 use Rattle.shex_tools.specs.Outcomes.{IsRefused, Reaches}
-use Rattle.shex_tools.specs.Texts.{name_of}
+use Rattle.shex_tools.specs.Texts.{name_of, refused_source}
 
 -- each base that the call is given passes the check of a base, and its budget is at most the greatest
 abbrev pub IsFit : ToolCall → Type 0
 IsFit (of_schema c) = is_base c.schema_base ≡ true
 IsFit (of_labels l) = (is_base l.inputs.schema_base ≡ true) × (is_base l.inputs.data_base ≡ true) × (l.budget ≤ max_budget)
+IsFit (of_reasons e) = (is_base e.inputs.schema_base ≡ true) × (is_base e.inputs.data_base ≡ true) × (e.budget ≤ max_budget)
 
 -- the stop that an error of the inputs is
 abbrev pub stop_of : InputError → Stop
@@ -78,3 +81,14 @@ abbrev pub fetch_stop : FetchError → Stop
 fetch_stop FetchErrors.Failed = Stops.Failed (Sources.Schema Root)
 fetch_stop FetchErrors.Long = Stops.Refused (Refusals.Input (InputRefusals.Size (Sources.Schema Root)))
 fetch_stop FetchErrors.Memory = Stops.Memory
+
+-- what it does to the count of faults that a place in a file of this name is not shown: it rises where a fetch failed, and else stays
+abbrev pub IsUnshown : List ℕ → ℕ → ℕ → List ℕ → Act → Unshown → Type 0
+IsUnshown name before after blame act Unshowns.Failed = HasFailed name before after blame act
+IsUnshown name before after blame act Unshowns.Memory = after ≡ before
+
+-- so it is at the file that is refused, to which the steps came
+abbrev pub LeavesUnshown : Told → ToolCall → Refusal → ℕ → ℕ → List ℕ → Act → Unshown → Type 0
+LeavesUnshown told call refusal before after blame act Unshowns.Failed =
+    Reaches told call (refused_source refusal) × HasFailed (name_of call (refused_source refusal)) before after blame act
+LeavesUnshown told call refusal before after blame act Unshowns.Memory = after ≡ before

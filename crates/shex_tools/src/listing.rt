@@ -6,6 +6,7 @@ ghost use Rattle.graph_index.specs.Laws.{IsOfTable};
 ghost use Rattle.schema_tree.specs.declared.schema.Answer.{Answer as Given};
 ghost use Rattle.schema_tree.specs.Edges.{IsStratum};
 ghost use Rattle.schema_tree.specs.Loaded.{IsLoaded};
+ghost use Rattle.proof_file.specs.declared.head.Digests.{Digests};
 ghost use Rattle.shape_map.specs.Results.{result_text};
 ghost use Rattle.command_words.specs.Checks.{is_base};
 ghost use Rattle.command_words.specs.Requests.{max_budget};
@@ -25,7 +26,7 @@ use label_extents::{Extents, extents_of};
 use rdf_terms::table::TermTable;
 use schema_tree::schema::Answer;
 use shape_map::write_result;
-use shex_inputs::{Holding, read_holding};
+use shex_inputs::{Holding, Wanted, read_holding};
 use shex_io::Files;
 use std::alloc::{AllocError, Global};
 use tool_words::Listing;
@@ -36,7 +37,7 @@ use wide_pairs::push_lines;
 fn hold<F: Files>(alloc: Global, files: &mut F, listing: &Listing<'_>) -> Result<Holding, Stop>
     requires schema_base { is_base listing.now.inputs.schema_base.now ≡ true }
     requires data_base { is_base listing.now.inputs.data_base.now ≡ true }
-    ensures held { IfOk result (λ h. AreHeld (F.told files.old) (listing_of listing.now) (held_by h)) }
+    ensures held { IfOk result (λ h. (digests : Digests) × AreHeld (F.told files.old) (listing_of listing.now) (held_by h digests)) }
     ensures loaded { IfOk result (λ h. IsLoaded h.schema) }
     ensures strata { IfOk result (λ h. IsStratum h.schema h.strata) }
     ensures of_table { IfOk result (λ h. All (IsOfTable h.terms) h.graph.triples) }
@@ -45,8 +46,8 @@ fn hold<F: Files>(alloc: Global, files: &mut F, listing: &Listing<'_>) -> Result
     ensures faults_stay { OnOk result (F.faults files.new ≡ F.faults files.old) }
     ensures told_stays { F.told files.new ≡ F.told files.old }
 {
-    match read_holding(alloc, files, &listing.inputs) {
-        Ok(holding) => Ok(holding),
+    match read_holding(alloc, files, &listing.inputs, Wanted::Contents) {
+        Ok(taken) => Ok(taken.holding),
         Err(error) => Err(stop_of(error)),
     }
 }
@@ -54,7 +55,7 @@ fn hold<F: Files>(alloc: Global, files: &mut F, listing: &Listing<'_>) -> Result
 /// Seals the graph of what is held with the table.
 fn seal(holding: &mut Holding) -> Result<(), AllocError>
     ensures sealed { OnOk result (IsSealedWith holding.new.terms holding.new.graph) }
-    ensures held { held_by holding.new ≡ held_by holding.old }
+    ensures held { (digests : Digests) → held_by holding.new digests ≡ held_by holding.old digests }
 {
     holding.graph.seal(&holding.terms)
 }
@@ -66,9 +67,9 @@ fn found(alloc: Global, holding: &Holding, budget: u64) -> Result<Extents, Stop>
     requires of_table { All (IsOfTable holding.now.terms) holding.now.graph.triples }
     requires sealed { IsSealedWith holding.now.terms holding.now.graph }
     requires budget { budget ≤ max_budget }
-    ensures found { IfOk result (IsFound (held_by holding.now) budget) }
+    ensures found { (digests : Digests) → IfOk result (IsFound (held_by holding.now digests) budget) }
     ensures of_terms { IfOk result (λ x. (a : Given) → Contains x.members a → a.node.0 < length holding.now.terms) }
-    ensures stops { IfErr result (FindingStops (held_by holding.now)) }
+    ensures stops { (digests : Digests) → IfErr result (FindingStops (held_by holding.now digests)) }
 {
     let schema = &holding.schema;
     let terms = &holding.terms;
@@ -95,9 +96,9 @@ fn text_of(alloc: Global, terms: &TermTable, answers: &[Answer]) -> Result<Vec<u
     Ok(text)
 }
 
-/// The lines for wide pairs, where a membership is not told.
+/// The lines for wide pairs, where something is not told.
 #[tactic(auto, unfolding(crate::specs::Texts::notes_by))]
-fn notes_of(
+pub fn notes_of(
     alloc: Global,
     terms: &TermTable,
     budget: u64,
@@ -142,9 +143,9 @@ fn answer(alloc: Global, holding: &mut Holding, budget: u64) -> Result<Response,
     requires strata { IsStratum holding.old.schema holding.old.strata }
     requires of_table { All (IsOfTable holding.old.terms) holding.old.graph.triples }
     requires budget { budget ≤ max_budget }
-    ensures listed { IfOk result (λ r. IsListedOf (held_by holding.old) budget r.status r.text.items r.notes.items) }
+    ensures listed { (digests : Digests) → IfOk result (λ r. IsListedOf (held_by holding.old digests) budget r.status r.text.items r.notes.items) }
     ensures low { IfOk result (λ r. r.status < 7) }
-    ensures stops { IfErr result (FindingStops (held_by holding.old)) }
+    ensures stops { (digests : Digests) → IfErr result (FindingStops (held_by holding.old digests)) }
 {
     seal(holding)?;
     let extents = found(alloc, holding, budget)?;

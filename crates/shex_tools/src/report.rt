@@ -37,13 +37,14 @@ fn converted_name<'a>(converting: &Converting<'a>, source: Source) -> &'a str
     }
 }
 
-/// The name of a file in the words, and the empty text where they name none, as for a map.
-fn name<'a>(call: &ToolCall<'a>, source: Source) -> &'a str
+/// The name of a file in the words, and the empty text where they name none, as for a map of `extents`.
+pub fn name<'a>(call: &ToolCall<'a>, source: Source) -> &'a str
     ensures { result.now ≡ name_of (tool_call_of call.now) source }
 {
     match call {
         ToolCall::Convert(converting) => converted_name(converting, source),
         ToolCall::Extents(listing) => input_name(&listing.inputs, "", source),
+        ToolCall::Explain(explaining) => input_name(&explaining.inputs, explaining.map, source),
     }
 }
 

@@ -9,28 +9,34 @@ ghost use Rattle.command_words.specs.Lent.{words_text};
 ghost use Rattle.label_extents.specs.Demanded.{AreDemanded, AreTooMany};
 ghost use Rattle.label_extents.specs.Extents.{IsUndecided};
 ghost use Rattle.call_ends.specs.Parts.{AreQuiet};
-ghost use Rattle.call_ends.specs.Statuses.{IsAnswering, IsCutOff, IsInterrupted, IsStatus};
+ghost use Rattle.call_ends.specs.Statuses.{IsCutOff, IsInterrupted};
 ghost use Rattle.call_ends.specs.Words.{RefusesWords};
+ghost use Rattle.program_ends.specs.Printing.{IsQuiet, SinkSeen};
+ghost use Rattle.shex_inputs.specs.Asked.{Question};
 ghost use Rattle.shex_inputs.specs.Held.{Held};
 ghost use Rattle.shex_io.specs.Faults.{Rose};
 ghost use Rattle.shex_io.specs.Sinks.{Gains};
-ghost use Rattle.tool_words.specs.Asked.{IsToolCall, IsToolFault, Listing as Listed, ToolCall as Asked, of_labels};
+ghost use Rattle.tool_words.specs.Asked.{Explaining as Explained, IsToolCall, IsToolFault, Listing as Listed, ToolCall as Asked, of_labels, of_reasons};
 ghost use Rattle.tool_words.specs.Lent.{tool_call_of};
-ghost use Rattle.shex_tools.specs.Endings.{IsAnswered, IsFailedBy, IsPrintedInPart, IsRefusedBy, IsWordsLine, ToolEnds};
-ghost use Rattle.shex_tools.specs.Outcomes.{AreHeld, AreTaken, IsAbsent, IsRefused};
+ghost use Rattle.shex_tools.specs.Endings.{HasFailing, IsAnswered, IsFailedBy, IsPrintedInPart, IsRefusedBy, IsWordsLine, ToolEnds};
+ghost use Rattle.shex_tools.specs.Outcomes.{AreHeld, AreTaken, IsAbsent, IsQuestionOf, IsRefused};
+ghost use Rattle.shex_tools.specs.Reasons.{AreAsAsked, HaveFailing, HaveUnknown};
 ghost use Rattle.shex_tools.specs.Results.{Concludes, IsAnswer};
+ghost use Rattle.shex_tools.specs.Statuses.{IsAnswering, IsStatus};
 ghost use Rattle.shex_tools.specs.Stopping.{Explains, FaultsAs, IsFit};
 ghost use Rattle.shex_tools.specs.Texts.{tool_line};
 
 use crate::converting::convert;
+use crate::explaining::explain;
 use crate::laws::documents_are_one;
 use crate::listing::list;
 use crate::report;
+use crate::showing::{Unshown, refusal_text};
 use crate::stop::{Refusal, Stop};
 use call_ends::Response;
 use command_words::WordsError;
-use program_ends::say;
-use schema_tree::laws::{layers_are_meanings, refinement_is_one};
+use program_ends::{print, say};
+use schema_tree::laws::{layers_are_meanings, refinement_is_one, verdict_is_one};
 use shex_inputs::{Source, inputs_are_one, taken_is_loaded};
 use shex_io::{Files, Sink};
 use std::alloc::Global;
@@ -50,6 +56,7 @@ fn respond<F: Files>(alloc: Global, files: &mut F, call: &ToolCall<'_>) -> Resul
     match call {
         ToolCall::Convert(converting) => convert(alloc, files, converting),
         ToolCall::Extents(listing) => list(alloc, files, listing),
+        ToolCall::Explain(explaining) => explain(alloc, files, explaining),
     }
 }
 
@@ -60,6 +67,30 @@ fn refuse<S: Sink>(alloc: Global, error: WordsError<'_>, sink: &mut S) -> u8
     match error {
         WordsError::Memory => 8,
         error => say(report::words(alloc, error), 2, sink),
+    }
+}
+
+/// Says why a file is refused and, of `explain`, shows the place that the refusal names, or says that the file was not fetched once more
+/// for that, and gives the status.
+fn end_refusal<F: Files, E: Sink>(
+    alloc: Global,
+    call: &ToolCall<'_>,
+    refusal: &Refusal,
+    files: &mut F,
+    err: &mut E,
+) -> u8
+    requires { IsRefused (F.told files.old) (tool_call_of call.now) refusal.now }
+    ensures { (words : List (List ℕ)) → IsToolCall words (tool_call_of call.now) → (out : SinkSeen) → IsQuiet out → ToolEnds
+        words
+        (record { told = F.told files.old; told_after = F.told files.new; faults = F.faults files.old; faults_after = F.faults files.new; blame = F.blame files.new; act = F.act files.new })
+        out
+        (record { got = E.got err.old; got_after = E.got err.new; faults = E.faults err.old; faults_after = E.faults err.new })
+        result }
+{
+    match refusal_text(alloc, files, call, refusal) {
+        Ok(text) => print(err, text.as_slice(), 3),
+        Err(Unshown::Failed) => say(report::failed(alloc, call, refusal.source()), 5, err),
+        Err(Unshown::Memory) => 8,
     }
 }
 
@@ -81,7 +112,7 @@ fn end_call<F: Files, O: Sink, E: Sink>(
 {
     match respond(alloc, files, call) {
         Ok(response) => response.print(out, err),
-        Err(Stop::Refused(refusal)) => say(report::refusal(alloc, call, &refusal), 3, err),
+        Err(Stop::Refused(refusal)) => end_refusal(alloc, call, &refusal, files, err),
         Err(Stop::Failed(source)) => say(report::failed(alloc, call, source), 5, err),
         Err(Stop::Memory) => 8,
     }
@@ -118,12 +149,21 @@ fn end<F: Files, O: Sink, E: Sink>(
 /// those on which the verdict is Unknown, which comes only where it depends on a pair of a node and a Shape whose Width is
 /// above the budget.
 ///
-/// A refusal, and a file that is not fetched, are told by one line on `err`, unless memory ran out. N is from 1 to
-/// 1,099,511,627,776, and 1,048,576 where none is given.
+/// `explain --schema F --data F --map F [--budget N] [--limit N] [--json] [--schema-base I] [--data-base I] [IRI=FILE ..]` prints to `out`
+/// why associations of the shape map are not as asked (ShEx 2.1, sections 5.2 and 5.5.2): in the map's order each whose node is to
+/// satisfy its expression and does not, with the reasons, and each whose node is not to satisfy it and does. A node with a Shape is
+/// explained where it is mentioned first. With `--json` it is a result shape map in JSON of all associations (ShapeMap Structure and
+/// Language, section 4).
 ///
-/// The status is 0 where there is an answer; 4 where the membership of some node in the extents is not told, since it depends on a
-/// pair that is wider than the budget, and then `err` gets a line for each wide pair that the nodes with the labels reach; 2 where
-/// the words are refused, 3 where a file is refused, 5 where a file was not fetched, 7 where a sink failed, 8 where memory ran out.
+/// A refusal, and a file that is not fetched, are told by one line on `err`, unless memory ran out. Where `explain` refuses a file that
+/// is wrong at a place, the file is fetched once more, and behind that line `err` gets `FILE:LINE:COLUMN` and lines that show the place
+/// in what the file holds then. N of `--budget` is from 1 to 1,099,511,627,776, and 1,048,576 where none is given; N of `--limit`, how
+/// much is printed in one place, is as great, and 20 where none is given.
+///
+/// The status is 0 where there is an answer; of `explain`, 1 where some association is not as asked; 4 where the membership of some
+/// node in the extents is not told, or whether some association is as asked, since it depends on a pair that is wider than the
+/// budget, and then `err` gets a line for each wide pair that the nodes with the labels, or the associations, reach; 2 where the
+/// words are refused, 3 where a file is refused, 5 where a file was not fetched, 7 where a sink failed, 8 where memory ran out.
 pub fn run_tool<F: Files, O: Sink, E: Sink>(
     alloc: Global,
     words: &[String],
@@ -139,31 +179,36 @@ pub fn run_tool<F: Files, O: Sink, E: Sink>(
         (record { got = E.got err.old; got_after = E.got err.new; faults = E.faults err.old; faults_after = E.faults err.new })
         result }
     ensures statuses { IsStatus result }
-    ensures four { result ≡ 4 → (l : Listed) × IsToolCall (map string_bytes words.now) (of_labels l) }
+    ensures four { result ≡ 4 →
+        ((l : Listed) × IsToolCall (map string_bytes words.now) (of_labels l))
+        ⊎ ((e : Explained) × IsToolCall (map string_bytes words.now) (of_reasons e)) }
     ensures told { F.told files.new ≡ F.told files.old }
 
     // With 0 the text of `convert` is that of the document in the schema file, from which its plain form is read back. The text of
     // `extents` is the members that are known: each is one, and those alone are left out, with status 4, on which the verdicts of
     // refinement are Unknown, so that they depend on a pair whose Width is above the budget, and then each such pair that the nodes
-    // with the labels reach is noted, of which there is one at least.
+    // with the labels reach is noted, of which there is one at least. The text of `explain` is that of the explanation of the map's
+    // associations by the verdicts of refinement, each of which is true: what each block is about is denied by the complete typing,
+    // each verdict is that of the complete typing, and it is Unknown, with status 4, only where it depends on such a pair.
     ensures answered { IsAnswering result →
         (text notes : List ℕ)
         × IsAnswered (F.told files.old) (map string_bytes words.now) result text notes
         × Gains (O.got out.old) (O.got out.new) text
         × Gains (E.got err.old) (E.got err.new) notes }
-    ensures answered_quietly { result ≡ 0 → E.got err.new ≡ E.got err.old }
+    ensures answered_quietly { (result ≡ 0) ⊎ (result ≡ 1) → E.got err.new ≡ E.got err.old }
     ensures noted { result ≡ 4 → (text notes : List ℕ) →
         IsAnswered (F.told files.old) (map string_bytes words.now) result text notes → notes ≢ [] }
 
-    // Each other status has its cause. With 2, 3 and 5 its line is all that is printed, with 7 and 8 a part of what is due.
+    // Each other status has its cause. With 2 and 5 its line is all that is printed, with 3 its line and, of `explain`, what shows the
+    // place that the refusal names; with 7 and 8 a part of what is due.
     ensures arguments { result ≡ 2 →
         (line : List ℕ)
         × IsWordsLine (map string_bytes words.now) line
         × Gains (E.got err.old) (E.got err.new) line }
     ensures refused { result ≡ 3 →
-        (line : List ℕ)
-        × IsRefusedBy (F.told files.old) (map string_bytes words.now) line
-        × Gains (E.got err.old) (E.got err.new) line }
+        (text : List ℕ)
+        × IsRefusedBy (F.told files.old) (map string_bytes words.now) text
+        × Gains (E.got err.old) (E.got err.new) text }
     ensures failed { result ≡ 5 →
         (line : List ℕ)
         × IsFailedBy
@@ -217,6 +262,25 @@ pub fn run_tool<F: Files, O: Sink, E: Sink>(
         IsRefined h.schema h.terms h.graph h.strata pairs l.budget verdicts →
         ¬ IsUndecided h.schema h.terms h.graph verdicts → (result ≡ 0) ⊎ IsInterrupted result }
 
+    // Explanations end with 4 exactly where the verdict of refinement on the expression of some association is Unknown, and else with 0
+    // where each is as asked, and with 1 where one is not.
+    ensures unsure { (contents : List ℕ → Option (List ℕ)) (e : Explained) (q : Question) (verdicts : Known) →
+        F.told files.old ≡ Some contents → IsToolCall (map string_bytes words.now) (of_reasons e) →
+        IsQuestionOf (F.told files.old) e q → IsRefined q.held.schema q.terms q.held.graph q.held.strata q.pairs e.budget verdicts →
+        HaveUnknown q.held.schema q.terms verdicts q.associations → (result ≡ 4) ⊎ IsInterrupted result }
+    ensures unexplained { (contents : List ℕ → Option (List ℕ)) (e : Explained) (q : Question) (verdicts : Known) →
+        F.told files.old ≡ Some contents → IsToolCall (map string_bytes words.now) (of_reasons e) →
+        IsQuestionOf (F.told files.old) e q → IsRefined q.held.schema q.terms q.held.graph q.held.strata q.pairs e.budget verdicts →
+        AreAsAsked q.held.schema q.terms verdicts q.associations → (result ≡ 0) ⊎ IsInterrupted result }
+    ensures explained { (contents : List ℕ → Option (List ℕ)) (e : Explained) (q : Question) (verdicts : Known) →
+        F.told files.old ≡ Some contents → IsToolCall (map string_bytes words.now) (of_reasons e) →
+        IsQuestionOf (F.told files.old) e q → IsRefined q.held.schema q.terms q.held.graph q.held.strata q.pairs e.budget verdicts →
+        ¬ HaveUnknown q.held.schema q.terms verdicts q.associations →
+        HaveFailing q.held.schema q.terms verdicts q.associations → (result ≡ 1) ⊎ IsInterrupted result }
+
+    // With 1 some association is not as asked by the complete typing.
+    ensures failing { result ≡ 1 → HasFailing (F.told files.old) (map string_bytes words.now) }
+
     // Faults that came are said.
     ensures files_fault { F.faults files.old < F.faults files.new → IsInterrupted result }
     ensures sink_fault { (O.faults out.old < O.faults out.new) ⊎ (E.faults err.old < E.faults err.new) →
@@ -229,6 +293,7 @@ pub fn run_tool<F: Files, O: Sink, E: Sink>(
     documents_are_one();
     refinement_is_one();
     layers_are_meanings();
+    verdict_is_one();
     none_is_wide();
     end(alloc, words, files, out, err)
 }

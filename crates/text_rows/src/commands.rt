@@ -5,7 +5,7 @@ use command_words::{
 };
 use row_format::words_of;
 use std::alloc::{AllocError, Global};
-use tool_words::{Converting, Editing, Listing, ToolCall, read_session, read_tool};
+use tool_words::{Converting, Editing, Explaining, Listing, ToolCall, read_session, read_tool};
 
 /// The files and the bases of a command.
 fn shown_inputs(alloc: Global, inputs: &Inputs<'_>) -> Result<String, AllocError> {
@@ -76,6 +76,14 @@ fn shown_listing(alloc: Global, asked: &Listing<'_>) -> Result<String, AllocErro
     with_imports(line, &asked.inputs.imports)
 }
 
+/// What `explain` asks for.
+fn shown_explaining(alloc: Global, asked: &Explaining<'_>) -> Result<String, AllocError> {
+    let inputs = shown_inputs(alloc, &asked.inputs)?;
+    let (map, budget, limit, json) = (asked.map, asked.budget, asked.limit, asked.json);
+    let line = format!(in alloc; "explain {inputs} {map} {budget} {limit} {json}")?;
+    with_imports(line, &asked.inputs.imports)
+}
+
 /// What words ask of a session.
 fn shown_editing(alloc: Global, asked: &Editing<'_>) -> Result<String, AllocError> {
     let inputs = shown_inputs(alloc, &asked.inputs)?;
@@ -90,6 +98,7 @@ pub fn asked_of_tool(alloc: Global, line: &str) -> Result<String, AllocError> {
     match read_tool(alloc, &words) {
         Ok(ToolCall::Convert(converting)) => shown_converting(alloc, converting),
         Ok(ToolCall::Extents(listing)) => shown_listing(alloc, &listing),
+        Ok(ToolCall::Explain(explaining)) => shown_explaining(alloc, &explaining),
         Err(error) => format!(in alloc; "{error}"),
     }
 }

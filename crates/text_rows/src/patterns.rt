@@ -14,7 +14,7 @@ fn search(alloc: Global, pattern: &str, flags: &str, text: &str) -> Result<Strin
     String::from_str(alloc, if found { "found" } else { "not found" })
 }
 
-/// The same of a pattern that stands behind its flags and a slash.
+/// Whether a pattern that stands behind its flags and a slash is found in a text, or how it is refused.
 pub fn sought(alloc: Global, flagged: &str, text: &str) -> anyhow::Result<String> {
     let Some((flags, pattern)) = flagged.split_once('/') else {
         bail!("a pattern stands behind its flags and a slash");

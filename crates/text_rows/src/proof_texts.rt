@@ -31,7 +31,7 @@ pub fn rewritten(alloc: Global, bytes: &[u8]) -> Result<String, AllocError> {
     }
 }
 
-/// The same of a text in which `¶` stands for a line feed.
+/// What is written of the proof that a text is read as in which `¶` stands for a line feed, or why it is none.
 pub fn of_line(alloc: Global, text: &str) -> Result<String, AllocError> {
     rewritten(alloc, with_line_feeds(alloc, text)?.as_bytes())
 }

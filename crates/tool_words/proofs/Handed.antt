@@ -7,7 +7,7 @@ use Rattle.command_words.specs.Checks.{Fault, arguments}
 use Rattle.command_words.specs.Commands.{faults, rows}
 use Rattle.command_words.specs.Lent.{Because}
 use Rattle.command_words.proofs.Exact.{handed_on}
-use Rattle.tool_words.specs.Asked.{IsConvertingFault, IsFirstFault, IsListingFault, IsToolFault, failing, in_convert, in_extents, unasked}
+use Rattle.tool_words.specs.Asked.{IsConvertingFault, IsExplainingFault, IsFirstFault, IsListingFault, IsToolFault, failing, in_convert, in_explain, in_extents, unasked}
 use Rattle.tool_words.specs.Requests.{Asks}
 
 -- b is the command
@@ -48,3 +48,8 @@ pub failed_to_list : {L : Type 0} (words behind : List Text) (res : Result L Wor
     → Because (IsListingFault behind) e → IfErr res (Because (IsToolFault words))
 failed_to_list words behind res e named h =
     handed_on (IsListingFault behind) (IsToolFault words) res e h (λ f bad. in_extents f (record { behind = behind; named = named; holds = bad }))
+
+pub failed_to_explain : {L : Type 0} (words behind : List Text) (res : Result L WordsError) (e : WordsError) → words ≡ codes "explain" ∷ behind → IsErrAnd res (λ x. x ≡ e)
+    → Because (IsExplainingFault behind) e → IfErr res (Because (IsToolFault words))
+failed_to_explain words behind res e named h =
+    handed_on (IsExplainingFault behind) (IsToolFault words) res e h (λ f bad. in_explain f (record { behind = behind; named = named; holds = bad }))

@@ -2,3 +2,4 @@ pub mod Covered
 pub mod Handed
 pub mod Once
 pub mod Exactly
+pub mod Limits

@@ -1,13 +1,14 @@
 -- Words ask by a command for one thing at most, and have one first fault at most, and none where they ask for something.
-use Rattle.std.proofs.Common.{◌≡◌, ◌∙◌, List, [], ap, refl, subst, sym}
+use Rattle.std.specs.Prelude.{ℕ, Option, Some, None}
+use Rattle.std.proofs.Common.{◌≡◌, ◌∙◌, Bool, true, false, List, [], ap, refl, subst, sym}
 use Rattle.clap.specs.Words.{App, Row, Text}
 use Rattle.command_words.specs.Checks.{AreInputs, Fault, Inputs, inputs_by}
 use Rattle.command_words.specs.Commands.{rows}
 use Rattle.command_words.specs.Requests.{Given}
 use Rattle.command_words.proofs.Once.{apart, no_given_fault, one_given_fault, one_list}
 use Rattle.command_words.proofs.Requested.{one_budget, one_given, one_value}
-use Rattle.tool_words.specs.Asked.{FailsConverting, FailsEditing, FailsListing, IsFirstFault, LeadsTo, PassesConverting, PassesEditing, PassesListing, failing, schema_base, schema_ending, unasked}
-use Rattle.tool_words.specs.Requests.{Asks, Budgeted, Converting, IsBudgeted, IsNamed, IsScripted}
+use Rattle.tool_words.specs.Asked.{FailsConverting, FailsEditing, FailsExplaining, FailsListing, IsFirstFault, LeadsTo, PassesConverting, PassesEditing, PassesExplaining, PassesListing, failing, schema_base, schema_ending, unasked}
+use Rattle.tool_words.specs.Requests.{Asks, Budgeted, Converting, IsBudgeted, IsExplained, IsFlag, IsLimit, IsNamed, IsScripted}
 
 -- what is known of the values and of the checks of a command
 pub record IsSingle {R C : Type 0} (Are : List Row → R → Type 0) (Passes : R → C → Type 0) (Fails : R → Fault → Type 0) : Type 0 where
@@ -72,6 +73,35 @@ editing_single = record {
     inputs = one_inputs r.budgeted.given c.inputs d.inputs a.inputs b.inputs k;
     script = (a.script ∙ sym b.script) k;
     budget = (a.budget ∙ sym b.budget) k;
+  };
+  no_fault = λ r c f a. no_given_fault r.budgeted.given c.inputs.imports f a.inputs.passes;
+  one_fault = λ r. one_given_fault r.budgeted.given;
+}
+
+one_limit : (o : Option Text) (m n : ℕ) → IsLimit o m → IsLimit o n → m ≡ n
+one_limit None m n a b = a ∙ sym b
+one_limit (Some text) m n a b = one_budget (Some text) m n a b
+
+one_flag : (o : Option Text) (b c : Bool) → IsFlag o b → IsFlag o c → b ≡ c
+one_flag o true true p q = refl
+one_flag o true false p q = absurd (q p)
+one_flag o false true p q = absurd (p q)
+one_flag o false false p q = refl
+
+pub explaining_single : IsSingle IsExplained PassesExplaining FailsExplaining
+explaining_single = record {
+  one_request = λ found r s a b k. record {
+    budgeted = one_budgeted found r.budgeted s.budgeted a.budgeted b.budgeted k;
+    map_file = one_value _ r.map_file s.map_file a.map_file b.map_file k;
+    limit = one_limit _ r.limit s.limit a.limit b.limit k;
+    json = one_flag _ r.json s.json a.json b.json k;
+  };
+  one_answer = λ r c d a b k. record {
+    inputs = one_inputs r.budgeted.given c.inputs d.inputs a.inputs b.inputs k;
+    map_file = (a.map_file ∙ sym b.map_file) k;
+    budget = (a.budget ∙ sym b.budget) k;
+    limit = (a.limit ∙ sym b.limit) k;
+    json = (a.json ∙ sym b.json) k;
   };
   no_fault = λ r c f a. no_given_fault r.budgeted.given c.inputs.imports f a.inputs.passes;
   one_fault = λ r. one_given_fault r.budgeted.given;

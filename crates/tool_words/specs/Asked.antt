@@ -1,9 +1,9 @@
 -- What words ask for, or what is wrong with them (own).
-use Rattle.std.specs.Prelude.{◌≡◌, ◌≢◌, ℕ, List, ◌∷◌, codes, true, false}
+use Rattle.std.specs.Prelude.{◌≡◌, ◌≢◌, Bool, ℕ, List, ◌∷◌, codes, true, false}
 use Rattle.clap.specs.Words.{App, Row, Text}
 use Rattle.command_words.specs.Checks.{AreInputs, Fault, Inputs, IsGivenFault, arguments, base, ending, is_base, is_schema_name}
-use Rattle.tool_words.specs.Commands.{convert, extents, session}
-use Rattle.tool_words.specs.Requests.{Asks, Budgeted, Converting, IsBudgeted, IsNamed, IsScripted, Scripted}
+use Rattle.tool_words.specs.Commands.{convert, explain, extents, session}
+use Rattle.tool_words.specs.Requests.{Asks, Budgeted, Converting, Explained, IsBudgeted, IsExplained, IsNamed, IsScripted, Scripted}
 
 -- the words ask by a command for something that passes its checks and leads to this
 pub record LeadsTo {R C : Type 0} (app : App) (Are : List Row → R → Type 0) (Passes : R → C → Type 0) (words : List Text) (c : C) : Type 0 where
@@ -21,6 +21,14 @@ pub record Listing : Type 0 where
   pub inputs : Inputs
   pub budget : ℕ
 
+-- what `explain` asks for once all checks are passed
+pub record Explaining : Type 0 where
+  pub inputs : Inputs
+  pub map_file : Text
+  pub budget : ℕ
+  pub limit : ℕ
+  pub json : Bool
+
 -- what words ask of a session once all checks are passed
 pub record Editing : Type 0 where
   pub inputs : Inputs
@@ -37,6 +45,13 @@ pub record PassesListing (asked : Budgeted) (l : Listing) : Type 0 where
   pub inputs : AreInputs asked.given l.inputs
   pub budget : l.budget ≡ asked.budget
 
+pub record PassesExplaining (asked : Explained) (e : Explaining) : Type 0 where
+  pub inputs : AreInputs asked.budgeted.given e.inputs
+  pub map_file : e.map_file ≡ asked.map_file
+  pub budget : e.budget ≡ asked.budgeted.budget
+  pub limit : e.limit ≡ asked.limit
+  pub json : e.json ≡ asked.json
+
 pub record PassesEditing (asked : Scripted) (e : Editing) : Type 0 where
   pub inputs : AreInputs asked.budgeted.given e.inputs
   pub script : e.script ≡ asked.script
@@ -49,6 +64,9 @@ pub data FailsConverting (asked : Converting) : Fault → Type 0 where
 
 abbrev pub FailsListing : Budgeted → Fault → Type 0
 FailsListing asked f = IsGivenFault asked.given f
+
+abbrev pub FailsExplaining : Explained → Fault → Type 0
+FailsExplaining asked f = IsGivenFault asked.budgeted.given f
 
 abbrev pub FailsEditing : Scripted → Fault → Type 0
 FailsEditing asked f = IsGivenFault asked.budgeted.given f
@@ -67,6 +85,13 @@ IsListing words l = LeadsTo extents IsBudgeted PassesListing words l
 abbrev pub IsListingFault : List Text → Fault → Type 0
 IsListingFault words f = IsFirstFault extents IsBudgeted FailsListing words f
 
+-- what those behind `explain` ask for, and what is wrong with them
+abbrev pub IsExplaining : List Text → Explaining → Type 0
+IsExplaining words e = LeadsTo explain IsExplained PassesExplaining words e
+
+abbrev pub IsExplainingFault : List Text → Fault → Type 0
+IsExplainingFault words f = IsFirstFault explain IsExplained FailsExplaining words f
+
 -- what words ask of a session, and what is wrong with them
 abbrev pub IsEditing : List Text → Editing → Type 0
 IsEditing words e = LeadsTo session IsScripted PassesEditing words e
@@ -80,17 +105,21 @@ pub record Behind (name : Text) (words : List Text) (Holds : List Text → Type 
   pub named : words ≡ name ∷ behind
   pub holds : Holds behind
 
--- what words ask of the tool: a schema in ShExJ, or the extents of its labels
+-- what words ask of the tool: a schema in ShExJ, the extents of its labels, or the reasons for answers
 pub data ToolCall : Type 0 where
   of_schema : Converting → ToolCall
   of_labels : Listing → ToolCall
+  of_reasons : Explaining → ToolCall
 
 abbrev pub IsToolCall : List Text → ToolCall → Type 0
 IsToolCall words (of_schema c) = Behind (codes "convert") words (λ behind. IsConverting behind c)
 IsToolCall words (of_labels l) = Behind (codes "extents") words (λ behind. IsListing behind l)
+IsToolCall words (of_reasons e) = Behind (codes "explain") words (λ behind. IsExplaining behind e)
 
 -- the first word is no command's name, or this is the first thing that is wrong with those behind it
 pub data IsToolFault (words : List Text) : Fault → Type 0 where
-  unnamed : ((behind : List Text) → words ≢ codes "convert" ∷ behind) → ((behind : List Text) → words ≢ codes "extents" ∷ behind) → IsToolFault words arguments
+  unnamed : ((behind : List Text) → words ≢ codes "convert" ∷ behind) → ((behind : List Text) → words ≢ codes "extents" ∷ behind)
+      → ((behind : List Text) → words ≢ codes "explain" ∷ behind) → IsToolFault words arguments
   in_convert : (f : Fault) → Behind (codes "convert") words (λ behind. IsConvertingFault behind f) → IsToolFault words f
   in_extents : (f : Fault) → Behind (codes "extents") words (λ behind. IsListingFault behind f) → IsToolFault words f
+  in_explain : (f : Fault) → Behind (codes "explain") words (λ behind. IsExplainingFault behind f) → IsToolFault words f

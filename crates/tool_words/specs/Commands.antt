@@ -1,7 +1,12 @@
 -- The commands as `clap` sees them.
-use Rattle.std.specs.Prelude.{[], ◌∷◌, codes}
-use Rattle.clap.specs.Words.{App}
+use Rattle.std.specs.Prelude.{[], ◌∷◌, Some, codes}
+use Rattle.clap.specs.Words.{App, Rule, Text, new_rule}
+use Rattle.clap.specs.declared.builder.action.ArgAction.TheVariants.{SetTrue}
 use Rattle.command_words.specs.Commands.{command, needed, option, rest}
+
+-- an option without a value
+abbrev pub flag : Text → Rule
+flag name = record (new_rule name) { long = Some name; action = Some SetTrue }
 
 -- `convert --schema F [--schema-base I]`
 abbrev pub convert : App
@@ -13,6 +18,20 @@ extents = command (codes "extents")
     (needed (option (codes "schema"))
     ∷ needed (option (codes "data"))
     ∷ option (codes "budget")
+    ∷ option (codes "schema-base")
+    ∷ option (codes "data-base")
+    ∷ rest (codes "imports")
+    ∷ [])
+
+-- `explain --schema F --data F --map F [--budget N] [--limit N] [--json] [--schema-base I] [--data-base I] [IRI=FILE ..]`
+abbrev pub explain : App
+explain = command (codes "explain")
+    (needed (option (codes "schema"))
+    ∷ needed (option (codes "data"))
+    ∷ needed (option (codes "map"))
+    ∷ option (codes "budget")
+    ∷ option (codes "limit")
+    ∷ flag (codes "json")
     ∷ option (codes "schema-base")
     ∷ option (codes "data-base")
     ∷ rest (codes "imports")

@@ -8,7 +8,7 @@ mod requests;
 mod session;
 mod tool;
 
-pub use call::{Converting, Editing, Listing, ToolCall};
+pub use call::{Converting, Editing, Explaining, Listing, ToolCall};
 pub use laws::answers_are_one;
 pub use session::read_session;
 pub use tool::read_tool;

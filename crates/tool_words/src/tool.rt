@@ -3,12 +3,12 @@
 ghost use Rattle.std.specs.Prelude.{◌≡◌, IfErr, IfOk, IsErrAnd, MatchResult, map, string_bytes};
 ghost use Rattle.command_words.specs.Checks.{Fault};
 ghost use Rattle.command_words.specs.Lent.{Because};
-ghost use Rattle.tool_words.specs.Asked.{IsConverting, IsConvertingFault, IsListing, IsListingFault, IsToolCall, IsToolFault, ToolCall as Calling};
-ghost use Rattle.tool_words.specs.Lent.{converting_of, listing_of, tool_call_of};
+ghost use Rattle.tool_words.specs.Asked.{IsConverting, IsConvertingFault, IsExplaining, IsExplainingFault, IsListing, IsListingFault, IsToolCall, IsToolFault, ToolCall as Calling};
+ghost use Rattle.tool_words.specs.Lent.{converting_of, explaining_of, listing_of, tool_call_of};
 
-use crate::call::{Converting, Listing, ToolCall};
-use crate::commands::{convert, extents};
-use crate::requests::{Budgeted, read_budgeted, read_named};
+use crate::call::{Converting, Explaining, Listing, ToolCall};
+use crate::commands::{convert, explain, extents};
+use crate::requests::{Budgeted, Explained, read_budgeted, read_explained, read_named};
 use command_words::WordsError;
 use command_words::checks::{checked_inputs, is_base, is_schema_name};
 use command_words::matches::{matches_of, words_behind};
@@ -49,6 +49,32 @@ fn read_listing<'a>(alloc: Global, words: &'a [String]) -> Result<Listing<'a>, W
     Ok(Listing { inputs, budget })
 }
 
+/// What the words behind `explain` ask for, or the first thing that is wrong with them.
+fn read_explaining<'a>(alloc: Global, words: &'a [String]) -> Result<Explaining<'a>, WordsError<'a>>
+    ensures ok { IfOk result (λ e. IsExplaining (map string_bytes words.entry.now) (explaining_of e)) }
+    ensures fault { IfErr result (Because (IsExplainingFault (map string_bytes words.entry.now))) }
+{
+    let command = explain(alloc)?;
+    let Some(matches) = matches_of(command, words)? else {
+        return Err(WordsError::Arguments);
+    };
+    let Explained {
+        budgeted,
+        map,
+        limit,
+        json,
+    } = read_explained(alloc, &matches)?;
+    let Budgeted { given, budget } = budgeted;
+    let inputs = checked_inputs(alloc, given)?;
+    Ok(Explaining {
+        inputs,
+        map,
+        budget,
+        limit,
+        json,
+    })
+}
+
 /// What the words ask for, or the first thing that is wrong with them.
 fn read_call<'a>(alloc: Global, words: &'a [String]) -> Result<ToolCall<'a>, WordsError<'a>>
     ensures ok { IfOk result (λ c. IsToolCall (map string_bytes words.entry.now) (tool_call_of c)) }
@@ -62,12 +88,17 @@ fn read_call<'a>(alloc: Global, words: &'a [String]) -> Result<ToolCall<'a>, Wor
         let listing = read_listing(alloc, behind)?;
         return Ok(ToolCall::Extents(listing));
     }
+    if let Some(behind) = words_behind(words, "explain") {
+        let explaining = read_explaining(alloc, behind)?;
+        return Ok(ToolCall::Explain(explaining));
+    }
     Err(WordsError::Arguments)
 }
 
-/// What the words behind the program's name ask of `shextool`: `convert --schema F [--schema-base I]`, or
-/// `extents --schema F --data F [--budget N] [--schema-base I] [--data-base I] [IRI=FILE ..]`. It fails with the first thing that
-/// is wrong with them, in this order: `Arguments`; `Ending` of the schema's name, then of the data's; for each import word in
+/// What the words behind the program's name ask of `shextool`: `convert --schema F [--schema-base I]`,
+/// `extents --schema F --data F [--budget N] [--schema-base I] [--data-base I] [IRI=FILE ..]`, or
+/// `explain --schema F --data F --map F [--budget N] [--limit N] [--json] [--schema-base I] [--data-base I] [IRI=FILE ..]`. It
+/// fails with the first thing that is wrong with them, in this order: `Arguments`; `Ending` of the schema's name, then of the data's; for each import word in
 /// turn `Import` and then `Ending` of its file's name; `Base` of the schema, then of the data.
 pub fn read_tool<'a>(alloc: Global, words: &'a [String]) -> Result<ToolCall<'a>, WordsError<'a>>
     ensures asked { IfOk result (λ c. IsToolCall (map string_bytes words.entry.now) (tool_call_of c)) }

@@ -1,0 +1,7 @@
+use Rattle.std.proofs.Common.{◌∙◌, ap}
+use Rattle.explanation_texts.specs.Conditions.{has_datatype}
+use Rattle.explanation_texts.proofs.Spelled.{double_chars}
+use Rattle.explanation_texts.proofs.conditions.is_double.Goals as goal
+
+pub returns : goal.returns
+returns c = c.has_iri.ensures ∙ ap (λ d. has_datatype d c.args.term.now) double_chars
