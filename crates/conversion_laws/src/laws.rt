@@ -7,7 +7,7 @@ pub fn compact_are_expressible()
     ensures { CompactAreExpressible }
 {}
 
-/// So has each document that bytes are in ShExC or in ShExJ.
+/// Each document that bytes are in ShExC or in ShExJ has a form in ShExJ.
 pub fn schemas_are_expressible()
     ensures { SchemasAreExpressible }
 {

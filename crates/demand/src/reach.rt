@@ -150,7 +150,9 @@ pub fn close(
     closed(alloc, schema, graph, terms, &mut seen)
 }
 
-/// The same, where each of the nodes is asked for with each of the expressions, however many roots that makes.
+/// The pairs that each of the nodes reaches with each of the expressions, however many roots that makes: each pair once, in the
+/// order of the texts of their nodes and then of their Shapes. It is refused as `Pairs` exactly where these are more than
+/// 4,194,304, want of memory aside.
 pub fn close_each(
     alloc: Global,
     schema: &Schema,

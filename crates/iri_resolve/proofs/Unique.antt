@@ -66,7 +66,7 @@ after_scheme-ended (Some name) rest h n =
     ∙ ap (λ o. cond (is_some o) (after colon (name ++ colon ∷ rest)) (name ++ colon ∷ rest)) (front_scheme-front name rest h)
     ∙ after-append colon name rest (Lacks-scheme colon name refl refl h)
 
--- and so is an authority
+-- what stands before the path is the authority
 before-path : (authority path : List ℕ) → Lacks slash authority → (path ≡ []) ⊎ BeginsWith path (codes "/") → before slash (authority ++ path) ≡ authority
 before-path authority path h (inl e) = ap (λ t. before slash (authority ++ t)) e ∙ before-led slash authority None h
 before-path authority path h (inr w) = ap (λ t. before slash (authority ++ t)) w.1 ∙ before-append slash authority w.0 h

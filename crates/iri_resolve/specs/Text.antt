@@ -35,7 +35,7 @@ before mark text = before_first (λ b. b == mark) text
 abbrev pub after : ℕ → List ℕ → List ℕ
 after mark text = after_first (λ b. b == mark) text
 
--- the same, if there is one
+-- what stands behind the first such byte, if there is one
 abbrev pub part_after : ℕ → List ℕ → Option (List ℕ)
 part_after mark text = if has mark text then Some (after mark text) else None
 

@@ -15,7 +15,7 @@ beside R (z ∷ xs) (y ∷ ys) h x c = elim (in_rest z xs x c) [
   | inr later ↦ (let (w, d, r) = beside R xs ys h.1 x later in (w, is_later y ys w d, r))
 ]
 
--- and so has each of the other
+-- items side by side: each of the other list has one of the first beside it
 pub beside_back : {A B : Type 0} (R : A → B → Type 0) (xs : List A) (ys : List B) → AllZip R xs ys → (y : B) → Contains ys y → (x : A) × Contains xs x × R x y
 beside_back R [] [] h y c = absurd (not_in_none y c)
 beside_back R [] (z ∷ ys) h y c = absurd h

@@ -79,7 +79,7 @@ module _ {X K : Type 0} (R : K → K → Ordering) (o : IsTotalOrder R) (key : X
       go (inr l) (inl m) = absurd (tied_apart j i x m (slice_get_within xs i x a) (sym keys))
       go (inr l) (inr m) = omega arith
 
-  -- and so are two items
+  -- two items with one key are one
   pub one_item : (x y : X) → Contains xs x → Contains xs y → key x ≡ key y → x ≡ y
   one_item x y (i, a, e) (j, b, f) same =
       let p = slice_get_read xs (length xs) i x refl a (sym e) in

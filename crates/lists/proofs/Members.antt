@@ -30,7 +30,7 @@ in_rest y ys x (suc k, h, e) = inr (k, omega arith, e)
 pub is_first : {X : Type 0} (x : X) (ys : List X) → Contains (x ∷ ys) x
 is_first x ys = (0, omega arith, refl)
 
--- and so is each later one
+-- each later item is one of the list
 pub is_later : {X : Type 0} (y : X) (ys : List X) (x : X) → Contains ys x → Contains (y ∷ ys) x
 is_later y ys x (k, h, e) = (suc k, omega arith, e)
 

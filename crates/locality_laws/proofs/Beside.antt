@@ -328,7 +328,7 @@ module _ (s : Schema) (terms : List Term) (g : List Triple) (budget : ℕ) (pair
 
     -- where they do of all pairs of a lower sum, they do of those of the sum
     module _ (k : ℕ) (same : (r : Pair) → sum r < k → Same r) where
-      -- the same, with the two in turn
+      -- where the two typings agree on a pair of a lower sum, they do with the two exchanged
       turned : (r : Pair) → level h r.shape + level f r.shape < k → (Contains y.yes r ↔ Contains x.yes r) × (Contains y.no r ↔ Contains x.no r)
       turned r lt = let (yes_, no_) = same r (omega (arith, lt)) in ((yes_.1, yes_.0), (no_.1, no_.0))
 

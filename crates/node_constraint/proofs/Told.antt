@@ -1,5 +1,5 @@
 -- Tests, and what they tell.
-use Rattle.std.proofs.Common.{◌≡◌, ℕ, Bool, true, false, true≢false, List, Option, Some, None, IsTrue, ◌↔◌, Ordering, Less, Equal, Greater, encode_utf8_all, refl, sym, ◌∙◌, ap, subst, inl, inr, ◌⊎◌}
+use Rattle.std.proofs.Common.{◌≡◌, ℕ, Bool, true, false, true≢false, List, Option, Some, None, IsTrue, ◌↔◌, Ordering, Less, Equal, Greater, refl, sym, ◌∙◌, ap, subst, inl, inr, ◌⊎◌}
 use Rattle.std.specs.Option.{IsSomeAnd}
 use Rattle.std.specs.Ordering.{is_le, is_lt}
 use Rattle.xs_text.specs.Decimal.{HasSameValue, IsBelow}
@@ -49,16 +49,3 @@ pub without : (facet : Facet) (text : List ℕ) (o : Option (List ℕ)) (r : Boo
 without facet text o r is told =
     let both = without_decimal facet text in
     subst (λ z. IsTrue r ↔ SatPlain facet text z) is (λ h. both.0 (told.0 h), λ h. told.1 (both.1 h))
-
--- of bounds by their bytes
-pub bound_at_most : (b c d : List ℕ) (r : Bool) → c ≡ encode_utf8_all b → IsTrue r ↔ IsAtMost c d → IsTrue r ↔ IsAtMost (encode_utf8_all b) d
-bound_at_most b c d r is told = subst (λ z. IsTrue r ↔ IsAtMost z d) is told
-
-pub at_most_bound : (b c d : List ℕ) (r : Bool) → c ≡ encode_utf8_all b → IsTrue r ↔ IsAtMost d c → IsTrue r ↔ IsAtMost d (encode_utf8_all b)
-at_most_bound b c d r is told = subst (λ z. IsTrue r ↔ IsAtMost d z) is told
-
-pub bound_below : (b c d : List ℕ) (r : Bool) → c ≡ encode_utf8_all b → IsTrue r ↔ IsBelow c d → IsTrue r ↔ IsBelow (encode_utf8_all b) d
-bound_below b c d r is told = subst (λ z. IsTrue r ↔ IsBelow z d) is told
-
-pub below_bound : (b c d : List ℕ) (r : Bool) → c ≡ encode_utf8_all b → IsTrue r ↔ IsBelow d c → IsTrue r ↔ IsBelow d (encode_utf8_all b)
-below_bound b c d r is told = subst (λ z. IsTrue r ↔ IsBelow d z) is told

@@ -1,7 +1,7 @@
 -- Loops over facets and patterns, an item at a time.
-use Rattle.std.proofs.Common.{◌≡◌, ℕ, ◌+◌, ◌<◌, ◌≤◌, List, [], ◌∷◌, ◌++◌, length, take, drop, get_or, refl, ap, sym, subst, ◌∙◌, true≢false, false, true, IsTrue, ◌↔◌, Err}
+use Rattle.std.proofs.Common.{◌≡◌, ℕ, ◌+◌, ◌<◌, List, [], ◌∷◌, ◌++◌, length, take, drop, get_or, refl, ap, sym, subst, ◌∙◌, true≢false, false, true, IsTrue, ◌↔◌, Err}
 use Rattle.std.proofs.lemmas.Grind.{flat_map-append}
-use Rattle.std.proofs.lemmas.List.{append-nil, drop_all, drop_more, take-append-drop, take_all, take_more}
+use Rattle.std.proofs.lemmas.List.{append-nil, drop_more, take-append-drop, take_more}
 use Rattle.std.proofs.lemmas.List.Recursion.{and_at}
 use Rattle.std.specs.List.{AllByRecursion}
 use Rattle.xs_pattern.specs.declared.pattern.Pattern.{Pattern}
@@ -32,10 +32,6 @@ pub ends_here : {X : Type 0} (P : X → Type 0) (xs : List X) (i : ℕ) (x : X) 
 ends_here P xs i x within is none A all =
     let left = all_left P xs i x within is in
     (λ h. absurd (true≢false (sym h)), λ a. absurd (none (left.0 (all.0 a)).0))
-
--- and its end
-pub all_past : {X : Type 0} (P : X → Type 0) (xs : List X) (i : ℕ) → length xs ≤ i → (A : Type 0) → A ↔ AllByRecursion P (drop i xs) → IsTrue true ↔ A
-all_past P xs i past A all = (λ h. all.1 (subst (AllByRecursion P) (sym (drop_all i xs past)) tt), λ a. refl)
 
 -- the patterns of one facet more
 patterns_more : (fs : List Facet) (i : ℕ) (f : Facet) → i < length fs → f ≡ get_or fs i f → patterns_in (take (i + 1) fs) ≡ patterns_in (take i fs) ++ pattern_in f
@@ -81,10 +77,6 @@ module _ (fs : List Facet) (ps : List Pattern) (i : ℕ) (f : Facet) (within : i
   one_stops t e one refused =
       subst (λ ts. StopsAt ts e) (sym (patterns_around fs i f within is ∙ ap (λ z. patterns_in (take i fs) ++ (z ++ patterns_in (drop (i + 1) fs))) one))
       (stop_at e (patterns_in (take i fs)) ps t (patterns_in (drop (i + 1) fs)) read refused)
-
--- at the end all are read
-pub all_read : (fs : List Facet) (ps : List Pattern) (i : ℕ) → length fs ≤ i → AreReadFrom (patterns_in (take i fs)) ps → AreReadFrom (patterns_in fs) ps
-all_read fs ps i past read = subst (λ gs. AreReadFrom (patterns_in gs) ps) (take_all i fs past) read
 
 -- each range value is a decimal where all are
 pub comparable_at : (fs : List Facet) (i : ℕ) (f : Facet) → i < length fs → f ≡ get_or fs i f → are_comparable fs ≡ true → is_comparable f ≡ true

@@ -50,7 +50,7 @@ pub(crate) fn decimal_of(term: &Term) -> Option<&str>
     }
 }
 
-/// The same of a literal.
+/// The lexical form of a literal, if its values are decimals and its lexical form is valid.
 fn decimal_in(literal: &Literal) -> Option<&str>
     ensures value { option_copied result ≡ decimal_in literal.now }
     ensures decimal { ForSome (option_copied result) (λ d. IsTrue (is_decimal d)) }

@@ -1,6 +1,6 @@
 //! The facets of a node constraint.
 
-ghost use Rattle.std.specs.Prelude.{◌≡◌, ◌↔◌, ◌⊎◌, IsTrue, IsSomeAnd, length, true};
+ghost use Rattle.std.specs.Prelude.{◌≡◌, ◌↔◌, IsTrue, IsSomeAnd, length, true};
 ghost use Rattle.std.specs.Option.{ForSome, option_copied};
 ghost use Rattle.std.specs.Str.{chars};
 ghost use Rattle.xs_text.specs.Decimal.{IsBelow, is_decimal};

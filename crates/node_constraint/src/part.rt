@@ -1,6 +1,6 @@
 //! The parts of a node constraint, and the first facet that a term fails.
 
-ghost use Rattle.std.specs.Prelude.{◌≡◌, ◌∷◌, List, IfOk, IsTrue, MatchOption};
+ghost use Rattle.std.specs.Prelude.{◌∷◌, List, IfOk, IsTrue, MatchOption};
 ghost use Rattle.std.specs.Option.{ForSome, option_copied};
 ghost use Rattle.std.specs.Str.{chars};
 ghost use Rattle.xs_text.specs.Decimal.{is_decimal};

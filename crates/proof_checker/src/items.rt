@@ -320,7 +320,7 @@ impl ProofInSetting<'_> {
 }
 
 impl Fault {
-    /// The same with so many items before.
+    /// The fault with so many items before its own.
     fn after(self, before: usize) -> Fault
         requires { self.item + before < 2 ^ 64 }
         ensures { result ≡ record { item = self.item + before; why = self.why } }

@@ -1,5 +1,5 @@
 -- Which bytes the texts of fields and lines do not hold.
-use Rattle.std.proofs.Common.{◌≡◌, ℕ, zero, suc, ◌<◌, ◌≢◌, ◌==◌, Bool, true, false, subst, List, [], ◌∷◌, ◌++◌, refl, ap, sym, ◌∙◌, length, get_or, arith, Err, map, codes}
+use Rattle.std.proofs.Common.{◌≡◌, ℕ, ◌<◌, ◌≢◌, ◌==◌, Bool, true, false, subst, List, [], ◌∷◌, ◌++◌, refl, ap, sym, ◌∙◌, get_or, arith, Err, map, codes}
 use Rattle.std.proofs.lemmas.Bool.{ne_eqb}
 use Rattle.std.proofs.lemmas.List.{append_cancel_left}
 use Rattle.std.proofs.lemmas.List.Splits.{join_with_byte-slice_split}
@@ -23,10 +23,6 @@ use Rattle.std.proofs.lemmas.List.Elements.{recursion_from_All, All-from_recursi
 
 abbrev pub IsClean : ℕ → List ℕ → Type 0
 IsClean c xs = AllByRecursion (λ b. (b == c) ≡ false) xs
-
-at_place : {X : Type 0} (P : X → Type 0) (x : X) (xs : List X) → P x → All P xs → (k : ℕ) (d : X) → k < length (x ∷ xs) → P (get_or (x ∷ xs) k d)
-at_place P x xs h hs zero d lt = h
-at_place P x xs h hs (suc k) d lt = hs k d (omega arith)
 
 pub clean_number : (c n : ℕ) → c < 44 → IsNumber n → IsClean c (decimal n)
 clean_number c n low h = recursion_from_All (λ b. (b == c) ≡ false) (decimal n) (clean_decimal c n (λ b above below e. omega arith) h)

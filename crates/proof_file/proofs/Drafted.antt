@@ -5,7 +5,7 @@ use Rattle.proof_file.specs.declared.line.Line.{Line}
 use Rattle.proof_file.specs.declared.lines.Lines.{Lines as Reader}
 use Rattle.proof_file.specs.declared.lines.Next.TheVariants as Nexts
 use Rattle.proof_file.specs.declared.read.Draft.{Draft}
-use Rattle.proof_file.specs.Text.{ProofText, IsFault}
+use Rattle.proof_file.specs.Text.{ProofText}
 use Rattle.proof_file.specs.Reader.{Grows, Heading, Leads, Where, heading, opened, behind, ended, failed, Stands, Goes, no_lines, Opens}
 use Rattle.proof_file.specs.Drafts.{IsDraft, IsDraftAt, IsDraftOf, IsHeadingDraft}
 
@@ -30,9 +30,3 @@ draft_ends (failed at) old new d bytes goes h whole = absurd goes
 -- what is made of the draft is the proof of which the bytes are the text
 pub draft_made : (d : Draft) (x : Proof) (bytes : List ℕ) → IsDraftOf d bytes → ((p : Proof) → IsDraft d p → x ≡ p) → ProofText x bytes
 draft_made d x bytes (p, (h, text)) same = subst (λ z. ProofText z bytes) (sym (same p h)) text
-
-pub draft_fails : (w : Where) (old new : Reader) (d : Draft) (at : ℕ) (bytes : List ℕ) → Goes w old new (Nexts.Bad at) → IsDraftAt d w → new.whole.now ≡ bytes → IsFault bytes at
-draft_fails (heading k) old new d at bytes goes h whole = subst (λ z. IsFault z at) whole goes.1.1
-draft_fails (behind p) old new d at bytes goes h whole = subst (λ z. IsFault z at) whole goes.1.1
-draft_fails (ended p) old new d at bytes goes h whole = absurd h
-draft_fails (failed here) old new d at bytes goes h whole = subst (λ z. IsFault z at) whole (subst (IsFault new.whole.now) (sym goes.0) goes.1.1.1)

@@ -1,9 +1,9 @@
 -- Fields that are read one after the other.
-use Rattle.std.proofs.Common.{◌≡◌, ℕ, ◌<◌, ◌≤◌, ◌≢◌, ◌==◌, false, Option, Some, None, Bor, MatchOption, subst, lit<, List, [], ◌∷◌, ◌++◌, refl, ap, sym, ◌∙◌, length, get_or, arith, Err, map, append_assoc}
+use Rattle.std.proofs.Common.{◌≡◌, ℕ, ◌<◌, ◌≤◌, ◌≢◌, ◌==◌, false, Option, Some, None, Bor, MatchOption, subst, lit<, List, [], ◌∷◌, ◌++◌, refl, ap, sym, ◌∙◌, length, get_or, arith, Err, map}
 use Rattle.std.proofs.Common.{eq-eqb}
 use Rattle.std.proofs.lemmas.Bool.{ne_eqb}
 use Rattle.std.proofs.lemmas.Fmt.{decimal_injective, decimal_nonempty}
-use Rattle.std.proofs.lemmas.List.{map-append, get_or_default, length-append}
+use Rattle.std.proofs.lemmas.List.{get_or_default, length-append}
 use Rattle.std.proofs.lemmas.List.Splits.{slice_split_none, slice_split_at, join_with_byte-slice_split}
 use Rattle.std.proofs.lemmas.Str.Pattern.{IsSplitOnceResult, split_after, split_parts}
 use Rattle.proof_file.proofs.Joined.{joined_map}
@@ -37,12 +37,6 @@ far_place field n far number is Rest h e =
     let some : 0 < length (decimal n) = omega (arith, ap length one) in
     let digit = digit_of n 0 number some in
     omega (arith, digit.1, ap (λ z. get_or z 0 0) one)
-
--- an item more is read
-pub gathers : {X : Type 0} (g : X → List ℕ) (ps : List X) (p : X) (field : List ℕ) (fs now all : List (List ℕ)) →
-    now ≡ field ∷ fs → map g ps ++ now ≡ all → field ≡ g p → map g (ps ++ p ∷ []) ++ fs ≡ all
-gathers g ps p field fs now all n h e =
-    ap (λ z. z ++ fs) (map-append g ps (p ∷ [])) ∙ append_assoc (map g ps) (g p ∷ []) fs ∙ ap (λ z. map g ps ++ z) (ap (λ z. z ∷ fs) (sym e) ∙ sym n) ∙ h
 
 never : {X : Type 0} (g : X → List ℕ) (P : X → Type 0) (field : List ℕ) (fs : List (List ℕ)) → ((x : X) → P x → ¬ (field ≡ g x)) →
     (ps xs : List X) → AllByRecursion P xs → map g ps ++ field ∷ fs ≡ map g xs → ⊥

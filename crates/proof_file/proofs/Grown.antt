@@ -36,10 +36,6 @@ pub last_append : (last : List ℕ) (xs ys : List Line) → last_after last (xs 
 last_append last [] ys = refl
 last_append last (x ∷ xs) ys = last_append (next_last last x) xs ys
 
--- the stage is in a section of the stratum k
-IsIn : ℕ → Stage → Type 0
-IsIn k stage = ((stage ≡ Stages.Section k)) ⊎ ((n : ℕ) × ((s : ℕ) × (stage ≡ Stages.Record k n s)))
-
 claims_run : (stage : Stage) (last : List ℕ) → MayEnd stage → ((c : Claim) → Follows stage last (Lines.Claim c)) → (cs : List Claim) → Runs stage last (map (λ c. Lines.Claim c) cs)
 claims_run stage last may h [] = may
 claims_run stage last may h (c ∷ cs) = (h c, claims_run Stages.Claims last tt (λ c. tt) cs)

@@ -1,30 +1,17 @@
 -- The lines of a head, read and written.
-use Rattle.std.proofs.Common.{◌≡◌, ℕ, List, [], ◌∷◌, ◌++◌, Result, Ok, Err, ap, sym, ◌∙◌, map, append_assoc, codes}
+use Rattle.std.proofs.Common.{◌≡◌, ℕ, List, ◌++◌, Err, ap, sym, ◌∙◌, append_assoc, codes}
 use Rattle.std.proofs.lemmas.List.Splits.{join_with_byte-slice_split}
-use Rattle.std.specs.Fmt.{decimal}
 use Rattle.std.specs.List.{AllByRecursion, join_with_byte}
-use Rattle.proof_file.specs.declared.head.Digest256.{Digest256}
 use Rattle.proof_file.specs.declared.head.Part.{Part}
 use Rattle.proof_file.specs.declared.head.Part.TheVariants as Parts
 use Rattle.proof_file.specs.declared.fields.Stop.{Stop}
-use Rattle.proof_file.specs.declared.fields.Stop.TheVariants.{Bad, Memory}
 use Rattle.proof_file.specs.declared.line.Line.{Line}
 use Rattle.proof_file.specs.declared.line.Line.TheVariants as Lines
-use Rattle.proof_file.specs.Text.{part_mark, digest_text, ended, line_text, IsNumber}
+use Rattle.proof_file.specs.Text.{digest_text, line_text, IsNumber}
 use Rattle.proof_file.specs.Reading.{Reads, fields, strata_fields, IsHeadLine}
 use Rattle.proof_file.proofs.Clean.{strata_cut, strata_joined}
-use Rattle.proof_file.proofs.Gathered.{blames, cons_head, cons_tail}
+use Rattle.proof_file.proofs.Gathered.{blames}
 use Rattle.proof_file.proofs.Joined.{chained}
-
--- the numbers behind the mark are those of the line
-pub strata_read : (fs left : List (List ℕ)) (r : Result (List ℕ) Stop) → fs ≡ codes "k" ∷ left → Reads (λ ns. map decimal ns) (AllByRecursion IsNumber) left r → Reads strata_fields (AllByRecursion IsNumber) fs r
-strata_read fs left (Ok ns) is (made, good) = (is ∙ ap (λ z. codes "k" ∷ z) made, good)
-strata_read fs left (Err Bad) is none = λ ns good e. none ns good (cons_tail _ _ _ _ (sym is ∙ e))
-strata_read fs left (Err Memory) is h = tt
-
--- another mark is that of no strata
-pub no_strata : (fs left : List (List ℕ)) (mark : List ℕ) → fs ≡ mark ∷ left → ¬ (mark ≡ codes "k") → (ns : List ℕ) → AllByRecursion IsNumber ns → fs ≡ strata_fields ns → ⊥
-no_strata fs left mark is other ns good e = other (cons_head _ _ _ _ (sym is ∙ e))
 
 pub strata_found : (text ns : List ℕ) → fields 32 text ≡ strata_fields ns → text ≡ line_text (Lines.Strata ns)
 strata_found text ns e = sym (join_with_byte-slice_split 32 text) ∙ ap (join_with_byte 32) e ∙ sym (strata_joined ns)
@@ -47,10 +34,6 @@ strata_stop text e schema imported graph = blames strata_fields (AllByRecursion 
     part (Lines.Section k) h is = absurd h
     part (Lines.Record r) h is = absurd h
     part (Lines.Claim c) h is = absurd h
-
--- the pieces that `push_digest` appends are the line
-pub digest_written : (part : Part) (d : Digest256) → codes "f " ++ (part_mark part ++ (digest_text d ++ 10 ∷ [])) ≡ ended (line_text (Lines.Digest part d))
-digest_written part d = ap (λ z. codes "f " ++ z) (sym (append_assoc (part_mark part) (digest_text d) (10 ∷ [])))
 
 -- six pieces one after another
 pub chained_six : (old a b c d e new u v w x y z : List ℕ) → a ≡ old ++ u → b ≡ a ++ v → c ≡ b ++ w → d ≡ c ++ x → e ≡ d ++ y → new ≡ e ++ z → new ≡ old ++ (u ++ (v ++ (w ++ (x ++ (y ++ z)))))

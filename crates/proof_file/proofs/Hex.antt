@@ -1,16 +1,11 @@
 -- Digests in hexadecimal digits.
-use Rattle.std.proofs.Common.{◌≡◌, ℕ, zero, suc, ◌+◌, ◌*◌, ◌-◌, ◌/◌, ◌%◌, ◌<◌, ◌≤◌, ◌≢◌, ◌==◌, if◌then◌else◌, false, inl, inr, subst, List, [], ◌∷◌, ◌++◌, refl, ap, sym, ◌∙◌, length, get_or, take, set, arith}
+use Rattle.std.proofs.Common.{◌≡◌, ℕ, zero, suc, ◌+◌, ◌*◌, ◌-◌, ◌/◌, ◌%◌, ◌<◌, ◌≤◌, ◌≢◌, ◌==◌, if◌then◌else◌, false, inl, inr, List, [], ◌∷◌, refl, ap, sym, ◌∙◌, length, get_or, arith}
 use Rattle.std.proofs.lemmas.Bool.{cases_lt, le-ltb, lt-ltb, ne_eqb}
-use Rattle.std.proofs.lemmas.Nat.{div-mul-add, mod-mul-add}
-use Rattle.std.proofs.lemmas.Grind.{flat_map-append}
-use Rattle.std.proofs.lemmas.List.{take_more_set, append-nil}
 use Rattle.std.proofs.Math.Nat.{div-add-mod, div-lt_iff_lt-mul, mod-lt}
-use Rattle.std.proofs.Math.Seq.{take-length, take-suc}
 use Rattle.std.specs.List.{AllByRecursion, flat_map}
 use Rattle.proof_file.specs.declared.head.Digest256.{Digest256}
 use Rattle.proof_file.specs.Text.{hex_digit, hex_text, digest_text, IsDigest}
 use Rattle.proof_file.proofs.Gathered.{cons_head, cons_tail}
-use Rattle.lists.proofs.Quantifiers.{all_append}
 
 -- ---- digits
 
@@ -26,12 +21,6 @@ is_digit d n h e = elim (cases_lt n 10) [
   | inl lt ↦ (let is : d ≡ n + 48 = e ∙ low_digit n lt in (λ k. omega arith, (λ k j. omega arith, λ k. omega arith)))
   | inr ge ↦ (let is : d ≡ n + 87 = e ∙ high_digit n ge in (λ k. omega arith, (λ k j. omega arith, λ k. omega arith)))
 ]
-
-pub from_low : (d : ℕ) → 48 ≤ d → d ≤ 57 → (d - 48 < 16) × (d ≡ hex_digit (d - 48))
-from_low d h k = let e = low_digit (d - 48) (omega arith) in ((omega arith), (omega (arith, e)))
-
-pub from_high : (d : ℕ) → 97 ≤ d → d ≤ 102 → (d - 97 + 10 < 16) × (d ≡ hex_digit (d - 97 + 10))
-from_high d h k = let e = high_digit (d - 97 + 10) (omega arith) in ((omega arith), (omega (arith, e)))
 
 same_digit : (m n : ℕ) → m < 16 → n < 16 → hex_digit m ≡ hex_digit n → m ≡ n
 same_digit m n h k e = elim (cases_lt m 10) [
@@ -66,12 +55,6 @@ high_part n h = (div-lt_iff_lt-mul {k = 16} {x = n} {y = 16} (omega arith)).1 h
 
 pub low_part : (n : ℕ) → n % 16 < 16
 low_part n = mod-lt n {m = 16} (omega arith)
-
-pub byte_of : (h l : ℕ) → h < 16 → l < 16 → (h * 16 + l < 256) × (hex_digit h ∷ hex_digit l ∷ [] ≡ hex_text (h * 16 + l))
-byte_of h l a b =
-    let high : h ≡ (h * 16 + l) / 16 = sym (div-mul-add h 16 l b) in
-    let low : l ≡ (h * 16 + l) % 16 = sym (mod-mul-add h 16 l b) in
-    ((omega arith), λ i. hex_digit (high i) ∷ hex_digit (low i) ∷ [])
 
 same_byte : (m n : ℕ) → m < 256 → n < 256 → hex_text m ≡ hex_text n → m ≡ n
 same_byte m n h k e =
@@ -132,33 +115,3 @@ no_digest text i lt none d good e =
 
 pub not_sized : (text : List ℕ) → length text ≢ 64 → (d : Digest256) → IsDigest d → text ≡ digest_text d → ⊥
 not_sized text other d good e = other (omega (arith, ap length e, digits_count d.0, good.0))
-
--- one more byte is read
-pub bytes_more : (text bytes : List ℕ) (i byte : ℕ) → length text ≡ 64 → length bytes ≡ 32 → i < 32 → flat_map hex_text (take i bytes) ≡ take (2 * i) text → AreBytes (take i bytes) →
-    byte < 256 → get_or text (2 * i) 0 ∷ get_or text (2 * i + 1) 0 ∷ [] ≡ hex_text byte →
-    (flat_map hex_text (take (i + 1) (set bytes i byte)) ≡ take (2 * (i + 1)) text) × AreBytes (take (i + 1) (set bytes i byte))
-bytes_more text bytes i byte long sized lt read good small is =
-    let next : take (i + 1) (set bytes i byte) ≡ take i bytes ++ byte ∷ [] = take_more_set bytes i byte (omega arith) in
-    let first : take (suc (2 * i)) text ≡ take (2 * i) text ++ get_or text (2 * i) 0 ∷ [] = take-suc text (2 * i) 0 (omega arith) in
-    let second : take (suc (suc (2 * i))) text ≡ take (suc (2 * i)) text ++ get_or text (suc (2 * i)) 0 ∷ [] = take-suc text (suc (2 * i)) 0 (omega arith) in
-    let twice : suc (suc (2 * i)) ≡ 2 * (i + 1) = omega arith in
-    let once : 2 * i + 1 ≡ suc (2 * i) = omega arith in
-    let digits : take (2 * i) text ++ hex_text byte ≡ take (2 * (i + 1)) text =
-    ap (λ z. take (2 * i) text ++ z) (sym is) ∙ pair (take (2 * i) text) (get_or text (2 * i) 0) (get_or text (2 * i + 1) 0) ∙ ap (λ z. z ++ get_or text (2 * i + 1) 0 ∷ []) (sym first)
-    ∙ ap (λ j. take (suc (2 * i)) text ++ get_or text j 0 ∷ []) once ∙ sym second ∙ ap (λ j. take j text) twice in (
-      ap (λ z. flat_map hex_text z) next ∙ flat_map-append hex_text (take i bytes) (byte ∷ []) ∙ ap (λ z. flat_map hex_text (take i bytes) ++ z) (append-nil (hex_text byte)) ∙ ap (λ z. z ++ hex_text byte) read ∙ digits,
-      subst AreBytes (sym next) (all_append (λ b. b < 256) (take i bytes) (byte ∷ []) good (small, tt)),
-    )
-  where
-    pair : (xs : List ℕ) (a b : ℕ) → xs ++ a ∷ b ∷ [] ≡ (xs ++ a ∷ []) ++ b ∷ []
-    pair [] a b = refl
-    pair (x ∷ xs) a b = ap (λ z. x ∷ z) (pair xs a b)
-
--- all bytes are read
-pub bytes_all : (text bytes : List ℕ) (i : ℕ) → i ≡ 32 → length text ≡ 64 → length bytes ≡ 32 → flat_map hex_text (take i bytes) ≡ take (2 * i) text → AreBytes (take i bytes) →
-    (text ≡ flat_map hex_text bytes) × ((length bytes ≡ 32) × AreBytes bytes)
-bytes_all text bytes i end long sized read good =
-    let count : 32 ≡ length bytes = sym sized in
-    let whole : take i bytes ≡ bytes = ap (λ j. take j bytes) (end ∙ count) ∙ take-length bytes in
-    let twice : 2 * i ≡ length text = omega arith in
-    (sym (take-length text) ∙ ap (λ j. take j text) (sym twice) ∙ sym read ∙ ap (λ z. flat_map hex_text z) whole, (sized, subst AreBytes whole good))

@@ -1,5 +1,5 @@
 -- The reader of lines, line by line.
-use Rattle.std.proofs.Common.{◌≡◌, ℕ, zero, suc, ◌+◌, ◌-◌, ◌<◌, ◌≤◌, ◌==◌, ◌⊎◌, inl, inr, subst, List, [], ◌∷◌, ◌++◌, refl, ap, sym, ◌∙◌, length, get_or, take, drop, arith, append_assoc, map, replicate, Option, Bool, true, false, true≢false, eq-eqb, eqb, ltb, cond, codes, Some, None, position}
+use Rattle.std.proofs.Common.{◌≡◌, ℕ, zero, suc, ◌+◌, ◌-◌, ◌<◌, ◌≤◌, ◌==◌, ◌⊎◌, inl, inr, subst, List, [], ◌∷◌, ◌++◌, refl, ap, sym, ◌∙◌, length, get_or, take, drop, arith, append_assoc, map, replicate, Option, Bool, true, false, true≢false, eq-eqb, ltb, cond, codes, Some, None, position}
 use Rattle.std.proofs.lemmas.List.{length-append, length-replicate, map-append, take_rest, append-nil}
 use Rattle.std.proofs.lemmas.List.Quantifiers.{position-Some}
 use Rattle.std.proofs.lemmas.List.Elements.{All-from_get_or, All-replicate, recursion_from_All}
@@ -7,7 +7,6 @@ use Rattle.std.proofs.lemmas.List.Sums.{fails_before_first}
 use Rattle.std.proofs.lemmas.Bool.{eqb-true, ltb-false}
 use Rattle.std.proofs.lemmas.Option.{none-some}
 use Rattle.std.proofs.lemmas.Grind.{flat_map-append}
-use Rattle.std.specs.Cmp.Lexicographic.{pointwise}
 use Rattle.std.specs.List.{AllByRecursion, position_or_len}
 use Rattle.proof_file.specs.declared.Proof.{Proof}
 use Rattle.proof_file.specs.declared.head.Digest256.{Digest256}
@@ -63,9 +62,6 @@ stuck_line stage last rest text more is clean end none = λ line after h e.
     let same : line ≡ text = (once 10 line text after more h clean (sym e ∙ is)).0 in
     ((λ ends. end (sym same ∙ ends.0, ends.1)), λ l next reads. none l next (sym same ∙ reads))
 
-pub not_last : (text : List ℕ) → false ≡ pointwise eqb text (codes "end") → ¬ (text ≡ codes "end")
-not_last text h e = true≢false (sym (subst (λ z. false ≡ pointwise eqb z (codes "end")) e h))
-
 -- ---- a line more
 
 -- the bytes begin with one more line
@@ -112,9 +108,6 @@ past_more old new p l past rest next whole stage last = (
     same = grows_head p l g.whole g.grows
 
 -- ---- no line more
-
-pub past_end : (old : Reader) (p : Proof) → IsPast old p → old.rest.now ≡ last_line → ProofText p old.whole.now
-past_end old p past rest = subst (ProofText p) (its_lines p ∙ ap (λ z. behind_text p ++ z) (sym rest) ∙ sym past.parts) past.text
 
 -- no line follows these, with which a proof's lines begin, or more follows the last line
 stuck_at : (p : Proof) (ls left : List Line) (stage : Stage) (last whole rest : List ℕ) → ProofText p (text_of p) → lines_of p ≡ ls ++ left → whole ≡ front_of p.head ls ++ rest →

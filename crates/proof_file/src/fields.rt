@@ -2,7 +2,7 @@
 
 ghost use Rattle.std.specs.Prelude.{◌≡◌, ◌∷◌, [], ◌<◌, ◌↔◌, ℕ, map, IsTrue, MatchOption};
 ghost use Rattle.std.specs.Fmt.{decimal};
-ghost use Rattle.std.specs.List.{AllByRecursion, join_with_byte};
+ghost use Rattle.std.specs.List.{AllByRecursion};
 ghost use Rattle.schema_tree.specs.Rising.{Rises, RisesFrom};
 ghost use Rattle.schema_tree.specs.States.{IsStateBefore};
 ghost use Rattle.proof_file.specs.Text.{digest_text, hex_digit, hex_text, place_text, state_text, IsDigest, IsNumber, IsPlace, IsState};

@@ -5,7 +5,7 @@ ghost use Rattle.proof_file.specs.Text.{line_text};
 ghost use Rattle.proof_file.specs.Reading.{Reads};
 ghost use Rattle.proof_file.specs.declared.Proof.{Proof};
 ghost use Rattle.proof_file.specs.declared.lines.Stage.TheVariants as Stages;
-ghost use Rattle.proof_file.specs.Reader.{Follows, IsBehind, IsNext, HasNoEnd, IsFirstLine, IsHeading, IsPast, IsFew, IsLast, IsOpening, MayEnd, Steps, IsEndBefore, Heading, Where, heading, behind, Stands, Goes, Opens, Shortens, next_stage, next_last};
+ghost use Rattle.proof_file.specs.Reader.{Follows, IsBehind, IsNext, HasNoEnd, IsFirstLine, IsHeading, IsPast, IsFew, IsLast, IsOpening, Steps, IsEndBefore, Heading, Where, heading, behind, Stands, Goes, Opens, Shortens, next_stage, next_last};
 
 use crate::Record;
 use crate::fields::Stop;

@@ -1,10 +1,10 @@
 //! Proofs as text.
 
-ghost use Rattle.std.specs.Prelude.{◌≡◌, ◌++◌, ◌∷◌, ◌<◌, [], true, map, IfOk, OnOk, Some, codes};
+ghost use Rattle.std.specs.Prelude.{◌≡◌, ◌++◌, ◌∷◌, ◌<◌, [], map, IfOk, OnOk, Some};
 ghost use Rattle.std.specs.Fmt.{decimal};
 ghost use Rattle.std.specs.List.{AllByRecursion, flat_map, join_with_byte};
 ghost use Rattle.rdf_terms.specs.Values.{IsValue};
-ghost use Rattle.schema_tree.specs.Targets.{target_text, IsTextTarget};
+ghost use Rattle.schema_tree.specs.Targets.{IsTextTarget};
 ghost use Rattle.proof_file.specs.Text.{hex_digit, hex_text, place_text, state_text, part_mark, kind_mark, kind_fields, ended, line_text, lines_text, first_line, head_lines, section_lines, ProofText, Keeps, HasNoFeeds};
 ghost use Rattle.proof_file.specs.declared.head.Part.TheVariants as Parts;
 ghost use Rattle.proof_file.specs.declared.line.Line.TheVariants as Lines;

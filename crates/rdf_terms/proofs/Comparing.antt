@@ -1,10 +1,9 @@
 -- Texts that are compared piece by piece, in the order of their bytes.
 use Rattle.std.proofs.Common.{◌≡◌, ◌<◌, ◌≤◌, ◌+◌, ◌⊎◌, ◌&&◌, ℕ, inl, inr, Bool, true, false, true≢false, List, [], ◌∷◌, ◌++◌, ap, append_assoc, arith, codes, cond, drop, encode_utf8_all, get_or, length, min, nat_eq, refl, sym, take, ◌∙◌}
-use Rattle.std.proofs.lemmas.Bool.{cases_lt}
 use Rattle.std.proofs.lemmas.Cmp.{nat_list_cmp_total, tied_itself}
 use Rattle.std.proofs.lemmas.Fmt.{decimal_is_IsNumeral}
 use Rattle.std.proofs.lemmas.Grind.{flat_map-append}
-use Rattle.std.proofs.lemmas.List.{drop_all, length-take-le, take-append-drop, take_more}
+use Rattle.std.proofs.lemmas.List.{length-take-le, take-append-drop}
 use Rattle.std.proofs.lemmas.Str.Parse.{digit_at}
 use Rattle.std.specs.Cmp.{nat_cmp_is, unsigned_ties}
 use Rattle.std.specs.Cmp.Lexicographic.{slice_cmp}
@@ -59,13 +58,6 @@ rests_compared [] (y ∷ v) h = ap (ordering_then (nat_cmp 62 y)) (sym (nat_cmp_
 rests_compared (x ∷ u) [] h = ap (ordering_then (nat_cmp x 62)) (sym (nat_cmp_is (length (x ∷ u)) 0 Greater (omega arith)) ∙ above_none u)
 rests_compared (x ∷ u) (y ∷ v) (inl e) = absurd (omega (arith, ap length e))
 rests_compared (x ∷ u) (y ∷ v) (inr e) = absurd (omega (arith, ap length e))
-
--- behind as many bytes as both have, one has none
-pub one_ends : (x y u v : List ℕ) (n : ℕ) → n ≡ min (length x) (length y) → u ≡ drop n x → v ≡ drop n y → (u ≡ []) ⊎ (v ≡ [])
-one_ends x y u v n is left right = elim (cases_lt (length x) (length y)) [
-  | inl lt ↦ inl (left ∙ drop_all n x (omega (arith, is, lt)))
-  | inr le ↦ inr (right ∙ drop_all n y (omega (arith, is, le)))
-]
 
 closed_cut : (x : List ℕ) (n : ℕ) → take n x ++ closed (drop n x) ≡ closed x
 closed_cut x n = sym (append_assoc (take n x) (drop n x) (codes ">")) ∙ ap closed (take-append-drop n x)
@@ -137,11 +129,6 @@ bare_compared a x n is s =
     ∙ sym (ap (λ b. compare (mark b ++ encode_utf8_all a) (printed_name (Fresh n))) s)
 
 -- ---- literals
-
--- one more byte that both have
-pub common_more : (x y : List ℕ) (i : ℕ) → i < length x → i < length y → get_or x i 0 ≡ get_or y i 0 → take i x ≡ take i y → take (i + 1) x ≡ take (i + 1) y
-common_more x y i a b same before =
-    take_more x i 0 a ∙ (λ k. before k ++ same k ∷ []) ∙ sym (take_more y i 0 b)
 
 -- the text of a literal behind so many bytes of its lexical form
 literal_cut : (l : LiteralParts) (x : List ℕ) (n : ℕ) → x ≡ encode_utf8_all l.lex → flat_map escaped_byte (take n x) ++ (flat_map escaped_byte (drop n x) ++ (codes "\"" ++ suffix_text l l.lang)) ≡ drop 1 (literal_text l)

@@ -1,9 +1,9 @@
 -- Texts that are joined one behind the other, and the piece of each.
-use Rattle.std.proofs.Common.{◌≡◌, ◌≤◌, ◌<◌, ◌+◌, ◌-◌, ◌⊎◌, ℕ, zero, suc, inl, inr, List, [], ◌∷◌, ◌++◌, ap, append_assoc, arith, drop, get_or, length, length-append, length-drop, refl, replicate, sym, take, true, false, Some, None, codes, encode_utf8_all, ◌∙◌}
+use Rattle.std.proofs.Common.{◌≡◌, ◌≤◌, ◌<◌, ◌+◌, ◌-◌, ◌⊎◌, ℕ, zero, suc, inl, inr, List, [], ◌∷◌, ◌++◌, ap, append_assoc, arith, drop, get_or, length, length-append, length-drop, refl, replicate, sym, take, true, Some, None, codes, encode_utf8_all, ◌∙◌}
 use Rattle.std.specs.List.{flat_map}
 use Rattle.std.specs.Prelude.{slice_get}
 use Rattle.std.proofs.Math.Seq.{drop-append_seam, get_or-append_seam, take-append_seam}
-use Rattle.std.proofs.lemmas.Bool.{cond-true, cond-false}
+use Rattle.std.proofs.lemmas.Bool.{cond-true}
 use Rattle.std.proofs.lemmas.Grind.{flat_map-append}
 use Rattle.std.proofs.lemmas.List.{append-nil, get_or_append_left, take-append-drop, take_all, take_more}
 use Rattle.std.proofs.lemmas.Option.{get_or_from_slice_get, slice_get_past, slice_get_within}
@@ -13,7 +13,7 @@ use Rattle.rdf_terms.specs.Order.{text_at, text_if_any}
 use Rattle.rdf_terms.specs.TextBytes.{escaped_byte}
 use Rattle.rdf_terms.specs.Texts.{same_text}
 use Rattle.rdf_terms.specs.Vocabulary.{xsd_string}
-use Rattle.rdf_terms.specs.Written.{escaped, iri_text, literal_text, suffix_text, term_text}
+use Rattle.rdf_terms.specs.Written.{escaped, literal_text, suffix_text, term_text}
 use Rattle.rdf_terms.specs.declared.terms.Term.{Term}
 use Rattle.rdf_terms.specs.declared.terms.TermId.{TermId}
 use Rattle.rdf_terms.proofs.Escapes.{escaped_bytes}
@@ -125,9 +125,6 @@ in_turn terms k first last l begins ends =
 
 pub no_suffix : (l : LiteralParts) → l.lang ≡ None → same_text l.datatype xsd_string ≡ true → suffix_text l l.lang ≡ []
 no_suffix l is same = ap (suffix_text l) is ∙ cond-true _ _ _ same
-
-pub typed_suffix_of : (l : LiteralParts) → l.lang ≡ None → same_text l.datatype xsd_string ≡ false → suffix_text l l.lang ≡ codes "^^" ++ iri_text l.datatype
-typed_suffix_of l is other = ap (suffix_text l) is ∙ cond-false _ _ _ other
 
 pub literal_joined :
     (l : LiteralParts) (out a b c d : List ℕ) → a ≡ out ++ codes "\"" → b ≡ a ++ flat_map escaped_byte (encode_utf8_all l.lex) → c ≡ b ++ codes "\"" → d ≡ c ++ suffix_text l l.lang → d ≡ out ++ literal_text l

@@ -8,7 +8,7 @@ use Rattle.std.proofs.lemmas.List.{append-nil, append_assoc, length-append}
 use Rattle.std.proofs.lemmas.Str.{encode_ascii, encodes-chars, scalars-chars, chars-encodes, encodes-IsAscii, encodes-append, length-encode, len_utf8_bounds}
 use Rattle.std.proofs.lemmas.Str.Pattern.{strip_prefix_char, strip_suffix_char}
 use Rattle.std.specs.Char.{to_ascii_lowercase}
-use Rattle.std.specs.Cmp.Lexicographic.{bytes_decides, pointwise}
+use Rattle.std.specs.Cmp.Lexicographic.{pointwise}
 use Rattle.std.specs.List.{flat_map, starts_with}
 use Rattle.std.specs.Str.{chars, all_scalars, IsUtf8}
 use Rattle.std.specs.Str.Pattern.{FindsCharPrefix, FindsCharSuffix}
@@ -17,7 +17,6 @@ use Rattle.rdf_terms.specs.Literals.{LiteralParts, IsLowered, is_lowered}
 use Rattle.rdf_terms.specs.Vocabulary.{rdf_lang_string, xsd_string}
 use Rattle.rdf_terms.specs.Names.{IsNameOf, written_label}
 use Rattle.rdf_terms.specs.Reading.{IsBracketed, IsEscape, IsLiteralOf, IsOwned, IsPiece, IsQuoted, IsRead, suffix_of}
-use Rattle.rdf_terms.specs.Sameness.{text_decides}
 use Rattle.rdf_terms.specs.TextBytes.{escaped_byte}
 use Rattle.rdf_terms.specs.Texts.{same_text}
 use Rattle.rdf_terms.specs.Values.{IsLiteralValue, IsUnicode, IsUnicodeIfAny, IsWholeName, IsWholeTerm}
@@ -317,22 +316,8 @@ datatype_is lex text iri l is good e = by (suffix l good.0.parts)
         let same : text ≡ iri_text l.datatype = same_tails 94 94 _ _ (same_tails 94 94 _ _ (e ∙ spelled)) in
         (none, (iri_once l.datatype iri (sym same ∙ is), other))
 
-pub unbracketed_type : (lex text : List ℕ) → IsBracketed None text → IsRead suffix_of (IsLiteralOf lex) (94 ∷ (94 ∷ text)) None
-unbracketed_type lex text none = λ l good e. by l (suffix l good.0.parts) e
-  where
-    by : (l : LiteralParts) → Suffix l → 94 ∷ (94 ∷ text) ≡ suffix_of l → ⊥
-    by l (tag t is of spelled) e = not_head 94 64 (94 ∷ text) _ (λ k. omega (arith, k)) (e ∙ spelled)
-    by l (string is of spelled) e = not_empty 94 (94 ∷ text) (e ∙ spelled)
-    by l (typed is other spelled) e = none (encode_utf8_all l.datatype) (same_tails 94 94 _ _ (same_tails 94 94 _ _ (e ∙ spelled)))
-
 string_encodes : encode_utf8_all xsd_string ≡ xsd_string
 string_encodes = encodes-IsAscii xsd_string (ascii_codes xsd_string refl)
-
-pub string_typed : (lex text iri : List ℕ) → text ≡ codes "<" ++ (iri ++ codes ">") → pointwise nat_eq iri xsd_string ≡ true → IsRead suffix_of (IsLiteralOf lex) (94 ∷ (94 ∷ text)) None
-string_typed lex text iri between is = λ l good e.
-    let same : iri ≡ xsd_string = (bytes_decides iri xsd_string).0 is in
-    let k = datatype_is lex text xsd_string l (between ∙ ap (λ z. 60 ∷ (z ++ 62 ∷ [])) (same ∙ sym string_encodes)) good e in
-    true≢false (sym ((text_decides l.datatype xsd_string).1 k.1.0) ∙ k.1.1)
 
 pub type_read : (lex whole text iri datatype : List ℕ) (r : Option LiteralParts) → IsUnicode lex → text ≡ codes "<" ++ (iri ++ codes ">") → pointwise nat_eq iri xsd_string ≡ false → IsOwned iri datatype → whole ≡ lex →
     IfSome r (λ l. l ≡ untagged_parts whole datatype) → (IsNone r ↔ (datatype ≡ rdf_lang_string)) → IsRead suffix_of (IsLiteralOf lex) (94 ∷ (94 ∷ text)) r
@@ -356,12 +341,6 @@ type_read lex whole text iri datatype (Some l) unicode between other owned same 
     differs : same_text datatype xsd_string ≡ false
     differs = ap (λ z. pointwise nat_eq z (encode_utf8_all xsd_string)) (sym owned.0) ∙ ap (λ z. pointwise nat_eq iri z) string_encodes ∙ other
 
-pub plain_read : (lex text : List ℕ) (l : LiteralParts) → IsUnicode lex → text ≡ [] → l ≡ untagged_parts lex xsd_string → IsRead suffix_of (IsLiteralOf lex) text (Some l)
-plain_read lex text l unicode empty is = subst (λ l. IsRead suffix_of (IsLiteralOf lex) text (Some l)) (sym is) (
-  empty ∙ sym (cond-true _ _ _ ((text_decides xsd_string xsd_string).1 refl)),
-  (record { parts = record { tagged = (λ is. absurd (true≢false (sym is)), λ e. absurd (true≢false (ap (λ z. nat_eq (length z) 53) (sym e)))); lowered = tt }; lex = unicode; datatype = refl; lang = tt }, refl),
-)
-
 pub suffix_missed : (lex text : List ℕ) → length text ≢ 0 → ((rest : List ℕ) → ¬ (text ≡ encode 64 ++ rest)) → ((rest : List ℕ) → ¬ (text ≡ codes "^^" ++ rest)) → IsRead suffix_of (IsLiteralOf lex) text None
 suffix_missed lex text some untagged untyped = λ l good e. by l (suffix l good.0.parts) e
   where
@@ -378,9 +357,6 @@ literal_read text quoted lex end None front is none = λ l good e.
     none l (good, sym k.0) k.1
 literal_read text quoted lex end (Some l) front is (suffixed, (good, same)) = (front ∙ ap (λ z. 34 ∷ z) (is ∙ ap (λ z. flat_map escaped z ++ 34 ∷ end) (sym same) ∙ ap (λ z. flat_map escaped l.lex ++ 34 ∷ z) suffixed), good)
 
-pub unquoted_literal : (text quoted : List ℕ) → text ≡ 34 ∷ quoted → IsQuoted quoted None → IsRead literal_text IsLiteralValue text None
-unquoted_literal text quoted front none = λ l good e. none l.lex (suffix_of l) (same_tails 34 34 quoted (flat_map escaped l.lex ++ 34 ∷ suffix_of l) (sym front ∙ e))
-
 pub no_literal : (text : List ℕ) → ((rest : List ℕ) → ¬ (text ≡ encode 34 ++ rest)) → IsRead literal_text IsLiteralValue text None
 no_literal text none = λ l good e.
     let rest = flat_map escaped l.lex ++ 34 ∷ suffix_of l in
@@ -396,15 +372,6 @@ literal_result text o quoted q lex end (Ok r) h is inner split read =
 
 -- ---- terms
 
-pub name_term : (text name : List ℕ) (r : Option Name) → text ≡ codes "_:" ++ name → IsRead printed_name IsWholeName name r → IsRead term_text IsWholeTerm text (option_map (λ n. Blank n) r)
-name_term text name (Some n) front (is, good) = (front ∙ ap (λ z. codes "_:" ++ z) is, good)
-name_term text name None front none = by
-  where
-    by : (t : Term) → IsWholeTerm t → text ≡ term_text t → ⊥
-    by (Iri iri) good e = not_head 95 60 _ _ (λ k. omega (arith, k)) (sym front ∙ e)
-    by (Blank n) good e = none n good (same_tails 58 58 _ _ (same_tails 95 95 _ _ (sym front ∙ e)))
-    by (Lit l) good e = not_head 95 34 _ _ (λ k. omega (arith, k)) (sym front ∙ e)
-
 pub iri_term : (text : List ℕ) (r : Option (List ℕ)) → get_or text 0 0 ≡ 60 → IsRead iri_text IsUnicode text r → IsRead term_text IsWholeTerm text (option_map (λ i. Iri i) r)
 iri_term text (Some iri) front (is, good) = (is, (tt, good))
 iri_term text None front none = by
@@ -413,12 +380,3 @@ iri_term text None front none = by
     by (Iri iri) good e = none iri good.1 e
     by (Blank n) good e = omega (arith, front, ap (λ z. get_or z 0 0) e)
     by (Lit l) good e = omega (arith, front, ap (λ z. get_or z 0 0) e)
-
-pub literal_term : (text : List ℕ) (r : Option LiteralParts) → ((rest : List ℕ) → ¬ (text ≡ codes "_:" ++ rest)) → get_or text 0 0 ≢ 60 → IsRead literal_text IsLiteralValue text r → IsRead term_text IsWholeTerm text (option_map (λ l. Lit l) r)
-literal_term text (Some l) unnamed other (is, good) = (is, (good.parts, record { lex = good.lex; datatype = good.datatype; lang = good.lang }))
-literal_term text None unnamed other none = by
-  where
-    by : (t : Term) → IsWholeTerm t → text ≡ term_text t → ⊥
-    by (Iri iri) good e = other (ap (λ z. get_or z 0 0) e)
-    by (Blank n) good e = unnamed (printed_name n) e
-    by (Lit l) good e = none l (record { parts = good.0; lex = good.1.lex; datatype = good.1.datatype; lang = good.1.lang }) e

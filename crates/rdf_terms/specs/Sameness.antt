@@ -15,7 +15,7 @@ pub text_decides : (a b : List ℕ) → Decides (same_text a b) (a ≡ b)
 text_decides a b =
     (λ h. encodes_same a b ((bytes_decides (encode_utf8_all a) (encode_utf8_all b)).0 h), λ e. (bytes_decides (encode_utf8_all a) (encode_utf8_all b)).1 (ap encode_utf8_all e))
 
--- and so does `same_literal`
+-- `same_literal` decides equality
 pub literal_decides : (a b : LiteralParts) → Decides (same_literal a b) (a ≡ b)
 literal_decides a b = (there, back)
   where

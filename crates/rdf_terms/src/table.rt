@@ -1,6 +1,6 @@
 //! The table that numbers terms.
 
-ghost use Rattle.std.specs.Prelude.{List, ℕ, ◌≡◌, ◌≤◌, ◌<◌, ◌↔◌, [], ◌==◌, length, slice_get, Some, IfOk, IfSome, IsNone, OnOk, OnErr, Contains};
+ghost use Rattle.std.specs.Prelude.{List, ◌≡◌, ◌≤◌, ◌<◌, ◌↔◌, [], ◌==◌, length, slice_get, Some, IfOk, IfSome, IsNone, OnOk, OnErr, Contains};
 ghost use Rattle.lists.specs.Distinct.{AreDistinct};
 ghost use Rattle.lists.specs.Additions.{Adds};
 ghost use Rattle.rdf_terms.specs.Tables.{max_terms};

@@ -1,18 +1,14 @@
 //! Terms and triples of their numbers.
 
-ghost use Rattle.std.specs.Prelude.{List, ℕ, ◌≡◌, ◌≤◌, IfOk, string_bytes, length, encode_utf8_all, ◌&&◌, None, Some, codes, ◌↔◌, IsSome, IfSome, IsNone, ◌++◌, is_some, map};
+ghost use Rattle.std.specs.Prelude.{ℕ, ◌≡◌, ◌≤◌, IfOk, ◌&&◌, None, Some, ◌↔◌, IfSome, IsNone, map};
 ghost use Rattle.std.specs.Option.{option_copied};
 ghost use Rattle.std.specs.Str.{chars};
 ghost use Rattle.std.specs.Char.{to_ascii_lowercase};
-ghost use Rattle.std.specs.Cmp.{on_equiv, on_per, partial_equiv_from_equiv};
-ghost use Rattle.std.specs.Cmp.Lexicographic.{nat_list_eq_equiv};
+ghost use Rattle.std.specs.Cmp.{partial_equiv_from_equiv};
 ghost use Rattle.std.specs.Hash as fed;
-ghost use Rattle.std.specs.Cmp.Rules.{comparing, hashing};
-ghost use Rattle.std.proofs.Common.{rules};
 ghost use Rattle.rdf_terms.specs.Literals.{LiteralParts, IsLiteral, same_literal, literal_fed};
 ghost use Rattle.lists.specs.Equality.{decided_equiv};
 ghost use Rattle.rdf_terms.specs.Sameness.{literal_decides, literal_alike};
-ghost use Rattle.rdf_terms.specs.Texts.{same_text};
 ghost use Rattle.rdf_terms.specs.Vocabulary.{xsd_string, rdf_lang_string};
 
 use crate::text::Text;

@@ -1,6 +1,6 @@
 //! Texts as characters.
 
-ghost use Rattle.std.specs.Prelude.{List, ℕ, ◌≡◌, IfOk, string_bytes, string_len, length, encode_utf8_all};
+ghost use Rattle.std.specs.Prelude.{List, ℕ, ◌≡◌, IfOk, string_bytes, encode_utf8_all};
 ghost use Rattle.std.specs.Str.{chars, all_scalars, IsUtf8};
 ghost use Rattle.std.specs.Prelude.{true};
 ghost use Rattle.std.specs.Cmp.{on_equiv, on_per, partial_equiv_from_equiv};

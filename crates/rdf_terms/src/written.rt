@@ -1,7 +1,6 @@
 //! The texts of terms, and the names of blank nodes from texts.
 
-ghost use Rattle.std.specs.Prelude.{ℕ, ◌≡◌, ◌++◌, ◌≤◌, ◌↔◌, codes, IfOk, OnOk, OnErr, IfSome, IsNone, string_bytes, nat_eq, if◌then◌else◌, []};
-ghost use Rattle.std.specs.Fmt.{decimal};
+ghost use Rattle.std.specs.Prelude.{ℕ, ◌≡◌, ◌++◌, codes, IfOk, OnOk, OnErr, IfSome, IsNone, string_bytes, nat_eq, if◌then◌else◌, []};
 ghost use Rattle.std.specs.List.{flat_map, starts_with};
 ghost use Rattle.std.specs.Str.{chars};
 ghost use Rattle.rdf_terms.specs.Names.{IsNameOf, IsAnonymous, written_label};

@@ -1,11 +1,9 @@
 -- Allowed places stay allowed where the values that they rest on stay.
-use Rattle.std.proofs.Common.{◌≡◌, ◌<◌, ◌≤◌, ◌⊎◌, inl, inr, refl, arith, ℕ, zero, suc, List, [], ◌∷◌, Bool, true, false, filter, sym, subst, ap}
-use Rattle.std.specs.Prelude.{◌↔◌, Contains, Option, Some, None, slice_get}
-use Rattle.std.specs.List.{list_any}
+use Rattle.std.proofs.Common.{◌≡◌, ◌<◌, ◌≤◌, inl, inr, refl, arith, ℕ, suc, List, [], ◌∷◌, Bool, true, sym, subst}
+use Rattle.std.specs.Prelude.{◌↔◌, Contains, Option, Some, None}
 use Rattle.rdf_terms.specs.declared.terms.TermId.{TermId}
 use Rattle.rdf_terms.specs.declared.terms.Term.{Term}
 use Rattle.rdf_terms.specs.declared.terms.Triple.{Triple}
-use Rattle.rdf_terms.specs.Graphs.{same_id}
 use Rattle.schema_tree.specs.declared.schema.Schema.{Schema}
 use Rattle.schema_tree.specs.declared.schema.Shape.{Shape}
 use Rattle.schema_tree.specs.declared.schema.ShapeId.{ShapeId}
@@ -14,27 +12,19 @@ use Rattle.schema_tree.specs.declared.schema.ExprId.{ExprId}
 use Rattle.schema_tree.specs.declared.schema.Pair.{Pair}
 use Rattle.schema_tree.specs.declared.verdicts.Lean.TheVariants.{Possible, Impossible}
 use Rattle.schema_tree.specs.declared.verdicts.Place.{Place}
-use Rattle.schema_tree.specs.declared.verdicts.Place.TheVariants.{At, Rest}
 use Rattle.schema_tree.specs.declared.verdicts.State.{State}
 use Rattle.schema_tree.specs.declared.verdicts.Verdict.{Verdict}
 use Rattle.schema_tree.specs.declared.verdicts.Verdict.TheVariants.{Yes, No}
 use Rattle.schema_tree.specs.Edges.{Edge, IsStratified, StandsIn, StandsInValue, level}
 use Rattle.schema_tree.specs.Entries.{pair_of, shape_at}
-use Rattle.schema_tree.specs.Matches.{fits, near_end, other_end}
-use Rattle.schema_tree.specs.Places.{AreAllowed, IsAllowed, MayFail, MayHold, MayStay, MayStayOut, MayTake}
-use Rattle.schema_tree.specs.Relevant.{is_forward, relevant_in_order}
-use Rattle.schema_tree.specs.Satisfies.{Sat}
+use Rattle.schema_tree.specs.Matches.{fits, other_end}
+use Rattle.schema_tree.specs.Places.{AreAllowed, IsAllowed, MayFail, MayHold}
+use Rattle.schema_tree.specs.Relevant.{is_forward}
 use Rattle.schema_tree.specs.States.{AreClosed}
 use Rattle.schema_tree.specs.Sure.{Known, PairIs}
-use Rattle.lists.proofs.Quantifiers.{all_weaker}
-use Rattle.lists.proofs.Members.{got_in, is_first, is_later}
-use Rattle.lists.proofs.Filters.{in_filter}
-use Rattle.std.proofs.lemmas.Bool.{and_parts}
-use Rattle.rdf_terms.proofs.SameTerms.{same_is}
 use Rattle.schema_tree.proofs.Leans.{all_weaker_allowed}
-use Rattle.schema_tree.proofs.ToPlaces.{forward_parts}
 use Rattle.removal_laws.proofs.Carried.{AreAlike, fail_alike, hold_alike, sure_carries}
-use Rattle.schema_tree.proofs.Needed.{in_graph, under_extra}
+use Rattle.schema_tree.proofs.Needed.{under_extra}
 
 -- what stands in a value is of no higher stratum, and of a lower one behind a ShapeNot or under EXTRA
 module _ (s : Schema) (terms : List Term) (g : List Triple) (f : List ℕ) (strat : IsStratified s f) (p : Pair) (sh : Shape) (is : shape_at s p.shape ≡ Some sh) where

@@ -2,13 +2,10 @@
 use Rattle.std.proofs.Common.{◌≡◌, ◌≢◌, ◌∙◌, ℕ, zero, suc, ◌<◌, ◌≤◌, ◌+◌, ◌*◌, ◌⊎◌, inl, inr, List, [], ◌∷◌, refl, arith, sym, subst, ap, Bool, true, false, true≢false}
 use Rattle.std.proofs.Math.Nat.{mul-le-mul_left}
 use Rattle.std.proofs.lemmas.Bool.{cases_eq, eq-eqb, eqb-true}
-use Rattle.std.specs.List.{list_any}
-use Rattle.std.specs.Prelude.{◌↔◌, ◌&&◌, ◌||◌, Contains, Option, Some, None, slice_get, slice_set, nat_eq}
+use Rattle.std.specs.Prelude.{◌↔◌, ◌&&◌, ◌||◌, Contains, Some, slice_get, slice_set, nat_eq}
 use Rattle.schema_tree.specs.declared.verdicts.Verdict.{Verdict}
-use Rattle.schema_tree.specs.declared.verdicts.Verdict.TheVariants.{Yes, No, Unknown}
 use Rattle.lists.proofs.Members.{in_rest, is_first, is_later, not_in_none}
 use Rattle.removal_laws.specs.Costs.{bit, is_mark, is_on, needs_count, open_needs, phase_cost, potential, total, whole_cost}
-use Rattle.removal_laws.specs.Marks.{same_verdict}
 use Rattle.removal_laws.proofs.Known.{set_here, set_other}
 use Rattle.removal_laws.proofs.Verdicts.{verdict_apart, verdict_same}
 

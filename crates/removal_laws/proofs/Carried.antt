@@ -1,6 +1,5 @@
 -- What is sure, and what can match, depends on the answers for the pairs that are needed, and on no others.
-use Rattle.std.proofs.Common.{◌≡◌, ℕ, zero, suc, List, [], ◌∷◌, refl, sym, subst, Bool, true, false}
-use Rattle.std.proofs.lemmas.List.Sorted.{Contains-permutation, IsPermutation-sym}
+use Rattle.std.proofs.Common.{◌≡◌, ℕ, zero, suc, List, [], refl, subst, Bool, true, false}
 use Rattle.std.specs.Prelude.{◌↔◌, Contains, Option, Some, None}
 use Rattle.rdf_terms.specs.declared.terms.Term.{Term}
 use Rattle.rdf_terms.specs.declared.terms.TermId.{TermId}
@@ -17,20 +16,17 @@ use Rattle.schema_tree.specs.declared.verdicts.Lean.{Lean}
 use Rattle.schema_tree.specs.declared.verdicts.Lean.TheVariants.{Possible, Impossible}
 use Rattle.schema_tree.specs.declared.verdicts.Verdict.{Verdict}
 use Rattle.schema_tree.specs.declared.verdicts.Verdict.TheVariants.{Yes, No}
-use Rattle.schema_tree.specs.Edges.{StandsIn, StandsInValue, in_and, in_not, in_or, itself}
+use Rattle.schema_tree.specs.Edges.{StandsIn, in_and, in_not, in_or, itself}
 use Rattle.schema_tree.specs.Entries.{entry, pair_of, shape_at}
 use Rattle.schema_tree.specs.Matches.{fits, other_end}
 use Rattle.schema_tree.specs.Needs.{Needs}
-use Rattle.rdf_terms.specs.Order.{neighbourhood}
 use Rattle.schema_tree.specs.Places.{CanMatch, MayFail, MayHold, PairCanMatch}
-use Rattle.schema_tree.specs.Relevant.{is_forward, is_relevant, relevant_in_order}
+use Rattle.schema_tree.specs.Relevant.{is_forward}
 use Rattle.schema_tree.specs.Satisfies.{Sat}
-use Rattle.schema_tree.specs.Sure.{IsSure, Known, PairIs, SureEntry, SureWithin}
+use Rattle.schema_tree.specs.Sure.{Known, PairIs, SureEntry, SureWithin}
 use Rattle.schema_tree.proofs.Leans.{places_weaker}
 use Rattle.schema_tree.proofs.Needed.{in_graph, need_of, need_out}
 use Rattle.lists.proofs.Quantifiers.{all_weaker, some_weaker}
-use Rattle.lists.proofs.Filters.{in_filter}
-use Rattle.schema_tree.proofs.Ordered.{ordered_same}
 use Rattle.schema_tree.proofs.ToPlaces.{forward_parts}
 
 module _ (s : Schema) (terms : List Term) (a b : Known) (n : TermId) where

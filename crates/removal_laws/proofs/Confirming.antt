@@ -1,14 +1,14 @@
 -- Confirmation by an agenda: the greatest pairs that confirm one another are left.
-use Rattle.std.proofs.Common.{◌≡◌, ◌≢◌, ℕ, zero, suc, ◌<◌, ◌≤◌, ◌⊎◌, inl, inr, List, [], ◌∷◌, ◌++◌, refl, arith, sym, subst, ap, ◌∙◌, length, Bool, true, false, not, filter, nat_eq, true≢false}
-use Rattle.std.proofs.lemmas.Bool.{cases_eq, cases_lt, eq-eqb, eqb-true}
+use Rattle.std.proofs.Common.{◌≡◌, ◌≢◌, ℕ, suc, ◌<◌, ◌⊎◌, inl, inr, List, ◌++◌, refl, arith, sym, subst, ap, ◌∙◌, Bool, true, false, not, filter, nat_eq, true≢false}
+use Rattle.std.proofs.lemmas.Bool.{cases_eq, eq-eqb, eqb-true}
 use Rattle.std.proofs.lemmas.List.Elements.{Contains-append_cases, Contains-append_left, Contains-append_right}
-use Rattle.std.specs.Prelude.{◌↔◌, Contains, Option, Some, None, slice_get, slice_set}
+use Rattle.std.specs.Prelude.{◌↔◌, Contains, Some, slice_get, slice_set}
 use Rattle.lists.specs.Distinct.{AreDistinct}
 use Rattle.rdf_terms.specs.declared.terms.Term.{Term}
 use Rattle.rdf_terms.specs.declared.terms.Triple.{Triple}
 use Rattle.schema_tree.specs.declared.schema.Pair.{Pair}
 use Rattle.schema_tree.specs.declared.schema.Schema.{Schema}
-use Rattle.schema_tree.specs.declared.verdicts.Lean.TheVariants.{Possible, Impossible}
+use Rattle.schema_tree.specs.declared.verdicts.Lean.TheVariants.{Impossible}
 use Rattle.schema_tree.specs.declared.verdicts.Verdict.{Verdict}
 use Rattle.schema_tree.specs.declared.verdicts.Verdict.TheVariants.{Yes, No, Unknown}
 use Rattle.schema_tree.specs.Edges.{level}
@@ -16,14 +16,14 @@ use Rattle.schema_tree.specs.Needs.{Needs}
 use Rattle.schema_tree.specs.Places.{PairCanMatch}
 use Rattle.schema_tree.specs.Removal.{CanGo, IsConfirmed, IsNarrow, IsRefinedAt}
 use Rattle.schema_tree.specs.Sure.{Known, PairIs}
-use Rattle.schema_tree.specs.Typings.{HaveSame, IsPartOf}
-use Rattle.lists.proofs.Members.{got_in, in_one, is_first, not_in_none}
+use Rattle.schema_tree.specs.Typings.{IsPartOf}
+use Rattle.lists.proofs.Members.{got_in}
 use Rattle.lists.proofs.Filters.{in_filter, filter_has}
 use Rattle.removal_laws.specs.Marks.{KnowSame, known_by, marked, outside}
 use Rattle.schema_tree.specs.Entries.{same_pair}
-use Rattle.removal_laws.specs.Stages.{IsBefore, IsConfirming, IsOpen, IsRaised, IsRemoving, IsYesAt, both, without}
+use Rattle.removal_laws.specs.Stages.{IsBefore, IsConfirming, IsOpen, IsRaised, IsRemoving, IsYesAt, both}
 use Rattle.removal_laws.proofs.Carried.{match_alike, match_up}
-use Rattle.removal_laws.proofs.Known.{held_at, is_no, is_yes, know_turned, match_known, no_at, same_alike, set_here, set_other, to_outside, yes_at}
+use Rattle.removal_laws.proofs.Known.{held_at, is_no, is_yes, know_turned, match_known, no_at, set_here, set_other, to_outside}
 use Rattle.schema_tree.proofs.Pairs.{pair_same}
 use Rattle.schema_tree.proofs.Pairs.{pair_is}
 use Rattle.removal_laws.proofs.Marking.{from_mark, to_mark}

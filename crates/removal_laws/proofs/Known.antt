@@ -1,10 +1,8 @@
 -- What is known by marks, and what one more mark changes.
-use Rattle.std.proofs.Common.{◌≡◌, ◌≢◌, ℕ, zero, suc, ◌<◌, ◌⊎◌, inl, inr, List, [], ◌∷◌, ◌++◌, refl, arith, sym, subst, ap, ◌∙◌, length, Bool, true, false, not, filter, true≢false, append_assoc}
-use Rattle.std.proofs.lemmas.Bool.{cases_eq, and_parts}
-use Rattle.std.proofs.lemmas.Bool.Decides.{nat_tests}
+use Rattle.std.proofs.Common.{◌≡◌, ◌≢◌, ℕ, zero, suc, ◌⊎◌, inl, inr, List, [], ◌∷◌, ◌++◌, refl, sym, subst, ap, ◌∙◌, Bool, true, false, not, true≢false, append_assoc}
 use Rattle.std.proofs.lemmas.List.Elements.{Contains-append_cases, Contains-append_left, Contains-append_right}
 use Rattle.std.specs.List.{list_any}
-use Rattle.std.specs.Prelude.{◌↔◌, ◌||◌, Contains, Option, Some, None, slice_get, slice_set, nat_eq}
+use Rattle.std.specs.Prelude.{◌↔◌, ◌||◌, Contains, Some, None, slice_get, slice_set}
 use Rattle.lists.specs.Distinct.{AreDistinct}
 use Rattle.rdf_terms.specs.declared.terms.Term.{Term}
 use Rattle.rdf_terms.specs.declared.terms.Triple.{Triple}
@@ -14,7 +12,6 @@ use Rattle.schema_tree.specs.declared.schema.Schema.{Schema}
 use Rattle.schema_tree.specs.declared.verdicts.Lean.{Lean}
 use Rattle.schema_tree.specs.declared.verdicts.Verdict.{Verdict}
 use Rattle.schema_tree.specs.declared.verdicts.Verdict.TheVariants.{Yes, No, Unknown}
-use Rattle.schema_tree.specs.Needs.{Needs}
 use Rattle.schema_tree.specs.Places.{PairCanMatch}
 use Rattle.schema_tree.specs.Sure.{Known, PairIs}
 use Rattle.lists.proofs.Members.{got_in, in_one, in_rest, is_first, is_later, not_in_none}
@@ -22,7 +19,7 @@ use Rattle.lists.proofs.Filters.{in_filter, filter_has}
 use Rattle.removal_laws.specs.Marks.{KnowSame, known_by, marked, outside}
 use Rattle.schema_tree.specs.Entries.{same_pair}
 use Rattle.removal_laws.proofs.Carried.{match_alike}
-use Rattle.removal_laws.proofs.Marking.{HasMark, from_mark, to_mark}
+use Rattle.removal_laws.proofs.Marking.{from_mark, to_mark}
 
 -- ---- pairs and places
 

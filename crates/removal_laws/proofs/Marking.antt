@@ -1,20 +1,11 @@
 -- Which pairs have a mark.
-use Rattle.std.proofs.Common.{◌≡◌, ℕ, zero, suc, ◌<◌, ◌⊎◌, inl, inr, List, [], ◌∷◌, ◌++◌, refl, arith, sym, subst, ap, ◌∙◌, length, Bool, true, false, cond, not, filter, true≢false}
-use Rattle.std.proofs.lemmas.Bool.{cases_eq}
-use Rattle.std.proofs.lemmas.List.Elements.{Contains-append_cases, Contains-append_left, Contains-append_right}
-use Rattle.std.specs.List.{list_any}
-use Rattle.std.specs.Prelude.{◌↔◌, Contains, Option, Some, None, slice_get}
-use Rattle.lists.specs.Distinct.{AreDistinct}
+use Rattle.std.proofs.Common.{◌≡◌, ℕ, zero, suc, inl, inr, List, [], ◌∷◌, refl, sym, subst, ap, ◌∙◌, Bool, true, false, cond}
+use Rattle.std.specs.Prelude.{Contains, Some, slice_get}
 use Rattle.schema_tree.specs.declared.schema.Pair.{Pair}
 use Rattle.schema_tree.specs.declared.verdicts.Verdict.{Verdict}
-use Rattle.schema_tree.specs.declared.verdicts.Verdict.TheVariants.{Yes, No, Unknown}
-use Rattle.schema_tree.specs.Sure.{Known, PairIs}
-use Rattle.schema_tree.proofs.Decide.{same_pairs}
 use Rattle.lists.proofs.Members.{got_in, in_rest, is_first, is_later, not_in_none}
-use Rattle.lists.proofs.Filters.{in_filter, filter_has}
-use Rattle.removal_laws.specs.Marks.{known_by, marked, outside, same_verdict}
+use Rattle.removal_laws.specs.Marks.{marked, same_verdict}
 use Rattle.removal_laws.proofs.Verdicts.{verdict_is, verdict_same}
-use Rattle.schema_tree.specs.Entries.{same_pair}
 
 -- the pair stands at a place where the mark is v
 abbrev pub HasMark : List Pair → List Verdict → Verdict → Pair → Type 0

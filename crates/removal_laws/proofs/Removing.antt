@@ -1,16 +1,15 @@
 -- Removal by an agenda: the pairs go in their turns.
-use Rattle.std.proofs.Common.{◌≡◌, ◌≢◌, ℕ, zero, suc, ◌<◌, ◌≤◌, ◌⊎◌, inl, inr, List, [], ◌∷◌, ◌++◌, refl, arith, sym, subst, ap, ◌∙◌}
+use Rattle.std.proofs.Common.{◌≡◌, ◌≢◌, ℕ, ◌<◌, ◌⊎◌, inl, inr, List, [], ◌∷◌, ◌++◌, refl, arith, sym, subst, ap, ◌∙◌}
 use Rattle.std.proofs.lemmas.Bool.{cases_eq, cases_lt}
-use Rattle.std.proofs.lemmas.List.{append-nil}
 use Rattle.std.proofs.lemmas.List.Elements.{Contains-append_cases, Contains-append_left, Contains-append_right}
 use Rattle.std.proofs.lemmas.Option.{slice_get_within}
-use Rattle.std.specs.Prelude.{◌↔◌, Contains, Option, Some, None, slice_get, slice_set}
+use Rattle.std.specs.Prelude.{◌↔◌, Contains, Some, slice_get, slice_set}
 use Rattle.lists.specs.Distinct.{AreDistinct}
 use Rattle.rdf_terms.specs.declared.terms.Term.{Term}
 use Rattle.rdf_terms.specs.declared.terms.Triple.{Triple}
 use Rattle.schema_tree.specs.declared.schema.Pair.{Pair}
 use Rattle.schema_tree.specs.declared.schema.Schema.{Schema}
-use Rattle.schema_tree.specs.declared.verdicts.Lean.TheVariants.{Possible, Impossible}
+use Rattle.schema_tree.specs.declared.verdicts.Lean.TheVariants.{Possible}
 use Rattle.schema_tree.specs.declared.verdicts.Verdict.{Verdict}
 use Rattle.schema_tree.specs.declared.verdicts.Verdict.TheVariants.{Yes, No, Unknown}
 use Rattle.schema_tree.specs.Edges.{level}
@@ -18,14 +17,13 @@ use Rattle.schema_tree.specs.Needs.{Needs}
 use Rattle.schema_tree.specs.Places.{PairCanMatch}
 use Rattle.schema_tree.specs.Removal.{CanGo, ComesBefore, GoesNext, IsNarrow}
 use Rattle.schema_tree.specs.Sure.{Known}
-use Rattle.schema_tree.specs.Typings.{HaveSame}
 use Rattle.schema_tree.proofs.Turns.{in_turn_more}
-use Rattle.lists.proofs.Members.{got_in, in_one, is_first, not_in_none}
+use Rattle.lists.proofs.Members.{in_one, is_first, not_in_none}
 use Rattle.removal_laws.specs.Marks.{KnowSame, known_by, marked, outside}
 use Rattle.removal_laws.specs.Stages.{IsBefore, IsOpen, IsRemoving, without}
 use Rattle.removal_laws.proofs.Carried.{match_alike}
-use Rattle.removal_laws.proofs.Known.{held_at, is_no, is_yes, know_turned, match_known, more_gone, no_at, same_alike, set_here, set_other, to_outside, yes_at}
-use Rattle.removal_laws.proofs.Marking.{from_mark, to_mark}
+use Rattle.removal_laws.proofs.Known.{held_at, is_no, is_yes, know_turned, match_known, more_gone, no_at, set_here, set_other, yes_at}
+use Rattle.removal_laws.proofs.Marking.{to_mark}
 
 module _ (s : Schema) (terms : List Term) (g : List Triple) (f : List ℕ) (pairs : List Pair) (budget : ℕ) (elsewhere : Known) (distinct : AreDistinct pairs)
     (lower : Known) (k : ℕ) where

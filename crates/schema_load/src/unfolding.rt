@@ -144,7 +144,7 @@ impl Unfolder<'_> {
         }
     }
 
-    /// The same without the cardinality.
+    /// The form of the triple expression at the place, without its cardinality, over the numbers of its occurrences, which are added.
     #[cycle(unfolding)]
     fn unfold_form(
         &self,

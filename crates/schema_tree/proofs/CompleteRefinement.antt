@@ -1,15 +1,13 @@
 -- Refinement leaves a pair or an answer Unknown only where it reaches a pair whose Width is above the budget; every other
 -- answer is that of the complete typing.
 use Rattle.std.proofs.Common.{◌≡◌, ℕ, zero, suc, ◌<◌, ◌≤◌, ◌⊎◌, inl, inr, List, [], ◌∷◌, ◌++◌, refl, arith, sym, subst, Bool, true, false}
-use Rattle.std.proofs.lemmas.Bool.{cases_eq, cases_lt, and_parts}
+use Rattle.std.proofs.lemmas.Bool.{cases_eq, cases_lt}
 use Rattle.std.proofs.lemmas.List.Elements.{Contains-append_cases, Contains-append_left, Contains-append_right}
-use Rattle.std.proofs.lemmas.List.Sorted.{Contains-permutation, IsPermutation-sym}
 use Rattle.std.specs.Prelude.{◌↔◌, Contains, Option, Some, None}
 use Rattle.node_constraint.specs.Laws.{NodesAreDecided}
 use Rattle.rdf_terms.specs.declared.terms.Term.{Term}
 use Rattle.rdf_terms.specs.declared.terms.TermId.{TermId}
 use Rattle.rdf_terms.specs.declared.terms.Triple.{Triple}
-use Rattle.rdf_terms.specs.Graphs.{same_id}
 use Rattle.schema_tree.specs.declared.schema.Expr.{Expr}
 use Rattle.schema_tree.specs.declared.schema.Expr.TheVariants as Exprs
 use Rattle.schema_tree.specs.declared.schema.ExprId.{ExprId}
@@ -24,12 +22,11 @@ use Rattle.schema_tree.specs.declared.verdicts.Verdict.TheVariants.{Yes, No}
 use Rattle.schema_tree.specs.Edges.{Edge, IsStratified, StandsIn, StandsInValue, in_and, in_not, in_or, itself, level}
 use Rattle.schema_tree.specs.Entries.{entry, pair_of, shape_at}
 use Rattle.schema_tree.specs.Loaded.{IsLoaded}
-use Rattle.schema_tree.specs.Matches.{fits, near_end, other_end}
+use Rattle.schema_tree.specs.Matches.{fits, other_end}
 use Rattle.schema_tree.specs.Needs.{HoldNeeds, HoldRoots, IsDecided, LeadsToNarrow, Needs, here, step}
-use Rattle.rdf_terms.specs.Order.{neighbourhood}
 use Rattle.schema_tree.specs.Places.{CanMatch, MayFail, MayHold, PairCanMatch}
 use Rattle.schema_tree.proofs.Needed.{in_graph, under_extra}
-use Rattle.schema_tree.specs.Relevant.{is_forward, is_relevant, relevant_in_order}
+use Rattle.schema_tree.specs.Relevant.{is_forward}
 use Rattle.schema_tree.specs.Removal.{AreRefinedBelow, IsConfirmed, IsRefined, IsRefinedAt}
 use Rattle.schema_tree.specs.Satisfies.{Sat}
 use Rattle.schema_tree.specs.Sure.{IsSure, Known, PairIs, SureEntry, SureWithin}
@@ -43,11 +40,7 @@ use Rattle.schema_tree.proofs.ExactViews.{exact_match, exact_within}
 use Rattle.schema_tree.proofs.Leans.{places_weaker, sure_sound}
 use Rattle.schema_tree.proofs.Truth.{all_true}
 use Rattle.lists.proofs.Quantifiers.{all_weaker, some_weaker}
-use Rattle.lists.proofs.Filters.{in_filter}
-use Rattle.schema_tree.proofs.Ordered.{ordered_same}
 use Rattle.schema_tree.proofs.RefinementExists.{Sifted, sift, sift_in, sift_none, sift_out}
-use Rattle.rdf_terms.proofs.SameTerms.{same_is}
-use Rattle.schema_tree.proofs.ToPlaces.{forward_parts}
 
 -- a view a that knows more than b, and no more No pairs: what is sure under it is sure under b, where it is of pairs that b knows
 module _ (s : Schema) (terms : List Term) (a b : Known) (n : TermId) (no_more : (p : Pair) → PairIs a p No → PairIs b p No) where

@@ -43,7 +43,7 @@ nothing_left sat sh n = record {
   in_closed = λ e t h. absurd (not_in_none t h);
 }
 
--- and so does one arc in
+-- a remainder of one arc in meets all that is asked of one
 pub arc_in_left : (sat : TermId → ExprId → Type 0) (sh : Shape) (n : TermId) (t : Triple) → ¬ (t.s ≡ n) → RestOk sat sh n (t ∷ [])
 arc_in_left sat sh n t apart = record {
   unmatched = λ u o h m. absurd (apart (ap (λ x. x.s) (in_one t u h) ∙ m.0));

@@ -1,7 +1,6 @@
 -- Under a view that answers for each pair that is needed as a typing does, a pair can match exactly where the typing gives
 -- it its Shape.
-use Rattle.std.proofs.Common.{◌≡◌, ℕ, zero, suc, inl, inr, List, [], ◌∷◌, refl, sym, subst, Bool, true, false}
-use Rattle.std.proofs.lemmas.List.Sorted.{Contains-permutation, IsPermutation-sym}
+use Rattle.std.proofs.Common.{◌≡◌, ℕ, zero, suc, inl, inr, List, [], ◌∷◌, refl, subst, Bool, true, false}
 use Rattle.std.specs.Prelude.{◌↔◌, Contains, Option, Some, None}
 use Rattle.std.specs.List.{AllByRecursion}
 use Rattle.node_constraint.specs.Laws.{NodesAreDecided}
@@ -20,7 +19,7 @@ use Rattle.schema_tree.specs.declared.verdicts.Lean.{Lean}
 use Rattle.schema_tree.specs.declared.verdicts.Lean.TheVariants.{Possible, Impossible}
 use Rattle.schema_tree.specs.declared.verdicts.Verdict.{Verdict}
 use Rattle.schema_tree.specs.declared.verdicts.Verdict.TheVariants.{Yes, No}
-use Rattle.schema_tree.specs.Edges.{StandsIn, StandsInValue, in_and, in_not, in_or, itself}
+use Rattle.schema_tree.specs.Edges.{StandsIn, in_and, in_not, in_or, itself}
 use Rattle.schema_tree.specs.Entries.{entry, pair_of, shape_at}
 use Rattle.schema_tree.specs.Loaded.{IsLoaded}
 use Rattle.schema_tree.specs.Matches.{SatValue, fits, other_end}
@@ -28,7 +27,7 @@ use Rattle.schema_tree.specs.Needs.{Needs}
 use Rattle.rdf_terms.specs.Order.{neighbourhood}
 use Rattle.schema_tree.specs.Places.{CanMatch, HasPlaces, MayFail, MayHold, PairCanMatch}
 use Rattle.schema_tree.proofs.Needed.{in_graph, need_of}
-use Rattle.schema_tree.specs.Relevant.{is_forward, is_relevant, relevant_in_order}
+use Rattle.schema_tree.specs.Relevant.{is_forward, relevant_in_order}
 use Rattle.schema_tree.specs.Satisfies.{Sat, SatEntry, SatWithin}
 use Rattle.lists.specs.Quantifiers.{SomeByRecursion}
 use Rattle.schema_tree.specs.Shapes.{ShapeHolds, ShapeOk}
@@ -38,7 +37,6 @@ use Rattle.lists.proofs.Decided.{Decided}
 use Rattle.schema_tree.proofs.FromPlaces.{from_places}
 use Rattle.schema_tree.proofs.Leans.{places_weaker}
 use Rattle.lists.proofs.Quantifiers.{all_weaker, some_weaker}
-use Rattle.lists.proofs.Filters.{in_filter}
 use Rattle.schema_tree.proofs.Made.{well_made}
 use Rattle.schema_tree.proofs.Ordered.{ordered_same}
 use Rattle.schema_tree.proofs.SureOnce.{within_apart}
@@ -64,7 +62,7 @@ module _ (s : Schema) (terms : List Term) (nodes : NodesAreDecided) (view : Know
   abbrev pub IsKnown : ShapeId → Type 0
   IsKnown i = (Contains T (pair_of n i) → PairIs view (pair_of n i) Yes) × (¬ Contains T (pair_of n i) → PairIs view (pair_of n i) No)
 
-  -- and for each Shape that stands in e
+  -- the view answers as T does for each Shape that stands in e
   abbrev pub AreKnown : ExprId → Type 0
   AreKnown e = (i : ShapeId) (sign : Bool) → StandsIn s i e sign → IsKnown i
 

@@ -56,7 +56,7 @@ with_bob sat = (
   ((name_a, refl, (refl, tt)), (((to_bob ∷ []) ∷ [], omega arith, omega arith, IsPermutation-refl (to_bob ∷ []), ((to_bob, refl, (refl, tt)), tt)), tt)),
 )
 
--- and so is a name alone
+-- a name without an acquaintance is a copy of the group
 without : (sat : TermId → ExprId → Type 0) → Matches sat names_and_knows ann group (name_b ∷ [])
 unfolding Matches
 without sat = (

@@ -27,7 +27,7 @@ label_once ls once l d e (i, a, at) (j, b, is) =
     let same : i ≡ j = once i j l (label_at ls i l d a at) (label_at ls j l e b is) in
     entry_one ls i l d e a at (subst (λ (k : ℕ). get_or ls k (l, e) ≡ (l, e)) (sym same) is)
 
--- and so has a target
+-- where labels are declared once, a target has one expression
 pub target_once : (s : Schema) → AreDistinct (labels_of s.labels) → (t : Target) (d e : ExprId) → IsTarget s t d → IsTarget s t e → d ≡ e
 target_once s once Targets.Start d e h k = same_Some d e (sym h ∙ k)
 target_once s once (Targets.Label l) d e h k = label_once s.labels once l d e h k

@@ -11,7 +11,7 @@ module _ {A : Type 0} (Goes : List A → A → Type 0) where
   abbrev pub InTurn : List A → Type 0
   InTurn gone = (r : ℕ) (p : A) → slice_get gone r ≡ Some p → Goes (take r gone) p
 
-  -- and so did one more that goes next
+  -- where each went in its turn, so did one more that goes next
   pub in_turn_more : (gone : List A) (p : A) → InTurn gone → Goes gone p → InTurn (gone ++ p ∷ [])
   in_turn_more gone p turns next r q is = elim (cases_lt r (length gone)) [
     | inl lt ↦ earlier lt

@@ -13,7 +13,7 @@ abbrev pub AreLinked : Schema → ShapeId → List ShapeId → ShapeId → Type 
 AreLinked s i [] end = Edge s i end
 AreLinked s i (j ∷ js) end = Edge s i j × AreLinked s j js end
 
--- the same, and one of the edges is negative
+-- each Shape has an edge to the next, and the last to the end, and one of the edges is negative
 abbrev pub AreLinkedBadly : Schema → ShapeId → List ShapeId → ShapeId → Type 0
 AreLinkedBadly s i [] end = (e : Edge s i end) × IsNegative e
 AreLinkedBadly s i (j ∷ js) end =

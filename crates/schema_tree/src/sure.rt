@@ -129,7 +129,7 @@ impl<V: View> Question<'_, V> {
         Ok(verdict)
     }
 
-    /// The same, found from the members.
+    /// The verdict on an expression with these members, found from them.
     #[cycle(verdicts)]
     fn joined(
         &self,

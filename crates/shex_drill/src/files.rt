@@ -81,7 +81,7 @@ impl Files for DrillFiles {
         Ok(bytes)
     }
 
-    // And so is a store: nothing is stored.
+    // A store is answered as want of memory: nothing is stored.
     fn store(&mut self, _name: &str, _bytes: &[u8]) -> Result<(), StoreError> {
         Err(StoreError::Memory)
     }

@@ -2,7 +2,7 @@
 
 ghost use Rattle.shexj_reader.specs.Laws.{DocumentsAreOne, DocumentsAreOrdered, RefusedAreNone};
 
-/// The same bytes spell one document at most.
+/// Bytes spell one document at most.
 pub fn documents_are_one()
     ensures { DocumentsAreOne }
 {}

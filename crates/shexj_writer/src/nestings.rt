@@ -75,7 +75,7 @@ fn triples_nest_within(members: &[DocTriple], levels: u32) -> bool
     true
 }
 
-/// The same of a start expression, if there is one.
+/// Whether at most so many shape and triple expressions nest in one another in a start expression, if there is one.
 fn start_nests_within(start: Option<&DocExpr>, levels: u32) -> bool
     ensures { result ≡ nat_le (maybe_expr_nesting (maybe_expr (option_map expr_of (option_copied start.entry)))) levels }
 {
@@ -85,7 +85,7 @@ fn start_nests_within(start: Option<&DocExpr>, levels: u32) -> bool
     }
 }
 
-/// The same of declarations.
+/// Whether at most so many shape and triple expressions nest in one another in each declaration.
 fn decls_nest_within(decls: &[Decl], levels: u32) -> bool
     ensures { result ≡ nat_le (decls_nesting (map decl_of decls.now)) levels }
 {

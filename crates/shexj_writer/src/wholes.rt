@@ -22,14 +22,14 @@ fn is_whole_facet(facet: &Facet) -> bool
     }
 }
 
-/// The same of all facets of a constraint.
+/// Whether each range facet of a constraint has a whole number from -2^63 to 2^64 - 1.
 fn is_whole_constraint(constraint: &NodeConstraint) -> bool
     ensures { result ≡ is_whole_constraint constraint.now }
 {
     constraint.facets().iter().all(is_whole_facet)
 }
 
-/// The same of all constraints in a shape expression.
+/// Whether each range facet in a shape expression has a whole number from -2^63 to 2^64 - 1.
 #[cycle(wholes)]
 fn is_whole_expr(expr: &DocExpr) -> bool
     ensures { result ≡ is_whole_expr (expr_of expr.now) }
@@ -58,7 +58,7 @@ fn are_whole_exprs(members: &[DocExpr]) -> bool
     true
 }
 
-/// The same of all constraints in a triple expression.
+/// Whether each range facet in a triple expression has a whole number from -2^63 to 2^64 - 1.
 #[cycle(wholes)]
 fn is_whole_triple(triple: &DocTriple) -> bool
     ensures { result ≡ is_whole_triple (triple_of triple.now) }
@@ -85,7 +85,7 @@ fn are_whole_triples(members: &[DocTriple]) -> bool
     true
 }
 
-/// The same of all constraints in a start expression, if there is one.
+/// Whether each range facet in a start expression, if there is one, has a whole number from -2^63 to 2^64 - 1.
 fn is_whole_start(start: Option<&DocExpr>) -> bool
     ensures { result ≡ is_whole_value (maybe_expr (option_map expr_of (option_copied start.entry))) }
 {
@@ -95,7 +95,7 @@ fn is_whole_start(start: Option<&DocExpr>) -> bool
     }
 }
 
-/// The same of all constraints in declarations.
+/// Whether each range facet in declarations has a whole number from -2^63 to 2^64 - 1.
 fn are_whole_decls(decls: &[Decl]) -> bool
     ensures { result ≡ are_whole_decls (map decl_of decls.now) }
 {

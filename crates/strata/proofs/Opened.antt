@@ -268,7 +268,7 @@ member_below s loaded e (Exprs.Not u) is q c = absurd (not_in_none q c)
 member_below s loaded e (Exprs.Node k) is q c = absurd (not_in_none q c)
 member_below s loaded e (Exprs.Shape t) is q c = absurd (not_in_none q c)
 
--- and so has what is negated
+-- what is negated has a smaller number
 pub negated_below : (s : Schema) → IsLoaded s → (e : ExprId) (x : Expr) → entry s e ≡ Some x → AreBelow e.0 (negated_of (Some x))
 negated_below s loaded e (Exprs.Not u) is q c = let same : u.0 ≡ q = in_one u.0 q c in let l = loaded.refers e (Exprs.Not u) is in omega (arith, l, same)
 negated_below s loaded e (Exprs.And es) is q c = absurd (not_in_none q c)

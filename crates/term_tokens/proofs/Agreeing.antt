@@ -41,6 +41,6 @@ module _ (Common : Fault → Type 0) (Alone : Fault → Ahead Spelled → Type 0
   unfolding tagged_of
   tagged_agrees lex t = same_class t (is_among tags t) _
 
-  -- and so does a token that is one symbol
+  -- a token that is one symbol agrees with itself
   pub agrees_mark : (a : Symbol) → Agrees Common Alone (mark a) (mark a)
   agrees_mark a = agrees_one Common Alone Syntax (of_symbol a) (of_symbol a) common (λ t. same_class t (is_symbol a t) t)

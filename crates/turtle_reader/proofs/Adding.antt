@@ -20,7 +20,7 @@ last_gives_more f (a ∷ b ∷ bs) zero x w ys l e g = absurd (omega (arith, l))
 last_gives_more f (a ∷ rest) (suc n) x w ys l e g = ap (λ (v : List _). f a ++ v) (last_gives_more f rest n x w ys (omega (arith, l)) e g)
     ∙ sym (append_assoc (f a) (flat_map f rest) ys)
 
--- the same, where the last item is given
+-- what all items give, where the last of them is given and gives more
 pub end_gives_more : {X Y : Type 0} (f : X → List Y) (xs : List X) (x w : X) (ys : List Y) → f w ≡ f x ++ ys
     → flat_map f (xs ++ w ∷ []) ≡ flat_map f (xs ++ x ∷ []) ++ ys
 end_gives_more f xs x w ys g =

@@ -46,7 +46,7 @@ cancelled : (xs ys zs : List ℕ) → xs ++ ys ≡ xs ++ zs → ys ≡ zs
 cancelled [] ys zs e = e
 cancelled (x ∷ xs) ys zs e = cancelled xs ys zs (ap (λ z. drop 1 z) e)
 
--- and the other way: what stands behind the stem of a tag of its language
+-- what stands behind a stem that is not empty in a tag of its language is cut off by a hyphen, if it is anything
 pub language_cut : (stem tag rest : List ℕ) → encode_utf8_all tag ≡ encode_utf8_all stem ++ rest → IsInLanguage stem tag → (stem ≡ []) ⊎ IsCut rest
 language_cut stem tag rest e h =
     let found = behind tag stem rest e in

@@ -59,13 +59,6 @@ marks_or (suc n) a b =
     ∙ ap (λ v. ((a % 2 == 1) || (b % 2 == 1)) ∷ marks_of n v) (half_or a b)
     ∙ ap (λ v. ((a % 2 == 1) || (b % 2 == 1)) ∷ v) (marks_or n (a / 2) (b / 2))
 
-pub marks_and : (n a b : ℕ) → marks_of n (bit_and a b) ≡ and_marks (marks_of n a) (marks_of n b)
-marks_and zero a b = refl
-marks_and (suc n) a b =
-    ap (λ v. v ∷ marks_of n (bit_and a b / 2)) (first_and a b)
-    ∙ ap (λ v. ((a % 2 == 1) && (b % 2 == 1)) ∷ marks_of n v) (half_and a b)
-    ∙ ap (λ v. ((a % 2 == 1) && (b % 2 == 1)) ∷ v) (marks_and n (a / 2) (b / 2))
-
 pub marks_zero : (n : ℕ) → marks_of n 0 ≡ replicate n false
 marks_zero zero = refl
 marks_zero (suc n) = ap (λ v. false ∷ v) (marks_zero n)

@@ -1,20 +1,11 @@
--- The children of a node, one after the other.
-use Rattle.std.proofs.Common.{◌≡◌, ℕ, suc, ◌+◌, ◌<◌, ◌≤◌, List, length, drop, get_or, sym, ap, ◌∙◌, add-one}
-use Rattle.std.proofs.Math.Seq.{drop-cons}
-use Rattle.std.proofs.Math.ListN.{drop_of_length-le}
+-- What a group holds, and what is repeated.
+use Rattle.std.proofs.Common.{◌≡◌, ℕ, sym, ap, ◌∙◌}
 use Rattle.std.proofs.Common.{rules}
 use Rattle.std.specs.Prelude.{Option}
 use Rattle.std.specs.declared.alloc.Global.{Global}
 use Rattle.std.specs.declared.boxed.Box.{Box}
 use Rattle.xs_pattern.specs.declared.expression.Expression.{Expression, Group, Repeat, the_lemmas}
-use Rattle.xs_pattern.specs.Regex.{regex_of, regexes_of, more, none, group, repeat}
-
-pub next_child : (es : List Expression) (i : ℕ) (e : Expression) → i < length es → e ≡ get_or es i e → regexes_of (drop i es) ≡ more (regex_of e) (regexes_of (drop (i + 1) es))
-next_child es i e lt is =
-    rw add-one (ap regexes_of (drop-cons es i e lt) ∙ ap (λ y. more (regex_of y) (regexes_of (drop (suc i) es))) (sym is))
-
-pub last_child : (es : List Expression) (i : ℕ) → length es ≤ i → regexes_of (drop i es) ≡ none
-last_child es i le = ap regexes_of (drop_of_length-le es le)
+use Rattle.xs_pattern.specs.Regex.{regex_of, group, repeat}
 
 regex_group : (b : Box Expression Global) → regex_of (Group b) ≡ group (regex_of b.value)
 regex_group b = search (rules, the_lemmas)

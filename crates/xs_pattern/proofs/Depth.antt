@@ -1,6 +1,5 @@
 -- Tokens nest as deep as the pattern that they spell.
 use Rattle.std.proofs.Common.{◌≡◌, ℕ, suc, ◌+◌, ◌-◌, ◌<◌, ◌≤◌, List, [], ◌∷◌, ◌++◌, length, drop, get_or, refl, arith, sym, ap, ◌∙◌, max, append_assoc, add-one}
-use Rattle.std.proofs.Math.ListN.{drop_of_length-le}
 use Rattle.std.proofs.Math.Seq.{drop-cons}
 use Rattle.std.proofs.lemmas.List.{append-nil}
 use Rattle.xs_pattern.specs.Limits.{nesting, deepest_nesting, depth}
@@ -104,10 +103,6 @@ depth_on ts i n d m l next all t lt is within below e behind classes top =
     let rest = ap (λ v. depth v (tokens_of (drop (i + 1) ts))) behind in
     let up = open_within (token_of t) n i within in
     (omega arith, (omega arith, omega arith))
-
-pub depth_end : (ts : List TokenInCode) (i n d all : ℕ) → length ts ≤ i → n ≤ d → max d (depth n (tokens_of (drop i ts))) ≡ all → d ≡ all
-depth_end ts i n d all le below e =
-    let none = ap (λ v. depth n (tokens_of v)) (drop_of_length-le ts le) in omega arith
 
 pub depth_of_pattern : (ts : List TokenInCode) (r : ℕ) → r ≡ depth 0 (tokens_of ts) → (e : Regex) → tokens e ≡ tokens_of ts → r ≡ nesting e
 depth_of_pattern ts r is e same = is ∙ (ap (depth 0) (sym same) ∙ depth_exact e)

@@ -1,13 +1,12 @@
 -- What the loops of the reader keep.
 use Rattle.std.proofs.Common.{◌≡◌, ◌<◌, ◌≤◌, ℕ, arith, length, List, [], ◌∷◌, ◌++◌, refl, sym, ap, ◌∙◌, Bool, true, false, cond, append_assoc, map}
 use Rattle.std.specs.Prelude.{Option, Some, None, option_map}
-use Rattle.std.proofs.lemmas.List.{append-nil}
 use Rattle.std.proofs.lemmas.Option.{same_Some}
 use Rattle.xs_pattern.specs.declared.expression.Item.{Item}
 use Rattle.xs_pattern.specs.Lexing.{begins, tail, is_end, read_item, item_before, item_then, read_more, read_items, read_members, group_before, groups_then, read_groups, class_token, plain_token, read_class, read_token, token_before, tokens_then, read_tokens, capped_token, capped_pair}
 use Rattle.xs_pattern.specs.Tokens.{Token}
 use Rattle.xs_pattern.specs.Regex.{Members}
-use Rattle.xs_pattern.proofs.Steps.{item_shorter, more_items, no_more_items, members_short, more_groups, token_shorter, more_tokens}
+use Rattle.xs_pattern.proofs.Steps.{item_shorter, more_items, members_short, more_groups, token_shorter, more_tokens}
 
 -- items that were read, before what is read behind them
 abbrev pub all_before : {A : Type 0} → List A → Option (List A × List ℕ) → Option (List A × List ℕ)
@@ -30,13 +29,6 @@ items_on xs new x ts r all is so_far ends h =
     ap (λ v. all_before v (read_more r)) is
     ∙ (sym (next_item xs x (read_more r))
     ∙ (ap (λ o. all_before xs (item_then (λ v. read_more v) o)) h ∙ (ap (all_before xs) (sym (more_items ts ends)) ∙ so_far)))
-
-pub items_fail : (xs : List Item) (ts : List ℕ) (all : Option (List Item × List ℕ)) → all_before xs (read_more ts) ≡ all → is_end ts ≡ false → None ≡ read_item false ts → None ≡ all
-items_fail xs ts all so_far ends h =
-    ap (λ o. all_before xs (item_then (λ v. read_more v) o)) h ∙ (ap (all_before xs) (sym (more_items ts ends)) ∙ so_far)
-
-pub items_end : (xs : List Item) (ts : List ℕ) (all : Option (List Item × List ℕ)) → all_before xs (read_more ts) ≡ all → is_end ts ≡ true → Some (xs, ts) ≡ all
-items_end xs ts all so_far ends = ap (λ v. Some (v, ts)) (sym (append-nil xs)) ∙ (ap (all_before xs) (sym (no_more_items ts ends)) ∙ so_far)
 
 pub item_less : (x : Item) (ts r : List ℕ) → Some (x, r) ≡ read_item false ts → length r < length ts
 item_less x ts r h = item_shorter x ts r (sym h)
@@ -63,9 +55,6 @@ next_group ms m (Some (ns, r)) = ap (λ v. Some (v, r)) (sym (append_assoc ms (m
 pub groups_begin : (text b : List ℕ) (m : Members) → Some (m, b) ≡ read_members text → all_before (m ∷ []) (further_groups b) ≡ read_groups text
 groups_begin text b m h = sym (one_group m b) ∙ (ap (groups_then (λ v. read_groups v)) h ∙ sym (more_groups text))
 
-pub groups_none : (text : List ℕ) → None ≡ read_members text → None ≡ read_groups text
-groups_none text h = ap (groups_then (λ v. read_groups v)) h ∙ sym (more_groups text)
-
 pub groups_first : (text b : List ℕ) (m : Members) (ms : List Members) → ms ≡ m ∷ [] → Some (m, b) ≡ read_members text → all_before ms (further_groups b) ≡ read_groups text
 groups_first text b m ms is h = ap (λ v. all_before v (further_groups b)) is ∙ groups_begin text b m h
 
@@ -75,15 +64,6 @@ groups_on ms new m ts b all is so_far hyphen h =
     ∙ (sym (next_group ms m (further_groups b))
     ∙ (ap (all_before ms) (groups_begin (tail ts) b m h)
     ∙ (ap (λ v. all_before ms (cond v (read_groups (tail ts)) (Some ([], ts)))) (sym hyphen) ∙ so_far)))
-
-pub groups_fail : (ms : List Members) (ts : List ℕ) (all : Option (List Members × List ℕ)) → all_before ms (further_groups ts) ≡ all → begins 45 ts ≡ true → None ≡ read_members (tail ts) → None ≡ all
-groups_fail ms ts all so_far hyphen h =
-    ap (all_before ms) (groups_none (tail ts) h)
-    ∙ (ap (λ v. all_before ms (cond v (read_groups (tail ts)) (Some ([], ts)))) (sym hyphen) ∙ so_far)
-
-pub groups_end : (ms : List Members) (ts : List ℕ) (all : Option (List Members × List ℕ)) → all_before ms (further_groups ts) ≡ all → begins 45 ts ≡ false → Some (ms, ts) ≡ all
-groups_end ms ts all so_far hyphen =
-    ap (λ v. Some (v, ts)) (sym (append-nil ms)) ∙ (ap (λ v. all_before ms (cond v (read_groups (tail ts)) (Some ([], ts)))) (sym hyphen) ∙ so_far)
 
 pub group_less : (m : Members) (ts b : List ℕ) → Some (m, b) ≡ read_members (tail ts) → length b < length ts
 group_less m ts b h = let less = members_short m (tail ts) b (sym h) in let most = tail_short ts in omega arith
@@ -121,14 +101,6 @@ tokens_on us new u ts r all is so_far some h =
     ap (λ v. tokens_before v (capped_tokens r)) is
     ∙ (sym (next_token us u (capped_tokens r))
     ∙ (ap (λ o. tokens_before us (tokens_then capped_tokens o)) h ∙ (ap (tokens_before us) (sym (capped_more ts some)) ∙ so_far)))
-
-pub tokens_fail : (us : List Token) (ts : List ℕ) (all : Option (List Token)) → tokens_before us (capped_tokens ts) ≡ all → 0 < length ts → None ≡ capped_pair (read_token ts) → None ≡ all
-tokens_fail us ts all so_far some h =
-    ap (λ o. tokens_before us (tokens_then capped_tokens o)) h ∙ (ap (tokens_before us) (sym (capped_more ts some)) ∙ so_far)
-
-pub tokens_end : (us : List Token) (ts : List ℕ) (all : Option (List Token)) → tokens_before us (capped_tokens ts) ≡ all → length ts ≡ 0 → Some us ≡ all
-tokens_end us [] all so_far none = ap Some (sym (append-nil us)) ∙ so_far
-tokens_end us (c ∷ cs) all so_far none = absurd (omega arith)
 
 token_found : (p : Option (Token × List ℕ)) (u : Token) (r : List ℕ) → Some (u, r) ≡ capped_pair p → (v : Token) × (p ≡ Some (v, r))
 token_found None u r h = absurd (cc)

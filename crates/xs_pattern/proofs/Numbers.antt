@@ -75,10 +75,6 @@ at_most_told xs ys d e z w = elim (three_ways (length xs) (length ys)) [
   | inr (inr gt) ↦ ap (λ o. is_le (ordering_then o (slice_cmp nat_cmp xs ys))) (sym (nat_cmp_is (length xs) (length ys) Greater gt)) ∙ sym (lt-leb (digits_value 10 xs) (digits_value 10 ys) (shorter_below ys xs e d z gt))
 ]
 
--- a zero at the front adds nothing
-pub zero_in_front : (ds : List ℕ) → digits_value 10 (48 ∷ ds) ≡ digits_value 10 ds
-zero_in_front ds = refl
-
 -- the digits at the front are digits
 pub digits_front : (ts front : List ℕ) (n : ℕ) → n ≡ digit_count ts → front ≡ take n ts → list_all is_ascii_digit front ≡ true
 digits_front ts front n count is = ap (list_all is_ascii_digit) (is ∙ ap (λ k. take k ts) count) ∙ all_digits ts

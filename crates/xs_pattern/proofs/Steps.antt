@@ -1,5 +1,5 @@
 -- How lists of items, classes and tokens are read one after the other: what a reader may take of a text is never too little.
-use Rattle.std.proofs.Common.{◌≡◌, ◌<◌, ◌≤◌, ℕ, zero, suc, arith, length, List, [], ◌∷◌, refl, ap, ◌∙◌, true, false, cond}
+use Rattle.std.proofs.Common.{◌≡◌, ◌<◌, ◌≤◌, ℕ, zero, suc, arith, length, List, [], ◌∷◌, refl, ap, ◌∙◌, false, cond}
 use Rattle.std.specs.Prelude.{Option, Some, None}
 use Rattle.xs_pattern.specs.declared.expression.Item.{Item}
 use Rattle.xs_pattern.specs.Lexing.{begins, tail, is_end, read_item, item_before, item_then, items_within, read_more, read_members, group_before, groups_then, groups_within, read_groups, read_token, token_before, tokens_then, tokens_within, read_tokens}
@@ -30,9 +30,6 @@ more_items ts h =
     skip (is_end ts) (Some ([], ts)) _ h
     ∙ same_items (λ r. items_within (length ts) r) (λ r. read_more r) (read_item false ts)
     (λ x r e. let less = item_shorter x ts r e in items_enough (length ts) (suc (length r)) r less (omega arith))
-
-pub no_more_items : (ts : List ℕ) → is_end ts ≡ true → read_more ts ≡ Some ([], ts)
-no_more_items ts h = ap (λ b. cond b (Some ([], ts)) (item_then (λ r. items_within (length ts) r) (read_item false ts))) h
 
 -- classes
 same_groups : (go other : List ℕ → Option (List Members × List ℕ)) (o : Option (Members × List ℕ)) → ((m : Members) (b : List ℕ) → o ≡ Some (m, b) → go (tail b) ≡ other (tail b)) → groups_then go o ≡ groups_then other o

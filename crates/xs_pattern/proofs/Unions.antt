@@ -33,10 +33,6 @@ or_no : (b : Bool) → (b || false) ≡ b
 or_no true = refl
 or_no false = refl
 
-and_no : (b : Bool) → (b && false) ≡ false
-and_no true = refl
-and_no false = refl
-
 -- lists of marks
 pub or_none : (xs : List Bool) → or_marks xs [] ≡ xs
 or_none [] = refl

@@ -4,16 +4,13 @@ use Rattle.std.specs.Prelude.{Result, Ok, Err, IfOk, OnOk, Option, Some, ℕ}
 use Rattle.std.specs.declared.alloc.AllocError.{AllocError}
 use Rattle.std.specs.declared.alloc.Global.{Global}
 use Rattle.std.specs.declared.boxed.Box.{Box}
-use Rattle.xs_pattern.specs.declared.unrolled.Unrolled.{Unrolled, Nothing, Never, Then, Either, Plus, the_lemmas}
-use Rattle.xs_pattern.specs.Way.{Way, way_of, nothing, never, then, either, plus}
+use Rattle.xs_pattern.specs.declared.unrolled.Unrolled.{Unrolled, Nothing, Then, Either, Plus, the_lemmas}
+use Rattle.xs_pattern.specs.Way.{Way, way_of, nothing, then, either, plus}
 use Rattle.xs_pattern.specs.Unrolling.{repeated}
 use Rattle.xs_pattern.proofs.Repeated.{repeated_none}
 
 pub way_nothing : way_of Nothing ≡ nothing
 way_nothing = search (rules, the_lemmas)
-
-pub way_never : way_of Never ≡ never
-way_never = search (rules, the_lemmas)
 
 way_then : (a b : Box Unrolled Global) → way_of (Then a b) ≡ then (way_of a.value) (way_of b.value)
 way_then a b = search (rules, the_lemmas)

@@ -1,24 +1,7 @@
 //! Reading character classes (XML Schema Part 2, version 1.1, section G.4.1).
 ghost use Rattle.std.specs.Prelude.{◌≡◌, ◌==◌, IfOk, codes, map, option_map};
 ghost use Rattle.std.specs.List.{list_all};
-ghost use Rattle.xs_pattern.specs.Lexing.{
-  begins,
-  behind_closing,
-  closed,
-  is_end,
-  is_own,
-  is_range,
-  ranged,
-  read_char,
-  read_class,
-  read_groups,
-  read_item,
-  read_items,
-  read_kind_item,
-  read_members,
-  read_opening,
-  tail,
-};
+ghost use Rattle.xs_pattern.specs.Lexing.{begins, behind_closing, is_end, is_own, is_range, ranged, read_char, read_class, read_groups, read_item, read_items, read_kind_item, read_members, read_opening, tail};
 ghost use Rattle.xs_pattern.specs.Regex.{members_of};
 ghost use Rattle.xs_pattern.specs.Spelling.{is_one_of};
 

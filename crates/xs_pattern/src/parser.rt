@@ -1,5 +1,5 @@
 //! Reading a pattern token by token (XML Schema Part 2, version 1.1, sections G.1 and G.2).
-ghost use Rattle.std.specs.Prelude.{◌≡◌, ◌↔◌, ◌<◌, ◌^◌, ◌∷◌, List, [], true, false, Some, None, IfNone, IfOk, IfSome, IsTrue, OnOk, map, option_map, reverse};
+ghost use Rattle.std.specs.Prelude.{◌≡◌, ◌↔◌, ◌<◌, ◌^◌, ◌∷◌, List, [], true, false, Some, None, IfNone, IfOk, IfSome, IsTrue, OnOk, option_map, reverse};
 ghost use Rattle.std.specs.List.{list_any};
 ghost use Rattle.xs_pattern.specs.Limits.{depth, nesting};
 ghost use Rattle.xs_pattern.specs.Parsing.{

@@ -1,5 +1,5 @@
 //! Patterns, and whether they are found in a text.
-ghost use Rattle.std.specs.Prelude.{◌≡◌, ◌↔◌, ℕ, ◌≤◌, ◌<◌, true, false, IsTrue, ◌⊎◌, IfOk, IfSome, IsErrOf, IsNone, IsSome, MatchResult, OnOk, length, map, slice_index_or};
+ghost use Rattle.std.specs.Prelude.{◌≡◌, ◌↔◌, ℕ, ◌≤◌, ◌<◌, true, false, IsTrue, ◌⊎◌, IfOk, IfSome, IsErrOf, IsNone, MatchResult, OnOk, length, map, slice_index_or};
 ghost use Rattle.xs_pattern.specs.Flagged.{AreFlags, IsSpelledUnder, SpellsUnder, flags_named};
 ghost use Rattle.std.specs.Str.{chars};
 ghost use Rattle.xs_pattern.specs.Language.{IsFound};
@@ -98,7 +98,7 @@ impl Pattern {
         }
     }
 
-    /// The same pattern. Where it has few positions, it is kept by words.
+    /// The pattern itself, which is kept by words where it has few positions.
     fn keeping(self, alloc: Global) -> Result<Pattern, AllocError>
         ensures { IfOk result (λ p. (regex p ≡ regex self) × (flags_of p ≡ flags_of self)) }
     {
@@ -130,7 +130,7 @@ impl Pattern {
         }
     }
 
-    /// The same, with the pattern unrolled for this text.
+    /// Whether the pattern, which is unrolled for this text, is found in it.
     fn found_anew(&self, alloc: Global, text: &str) -> Result<bool, AllocError>
         ensures { IfOk result (λ b. IsTrue b ↔ IsFound (flags_of self.now) (chars text.now) (regex self.now)) }
     {

@@ -1,5 +1,5 @@
 //! Reading the expression of a text.
-ghost use Rattle.std.specs.Prelude.{◌≡◌, ◌<◌, ◌^◌, IfOk};
+ghost use Rattle.std.specs.Prelude.{◌≡◌, ◌<◌, IfOk};
 ghost use Rattle.std.specs.Str.{chars};
 ghost use Rattle.xs_pattern.specs.Parses.{Parses, ParsesUnder};
 ghost use Rattle.xs_pattern.specs.Parsing.{IsSpelled, tokens_of};

@@ -106,7 +106,7 @@ impl Unrolled {
         Ok(Unrolled::Plus(Box::new(alloc, body)?))
     }
 
-    /// The same once more.
+    /// A copy.
     fn copy(&self, alloc: Global) -> Result<Unrolled, AllocError>
         ensures { IfOk result (λ w. way_of w ≡ way_of self.now) }
     {
