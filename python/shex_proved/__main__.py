@@ -80,11 +80,21 @@ def _parser() -> argparse.ArgumentParser:
         "--shape", "-s", metavar="SHAPE", help="the label of the nodes' shape; by default the schema's start"
     )
     one.add_argument("--proof", type=Path, metavar="FILE", help="store a proof of the answers")
+    one.add_argument("--reasons", "-r", action="store_true", help="say why nodes do not conform")
     claims = commands.add_parser("check", parents=[schema, data], help="check a proof, and print what it claims")
     claims.add_argument("--proof", required=True, type=_source, metavar="FILE")
     commands.add_parser("extents", parents=[schema, data, budget], help="list which nodes have which shapes")
     commands.add_parser("convert", parents=[schema], help="print a schema in ShExJ")
     return parser
+
+
+def _reasoned(result: Result) -> str:
+    """The answers, a line each, with reasons below them."""
+    lines = (
+        f"{answer.node}@{'' if answer.conformant else '!'}{answer.shape}\n{answer.reason or ''}".rstrip("\n")
+        for answer in result
+    )
+    return "\n".join(lines) + "\n"
 
 
 def _show(result: Result, in_json: bool) -> int:
@@ -93,10 +103,16 @@ def _show(result: Result, in_json: bool) -> int:
         json.dump(result.to_json(), sys.stdout, indent=2, ensure_ascii=False)
         print()
     else:
-        sys.stdout.write(result.text)
+        sys.stdout.write(_reasoned(result) if any(answer.reason for answer in result) else result.text)
     for pair in result.wide:
         print(f"wide {pair.node} #{pair.shape} width {pair.width} budget {pair.budget}", file=sys.stderr)
     return 4 if result.wide else 0 if result else 1
+
+
+def _sources_of(words: argparse.Namespace) -> list[Source]:
+    """All that is to be read for the words."""
+    one_each: list[Any] = [getattr(words, name, None) for name in ("schema", "map", "proof")]
+    return [*one_each, *getattr(words, "data", []), *dict(getattr(words, "imports", [])).values()]
 
 
 def _run(words: argparse.Namespace, parser: argparse.ArgumentParser) -> int:
@@ -116,7 +132,7 @@ def _run(words: argparse.Namespace, parser: argparse.ArgumentParser) -> int:
     if (words.map is None) == (not words.node) or (words.map and words.shape):
         parser.error("validate takes --map, or --node with --shape")
     asked: Union[Source, list[tuple[str, Optional[str]]]] = words.map or [(node, words.shape) for node in words.node]
-    result = validate(words.schema, words.data, asked, proof=words.proof is not None, **options)
+    result = validate(words.schema, words.data, asked, proof=words.proof is not None, reasons=words.reasons, **options)
     if words.proof is not None and result.proof is not None:
         words.proof.write_bytes(result.proof)
     return _show(result, words.json)
@@ -126,6 +142,8 @@ def main(given: Optional[Sequence[str]] = None) -> int:
     """Does what the words ask for, and gives the exit status."""
     parser = _parser()
     words = parser.parse_args(given)
+    if sum(source is sys.stdin.buffer for source in _sources_of(words)) > 1:
+        parser.error("standard input is read once: - may be given once")
     try:
         return _run(words, parser)
     except ShexError as error:

@@ -2,7 +2,7 @@
 
 from __future__ import annotations
 
-from typing import NamedTuple, Optional
+from typing import Any, NamedTuple, Optional
 
 
 class Place(NamedTuple):
@@ -25,17 +25,31 @@ class ShexError(Exception):
         self.status = status
         self.said = said
 
+    def __reduce__(self) -> tuple[Any, ...]:
+        return type(self), (str(self), self.status, self.said)
+
 
 class WordsError(ShexError, ValueError):
-    """An argument is refused: a base that is no IRI, or a number outside its limits."""
+    """An argument is refused: a base that is no IRI, or a number outside its limits.
+
+    `argument` is its name, as `budget`, where the program's words tell which it is.
+    """
+
+    def __init__(self, status: int, said: str, what: str, argument: Optional[str]) -> None:
+        super().__init__(f"{argument}: {what}" if argument else what, status, said)
+        self.what = what
+        self.argument = argument
+
+    def __reduce__(self) -> tuple[Any, ...]:
+        return type(self), (self.status, self.said, self.what, self.argument)
 
 
 class RefusedError(ShexError, ValueError):
     """A schema, data, a shape map or an imported document is refused.
 
-    `source` says which, by its path or as `<schema>`, `<data>` and `<map>`; `cause` and
-    `detail` are the words of the program, as `Syntax` and `17`; and `place` is where in
-    the source the fault stands, where the program tells it.
+    `source` says which, by its path or as `<schema>`, `<data>`, `<map>`, and `pair 1` of a
+    list of pairs; `cause` and `detail` are the words of the program, as `Syntax` and `17`;
+    and `place` is where in the source the fault stands, where that is known.
     """
 
     def __init__(
@@ -54,6 +68,9 @@ class RefusedError(ShexError, ValueError):
         self.cause = cause
         self.detail = detail
         self.place = place
+
+    def __reduce__(self) -> tuple[Any, ...]:
+        return type(self), (self.status, self.said, self.source, self.cause, self.detail, self.place)
 
     @property
     def line(self) -> Optional[int]:

@@ -37,6 +37,6 @@ def _line(pair: Pair) -> str:
     return f"{term_text(node)}@{'START' if shape is None else term_text(shape)}"
 
 
-def map_text(pairs: Iterable[Pair]) -> str:
-    """The shape map of pairs of a node and a shape."""
-    return ",\n".join(map(_line, pairs))
+def map_items(pairs: Iterable[Pair]) -> list[str]:
+    """The items of the shape map of pairs of a node and a shape."""
+    return list(map(_line, pairs))

@@ -2,9 +2,10 @@
 
 from __future__ import annotations
 
+import json
 import re
-from dataclasses import dataclass
-from typing import Iterator, Optional, Union
+from dataclasses import dataclass, replace
+from typing import Iterator, Optional, Sequence, Union
 
 _ANSWER = re.compile(r'(.*)@(!?)(START|<[^<>"{}|^`\\]*>|_:[^@!]+)', re.DOTALL)
 _WIDE = re.compile(r"wide (.*) #(\d+) width (\d+) budget (\d+)")
@@ -16,17 +17,20 @@ class Answer:
 
     `node` and `shape` are written as N-Triples writes terms: `<http://e/ann>`, `_:b`,
     `"1"^^<http://www.w3.org/2001/XMLSchema#integer>`. The shape that the schema starts
-    with is `START`.
+    with is `START`. `reason` says why the node does not conform, in the lines of
+    `shextool explain`, where reasons were asked for.
     """
 
     node: str
     shape: str
     conformant: bool
+    reason: Optional[str] = None
 
     def to_json(self) -> dict[str, str]:
         """The answer as an item of a result shape map in JSON, with IRIs without brackets."""
         status = "conformant" if self.conformant else "nonconformant"
-        return {"node": _bare(self.node), "shape": _bare(self.shape), "status": status}
+        found = {"node": _bare(self.node), "shape": _bare(self.shape), "status": status}
+        return {**found, "reason": self.reason} if self.reason is not None else found
 
 
 @dataclass(frozen=True)
@@ -103,3 +107,17 @@ def result_of(status: int, output: bytes, errors: bytes, proof: Optional[bytes])
     lines = text.rstrip("\n").split(",\n") if text.strip() else []
     wide = filter(None, map(_wide, errors.decode().splitlines()))
     return Result(tuple(map(_answer, lines)), status == 0, tuple(wide), text, proof)
+
+
+def reasons_of(explained: bytes) -> list[Optional[str]]:
+    """The reasons of associations with an answer, in the map's order, of what `shextool explain --json` prints."""
+    found = json.loads(explained)
+    return [item.get("reason") for item in found if item["status"] in ("conformant", "nonconformant")]
+
+
+def with_reasons(result: Result, reasons: Sequence[Optional[str]]) -> Result:
+    """A result with a reason at each answer that has one."""
+    if len(reasons) != len(result.answers):
+        raise ValueError("the reasons are those of another map")
+    answers = (replace(answer, reason=reason) for answer, reason in zip(result.answers, reasons))
+    return replace(result, answers=tuple(answers))

@@ -5,15 +5,28 @@ from __future__ import annotations
 import gzip
 import os
 import zlib
+from bisect import bisect_right
 from dataclasses import dataclass
 from pathlib import Path
-from typing import IO, Any, Optional, Union
+from typing import IO, Any, Optional, Protocol, Union, runtime_checkable
 
 from .errors import Place
 
+
+@runtime_checkable
+class Graph(Protocol):
+    """A graph of rdflib, of which its triples and its N-Triples are wanted."""
+
+    def triples(self, triple: Any, /) -> Any:
+        """The triples that a pattern fits."""
+
+    def serialize(self, *, format: str, encoding: str) -> Any:
+        """The graph's text in a format."""
+
+
 # A text; the bytes of one; a path of one; a stream that is read to its end; or, for data,
 # a graph of rdflib. What is compressed by gzip is decompressed.
-Source = Union[str, bytes, os.PathLike[str], IO[str], IO[bytes], Any]
+Source = Union[str, bytes, "os.PathLike[str]", IO[str], IO[bytes], Graph]
 
 SCHEMA_ENDINGS = {"shexc": ".shex", "shexj": ".json"}
 DATA_ENDINGS = {"turtle": ".ttl", "nt": ".nt"}
@@ -29,19 +42,23 @@ class Document:
     name: str
     ending: str
     content: bytes
+    # Where each part begins, in bytes, where the text was joined of parts that errors name.
+    parts: tuple[int, ...] = ()
 
-    def place(self, offset: int) -> Place:
-        """The place at an offset in bytes."""
+    def source_at(self, offset: int) -> str:
+        """What errors call the place at an offset: the part there, or the whole."""
+        return f"pair {bisect_right(self.parts, offset)}" if self.parts else self.name
+
+    def place(self, offset: int) -> Optional[Place]:
+        """The place at an offset in bytes, where the text is one that the caller knows."""
+        if self.parts:
+            return None
         before = self.content[:offset].decode(errors="replace")
         line = before.count("\n") + 1
         return Place(offset, line, len(before) - before.rfind("\n"))
 
 
-def _is_graph(source: Source) -> bool:
-    return hasattr(source, "serialize") and hasattr(source, "triples")
-
-
-def _of_graph(graph: Any) -> bytes:
+def _of_graph(graph: Graph) -> bytes:
     """The triples of a graph of rdflib as N-Triples, sorted, so that equal graphs have equal texts."""
     text = graph.serialize(format="nt", encoding="utf-8")
     return b"".join(sorted(text.splitlines(keepends=True)))
@@ -67,7 +84,7 @@ def _content(source: Source) -> bytes:
         found = source
     elif isinstance(source, os.PathLike):
         found = Path(source).read_bytes()
-    elif hasattr(source, "read"):
+    elif not isinstance(source, Graph) and hasattr(source, "read"):
         found = source.read()
     else:
         raise TypeError(f"a text, a path or a stream is wanted, and not a {type(source).__name__}")
@@ -104,7 +121,7 @@ def schema_of(source: Source, name: str = "<schema>", form: Optional[str] = None
 
 def data_of(source: Source, name: str = "<data>", form: Optional[str] = None) -> Document:
     """Data: a graph of rdflib, or as the format or the name says, and else Turtle."""
-    if _is_graph(source):
+    if isinstance(source, Graph):
         return Document(name, ".nt", _of_graph(source))
     found = _document(source, name, DATA_ENDINGS, form)
     return found if found.ending else Document(found.name, ".ttl", found.content)

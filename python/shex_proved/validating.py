@@ -4,13 +4,14 @@ from __future__ import annotations
 
 import re
 from dataclasses import dataclass, field
-from typing import Mapping, NoReturn, Optional, Sequence, Union
+from itertools import accumulate
+from typing import Mapping, NoReturn, Optional, Sequence, Union, cast
 
 from .errors import ProofRejectedError, RefusedError, ShexError, WordsError
 from .library import Outcome, call
-from .maps import Pair, map_text
+from .maps import Pair, map_items
 from .merging import merged
-from .results import Result, result_of
+from .results import Result, reasons_of, result_of, with_reasons
 from .sources import Document, Source, data_of, other_of, schema_of
 
 # The base of a text that is given none.
@@ -20,6 +21,14 @@ _SAID = re.compile(r"\w+: (?P<file>[^:]*): (?P<cause>\w+)(?:\((?P<detail>.*)\))?
 
 # Causes whose detail is a place in the text.
 _PLACED = ("Syntax", "Prefix", "Long")
+
+# What stands between two items of a map.
+_BETWEEN = b",\n"
+
+# Which argument an option is of, and which one the words are of by what is said of them: of
+# those that this module makes only a budget can be outside its limits.
+_BASES = {"--schema-base": "schema_base", "--data-base": "data_base"}
+_ARGUMENTS = {"Arguments": "budget", "Import": "imports"}
 
 _ANSWERING = (0, 1, 4)
 _REJECTED = 6
@@ -41,6 +50,14 @@ class _Call:
         """Gives an option a value, if there is one."""
         if value is not None:
             self.words += [option, str(value)]
+
+    def explaining(self) -> _Call:
+        """The call that explains what this one validates."""
+        words = ["explain", *self.words[1:], "--json"]
+        if "--proof" in words:
+            at = words.index("--proof")
+            del words[at : at + 2]
+        return _Call(words, self.documents)
 
     def add_imports(self, imports: Optional[Mapping[str, Source]]) -> None:
         """Says which documents stand under the IRIs that a schema imports."""
@@ -68,17 +85,38 @@ class _Call:
         document = self.documents.get(found["file"])
         if document is None:
             what = f"{cause}({detail})" if detail else cause
-            raise WordsError(what, outcome.status, said)
-        place = document.place(int(detail)) if cause in _PLACED and detail else None
+            raise WordsError(outcome.status, said, what, self.argument(cause, detail))
+        offset = int(detail) if cause in _PLACED and detail else _bad_byte(document) if cause == "NotUtf8" else None
+        place = None if offset is None else document.place(offset)
+        source = document.name if offset is None else document.source_at(offset)
         kind = ProofRejectedError if outcome.status == _REJECTED else RefusedError
-        raise kind(outcome.status, said, document.name, cause, detail, place)
+        detail = None if offset is not None and place is None else detail
+        raise kind(outcome.status, said, source, cause, detail, place)
+
+    def argument(self, cause: str, detail: Optional[str]) -> Optional[str]:
+        """The argument of a function of this module that a refusal of words is about."""
+        if cause == "Base":
+            option = next(
+                (word for word, value in zip(self.words, self.words[1:]) if word in _BASES and value == detail), None
+            )
+            return _BASES.get(option or "")
+        return _ARGUMENTS.get(cause)
+
+
+def _bad_byte(document: Document) -> int:
+    """Where the first byte stands that is of no character in UTF-8."""
+    try:
+        return len(document.content.decode())
+    except UnicodeDecodeError as error:
+        return error.start
 
 
 def _data(sources: Union[Source, Sequence[Source]], form: Optional[str], base: Optional[str]) -> Document:
     """The data of one source, or of several; each of several is read alone first."""
-    if not isinstance(sources, (list, tuple)):
-        return data_of(sources, form=form)
-    documents = [data_of(source, f"<data {number}>", form) for number, source in enumerate(sources, 1)]
+    if isinstance(sources, (str, bytes)) or not isinstance(sources, Sequence):
+        return data_of(cast(Source, sources), form=form)
+    several = cast("Sequence[Source]", sources)
+    documents = [data_of(source, f"<data {number}>", form) for number, source in enumerate(several, 1)]
     if not documents:
         return Document("<data>", ".nt", b"")
     for document in documents[: len(documents) if len(documents) > 1 else 0]:
@@ -92,8 +130,10 @@ def _data(sources: Union[Source, Sequence[Source]], form: Optional[str], base: O
 
 
 def _map(shape_map: Union[Source, Sequence[Pair]]) -> Document:
-    if isinstance(shape_map, (list, tuple)):
-        return Document("<map>", "", map_text(shape_map).encode())
+    if isinstance(shape_map, Sequence) and not isinstance(shape_map, (str, bytes)):
+        items = [item.encode() for item in map_items(shape_map)]
+        starts = accumulate((len(item) + len(_BETWEEN) for item in items), initial=0)
+        return Document("<map>", "", _BETWEEN.join(items), tuple(starts)[: len(items)])
     return other_of(shape_map, "<map>")
 
 
@@ -120,6 +160,7 @@ def validate(
     *,
     imports: Optional[Mapping[str, Source]] = None,
     proof: bool = False,
+    reasons: bool = False,
     budget: Optional[int] = None,
     schema_format: Optional[str] = None,
     data_format: Optional[str] = None,
@@ -133,8 +174,8 @@ def validate(
     is a shape map, or a list of pairs of a node and a shape, where None is the start.
 
     `imports` has the documents by the IRIs under which a schema imports them. With `proof`
-    the result has a proof of the answers, which `check` accepts. `budget` is the greatest
-    width that is looked into. The formats are `shexc` and `shexj`, `turtle` and `nt`,
+    the result has a proof of the answers, which `check` accepts. With `reasons` each answer
+    that a node does not conform says why. `budget` is the greatest width that is looked into. The formats are `shexc` and `shexj`, `turtle` and `nt`,
     where a path's ending does not say which. Relative references are resolved against the
     bases.
     """
@@ -144,7 +185,10 @@ def validate(
     made.set("--proof", "proof" if proof else None)
     made.add_imports(imports)
     outcome = made.run("shex", "proof" if proof else "")
-    return result_of(outcome.status, outcome.output, outcome.errors, outcome.file if proof else None)
+    result = result_of(outcome.status, outcome.output, outcome.errors, outcome.file if proof else None)
+    if not reasons or result.conformant:
+        return result
+    return with_reasons(result, reasons_of(made.explaining().run("shextool").output))
 
 
 def check(

@@ -53,6 +53,17 @@ def test_standard_input(folder: Path) -> None:
     assert (done.returncode, done.stderr) == (0, "")
 
 
+def test_standard_input_is_given_once(folder: Path) -> None:
+    done = run(folder, "validate --schema - --data - --map m", DATA)
+    assert done.returncode == 2 and "standard input" in done.stderr
+
+
+def test_reasons(folder: Path) -> None:
+    done = run(folder, f"validate -x s.shex -d d.ttl -n {ANN} -n {BOB} -s {FRIEND} --reasons")
+    lines = done.stdout.splitlines()
+    assert done.returncode == 1 and lines[:2] == [f"<{ANN}>@<{FRIEND}>", f"<{BOB}>@!<{FRIEND}>"] and len(lines) > 2
+
+
 def test_a_proof(folder: Path) -> None:
     assert run(folder, "validate --schema s.shex --data d.ttl --map m --proof p").returncode == 0
     done = run(folder, "check --schema s.shex --data d.ttl --proof p")
@@ -70,7 +81,7 @@ def test_faults(folder: Path) -> None:
     for line, status, said in (
         ("validate --schema s.shex --data bad.ttl --map m", 3, "bad.ttl:2:3: Syntax\n"),
         ("validate --schema s.shex --data none.ttl --map m", 5, "[Errno 2] No such file or directory: 'none.ttl'\n"),
-        ("validate --schema s.shex --data d.ttl --map m --data-base x", 2, "Base(x)\n"),
+        ("validate --schema s.shex --data d.ttl --map m --data-base x", 2, "data_base: Base(x)\n"),
     ):
         done = run(folder, line)
         assert (done.returncode, done.stdout, done.stderr) == (status, "", said)

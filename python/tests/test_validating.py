@@ -4,6 +4,7 @@ from __future__ import annotations
 
 import gzip
 import io
+import pickle
 from concurrent.futures import ThreadPoolExecutor
 from pathlib import Path
 
@@ -107,11 +108,51 @@ def test_an_import_that_is_not_given() -> None:
     assert (caught.value.cause, caught.value.detail) == ("Import", "<http://ex.example/observations>")
 
 
+def test_bytes_that_are_not_utf8() -> None:
+    with pytest.raises(shex_proved.RefusedError) as caught:
+        shex_proved.validate(SCHEMA, b"<http://e.example/a>\n \xff", "")
+    assert str(caught.value) == "<data>:2:2: NotUtf8"
+
+
+def test_a_pair_that_is_no_pair() -> None:
+    with pytest.raises(shex_proved.RefusedError) as caught:
+        shex_proved.validate(SCHEMA, DATA, [(ANN, FRIEND), ("no node", FRIEND)])
+    assert (str(caught.value), caught.value.place) == ("pair 2: Syntax", None)
+
+
+def test_errors_are_pickled() -> None:
+    for call, error in (
+        (lambda: shex_proved.validate(SCHEMA, "a b c", ""), shex_proved.RefusedError),
+        (lambda: shex_proved.validate(SCHEMA, DATA, "", budget=0), shex_proved.WordsError),
+        (lambda: shex_proved.check(SCHEMA, DATA, "no proof"), shex_proved.ProofRejectedError),
+    ):
+        with pytest.raises(error) as caught:
+            call()
+        copy = pickle.loads(pickle.dumps(caught.value))
+        assert (type(copy), str(copy), vars(copy)) == (error, str(caught.value), vars(caught.value))
+
+
+def test_reasons() -> None:
+    result = shex_proved.validate(SCHEMA, DATA, [(ANN, FRIEND), (BOB, FRIEND)], reasons=True)
+    assert [answer.conformant for answer in result] == [True, False]
+    assert result.answers[0].reason is None and "http://e.example/knows" in (result.answers[1].reason or "")
+    assert "reason" in result.to_json()[1] and "reason" not in result.to_json()[0]
+
+
+def test_reasons_where_a_pair_is_wide() -> None:
+    wide = ROOT / "examples" / "wide"
+    names = ("schema.shex", "data.ttl", "map")
+    result = shex_proved.validate(*(wide / name for name in names), budget=1, reasons=True)
+    assert result.wide and all(answer.conformant == (answer.reason is None) for answer in result)
+
+
 def test_arguments_that_are_refused() -> None:
-    with pytest.raises(shex_proved.WordsError):
+    with pytest.raises(shex_proved.WordsError, match="data_base: Base"):
         shex_proved.validate(SCHEMA, DATA, "", data_base="no scheme")
-    with pytest.raises(shex_proved.WordsError):
+    with pytest.raises(shex_proved.WordsError, match="budget"):
         shex_proved.validate(SCHEMA, DATA, "", budget=0)
+    with pytest.raises(shex_proved.WordsError, match="imports"):
+        shex_proved.validate(SCHEMA, DATA, "", imports={"": SCHEMA})
     with pytest.raises(ValueError):
         shex_proved.validate(SCHEMA, DATA, "", data_format="rdfxml")
     with pytest.raises(ValueError, match="pathlib.Path"):
