@@ -12,7 +12,7 @@ EXAMPLES = pathlib.Path(__file__).resolve().parent.parent / "examples"
 #: The documents that schemas import, by the IRI under which they do.
 IMPORTS = {"clinical": [("http://ex.example/observations", "observations.shex")]}
 #: What a folder is called in the page.
-NAMES = {"first": "One friend", "clinical": "Clinical records", "catalogue": "A library's catalogue", "wide": "A pair that is wide", "reasons": "Twelve failures"}
+NAMES = {"first": "One friend", "clinical": "Clinical records", "catalogue": "A library's catalogue", "wide": "A pair that is wide", "reasons": "Failures and their reasons"}
 BUDGETS = {"wide": "1"}
 
 

@@ -255,20 +255,41 @@ function cell(row, text) {
   return made;
 }
 
-/** A line of a reason; one that ends with a triple is a button that goes to it in the data. */
-function reasonLine(line) {
-  const match = /^(.*?)((?:<[^<>]*>|_:\S+) <[^<>]*> (?:<[^<>]*>|_:\S+|"(?:[^"\\]|\\.)*"\S*) \.)(.*)$/.exec(line);
-  if (!match) return [`${line}\n`];
+/** A button in the text of a reason. */
+function inReason(text, title, act) {
   const button = document.createElement('button');
   button.type = 'button';
-  button.textContent = match[2];
-  button.title = 'Go to this triple in the data';
-  button.onclick = () => {
-    const data = editors.get('data');
-    const place = placeOfTriple(data.text, data.base || DEFAULT_BASE, match[2]);
-    if (place) data.goTo(...place);
-  };
-  return [match[1], button, `${match[3]}\n`];
+  button.textContent = text;
+  button.title = title;
+  button.onclick = act;
+  return button;
+}
+
+/** Goes to a triple in the data. */
+function goToTriple(triple) {
+  const data = editors.get('data');
+  const place = placeOfTriple(data.text, data.base || DEFAULT_BASE, triple);
+  if (place) data.goTo(...place);
+}
+
+/** Opens the reason in which the block of this number stands, and goes to its row. */
+function goToBlock(number) {
+  const found = [...reasons].find(([, reason]) => reason.split('\n').some((line) => line.startsWith(`[${number}] `)));
+  const row = found && [...byId('rows').rows].find(({ cells }) => cells.length === 3 && `${cells[0].textContent}@${cells[1].textContent}` === found[0]);
+  const button = row?.querySelector('button');
+  if (!button) return;
+  if (button.getAttribute('aria-expanded') === 'false') button.click();
+  button.focus();
+  row.scrollIntoView({ block: 'nearest' });
+}
+
+/** A line of a reason: a triple in it is a button that goes to it in the data, and the number of a block one that goes to that. */
+function reasonLine(line) {
+  const triple = /^(.*?)((?:<[^<>]*>|_:\S+) <[^<>]*> (?:<[^<>]*>|_:\S+|"(?:[^"\\]|\\.)*"\S*) \.)(.*)$/.exec(line);
+  if (triple) return [triple[1], inReason(triple[2], 'Go to this triple in the data', () => goToTriple(triple[2])), `${triple[3]}\n`];
+  const block = /^(.*see )(\[(\d+)\])$/.exec(line);
+  if (block) return [block[1], inReason(block[2], 'Go to what is said there', () => goToBlock(block[3])), '\n'];
+  return [`${line}\n`];
 }
 
 /** The button that opens and closes the reasons for an answer, below its row. */
