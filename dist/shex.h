@@ -11,6 +11,9 @@
  * The caller owns all memory that it names. A call takes memory from malloc and realloc, and gives all of it back by free before it
  * returns. It holds no state between calls, so threads may call at once, each with a reply of its own. A call is not made in a signal
  * handler, nor in the forked child of a process with threads. No input was seen to want more than 2 MiB of stack.
+ *
+ * A program that is linked against libshex.so finds it where the loader looks, as in a folder that LD_LIBRARY_PATH names; libshex.a is
+ * linked in whole.
  */
 #ifndef SHEX_H
 #define SHEX_H
@@ -36,7 +39,7 @@ typedef struct shex_file {
 } shex_file;
 
 /* What is asked: the words of a call, without the program's name; the files that there are; and the name of the file that is handed
- * back, which may be empty. */
+ * back. Where nothing is to be handed back the name is empty, and no file has it. */
 typedef struct shex_request {
     const shex_text *words;
     size_t word_count;
@@ -46,7 +49,8 @@ typedef struct shex_request {
 } shex_request;
 
 /* A place for bytes. Its room is set by the caller, and the count by a call: how many bytes there are for it. Where they are more than
- * its room, the place stays as it was, and a call with more room gives them. */
+ * its room, the place stays as it was, and a call with more room gives them. The status does not depend on the rooms: after each call
+ * the caller compares each count with its room. */
 typedef struct shex_place {
     uint8_t *bytes;
     size_t room;
@@ -60,7 +64,8 @@ typedef struct shex_reply {
     shex_place file;
 } shex_reply;
 
-/* The status of a call. From SHEX_MEMORY on every count is 0, and each place is as it was. */
+/* The status of a call. From SHEX_MEMORY on every count is 0, and each place is as it was. The programs end with 7 where they cannot
+ * print; a call prints into memory, so 7 is none of its statuses. */
 enum shex_status {
     SHEX_ANSWERED = 0,      /* each answer is as it is wanted, the proof is accepted, or the words of shextool are answered */
     SHEX_NOT_AS_WANTED = 1, /* some answer is not as it is wanted */
