@@ -86,7 +86,7 @@ class Bench:
             done["Jena"], jena = self.jena.run(folder, wanted, self.limit / (1 if is_record else 10))
         for name in os.listdir(folder):
             os.remove(os.path.join(folder, name))
-        return Row(family, size, known["triples"], files, {name: run for name, run in done.items() if run}, jena)
+        return Row(family, size, known["triples"], known["terms"], files, {name: run for name, run in done.items() if run}, jena)
 
     def tiny(self):
         """The time of a whole process over the first example, the middle one of many, and its memory."""

@@ -278,6 +278,15 @@ def triples_of(arcs):
     return sum(1 + (triples_of(each.arcs) if isinstance(each, Inside) else 0) for _, objects in arcs for each in objects)
 
 
+def terms_of(subject, arcs):
+    """The terms of a subject with its arcs, as they are written."""
+    yield subject
+    for predicate, objects in arcs:
+        yield predicate
+        for each in objects:
+            yield from terms_of(each.label, each.arcs) if isinstance(each, Inside) else (each,)
+
+
 def in_lines(subject, arcs):
     """A subject with its arcs in N-Triples."""
     return "".join(in_triples(full(subject), arcs))
@@ -307,7 +316,8 @@ def make(name, size, folder):
     write_data(os.path.join(folder, "data.ttl"), f"@prefix : <{SPACE}> .\n@prefix x: <{XSD}> .\n", statements_of(family), in_turtle)
     write_data(os.path.join(folder, "data.nt"), "", statements_of(family), in_lines)
     triples = sum(triples_of(arcs) for _, arcs in statements_of(family))
-    known = {"triples": triples, "conformant": family.conformant, "nonconformant": family.nonconformant}
+    terms = len(set(itertools.chain.from_iterable(itertools.starmap(terms_of, statements_of(family)))))
+    known = {"triples": triples, "terms": terms, "conformant": family.conformant, "nonconformant": family.nonconformant}
     label = full(family.label)
     texts = {"schema.shex": PREFIXES + family.schema, "map": f"{family.selector}@{label}\n", "one": f"{full(':nobody')}@{label}\n", "known.json": json.dumps(known)}
     for file_name, text in texts.items():

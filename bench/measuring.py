@@ -17,9 +17,9 @@ ROOT = os.path.dirname(HERE)
 # What a program did: its status, or `late` where it was ended; seconds by the clock and megabytes at the peak.
 Run = collections.namedtuple("Run", "status seconds megabytes")
 
-# What was measured of a family at a size: how many triples, the bytes of its files by name, a run by the name of each step that was
-# made, and a word on Jena where its answers are not those that are known.
-Row = collections.namedtuple("Row", "family size triples files steps jena")
+# What was measured of a family at a size: how many triples and terms, the bytes of its files by name, a run by the name of each step
+# that was made, and a word on Jena where its answers are not those that are known.
+Row = collections.namedtuple("Row", "family size triples terms files steps jena")
 
 # A run that is shorter than this is made again, so often and so long.
 REPEATED, TIMES, TOGETHER = 1.0, 5, 0.8
