@@ -9,6 +9,7 @@ ghost use Rattle.schema_tree.specs.Loaded.{IsLoaded};
 ghost use Rattle.schema_tree.specs.Needs.{HoldNeeds};
 
 use crate::samples::{SUCCESSORS, add, put, schema_of};
+use demand::links::links;
 use demand::{Pairs, Root, close};
 use graph_index::graph::Graph;
 use rdf_terms::table::TermTable;
@@ -26,7 +27,7 @@ use strata::strata::strata;
 use strata::valid::is_stratified;
 use tally::Steps;
 use typing_refiner::found::Nothing;
-use typing_refiner::{Refined, Wanted, refine_from};
+use typing_refiner::{Question, Refined, Wanted};
 
 /// The number of nodes of the row.
 const ROW: u32 = 1000;
@@ -141,18 +142,17 @@ fn times_asked<L: Ledger>(
 {
     let mut steps = Steps::<L>::new(blank);
     let all = pairs.list();
-    let whole = refine_from(
-        alloc,
+    let links = links(alloc, schema)?;
+    let links = links.as_slice();
+    let question = Question {
         schema,
         graph,
         terms,
         strata,
-        all,
-        &Nothing,
-        1,
-        Wanted::Records,
-        &mut steps,
-    )?;
+        budget: 1,
+        wanted: Wanted::Records,
+    };
+    let whole = question.refine_from(alloc, links, all, &Nothing, &mut steps)?;
     let row = with_first(alloc, all)?;
     let row = row.as_slice();
     let times = Cell::new(0);
@@ -160,18 +160,7 @@ fn times_asked<L: Ledger>(
         found: &whole,
         times: &times,
     };
-    let found = refine_from(
-        alloc,
-        schema,
-        graph,
-        terms,
-        strata,
-        row,
-        &asked,
-        1,
-        Wanted::Records,
-        &mut steps,
-    )?;
+    let found = question.refine_from(alloc, links, row, &asked, &mut steps)?;
     if row.len() != ROW as usize || !are_no(&found, row) {
         return Err("a pair of the row that is not No".into());
     }
@@ -242,7 +231,7 @@ fn asked_by_row<L: Ledger>(blank: Blank, alloc: Global) -> Result<u64, Fail>
 }
 
 /// Each pair of a row needs the next one, and the last cannot match. A pair is looked at again only when the one that it
-/// needs goes, so what is kept of others is asked at most 14,991 times, which is the bound that `refine_from` promises for
+/// needs goes, so what is kept of others is asked at most 14,991 times, which is the bound that `Question::refine_from` promises for
 /// this row; in rounds over all pairs it would be asked more than 400,000 times.
 #[test]
 fn a_row_falls_from_its_end_without_rounds(rt: HostRuntime) -> Result<(), Fail> {

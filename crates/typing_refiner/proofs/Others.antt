@@ -68,12 +68,11 @@ module _ (s : Schema) (terms : List Term) (g : List Triple) (f : List ℕ) (budg
         )
 
 module _ {E : Type 0} (s : Schema) (terms : List Term) (g : List Triple) (f : List ℕ) (budget : ℕ) (pairs : List Pair) (loaded : IsLoaded s) (strat : IsStratified s f) where
-  pub ok_verdicts : (elsewhere : Known) (lent : List ℕ) (result : Result Refinement E) → lent ≡ f → RefinementOverKeptIsLocal → AreKept s terms g f budget elsewhere pairs → AreDistinct pairs →
-      IfOk result (λ r. IsRefinedOn s terms g lent pairs budget elsewhere (known_by elsewhere pairs r.marks)) → IfOk result (λ r. r.pairs ≡ pairs) → IfOk result (λ r. AreVerdictsOn s terms g f budget pairs (known_by_it r))
-  ok_verdicts elsewhere lent (Ok r) is law kept distinct a b =
-      subst (λ ps. AreVerdictsOn s terms g f budget pairs (verdicts_of ps r.marks)) (sym b)
-      (are_verdicts s terms g f budget pairs elsewhere r.marks law strat kept distinct (subst (λ k. IsRefinedOn s terms g k pairs budget elsewhere (known_by elsewhere pairs r.marks)) is a))
-  ok_verdicts elsewhere lent (Err e) is law kept distinct a b = a
+  pub ok_verdicts : (elsewhere : Known) (result : Result Refinement E) → RefinementOverKeptIsLocal → AreKept s terms g f budget elsewhere pairs → AreDistinct pairs →
+      IfOk result (λ r. IsRefinedOn s terms g f pairs budget elsewhere (known_by elsewhere pairs r.marks)) → IfOk result (λ r. r.pairs ≡ pairs) → IfOk result (λ r. AreVerdictsOn s terms g f budget pairs (known_by_it r))
+  ok_verdicts elsewhere (Ok r) law kept distinct a b =
+      subst (λ ps. AreVerdictsOn s terms g f budget pairs (verdicts_of ps r.marks)) (sym b) (are_verdicts s terms g f budget pairs elsewhere r.marks law strat kept distinct a)
+  ok_verdicts elsewhere (Err e) law kept distinct a b = a
 
   pub ok_by_each : (result : Result Refinement E) → VerdictIsIndependent → IfOk result (λ r. AreVerdictsOn s terms g f budget pairs (known_by_it r)) →
       IfOk result (λ r. AreVerdictsOnByAll s terms g budget pairs (known_by_it r))

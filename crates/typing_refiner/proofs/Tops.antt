@@ -22,10 +22,9 @@ use Rattle.typing_refiner.specs.Statements.{AreTrue, AreTrueByAll, AreVerdictsBy
 use Rattle.typing_refiner.proofs.Strata.{nothing_known, over_nothing}
 use Rattle.typing_refiner.proofs.Verdicts.{are_true, by_all, by_each, unknown_only}
 
-at_home : (s : Schema) (terms : List Term) (g : List Triple) (f : List ℕ) (budget : ℕ) (pairs lent : List Pair) (strata : List ℕ) (r : Refinement) → lent ≡ pairs → strata ≡ f →
-    IsRefinementOf s terms g strata budget lent (known_by_it r) → IsRefinementOf s terms g f budget pairs (known_by_it r)
-at_home s terms g f budget pairs lent strata r same is h =
-    subst (λ ps. IsRefinementOf s terms g f budget ps (known_by_it r)) same (subst (λ k. IsRefinementOf s terms g k budget lent (known_by_it r)) is h)
+at_home : (s : Schema) (terms : List Term) (g : List Triple) (f : List ℕ) (budget : ℕ) (pairs lent : List Pair) (r : Refinement) → lent ≡ pairs →
+    IsRefinementOf s terms g f budget lent (known_by_it r) → IsRefinementOf s terms g f budget pairs (known_by_it r)
+at_home s terms g f budget pairs lent r same h = subst (λ ps. IsRefinementOf s terms g f budget ps (known_by_it r)) same h
 
 module _ {E : Type 0} (s : Schema) (terms : List Term) (g : List Triple) (f : List ℕ) (budget : ℕ) (pairs : List Pair) where
   pub ok_refinement : (result : Result Refinement E) → IfOk result (λ r. IsRefinedOn s terms g f pairs budget nothing_known (known_by nothing_known pairs r.marks)) →
@@ -33,34 +32,33 @@ module _ {E : Type 0} (s : Schema) (terms : List Term) (g : List Triple) (f : Li
   ok_refinement (Ok r) a b = subst (λ ps. IsRefinementOf s terms g f budget pairs (verdicts_of ps r.marks)) (sym b) (over_nothing s terms g f pairs budget r.marks a)
   ok_refinement (Err e) a b = a
 
-  module _ (lent : List Pair) (strata : List ℕ) where
-    pub ok_true : (result : Result Refinement E) → lent ≡ pairs → strata ≡ f → IsLoaded s → RefinementIsTrue →
-        IfOk result (λ r. IsRefinementOf s terms g strata budget lent (known_by_it r)) → IfOk result (λ r. AreTrue s terms g f budget pairs (known_by_it r))
-    ok_true (Ok r) same is loaded law h = are_true s terms g f budget pairs (known_by_it r) loaded (at_home s terms g f budget pairs lent strata r same is h) law
-    ok_true (Err e) same is loaded law h = h
+  module _ (lent : List Pair) where
+    pub ok_true : (result : Result Refinement E) → lent ≡ pairs → IsLoaded s → RefinementIsTrue →
+        IfOk result (λ r. IsRefinementOf s terms g f budget lent (known_by_it r)) → IfOk result (λ r. AreTrue s terms g f budget pairs (known_by_it r))
+    ok_true (Ok r) same loaded law h = are_true s terms g f budget pairs (known_by_it r) loaded (at_home s terms g f budget pairs lent r same h) law
+    ok_true (Err e) same loaded law h = h
 
-    pub ok_by_all : (result : Result Refinement E) → lent ≡ pairs → strata ≡ f → IsLoaded s → RefinementIsTrue → TypingExists → StrataGiveOneTyping → IsStratified s f →
-        IfOk result (λ r. IsRefinementOf s terms g strata budget lent (known_by_it r)) → IfOk result (λ r. AreTrueByAll s terms g f budget pairs (known_by_it r))
-    ok_by_all (Ok r) same is loaded law exists one strat h =
-        by_all s terms g f budget pairs (known_by_it r) loaded (at_home s terms g f budget pairs lent strata r same is h) law exists one strat
-    ok_by_all (Err e) same is loaded law exists one strat h = h
+    pub ok_by_all : (result : Result Refinement E) → lent ≡ pairs → IsLoaded s → RefinementIsTrue → TypingExists → StrataGiveOneTyping → IsStratified s f →
+        IfOk result (λ r. IsRefinementOf s terms g f budget lent (known_by_it r)) → IfOk result (λ r. AreTrueByAll s terms g f budget pairs (known_by_it r))
+    ok_by_all (Ok r) same loaded law exists one strat h =
+        by_all s terms g f budget pairs (known_by_it r) loaded (at_home s terms g f budget pairs lent r same h) law exists one strat
+    ok_by_all (Err e) same loaded law exists one strat h = h
 
-    pub ok_by_each : (result : Result Refinement E) → lent ≡ pairs → strata ≡ f → IsLoaded s → RefinementIsIndependent → IsStratified s f →
-        IfOk result (λ r. IsRefinementOf s terms g strata budget lent (known_by_it r)) → IfOk result (λ r. AreVerdictsByAll s terms g budget pairs (known_by_it r))
-    ok_by_each (Ok r) same is loaded law strat h = by_each s terms g f budget pairs (known_by_it r) loaded (at_home s terms g f budget pairs lent strata r same is h) law strat
-    ok_by_each (Err e) same is loaded law strat h = h
+    pub ok_by_each : (result : Result Refinement E) → lent ≡ pairs → IsLoaded s → RefinementIsIndependent → IsStratified s f →
+        IfOk result (λ r. IsRefinementOf s terms g f budget lent (known_by_it r)) → IfOk result (λ r. AreVerdictsByAll s terms g budget pairs (known_by_it r))
+    ok_by_each (Ok r) same loaded law strat h = by_each s terms g f budget pairs (known_by_it r) loaded (at_home s terms g f budget pairs lent r same h) law strat
+    ok_by_each (Err e) same loaded law strat h = h
 
-    pub ok_wide : (result : Result Refinement E) → lent ≡ pairs → strata ≡ f → IsLoaded s → NarrowIsKnown → WidthIsOne → IsStratified s f → HoldNeeds s g pairs →
-        IfOk result (λ r. IsRefinementOf s terms g strata budget lent (known_by_it r)) → IfOk result (λ r. IsUnknownOnlyWide s terms g f budget pairs (known_by_it r))
-    ok_wide (Ok r) same is loaded law widths strat closed h = unknown_only s terms g f budget pairs (known_by_it r) loaded (at_home s terms g f budget pairs lent strata r same is h) law widths strat closed
-    ok_wide (Err e) same is loaded law widths strat closed h = h
+    pub ok_wide : (result : Result Refinement E) → lent ≡ pairs → IsLoaded s → NarrowIsKnown → WidthIsOne → IsStratified s f → HoldNeeds s g pairs →
+        IfOk result (λ r. IsRefinementOf s terms g f budget lent (known_by_it r)) → IfOk result (λ r. IsUnknownOnlyWide s terms g f budget pairs (known_by_it r))
+    ok_wide (Ok r) same loaded law widths strat closed h = unknown_only s terms g f budget pairs (known_by_it r) loaded (at_home s terms g f budget pairs lent r same h) law widths strat closed
+    ok_wide (Err e) same loaded law widths strat closed h = h
 
 module _ {E : Type 0} (s : Schema) (terms : List Term) (g : List Triple) (f : List ℕ) (budget : ℕ) (pairs : List Pair) where
-  pub ok_shown : (lent : List Pair) (strata : List ℕ) (result : Result Refinement E) → lent ≡ pairs → strata ≡ f →
-      IfOk result (λ r. AreShownBy s terms g strata lent budget (known_by_it r) r.nodes r.sections) → IfOk result (λ r. AreShownBy s terms g f pairs budget (known_by_it r) r.nodes r.sections)
-  ok_shown lent strata (Ok r) same is h =
-      subst (λ ps. AreShownBy s terms g f ps budget (known_by_it r) r.nodes r.sections) same (subst (λ k. AreShownBy s terms g k lent budget (known_by_it r) r.nodes r.sections) is h)
-  ok_shown lent strata (Err e) same is h = h
+  pub ok_shown : (lent : List Pair) (result : Result Refinement E) → lent ≡ pairs →
+      IfOk result (λ r. AreShownBy s terms g f lent budget (known_by_it r) r.nodes r.sections) → IfOk result (λ r. AreShownBy s terms g f pairs budget (known_by_it r) r.nodes r.sections)
+  ok_shown lent (Ok r) same h = subst (λ ps. AreShownBy s terms g f ps budget (known_by_it r) r.nodes r.sections) same h
+  ok_shown lent (Err e) same h = h
 
   pub ok_accepted : (result : Result Refinement E) → IsStratified s f → IfOk result (λ r. AreShownBy s terms g f pairs budget (known_by_it r) r.nodes r.sections) →
       IfOk result (λ r. AreAccepted s terms g f pairs r.nodes r.sections)

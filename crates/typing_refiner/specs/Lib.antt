@@ -12,3 +12,4 @@ pub mod Filing
 pub mod Witnessed
 pub mod Holding
 pub mod Findings
+pub mod Posed

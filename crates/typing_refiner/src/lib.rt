@@ -18,5 +18,5 @@ pub mod witness;
 pub mod witnesses;
 
 pub use found::Refined;
-pub use refining::{refine, refine_from};
+pub use refining::{Question, refine};
 pub use wanted::Wanted;

@@ -12,6 +12,7 @@ ghost use Rattle.typing_refiner.specs.Holding.{AllShow};
 ghost use Rattle.typing_refiner.specs.Records.{HaveStates, pairs_gone};
 
 use crate::ground::Ground;
+use crate::standing::Pending;
 use crate::wanted::Wanted;
 use crate::witnesses::Witnesses;
 use agenda::Agenda;
@@ -171,34 +172,40 @@ impl Ground<'_> {
         at: u32,
         marks: &mut [Verdict],
         gone: &mut Vec<Removed>,
-        witnesses: &mut Witnesses,
-        agenda: &mut Agenda,
+        pending: &mut Pending,
         steps: &mut Steps<L>,
     ) -> Result<(), AllocError>
         requires ready { IsReady self.now }
         requires there { at < length self.now.table.now }
         requires marked { length marks.old ≡ length self.now.table.now }
-        requires least { (i : ℕ) → Contains agenda.old i → at < i }
+        requires least { (i : ℕ) → Contains pending.old.agenda i → at < i }
         requires waits { Waits self.now stratum marks.old Unknown at }
         requires few { length gone.old.items < length self.now.table.now }
-        requires all { AllWait self.now stratum marks.old Unknown agenda.old }
-        requires shows { AllShow self.now (known_of self.now (K.known kept.now) marks.old) witnesses.old }
-        ensures shows { OnOk result (AllShow self.now (known_of self.now (K.known kept.now) marks.new) witnesses.new) }
+        requires all { AllWait self.now stratum marks.old Unknown pending.old.agenda }
+        requires shows { AllShow self.now (known_of self.now (K.known kept.now) marks.old) pending.old.witnesses }
+        ensures shows { OnOk result (AllShow self.now (known_of self.now (K.known kept.now) marks.new) pending.new.witnesses) }
         ensures looked { OnOk result ((lower : Known) →
-            IsRemoving self.now (K.known kept.now) lower stratum marks.old (map (λ r. r.pair) gone.old.items) (λ i. Contains agenda.old i ⊎ (i ≡ at)) →
-            IsRemoving self.now (K.known kept.now) lower stratum marks.new (map (λ r. r.pair) gone.new.items) (λ i. Contains agenda.new i)) }
+            IsRemoving self.now (K.known kept.now) lower stratum marks.old (map (λ r. r.pair) gone.old.items) (λ i. Contains pending.old.agenda i ⊎ (i ≡ at)) →
+            IsRemoving self.now (K.known kept.now) lower stratum marks.new (map (λ r. r.pair) gone.new.items) (λ i. Contains pending.new.agenda i)) }
         ensures states { OnOk result ((lower : Known) →
-            IsRemoving self.now (K.known kept.now) lower stratum marks.old (pairs_gone gone.old.items) (λ i. Contains agenda.old i ⊎ (i ≡ at)) →
+            IsRemoving self.now (K.known kept.now) lower stratum marks.old (pairs_gone gone.old.items) (λ i. Contains pending.old.agenda i ⊎ (i ≡ at)) →
             HaveStates self.now lower gone.old.items → HaveStates self.now lower gone.new.items) }
-        ensures all { OnOk result (AllWait self.now stratum marks.new Unknown agenda.new) }
+        ensures all { OnOk result (AllWait self.now stratum marks.new Unknown pending.new.agenda) }
         ensures few { OnOk result (length gone.new.items + count_of Unknown marks.new ≤ length gone.old.items + count_of Unknown marks.old) }
-        ensures nearer { OnOk result (IsNearer (length self.now.table.now) Unknown marks.old agenda.old marks.new agenda.new) }
+        ensures nearer { OnOk result (IsNearer (length self.now.table.now) Unknown marks.old pending.old.agenda marks.new pending.new.agenda) }
         ensures spent { (width : Held → ℕ) → GiveWidths self.now width → steps.new ≤ steps.old + look_cost self.now width at }
-        ensures paid { (width : Held → ℕ) → GiveWidths self.now width → OnOk result (steps.new + still_to_tick self.now width stratum Unknown marks.new agenda.new ≤ steps.old + (still_to_tick self.now width stratum Unknown marks.old agenda.old + look_cost self.now width at)) }
+        ensures paid { (width : Held → ℕ) → GiveWidths self.now width → OnOk result (steps.new + still_to_tick self.now width stratum Unknown marks.new pending.new.agenda ≤ steps.old + (still_to_tick self.now width stratum Unknown marks.old pending.old.agenda + look_cost self.now width at)) }
     {
         match self.find(alloc, kept, marks, at, steps)? {
             Finding::Placed(places) => {
-                self.remember(alloc, kept, marks, at, places.as_slice(), witnesses)?;
+                self.remember(
+                    alloc,
+                    kept,
+                    marks,
+                    at,
+                    places.as_slice(),
+                    &mut pending.witnesses,
+                )?;
                 Ok(())
             }
             Finding::Goes(states) => {
@@ -206,8 +213,8 @@ impl Ground<'_> {
                 gone.push(removed)?;
                 set_mark(marks, at, Verdict::No);
                 let pair = self.pair_of(at);
-                self.put_back_unshown(alloc, kept, stratum, at, pair, marks, witnesses, agenda)?;
-                let _count = agenda.len();
+                self.put_back_unshown(alloc, kept, stratum, at, pair, marks, pending)?;
+                let _count = pending.agenda.len();
                 Ok(())
             }
         }
@@ -237,8 +244,9 @@ impl Ground<'_> {
         let mut agenda = Agenda::new(alloc);
         put_all(&mut agenda, members)?;
         let mut gone = Vec::new(alloc);
-        let mut witnesses = Witnesses::none(alloc);
-        while let Some(at) = agenda.take_least() {
+        let witnesses = Witnesses::none(alloc);
+        let mut pending = Pending { agenda, witnesses };
+        while let Some(at) = pending.agenda.take_least() {
             self.remove_next(
                 alloc,
                 kept,
@@ -246,8 +254,7 @@ impl Ground<'_> {
                 at,
                 marks,
                 &mut gone,
-                &mut witnesses,
-                &mut agenda,
+                &mut pending,
                 steps,
             )?;
         }

@@ -32,6 +32,15 @@ use std::alloc::{AllocError, Global};
 /// Pairs with fewer triples are looked at from nothing.
 const FEW: usize = 8;
 
+/// What is still to be done while pairs are removed.
+#[derive(Drop)]
+pub struct Pending {
+    /// The numbers of the pairs that are to be looked at.
+    pub agenda: Agenda,
+    /// Witnesses of pairs that were looked at again.
+    pub witnesses: Witnesses,
+}
+
 /// The triple that an occurrence fits at a node, whose other end is the second node.
 fn between(occ: Occurrence, node: TermId, end: TermId) -> Triple
     ensures { result ≡ between occ.inverse occ.predicate node end }
@@ -167,28 +176,27 @@ impl Ground<'_> {
         other: u32,
         gone: Pair,
         marks: &[Verdict],
-        witnesses: &mut Witnesses,
-        agenda: &mut Agenda,
+        pending: &mut Pending,
     ) -> Result<(), AllocError>
         requires ready { IsReady self.now }
-        requires shows { (w : Found) (p : Held) → Holds witnesses.old other w → slice_get self.now.table.now other ≡ Some p →
+        requires shows { (w : Found) (p : Held) → Holds pending.old.witnesses other w → slice_get self.now.table.now other ≡ Some p →
             IsWitnessBut self.now (known_of self.now (K.known kept.now) marks.now) gone p w }
-        ensures witnesses { OnOk result ((i : ℕ) (w : Found) → Holds witnesses.new i w →
-            ((i ≢ other) × Holds witnesses.old i w)
+        ensures witnesses { OnOk result ((i : ℕ) (w : Found) → Holds pending.new.witnesses i w →
+            ((i ≢ other) × Holds pending.old.witnesses i w)
             ⊎ ((i ≡ other) × ((p : Held) → slice_get self.now.table.now i ≡ Some p → IsWitnessOf self.now (known_of self.now (K.known kept.now) marks.now) p w))) }
-        ensures put { OnOk result ((q : ℕ) → Contains agenda.new q → Contains agenda.old q ⊎ ((q ≡ other) × Waits self.now stratum marks.now Unknown q)) }
-        ensures kept { OnOk result ((q : ℕ) → Contains agenda.old q → Contains agenda.new q) }
+        ensures put { OnOk result ((q : ℕ) → Contains pending.new.agenda q → Contains pending.old.agenda q ⊎ ((q ≡ other) × Waits self.now stratum marks.now Unknown q)) }
+        ensures kept { OnOk result ((q : ℕ) → Contains pending.old.agenda q → Contains pending.new.agenda q) }
         ensures settled { OnOk result (Waits self.now stratum marks.now Unknown other →
-            Contains agenda.new other ⊎ CanMatchAt self.now (known_of self.now (K.known kept.now) marks.now) other) }
+            Contains pending.new.agenda other ⊎ CanMatchAt self.now (known_of self.now (K.known kept.now) marks.now) other) }
     {
-        if self.is_shown(alloc, kept, marks, other, gone, witnesses)? {
+        if self.is_shown(alloc, kept, marks, other, gone, &mut pending.witnesses)? {
             return Ok(());
         }
         if !self.waits(stratum, other, marks, Verdict::Unknown) {
             return Ok(());
         }
-        witnesses.note_back(other)?;
-        agenda.put(other)?;
+        pending.witnesses.note_back(other)?;
+        pending.agenda.put(other)?;
         Ok(())
     }
 
@@ -202,19 +210,18 @@ impl Ground<'_> {
         numbers: &[u32],
         gone: Pair,
         marks: &[Verdict],
-        witnesses: &mut Witnesses,
-        agenda: &mut Agenda,
+        pending: &mut Pending,
     ) -> Result<(), AllocError>
         requires ready { IsReady self.now }
-        requires shows { AllShowBut self.now (known_of self.now (K.known kept.now) marks.now) gone (Some numbers.now) witnesses.old }
-        ensures shows { OnOk result (AllShow self.now (known_of self.now (K.known kept.now) marks.now) witnesses.new) }
-        ensures put { OnOk result ((q : ℕ) → Contains agenda.new q → Contains agenda.old q ⊎ (Contains numbers.now q × Waits self.now stratum marks.now Unknown q)) }
-        ensures kept { OnOk result ((q : ℕ) → Contains agenda.old q → Contains agenda.new q) }
+        requires shows { AllShowBut self.now (known_of self.now (K.known kept.now) marks.now) gone (Some numbers.now) pending.old.witnesses }
+        ensures shows { OnOk result (AllShow self.now (known_of self.now (K.known kept.now) marks.now) pending.new.witnesses) }
+        ensures put { OnOk result ((q : ℕ) → Contains pending.new.agenda q → Contains pending.old.agenda q ⊎ (Contains numbers.now q × Waits self.now stratum marks.now Unknown q)) }
+        ensures kept { OnOk result ((q : ℕ) → Contains pending.old.agenda q → Contains pending.new.agenda q) }
         ensures settled { OnOk result ((q : ℕ) → Contains numbers.now q → Waits self.now stratum marks.now Unknown q →
-            Contains agenda.new q ⊎ CanMatchAt self.now (known_of self.now (K.known kept.now) marks.now) q) }
+            Contains pending.new.agenda q ⊎ CanMatchAt self.now (known_of self.now (K.known kept.now) marks.now) q) }
     {
         for other in numbers {
-            self.put_unshown(alloc, kept, stratum, *other, gone, marks, witnesses, agenda)?;
+            self.put_unshown(alloc, kept, stratum, *other, gone, marks, pending)?;
         }
         Ok(())
     }
@@ -229,25 +236,22 @@ impl Ground<'_> {
         at: u32,
         gone: Pair,
         marks: &[Verdict],
-        witnesses: &mut Witnesses,
-        agenda: &mut Agenda,
+        pending: &mut Pending,
     ) -> Result<(), AllocError>
         requires ready { IsReady self.now }
         requires pair { slice_get self.now.table.now at ≡ Some gone }
         requires shows { (before : List Mark) × (marks.now ≡ slice_set before at No) × (slice_get before at ≡ Some Unknown)
-            × AllShow self.now (known_of self.now (K.known kept.now) before) witnesses.old }
-        ensures shows { OnOk result (AllShow self.now (known_of self.now (K.known kept.now) marks.now) witnesses.new) }
-        ensures put { OnOk result ((q : ℕ) → Contains agenda.new q → Contains agenda.old q ⊎ GoesBack self.now stratum at marks.now Unknown q) }
-        ensures kept { OnOk result ((q : ℕ) → Contains agenda.old q → Contains agenda.new q) }
+            × AllShow self.now (known_of self.now (K.known kept.now) before) pending.old.witnesses }
+        ensures shows { OnOk result (AllShow self.now (known_of self.now (K.known kept.now) marks.now) pending.new.witnesses) }
+        ensures put { OnOk result ((q : ℕ) → Contains pending.new.agenda q → Contains pending.old.agenda q ⊎ GoesBack self.now stratum at marks.now Unknown q) }
+        ensures kept { OnOk result ((q : ℕ) → Contains pending.old.agenda q → Contains pending.new.agenda q) }
         ensures settled { OnOk result ((q : ℕ) → GoesBack self.now stratum at marks.now Unknown q →
-            Contains agenda.new q ⊎ CanMatchAt self.now (known_of self.now (K.known kept.now) marks.now) q) }
+            Contains pending.new.agenda q ⊎ CanMatchAt self.now (known_of self.now (K.known kept.now) marks.now) q) }
     {
         match self.needing.get(at as usize) {
             Some(needing) => {
                 let numbers = needing.as_slice();
-                self.put_each_unshown(
-                    alloc, kept, stratum, numbers, gone, marks, witnesses, agenda,
-                )?;
+                self.put_each_unshown(alloc, kept, stratum, numbers, gone, marks, pending)?;
                 Ok(())
             }
             None => Ok(()),

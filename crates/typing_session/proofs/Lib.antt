@@ -10,3 +10,4 @@ pub mod Spreading
 pub mod Terms
 pub mod Using
 pub mod Walking
+pub mod Referring

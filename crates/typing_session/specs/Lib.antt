@@ -9,3 +9,4 @@ pub mod Uses
 pub mod Walks
 pub mod SetLaws
 pub mod Widths
+pub mod References

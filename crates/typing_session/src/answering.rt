@@ -1,16 +1,17 @@
 //! The answer to a question, by the verdicts that are kept and those that are found.
 
-ghost use Rattle.std.specs.Prelude.{ℕ, ◌≡◌, ◌≤◌, ◌<◌, ◌+◌, ◌-◌, ◌^◌, Contains, IfOk, OnErr, OnOk, length};
+ghost use Rattle.std.specs.Prelude.{ℕ, ◌≡◌, ◌≤◌, ◌+◌, Contains, IfOk, OnErr, OnOk, length};
 ghost use Rattle.std.specs.List.Sorted.{IsStrictlySortedBy};
 ghost use Rattle.demand.specs.Demand.{AreAsked};
+ghost use Rattle.demand.specs.Links.{AreLinks};
 ghost use Rattle.demand.specs.Orders.{compare_pairs, max_pairs};
 ghost use Rattle.graph_index.specs.Contents.{IsSealedWith};
 ghost use Rattle.schema_tree.specs.declared.schema.Pair.{Pair as Held};
 ghost use Rattle.schema_tree.specs.declared.verdicts.Verdict.{Verdict as Found};
-ghost use Rattle.schema_tree.specs.Edges.{IsStratified};
 ghost use Rattle.schema_tree.specs.Loaded.{IsLoaded};
 ghost use Rattle.schema_tree.specs.Needs.{HoldNeeds};
 ghost use Rattle.typing_refiner.specs.Building.{AreWidths};
+ghost use Rattle.typing_refiner.specs.Posed.{IsPosed};
 ghost use Rattle.typing_refiner.specs.Statements.{CountNeeds, most_of};
 ghost use Rattle.typing_session.specs.Kept.{pairs_of};
 ghost use Rattle.typing_session.specs.Questions.{AreFresh, IsAnswer, IsAnswerByAll, IsTrueAnswer, IsUnknownOnlyWide, ReachesTooMany, root_of};
@@ -20,10 +21,12 @@ ghost use Rattle.typing_session.specs.Walks.{HoldOrKeepNeeds};
 use crate::error::AskError;
 use crate::fresh::fresh;
 use crate::kept::Kept;
+use demand::links::Link;
 use demand::table::MAX_PAIRS;
 use demand::{DemandError, Pairs, Root, close};
 use graph_index::graph::Graph;
 use locality_laws::laws::strata_are_independent;
+use rdf_terms::items::Items;
 use rdf_terms::table::TermTable;
 use rdf_terms::terms::TermId;
 use schema_tree::laws::{
@@ -35,9 +38,8 @@ use schema_tree::sure::sure;
 use schema_tree::verdicts::Verdict;
 use std::alloc::{AllocError, Global};
 use std::sync::ledger::Ledger;
-use strata::list::Strata;
 use tally::Steps;
-use typing_refiner::{Wanted, refine_from};
+use typing_refiner::Question;
 
 /// The pairs that a node with an expression reaches. It is refused as `Pairs` exactly where these are more than 4,194,304.
 pub(crate) fn reached(
@@ -64,10 +66,11 @@ pub(crate) fn reached(
 }
 
 /// The pairs that a node with an expression reaches and on which no verdict is kept, in order. It is refused as `Pairs` exactly
-/// where all that the two reach are more than 4,194,304.
+/// where all that the two reach are more than 4,194,304; `links` are those of the schema.
 pub(crate) fn asked(
     alloc: Global,
     schema: &Schema,
+    links: &[Items<Link>],
     graph: &Graph,
     terms: &TermTable,
     kept: &Kept,
@@ -75,6 +78,7 @@ pub(crate) fn asked(
     expr: ExprId,
 ) -> Result<Vec<Pair>, AskError>
     requires loaded { IsLoaded schema.now }
+    requires links { AreLinks schema.now links.now }
     requires sealed { IsSealedWith terms.now graph.now }
     requires closed { HoldNeeds schema.now graph.now.triples (pairs_of kept.now) }
     ensures fresh { IfOk result (λ v. AreFresh schema.now terms.now graph.now.triples (pairs_of kept.now) node expr v.items) }
@@ -82,7 +86,7 @@ pub(crate) fn asked(
     ensures many { (result ≡ Err AskError.Pairs) → ReachesTooMany schema.now graph.now.triples node expr }
     ensures few { IfOk result (λ v. ¬ ReachesTooMany schema.now graph.now.triples node expr) }
 {
-    let found = fresh(alloc, schema, graph, terms, kept, node, expr)?;
+    let found = fresh(alloc, schema, links, graph, terms, kept, node, expr)?;
     if kept.len() <= MAX_PAIRS - found.len() {
         return Ok(found);
     }
@@ -91,80 +95,59 @@ pub(crate) fn asked(
     Ok(found)
 }
 
-/// Finds and keeps the verdicts on pairs on which none is kept, while all that they need besides is. A refusal changes
-/// nothing.
+/// Finds and keeps the verdicts on pairs on which none is kept, while all that they need besides is; `links` are those of the
+/// schema. A refusal changes nothing.
 fn keep_fresh<L: Ledger>(
     alloc: Global,
-    schema: &Schema,
-    graph: &Graph,
-    terms: &TermTable,
-    strata: &Strata,
+    question: &Question<'_>,
+    links: &[Items<Link>],
     fresh: &[Pair],
     kept: &mut Kept,
-    budget: u64,
     steps: &mut Steps<L>,
 ) -> Result<(), AllocError>
-    requires loaded { IsLoaded schema.now }
-    requires sealed { IsSealedWith terms.now graph.now }
-    requires stratified { IsStratified schema.now strata.now }
-    requires budget { budget < 2 ^ 64 - 1 }
-    requires sorted { IsStrictlySortedBy (compare_pairs terms.now) fresh.now }
+    requires posed { IsPosed question.now }
+    requires links { AreLinks question.now.schema.now links.now }
+    requires sorted { IsStrictlySortedBy (compare_pairs question.now.terms.now) fresh.now }
     requires few { length fresh.now ≤ max_pairs }
     requires apart { (q : Held) → Contains fresh.now q → ¬ Contains (pairs_of kept.old) q }
-    requires whole { HoldOrKeepNeeds schema.now graph.now.triples (pairs_of kept.old) fresh.now }
-    requires verdicts { HaveVerdicts schema.now terms.now graph.now.triples strata.now budget kept.old }
-    ensures kept { OnOk result (AreKeptFor schema.now terms.now graph.now.triples strata.now budget fresh.now kept.old kept.new) }
+    requires whole { HoldOrKeepNeeds question.now.schema.now question.now.graph.now.triples (pairs_of kept.old) fresh.now }
+    requires verdicts { HaveVerdicts question.now.schema.now question.now.terms.now question.now.graph.now.triples question.now.strata.now question.now.budget kept.old }
+    ensures kept { OnOk result (AreKeptFor question.now.schema.now question.now.terms.now question.now.graph.now.triples question.now.strata.now question.now.budget fresh.now kept.old kept.new) }
     ensures err { OnErr result (kept.new ≡ kept.old) }
-    ensures bounded { (width count : Held → ℕ) → AreWidths schema.now terms.now graph.now.triples width → CountNeeds schema.now graph.now.triples fresh.now count →
-        steps.new ≤ steps.old + most_of schema.now terms.now graph.now.triples budget width count fresh.now }
+    ensures bounded { (width count : Held → ℕ) → AreWidths question.now.schema.now question.now.terms.now question.now.graph.now.triples width → CountNeeds question.now.schema.now question.now.graph.now.triples fresh.now count →
+        steps.new ≤ steps.old + most_of question.now.schema.now question.now.terms.now question.now.graph.now.triples question.now.budget width count fresh.now }
 {
-    let found = refine_from(
-        alloc,
-        schema,
-        graph,
-        terms,
-        strata,
-        fresh,
-        &*kept,
-        budget,
-        Wanted::Verdicts,
-        steps,
-    )?;
+    let found = question.refine_from(alloc, links, fresh, &*kept, steps)?;
     kept.keep_all(fresh, &found)?;
     Ok(())
 }
 
-/// The verdict on a node with an expression that reaches these pairs besides kept ones; verdicts are kept on them then. A
-/// refusal changes nothing.
+/// The verdict on a node with an expression that reaches these pairs besides kept ones; verdicts are kept on them then.
+/// `links` are those of the schema. A refusal changes nothing.
 pub(crate) fn answer<L: Ledger>(
     alloc: Global,
-    schema: &Schema,
-    graph: &Graph,
-    terms: &TermTable,
-    strata: &Strata,
+    question: &Question<'_>,
+    links: &[Items<Link>],
     fresh: &[Pair],
     node: TermId,
     expr: ExprId,
     kept: &mut Kept,
-    budget: u64,
     steps: &mut Steps<L>,
 ) -> Result<Verdict, AllocError>
-    requires loaded { IsLoaded schema.now }
-    requires sealed { IsSealedWith terms.now graph.now }
-    requires stratified { IsStratified schema.now strata.now }
-    requires budget { budget < 2 ^ 64 - 1 }
-    requires fresh { AreFresh schema.now terms.now graph.now.triples (pairs_of kept.old) node expr fresh.now }
+    requires posed { IsPosed question.now }
+    requires links { AreLinks question.now.schema.now links.now }
+    requires fresh { AreFresh question.now.schema.now question.now.terms.now question.now.graph.now.triples (pairs_of kept.old) node expr fresh.now }
     requires few { length fresh.now ≤ max_pairs }
-    requires verdicts { HaveVerdicts schema.now terms.now graph.now.triples strata.now budget kept.old }
-    ensures answer { IfOk result (IsAnswer schema.now terms.now graph.now.triples strata.now budget node expr) }
-    ensures no_other { IfOk result (λ v. (w : Found) → IsAnswer schema.now terms.now graph.now.triples strata.now budget node expr w → w ≡ v) }
-    ensures by_all { IfOk result (IsAnswerByAll schema.now terms.now graph.now.triples budget node expr) }
-    ensures true_answer { IfOk result (IsTrueAnswer schema.now terms.now graph.now.triples strata.now node expr) }
-    ensures only_wide { IfOk result (IsUnknownOnlyWide schema.now terms.now graph.now.triples budget node expr) }
-    ensures kept { OnOk result (AreKeptFor schema.now terms.now graph.now.triples strata.now budget fresh.now kept.old kept.new) }
+    requires verdicts { HaveVerdicts question.now.schema.now question.now.terms.now question.now.graph.now.triples question.now.strata.now question.now.budget kept.old }
+    ensures answer { IfOk result (IsAnswer question.now.schema.now question.now.terms.now question.now.graph.now.triples question.now.strata.now question.now.budget node expr) }
+    ensures no_other { IfOk result (λ v. (w : Found) → IsAnswer question.now.schema.now question.now.terms.now question.now.graph.now.triples question.now.strata.now question.now.budget node expr w → w ≡ v) }
+    ensures by_all { IfOk result (IsAnswerByAll question.now.schema.now question.now.terms.now question.now.graph.now.triples question.now.budget node expr) }
+    ensures true_answer { IfOk result (IsTrueAnswer question.now.schema.now question.now.terms.now question.now.graph.now.triples question.now.strata.now node expr) }
+    ensures only_wide { IfOk result (IsUnknownOnlyWide question.now.schema.now question.now.terms.now question.now.graph.now.triples question.now.budget node expr) }
+    ensures kept { OnOk result (AreKeptFor question.now.schema.now question.now.terms.now question.now.graph.now.triples question.now.strata.now question.now.budget fresh.now kept.old kept.new) }
     ensures err { OnErr result (kept.new ≡ kept.old) }
-    ensures bounded { (width count : Held → ℕ) → AreWidths schema.now terms.now graph.now.triples width → CountNeeds schema.now graph.now.triples fresh.now count →
-        steps.new ≤ steps.old + most_of schema.now terms.now graph.now.triples budget width count fresh.now }
+    ensures bounded { (width count : Held → ℕ) → AreWidths question.now.schema.now question.now.terms.now question.now.graph.now.triples width → CountNeeds question.now.schema.now question.now.graph.now.triples fresh.now count →
+        steps.new ≤ steps.old + most_of question.now.schema.now question.now.terms.now question.now.graph.now.triples question.now.budget width count fresh.now }
 {
     layers_are_meanings();
     refinement_is_one();
@@ -176,12 +159,10 @@ pub(crate) fn answer<L: Ledger>(
     verdict_is_one();
     width_is_one();
     let before = kept.len();
-    keep_fresh(
-        alloc, schema, graph, terms, strata, fresh, kept, budget, steps,
-    )?;
+    keep_fresh(alloc, question, links, fresh, kept, steps)?;
     // The number of verdicts tells contracts that their pairs are distinct.
     let _after = kept.len();
-    match sure(alloc, schema, terms, node, expr, &*kept) {
+    match sure(alloc, question.schema, question.terms, node, expr, &*kept) {
         Ok(verdict) => Ok(verdict),
         Err(error) => {
             kept.truncate(before);

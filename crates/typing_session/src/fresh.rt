@@ -16,7 +16,7 @@ ghost use Rattle.typing_session.specs.Walks.{AreStart, FollowsNeeds, HoldOrKeepN
 use crate::error::AskError;
 use crate::kept::Kept;
 use crate::met::Met;
-use demand::links::{Link, links, shapes_in};
+use demand::links::{Link, shapes_in};
 use demand::needs::{needs, push_pairs};
 use demand::order::compare_pairs;
 use demand::table::MAX_PAIRS;
@@ -94,10 +94,11 @@ fn in_order(alloc: Global, terms: &TermTable, pairs: &[Pair]) -> Result<Vec<Pair
 
 /// The pairs that a node with an expression reaches and on which no verdict is kept, in the order of the texts of their nodes
 /// and then of their Shapes. What a pair with a kept verdict needs is not asked for, since verdicts are kept on that too. It
-/// is refused as `Pairs` only where the two reach more than 4,194,304 pairs.
+/// is refused as `Pairs` only where the two reach more than 4,194,304 pairs; `links` are those of the schema.
 pub(crate) fn fresh(
     alloc: Global,
     schema: &Schema,
+    links: &[Items<Link>],
     graph: &Graph,
     terms: &TermTable,
     kept: &Kept,
@@ -105,23 +106,15 @@ pub(crate) fn fresh(
     expr: ExprId,
 ) -> Result<Vec<Pair>, AskError>
     requires loaded { IsLoaded schema.now }
+    requires links { AreLinks schema.now links.now }
     requires sealed { IsSealedWith terms.now graph.now }
     requires closed { HoldNeeds schema.now graph.now.triples (pairs_of kept.now) }
     ensures fresh { IfOk result (λ v. AreFresh schema.now terms.now graph.now.triples (pairs_of kept.now) node expr v.items) }
     ensures few { IfOk result (λ v. length v.items ≤ max_pairs) }
     ensures many { (result ≡ Err AskError.Pairs) → ReachesTooMany schema.now graph.now.triples node expr }
 {
-    let all_links = links(alloc, schema)?;
     let mut met = start(alloc, schema, kept, node, expr)?;
-    follow(
-        alloc,
-        schema,
-        all_links.as_slice(),
-        graph,
-        terms,
-        kept,
-        &mut met,
-    )?;
+    follow(alloc, schema, links, graph, terms, kept, &mut met)?;
     let list = in_order(alloc, terms, met.as_slice())?;
     Ok(list)
 }

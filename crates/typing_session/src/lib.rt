@@ -9,6 +9,7 @@ pub mod kept;
 pub mod laws;
 mod met;
 mod reaching;
+mod references;
 pub mod session;
 pub mod set_laws;
 mod users;

@@ -1,18 +1,20 @@
 //! The pairs that an edit touches: those among kept ones that reach a pair at an end of the triple.
 
-ghost use Rattle.std.specs.Prelude.{◌≡◌, ◌<◌, ◌↔◌, Contains, IfOk, OnOk, filter, length, map, not};
+ghost use Rattle.std.specs.Prelude.{◌≡◌, ◌<◌, ◌↔◌, Contains, IfOk, IfSome, OnOk, filter, length, map, not};
 ghost use Rattle.graph_index.specs.Contents.{IsSealedWith};
 ghost use Rattle.schema_tree.specs.declared.schema.Pair.{Pair as Held};
 ghost use Rattle.schema_tree.specs.Loaded.{IsLoaded};
 ghost use Rattle.schema_tree.specs.Needs.{HoldNeeds};
 ghost use Rattle.typing_session.specs.Edits.{AddsNode, AreAtEnds, HoldUsers, ReachesEnd, SpreadsFrom};
 ghost use Rattle.typing_session.specs.Kept.{is_free, kept_on, pairs_of};
+ghost use Rattle.typing_session.specs.References.{AreReferences};
 ghost use Rattle.typing_session.specs.Uses.{AreUsesByValue};
 
 use crate::kept::Kept;
 use crate::met::Met;
+use crate::references::{References, find_references, found_references};
 use crate::users::users;
-use crate::uses::{Use, uses};
+use crate::uses::Use;
 use graph_index::graph::Graph;
 use rdf_terms::table::TermTable;
 use rdf_terms::terms::{TermId, Triple};
@@ -96,31 +98,28 @@ fn spread(
     Ok(())
 }
 
-/// The pairs among those that are kept, and have all that they need, that reach a pair at an end of the triple.
+/// The pairs among those that are kept, and have all that they need, that reach a pair at an end of the triple. The
+/// references of the schema are found where they are not there yet.
 pub(crate) fn reaching(
     alloc: Global,
     schema: &Schema,
+    references: &mut Option<References>,
     graph: &Graph,
     terms: &TermTable,
     kept: &Kept,
     triple: Triple,
 ) -> Result<Met, AllocError>
     requires loaded { IsLoaded schema.now }
+    requires there { IfSome references.old (AreReferences schema.now) }
     requires sealed { IsSealedWith terms.now graph.now }
     requires shapes { (q : Held) → Contains (pairs_of kept.now) q → q.shape.0 < length schema.now.shapes }
     requires closed { HoldNeeds schema.now graph.now.triples (pairs_of kept.now) }
-    ensures { IfOk result (λ m. (q : Held) → Contains m q ↔ (Contains (pairs_of kept.now) q × ReachesEnd schema.now graph.now.triples triple q)) }
+    ensures there { IfSome references.new (AreReferences schema.now) }
+    ensures reaching { IfOk result (λ m. (q : Held) → Contains m q ↔ (Contains (pairs_of kept.now) q × ReachesEnd schema.now graph.now.triples triple q)) }
 {
-    let all_uses = uses(alloc, schema)?;
+    find_references(alloc, schema, references)?;
+    let uses = found_references(references).uses.as_slice();
     let mut met = met_at_ends(alloc, schema, kept, triple)?;
-    spread(
-        alloc,
-        schema,
-        all_uses.as_slice(),
-        graph,
-        terms,
-        kept,
-        &mut met,
-    )?;
+    spread(alloc, schema, uses, graph, terms, kept, &mut met)?;
     Ok(met)
 }

@@ -26,6 +26,7 @@ use crate::error::AskError;
 use crate::kept::Kept;
 use crate::laws::{edits_are_local, growth_is_local};
 use crate::reaching::reaching;
+use crate::references::{References, find_references, found_references};
 use crate::widths::wide_among;
 use graph_index::graph::{AddError, Graph, MAX_TRIPLES};
 use graph_index::laws::sealing_outlives_growth;
@@ -41,12 +42,15 @@ use std::sync::ledger::Ledger;
 use strata::list::Strata;
 use tally::Steps;
 use typing_refiner::building::WidePair;
+use typing_refiner::{Question, Wanted};
 
 /// A graph with its terms and a schema, and verdicts on pairs of a node and a Shape that are kept from question to question.
 #[derive(Drop)]
 pub struct Session {
     alloc: Global,
     schema: Schema,
+    // The references between the Shapes, once a question or an edit has asked for them.
+    references: Option<References>,
     graph: Graph,
     terms: TermTable,
     strata: Strata,
@@ -56,8 +60,10 @@ pub struct Session {
 
 impl Model for Session {
     ghost use Rattle.std.specs.Coded.{codes};
+    ghost use Rattle.std.specs.Prelude.{IfSome};
     ghost use Rattle.schema_tree.specs.PlanCodes.{coded_plan};
     ghost use Rattle.typing_session.specs.Kept.{pairs_of};
+    ghost use Rattle.typing_session.specs.References.{AreReferences};
     ghost use Rattle.typing_session.specs.Seen.{Seen};
     ghost use Rattle.typing_session.specs.Sound.{AreSound, IsHeld, IsReady};
 
@@ -67,7 +73,8 @@ impl Model for Session {
 
     ghost view = { λ x. record { graph = x.graph.triples; terms = x.terms; schema = x.schema; strata = x.strata; budget = x.budget; kept = pairs_of x.kept } };
 
-    ghost invariant = { λ x. IsReady x.schema x.strata x.budget × IsHeld x.terms x.graph × AreSound x.schema x.terms x.graph x.strata x.budget x.kept };
+    ghost invariant = { λ x. IsReady x.schema x.strata x.budget × IsHeld x.terms x.graph × AreSound x.schema x.terms x.graph x.strata x.budget x.kept
+        × IfSome x.references (AreReferences x.schema) };
 }
 
 impl Session {
@@ -90,6 +97,7 @@ impl Session {
         Session {
             alloc,
             schema,
+            references: None,
             graph,
             terms,
             strata,
@@ -146,6 +154,7 @@ impl Session {
         let Ok(touched) = reaching(
             self.alloc,
             &self.schema,
+            &mut self.references,
             &self.graph,
             &self.terms,
             &self.kept,
@@ -178,6 +187,7 @@ impl Session {
         let lost = reaching(
             self.alloc,
             &self.schema,
+            &mut self.references,
             &self.graph,
             &self.terms,
             &self.kept,
@@ -228,26 +238,34 @@ impl Session {
         ensures silent { ((q : Held) → Reaches self.old.schema self.old.graph node expr q → Contains self.old.kept q) → steps.new ≤ steps.old }
     {
         width_is_one();
+        find_references(self.alloc, &self.schema, &mut self.references)?;
+        let links = found_references(&self.references).links.as_slice();
         let fresh = asked(
             self.alloc,
             &self.schema,
+            links,
             &self.graph,
             &self.terms,
             &self.kept,
             node,
             expr,
         )?;
+        let question = Question {
+            schema: &self.schema,
+            graph: &self.graph,
+            terms: &self.terms,
+            strata: &self.strata,
+            budget: self.budget,
+            wanted: Wanted::Verdicts,
+        };
         let verdict = answer(
             self.alloc,
-            &self.schema,
-            &self.graph,
-            &self.terms,
-            &self.strata,
+            &question,
+            links,
             fresh.as_slice(),
             node,
             expr,
             &mut self.kept,
-            self.budget,
             steps,
         )?;
         Ok(verdict)

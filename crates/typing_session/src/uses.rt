@@ -6,7 +6,7 @@ ghost use Rattle.demand.specs.Links.{AreLinks};
 ghost use Rattle.schema_tree.specs.Loaded.{IsLoaded};
 ghost use Rattle.typing_session.specs.Uses.{AreEmptyLists, AreFiled, AreUses, AreUsesByValue, AreWithin, FilesUse, use_of, uses_of};
 
-use demand::links::{Link, links};
+use demand::links::Link;
 use rdf_terms::items::Items;
 use schema_tree::schema::{Occurrence, Schema, ShapeId};
 use std::alloc::{AllocError, Global};
@@ -95,13 +95,17 @@ fn filed(alloc: Global, count: usize, found: &[Use]) -> Result<Vec<Vec<Use>>, Al
     Ok(lists)
 }
 
-/// For each Shape of the schema the uses in whose value it stands.
-pub(crate) fn uses(alloc: Global, schema: &Schema) -> Result<Vec<Vec<Use>>, AllocError>
+/// For each Shape of the schema the uses in whose value it stands; `links` are those of the schema.
+pub(crate) fn uses(
+    alloc: Global,
+    schema: &Schema,
+    links: &[Items<Link>],
+) -> Result<Vec<Vec<Use>>, AllocError>
     requires loaded { IsLoaded schema.now }
+    requires links { AreLinks schema.now links.now }
     ensures { IfOk result (λ v. AreUsesByValue schema.now (map (λ l. l.items) v.items)) }
 {
-    let all_links = links(alloc, schema)?;
-    let found = all_uses(alloc, schema, all_links.as_slice())?;
+    let found = all_uses(alloc, schema, links)?;
     let lists = filed(alloc, schema.shapes.as_slice().len(), found.as_slice())?;
     Ok(lists)
 }

@@ -19,7 +19,7 @@ pub returns-clause-fresh : goal.returns-clause-fresh
 returns-clause-fresh c =
     met_fresh c.args.schema.now c.args.terms.now c.args.graph.now.triples (pairs_of c.args.kept.now) c.args.node c.args.expr c.in_ok-met.met c.follow.new.met c.in_ok-list.list.items c.requires.closed c.in_ok-met.ensures
     c.in_ok-follow.ensures.followed c.in_ok-follow.ensures.whole c.in_ok-list.ensures.sorted
-    (subst (λ xs. (q : Pair) → Contains c.in_ok-list.list.items q ↔ Contains xs q) c.as_slice-2.ensures c.in_ok-list.ensures.same)
+    (subst (λ xs. (q : Pair) → Contains c.in_ok-list.list.items q ↔ Contains xs q) c.as_slice.ensures c.in_ok-list.ensures.same)
 
 pub returns-clause-few : goal.returns-clause-few
-returns-clause-few c = let a = c.in_ok-list.ensures.few in let b = c.in_ok-follow.ensures.few in let e = ap length c.as_slice-2.ensures in omega (arith, a, b, e)
+returns-clause-few c = let a = c.in_ok-list.ensures.few in let b = c.in_ok-follow.ensures.few in let e = ap length c.as_slice.ensures in omega (arith, a, b, e)

@@ -11,13 +11,13 @@ use Rattle.typing_refiner.proofs.ground.Ground.remove.Given as goal
 abbrev pub invariant-loop-at : goal.invariant-loop-at
 invariant-loop-at g l = record {
   removing : (lower : Known) → IsBefore l.self (g.K.View.known l.kept) lower l.stratum l.fn.marks →
-      IsRemoving l.self (g.K.View.known l.kept) lower l.stratum l.marks (map (λ r. r.pair) l.gone.items) (λ i. Contains l.agenda i);
+      IsRemoving l.self (g.K.View.known l.kept) lower l.stratum l.marks (map (λ r. r.pair) l.gone.items) (λ i. Contains l.pending.agenda i);
   states : (lower : Known) → IsBefore l.self (g.K.View.known l.kept) lower l.stratum l.fn.marks → HaveStates l.self lower l.gone.items;
-  paid : (width : Pair → ℕ) → GiveWidths l.self width → l.steps + still_to_tick l.self width l.stratum Unknown l.marks l.agenda ≤ l.fn.steps + phase_ticks l.self width l.stratum;
+  paid : (width : Pair → ℕ) → GiveWidths l.self width → l.steps + still_to_tick l.self width l.stratum Unknown l.marks l.pending.agenda ≤ l.fn.steps + phase_ticks l.self width l.stratum;
   few : length l.gone.items + count_of Unknown l.marks ≤ length l.self.table.now;
-  shows : AllShow l.self (known_of l.self (g.K.View.known l.kept) l.marks) l.witnesses;
-  waits : AllWait l.self l.stratum l.marks Unknown l.agenda;
+  shows : AllShow l.self (known_of l.self (g.K.View.known l.kept) l.marks) l.pending.witnesses;
+  waits : AllWait l.self l.stratum l.marks Unknown l.pending.agenda;
 }
 
 abbrev pub decreases-loop-at : goal.decreases-loop-at
-decreases-loop-at g l = count_of Unknown l.marks * suc (length l.self.table.now) + length l.agenda
+decreases-loop-at g l = count_of Unknown l.marks * suc (length l.self.table.now) + length l.pending.agenda

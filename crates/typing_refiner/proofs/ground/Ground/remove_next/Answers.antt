@@ -9,7 +9,7 @@ use Rattle.typing_refiner.proofs.ground.Ground.remove_next.Goals as goal
 
 pub returns-in_ok-remember-in-Placed-clause-looked : goal.returns-in_ok-remember-in-Placed-clause-looked
 returns-in_ok-remember-in-Placed-clause-looked g c =
-    λ lower r. still c.args.self.now c.requires.ready _ lower c.args.stratum c.args.marks.now _ c.args.at c.args.agenda.now r c.in_ok-places.field-0
+    λ lower r. still c.args.self.now c.requires.ready _ lower c.args.stratum c.args.marks.now _ c.args.at c.args.pending.now.agenda r c.in_ok-places.field-0
     c.in_ok-places.ensures.found (subst IsPlaced (sym c.in-Placed.is) tt)
 
 pub returns-in_ok-remember-in-Placed-clause-all : goal.returns-in_ok-remember-in-Placed-clause-all
@@ -20,24 +20,24 @@ returns-in_ok-remember-in-Placed-clause-nearer g c = inl (refl, refl)
 
 pub returns-in_ok-put_back_unshown-in-Goes-clause-looked : goal.returns-in_ok-put_back_unshown-in-Goes-clause-looked
 returns-in_ok-put_back_unshown-in-Goes-clause-looked g c =
-    λ lower r. further_as c.args.self.now c.requires.ready _ lower c.args.stratum c.args.marks.now _ c.args.at c.args.agenda.now r c.in_ok-places.field-0
+    λ lower r. further_as c.args.self.now c.requires.ready _ lower c.args.stratum c.args.marks.now _ c.args.at c.args.pending.now.agenda r c.in_ok-places.field-0
     c.in_ok-places.ensures.found c.in-Goes.states c.in-Goes.is c.requires.least c.removed-removed.result.pair c.removed-removed.ensures.pair
     c.set_mark.new.marks c.set_mark.ensures _ (ap (λ rs. map (λ r. r.pair) rs) c.in_ok-push-in-Goes.ensures.items ∙ map-append (λ r. r.pair) c.args.gone.now.items _)
-    c.put_back_unshown.new.agenda c.in_ok-put_back_unshown-in-Goes.ensures.put c.in_ok-put_back_unshown-in-Goes.ensures.kept c.in_ok-put_back_unshown-in-Goes.ensures.settled
+    c.put_back_unshown.new.pending.agenda c.in_ok-put_back_unshown-in-Goes.ensures.put c.in_ok-put_back_unshown-in-Goes.ensures.kept c.in_ok-put_back_unshown-in-Goes.ensures.settled
 
 pub returns-in_ok-put_back_unshown-in-Goes-clause-all : goal.returns-in_ok-put_back_unshown-in-Goes-clause-all
 returns-in_ok-put_back_unshown-in-Goes-clause-all g c =
-    all_wait c.args.self.now c.args.stratum Unknown No unknown_no c.args.marks.now c.args.at c.args.agenda.now c.put_back_unshown.new.agenda c.set_mark.new.marks c.set_mark.ensures
+    all_wait c.args.self.now c.args.stratum Unknown No unknown_no c.args.marks.now c.args.at c.args.pending.now.agenda c.put_back_unshown.new.pending.agenda c.set_mark.new.marks c.set_mark.ensures
     c.requires.waits c.requires.least c.requires.all c.in_ok-put_back_unshown-in-Goes.ensures.put
 
 pub returns-in_ok-put_back_unshown-in-Goes-clause-nearer : goal.returns-in_ok-put_back_unshown-in-Goes-clause-nearer
 returns-in_ok-put_back_unshown-in-Goes-clause-nearer g c =
-    nearer c.args.self.now c.args.stratum Unknown No unknown_no c.args.marks.now c.args.at c.args.agenda.now c.put_back_unshown.new.agenda c.set_mark.new.marks c.set_mark.ensures
+    nearer c.args.self.now c.args.stratum Unknown No unknown_no c.args.marks.now c.args.at c.args.pending.now.agenda c.put_back_unshown.new.pending.agenda c.set_mark.new.marks c.set_mark.ensures
     c.requires.waits c.requires.least c.requires.all c.in_ok-put_back_unshown-in-Goes.ensures.put c.len-count.ensures.few
 
 pub returns-in_ok-put_back_unshown-in-Goes-clause-paid : goal.returns-in_ok-put_back_unshown-in-Goes-clause-paid
 returns-in_ok-put_back_unshown-in-Goes-clause-paid g c = λ width give.
-    let less = changed c.args.self.now width c.args.stratum Unknown No unknown_no c.args.marks.now c.args.at c.args.agenda.now c.put_back_unshown.new.agenda c.set_mark.new.marks c.set_mark.ensures
+    let less = changed c.args.self.now width c.args.stratum Unknown No unknown_no c.args.marks.now c.args.at c.args.pending.now.agenda c.put_back_unshown.new.pending.agenda c.set_mark.new.marks c.set_mark.ensures
     c.requires.waits c.in_ok-put_back_unshown-in-Goes.ensures.put in
     let spent = c.in_ok-places.ensures.spent width give in omega (arith, less, spent)
 

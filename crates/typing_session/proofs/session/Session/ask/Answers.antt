@@ -1,4 +1,5 @@
 use Rattle.std.proofs.Common.{◌≡◌, ◌≤◌, ◌<◌, ◌+◌, ℕ, List, Contains, length, subst, sym}
+use Rattle.demand.specs.Links.{AreLinks}
 use Rattle.schema_tree.specs.declared.schema.Pair.{Pair}
 use Rattle.schema_tree.specs.declared.verdicts.Verdict.{Verdict}
 use Rattle.schema_tree.specs.Needs.{Reaches}
@@ -6,9 +7,33 @@ use Rattle.typing_refiner.specs.Building.{AreWidths}
 use Rattle.typing_refiner.specs.Statements.{CountNeeds, most_of}
 use Rattle.typing_session.specs.Kept.{pairs_of}
 use Rattle.typing_session.specs.Questions.{AreFresh, IsAnswer, IsAnswerByAll, IsTrueAnswer, IsUnknownOnlyWide, Keeps}
+use Rattle.typing_session.specs.References.{AreReferences}
 use Rattle.typing_session.specs.Seen.{Seen}
 use Rattle.typing_session.proofs.Asked.{bound_fresh, keeps, silent, sound_asked}
+use Rattle.typing_session.proofs.Referring.{of_held, there}
 use Rattle.typing_session.proofs.session.Session.ask.Goals as goal
+
+pub find_references-requires-clause-there : goal.find_references-requires-clause-there
+find_references-requires-clause-there g c = c.self.invariant.3
+
+pub found_references-requires : goal.found_references-requires
+found_references-requires g c = there _ _ c.in_ok-find_references.ensures.found
+
+pub asked-requires-clause-links : goal.asked-requires-clause-links
+asked-requires-clause-links g c =
+    subst (AreLinks c.self.inside.schema) (sym c.as_slice-links.ensures) (of_held (AreReferences c.self.inside.schema) _ _ c.found_references.ensures c.in_ok-find_references.ensures.found).links
+
+pub answer-requires-clause-links : goal.answer-requires-clause-links
+answer-requires-clause-links g c =
+    subst (AreLinks c.self.inside.schema) (sym c.as_slice-links.ensures) (of_held (AreReferences c.self.inside.schema) _ _ c.found_references.ensures c.in_ok-find_references.ensures.found).links
+
+pub answer-requires-clause-posed : goal.answer-requires-clause-posed
+answer-requires-clause-posed g c = record {
+  loaded = c.self.invariant.0.loaded;
+  sealed = c.self.invariant.1.sealed;
+  stratified = c.self.invariant.0.stratified;
+  budget = c.self.invariant.0.range;
+}
 
 pub returns-in_err-verdict-clause-bounded : goal.returns-in_err-verdict-clause-bounded
 returns-in_err-verdict-clause-bounded g c =
@@ -31,6 +56,7 @@ invariant_of-self-2 g c = (
       (subst (λ (x : Seen). c.args.node.0 < length x.terms) (sym c.self.view_is) c.requires.node)
       (subst (AreFresh c.self.inside.schema c.self.inside.terms c.self.inside.graph.triples (pairs_of c.self.inside.kept) c.args.node c.args.expr) (sym c.as_slice.ensures.value) c.in_ok-fresh.ensures.fresh) c.self.invariant.2
       c.in_ok-verdict.ensures.kept,
+  c.find_references.ensures.there,
 )
 
 pub returns-clause-answer : goal.returns-clause-answer
