@@ -30,7 +30,7 @@ use Rattle.shex_inputs.specs.declared.error.Source.{Source}
 use Rattle.shex_inputs.specs.declared.error.Source.TheVariants.{Schema as OfSchema, Data, Map}
 use Rattle.shex_inputs.specs.Asked.{EndsAs, HoldsMap, IsAskedOf, Question, node_names, root_of}
 use Rattle.shex_inputs.specs.Held.{Held, HoldsData, IsHolding, IsTaken, predicates_in}
-use Rattle.shex_inputs.specs.Laws.{AskedIsNotLeft, HeldIsOne, InputsAreOne, LeftIsOne, QuestionIsOne, TakenIsLoaded, TakenIsNotLeft}
+use Rattle.shex_inputs.specs.Laws.{AskedIsNotLeft, HeldIsOne, InputsAreOne, LeftIsOne, QuestionIsOne, SchemaIsNotLeft, SchemasAreNotLeft, TakenIsLoaded, TakenIsNotLeft}
 use Rattle.shex_inputs.specs.Named.{Inputs, asked_of, source_name, source_of}
 use Rattle.shex_inputs.specs.Outcomes.{IsAbsent}
 use Rattle.shex_inputs.specs.Refusals.{AreUnread, AsksForMany, HasNegation, IsNoMap, IsRefused, IsSchemaTaken, IsUnresolved, Reaches, StandForNone, Takes}
@@ -311,6 +311,9 @@ module _ (contents : List ℕ → Option (List ℕ)) (i : Inputs) (laws : AreLaw
   taken_not_left h Data x other = passed_not_left Data (h, x)
   taken_not_left h Map x other = absurd (other refl)
 
+  pub schema_not_left : SchemaIsNotLeft contents i
+  schema_not_left taken file = passed_not_left (OfSchema file) taken
+
   -- where a map asks something, all files are passed
   asked_passed : (q : Question) → IsAskedOf told i q → (source : Source) → IsPassed source
   asked_passed q x (OfSchema file) = with_schema (q.held, x.taken)
@@ -322,3 +325,6 @@ module _ (contents : List ℕ → Option (List ℕ)) (i : Inputs) (laws : AreLaw
 
 pub inputs_one : AreLaws → InputsAreOne
 inputs_one laws contents i = (held_one contents i laws, (question_one contents i laws, (taken_not_left contents i laws, (asked_not_left contents i laws, left_one contents i laws))))
+
+pub schemas_not_left : AreLaws → SchemasAreNotLeft
+schemas_not_left laws contents i = schema_not_left contents i laws

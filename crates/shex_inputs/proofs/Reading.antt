@@ -25,6 +25,7 @@ use Rattle.schema_files.specs.Sources.{AreHeld, AreSources, Source as SchemaSour
 use Rattle.schema_files.specs.declared.error.FilesError.{FilesError}
 use Rattle.schema_files.specs.declared.error.FilesError.TheVariants as FilesErrors
 use Rattle.schema_files.specs.declared.error.FilesRefusal.TheVariants as FilesRefusals
+use Rattle.schema_files.specs.declared.error.SchemaFile.TheVariants.{Root}
 use Rattle.schema_files.specs.declared.reading.Documents.{Documents}
 use Rattle.schema_files.specs.declared.reading.FileDigests.{FileDigests}
 use Rattle.sha2.specs.Sha256.{sha256}
@@ -45,7 +46,7 @@ use Rattle.command_words.specs.Checks.{is_base}
 use Rattle.shex_inputs.specs.Asked.{EndsAs, HoldsMap, node_names, root_of}
 use Rattle.shex_inputs.specs.Held.{Held, IsHolding, IsSchemaOf, IsTaken, predicates_in}
 use Rattle.shex_inputs.specs.Named.{Inputs, asked_of, source_name, source_of}
-use Rattle.shex_inputs.specs.Outcomes.{Explains, FaultsAs, IsBeforeMap, IsRefusalOf}
+use Rattle.shex_inputs.specs.Outcomes.{Explains, FaultsAs, IsBeforeMap, IsOfSchema, IsRefusalOf}
 use Rattle.shex_inputs.specs.Refusals.{AreUnread, IsRefused, Reaches, Takes}
 use Rattle.shex_inputs.specs.Stops.{AreUnreadable, FetchStops, LoadStops, MapStops, ReadingStops, demand_stop, files_stop, strata_stop}
 use Rattle.shex_inputs.proofs.Holdings.{first_one}
@@ -118,6 +119,13 @@ files_before_map (FilesErrors.Refused (FilesRefusals.Import file iri)) stop made
 files_before_map (FilesErrors.Failed file) stop made = subst IsBeforeMap (sym made) (λ e. cc)
 files_before_map FilesErrors.Memory stop made = subst IsBeforeMap (sym made) tt
 
+pub files_of_schema : (e : FilesError) (stop : InputError) → stop ≡ files_stop e → IsOfSchema stop
+files_of_schema (FilesErrors.Refused (FilesRefusals.Size file)) stop made = subst IsOfSchema (sym made) (file, refl)
+files_of_schema (FilesErrors.Refused (FilesRefusals.Document file e)) stop made = subst IsOfSchema (sym made) (file, refl)
+files_of_schema (FilesErrors.Refused (FilesRefusals.Import file iri)) stop made = subst IsOfSchema (sym made) (file, refl)
+files_of_schema (FilesErrors.Failed file) stop made = subst IsOfSchema (sym made) (file, refl)
+files_of_schema FilesErrors.Memory stop made = subst IsOfSchema (sym made) tt
+
 -- documents that are not loaded
 load_explains : (told : Told) (i : Inputs) (ss : List SchemaSource) (stop : InputError) → AreSources told (asked_of i) ss → LoadStops (documents_of ss) stop → Explains told i stop
 load_explains told i ss (Refused (Refusals.Load e)) are (apart, why) = record { sources = ss; are_sources = are; apart = apart; refused = why }
@@ -148,6 +156,18 @@ load_before_map docs (Refused (Refusals.Map e)) stops = absurd stops
 load_before_map docs (Refused Refusals.Pairs) stops = absurd stops
 load_before_map docs (Failed source) stops = absurd stops
 load_before_map docs Memory stops = tt
+
+load_of_schema : (docs : List Document) (stop : InputError) → LoadStops docs stop → IsOfSchema stop
+load_of_schema docs (Refused (Refusals.Load e)) stops = (Root, refl)
+load_of_schema docs (Refused (Refusals.NegatedCycle cycle)) stops = (Root, refl)
+load_of_schema docs (Refused (Refusals.Size source)) stops = absurd stops
+load_of_schema docs (Refused (Refusals.Schema file e)) stops = absurd stops
+load_of_schema docs (Refused (Refusals.Import file iri)) stops = absurd stops
+load_of_schema docs (Refused (Refusals.Data e)) stops = absurd stops
+load_of_schema docs (Refused (Refusals.Map e)) stops = absurd stops
+load_of_schema docs (Refused Refusals.Pairs) stops = absurd stops
+load_of_schema docs (Failed source) stops = absurd stops
+load_of_schema docs Memory stops = tt
 
 -- what explains a refusal of documents that is no want of memory refuses them
 refused_documents : (docs : List Document) (terms : List Term) (e : LoadError) → e ≢ LoadErrors.Memory → ExplainsDocuments docs terms e → IsRefusedDocuments docs terms e
@@ -209,6 +229,10 @@ unloaded_faults i docs before after blame act (Err e) h stay = load_faults i doc
 pub unloaded_before_map : (docs : List Document) (r : Result Loaded InputError) → IfErr r (LoadStops docs) → IfErr r IsBeforeMap
 unloaded_before_map docs (Ok l) h = tt
 unloaded_before_map docs (Err e) h = load_before_map docs e h
+
+pub unloaded_of_schema : (docs : List Document) (r : Result Loaded InputError) → IfErr r (LoadStops docs) → IfErr r IsOfSchema
+unloaded_of_schema docs (Ok l) h = tt
+unloaded_of_schema docs (Err e) h = load_of_schema docs e h
 
 -- a stop that is no fault of the files
 pub refused_faults : {E : Type 0} (memory : E) (refusal : E → Refusal) (e : E) (stop : InputError) (i : Inputs) (before after : ℕ) (blame : List ℕ) (act : Act) → IsRefusalOf memory refusal e stop → after ≡ before → FaultsAs i before after blame act stop

@@ -4,15 +4,16 @@ use Rattle.clap.specs.Words.{Text}
 use Rattle.rdf_lex.specs.Prefixes.{AreOneLine}
 use Rattle.rdf_terms.specs.OneLine.{IsOneLine}
 use Rattle.shex_io.specs.Files.{Told}
+use Rattle.schema_files.specs.declared.error.SchemaFile.{SchemaFile}
 use Rattle.schema_tree.specs.Loaded.{IsLoaded}
 use Rattle.shex_inputs.specs.declared.error.Refusal.{Refusal}
 use Rattle.shex_inputs.specs.declared.error.Source.{Source}
-use Rattle.shex_inputs.specs.declared.error.Source.TheVariants.{Map}
+use Rattle.shex_inputs.specs.declared.error.Source.TheVariants.{Map, Schema}
 use Rattle.shex_inputs.specs.Asked.{IsAskedOf, Question}
 use Rattle.shex_inputs.specs.Held.{Held, IsTaken}
 use Rattle.shex_inputs.specs.Named.{Inputs, source_of}
 use Rattle.shex_inputs.specs.Outcomes.{IsAbsent}
-use Rattle.shex_inputs.specs.Refusals.{IsRefused}
+use Rattle.shex_inputs.specs.Refusals.{IsRefused, IsSchemaTaken}
 
 module _ (contents : List ℕ → Option (List ℕ)) (i : Inputs) where
   -- the schema and the graph are one
@@ -28,6 +29,12 @@ module _ (contents : List ℕ → Option (List ℕ)) (i : Inputs) where
   TakenIsNotLeft =
       (h : Held) (source : Source) → IsTaken (Some contents) i h → source ≢ Map →
       ((refusal : Refusal) → source_of refusal ≡ source → ¬ IsRefused (Some contents) i refusal) × (¬ IsAbsent (Some contents) i source)
+
+  -- where the schema is taken, no file of it is refused or absent
+  abbrev pub SchemaIsNotLeft : Type 0
+  SchemaIsNotLeft =
+      IsSchemaTaken (Some contents) i → (file : SchemaFile) →
+      ((refusal : Refusal) → source_of refusal ≡ Schema file → ¬ IsRefused (Some contents) i refusal) × (¬ IsAbsent (Some contents) i (Schema file))
 
   -- where a map asks something, no file is refused or absent
   abbrev pub AskedIsNotLeft : Type 0
@@ -79,3 +86,7 @@ abbrev pub InputsAreOne : Type 0
 InputsAreOne =
     (contents : List ℕ → Option (List ℕ)) (i : Inputs) →
     HeldIsOne contents i × (QuestionIsOne contents i × (TakenIsNotLeft contents i × (AskedIsNotLeft contents i × LeftIsOne contents i)))
+
+-- where the schema of inputs is taken, none of its files is refused or absent
+abbrev pub SchemasAreNotLeft : Type 0
+SchemasAreNotLeft = (contents : List ℕ → Option (List ℕ)) (i : Inputs) → SchemaIsNotLeft contents i

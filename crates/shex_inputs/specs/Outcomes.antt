@@ -3,11 +3,12 @@ use Rattle.std.specs.Prelude.{ℕ, List, ◌≡◌, ◌≢◌, ◌⊎◌, ⊤}
 use Rattle.shex_io.specs.Files.{Lacks, Told}
 use Rattle.shex_io.specs.declared.files.Act.{Act}
 use Rattle.schema_files.specs.Files.{HasFailed}
+use Rattle.schema_files.specs.declared.error.SchemaFile.{SchemaFile}
 use Rattle.shex_inputs.specs.declared.error.InputError.{InputError}
 use Rattle.shex_inputs.specs.declared.error.InputError.TheVariants.{Refused, Failed, Memory}
 use Rattle.shex_inputs.specs.declared.error.Refusal.{Refusal}
 use Rattle.shex_inputs.specs.declared.error.Source.{Source}
-use Rattle.shex_inputs.specs.declared.error.Source.TheVariants.{Map}
+use Rattle.shex_inputs.specs.declared.error.Source.TheVariants.{Map, Schema}
 use Rattle.shex_inputs.specs.Named.{Inputs, source_name, source_of}
 use Rattle.shex_inputs.specs.Refusals.{IsRefused, Reaches}
 
@@ -31,6 +32,12 @@ abbrev pub FaultsAs : Inputs → ℕ → ℕ → List ℕ → Act → InputError
 FaultsAs i before after blame act (Failed source) = HasFailed (source_name i source) before after blame act
 FaultsAs i before after blame act (Refused refusal) = after ≡ before
 FaultsAs i before after blame act Memory = after ≡ before
+
+-- the stop is about a file of the schema
+abbrev pub IsOfSchema : InputError → Type 0
+IsOfSchema (Refused refusal) = (file : SchemaFile) × (source_of refusal ≡ Schema file)
+IsOfSchema (Failed source) = (file : SchemaFile) × (source ≡ Schema file)
+IsOfSchema Memory = ⊤
 
 -- the stop is not about the map, to which the reading of schema and data does not come
 abbrev pub IsBeforeMap : InputError → Type 0

@@ -17,7 +17,7 @@ ghost use Rattle.term_tokens.specs.Scopes.{scope_of};
 ghost use Rattle.shex_inputs.specs.Held.{HasTaken, wants_digests};
 ghost use Rattle.shex_inputs.specs.Refusals.{Takes};
 ghost use Rattle.shex_inputs.specs.Named.{asked_of, inputs_with};
-ghost use Rattle.shex_inputs.specs.Outcomes.{Explains, FaultsAs, IsBeforeMap};
+ghost use Rattle.shex_inputs.specs.Outcomes.{Explains, FaultsAs, IsBeforeMap, IsOfSchema};
 
 use crate::data::hold;
 use crate::error::{InputError, Source, data_error, files_error};
@@ -74,6 +74,7 @@ fn schema_documents<F: Files>(
     ensures root { IfOk result (λ d. 0 < length d.docs.items) }
     ensures ordered { IfOk result (λ d. AreOrdered (parts_of (map document_of d.docs.items))) }
     ensures scheme { IfOk result (λ d. IsSome (scheme_of (base_of d.names))) }
+    ensures of_schema { IfErr result IsOfSchema }
     ensures before_map { IfErr result IsBeforeMap }
     ensures cause { (map_name : Text) → IfErr result (Explains (F.told files.old) (inputs_with inputs.now map_name)) }
     ensures faults { (map_name : Text) → IfErr result (FaultsAs (inputs_with inputs.now map_name) (F.faults files.old) (F.faults files.new) (F.blame files.new) (F.act files.new)) }
@@ -87,8 +88,10 @@ fn schema_documents<F: Files>(
     }
 }
 
-/// The schema of inputs, with the strata of its Shapes and the digests of its files.
-fn read_schema<F: Files>(
+/// The schema of inputs, whose base has a scheme, with the strata of its Shapes and the digests of its files (ShEx 2.1, sections 5.1,
+/// 5.7 and 6). The schema file is fetched and read first, then those of the documents that are imported; the first that is not taken is
+/// named. The table has the predicates of the schema.
+pub fn read_schema<F: Files>(
     alloc: Global,
     files: &mut F,
     inputs: &Inputs<'_>,
@@ -97,6 +100,7 @@ fn read_schema<F: Files>(
     ensures taken { (map_name : Text) → IfOk result (λ l. (taken : Takes (F.told files.old) (inputs_with inputs.now map_name) l.terms l.schema l.strata (scope_of l.labels)) × (digest_list l.digests ≡ source_digests taken.sources)) }
     ensures loaded { IfOk result (λ l. IsLoaded l.schema) }
     ensures labels { IfOk result (λ l. IsSome (scheme_of (base_of l.labels))) }
+    ensures of_schema { IfErr result IsOfSchema }
     ensures before_map { IfErr result IsBeforeMap }
     ensures cause { (map_name : Text) → IfErr result (Explains (F.told files.old) (inputs_with inputs.now map_name)) }
     ensures faults { (map_name : Text) → IfErr result (FaultsAs (inputs_with inputs.now map_name) (F.faults files.old) (F.faults files.new) (F.blame files.new) (F.act files.new)) }

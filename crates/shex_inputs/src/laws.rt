@@ -1,10 +1,24 @@
 //! The laws of inputs, for callers' proofs: the contract of each function is the law, and it does nothing when called.
 
-ghost use Rattle.shex_inputs.specs.Laws.{InputsAreOne, LabelsHaveLines, TakenByBytes, TakenIsLoaded};
+ghost use Rattle.shex_inputs.specs.Laws.{InputsAreOne, LabelsHaveLines, SchemasAreNotLeft, TakenByBytes, TakenIsLoaded};
 
 /// What files that are told hold is one thing: it is taken, or one file is refused or absent.
 pub fn inputs_are_one()
     ensures { InputsAreOne }
+{
+    taken_is_loaded();
+    schema_files::sources_are_one();
+    schema_files::read_is_not_left();
+    schema_files::refused_is_one();
+    schema_load::laws::documents_stand_for_one();
+    schema_tree::laws::strata_are_least();
+    data_reader::data_are_one();
+    shape_map::laws::maps_are_one();
+}
+
+/// Where the schema is taken of files that are told, none of its files is refused or absent.
+pub fn schemas_are_not_left()
+    ensures { SchemasAreNotLeft }
 {
     taken_is_loaded();
     schema_files::sources_are_one();

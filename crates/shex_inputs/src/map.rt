@@ -1,6 +1,6 @@
 //! What the map file asks.
 
-ghost use Rattle.std.specs.Prelude.{◌≡◌, ◌≢◌, ◌≤◌, All, IfErr, IfOk, IsSome, List, OnOk, length, map};
+ghost use Rattle.std.specs.Prelude.{◌≡◌, ◌≢◌, ◌≤◌, All, IfErr, IfOk, IsSome, OnOk, length, map};
 ghost use Rattle.demand.specs.Orders.{max_pairs};
 ghost use Rattle.iri_resolve.specs.Reference.{scheme_of};
 ghost use Rattle.rdf_lex.specs.Prefixes.{base_of};
@@ -14,7 +14,6 @@ ghost use Rattle.demand.specs.declared.error.DemandError.TheVariants as DemandEr
 ghost use Rattle.schema_tree.specs.Loaded.{IsLoaded};
 ghost use Rattle.proof_file.specs.declared.head.Digests.{Digests};
 ghost use Rattle.schema_tree.specs.Needs.{HoldNeeds};
-ghost use Rattle.shape_map.specs.declared.items.Item.{Item};
 ghost use Rattle.shex_inputs.specs.Asked.{EndsAs, HoldsMap, IsAskedOf, root_of};
 ghost use Rattle.shex_inputs.specs.Held.{IsTaken, held_by};
 ghost use Rattle.shex_inputs.specs.Named.{inputs_with};
@@ -69,7 +68,14 @@ fn associations_of(
     )
 }
 
-/// The associations of the map in the file of this name, where the other files hold the schema and the graph. The nodes that are
+/// A map with the associations that it selects.
+#[derive(Drop)]
+struct Resolved {
+    map: ShapeMap,
+    associations: Vec<Association>,
+}
+
+/// The map in the file of this name with its associations, where the other files hold the schema and the graph. The nodes that are
 /// written in it go into the table in the order of their texts, and the graph is sealed with that table. Both bases have a scheme.
 fn read_associations<F: Files>(
     alloc: Global,
@@ -77,14 +83,13 @@ fn read_associations<F: Files>(
     inputs: &Inputs<'_>,
     name: &str,
     holding: &mut Holding,
-) -> Result<Vec<Association>, InputError>
+) -> Result<Resolved, InputError>
     requires taken { (digests : Digests) × IsTaken (F.told files.old) (inputs_with inputs.now name.now) (held_by holding.old digests) }
     requires of_table { All (IsOfTable holding.old.terms) holding.old.graph.triples }
     requires scheme { IsSome (scheme_of (base_of holding.old.names)) }
     requires labels { IsSome (scheme_of (base_of holding.old.labels)) }
-    ensures asked { (digests : Digests) → IfOk result (λ v. (items : List Item) ×
-        HoldsMap (F.told files.old) (inputs_with inputs.now name.now) (held_by holding.old digests) items ×
-        EndsAs (held_by holding.old digests) items (selected v.items holding.new.terms)) }
+    ensures map { (digests : Digests) → IfOk result (λ v. HoldsMap (F.told files.old) (inputs_with inputs.now name.now) (held_by holding.old digests) v.map) }
+    ensures ends { (digests : Digests) → IfOk result (λ v. EndsAs (held_by holding.old digests) v.map (selected v.associations.items holding.new.terms)) }
     ensures schema { holding.new.schema ≡ holding.old.schema }
     ensures strata { holding.new.strata ≡ holding.old.strata }
     ensures graph { holding.new.graph.triples ≡ holding.old.graph.triples }
@@ -101,7 +106,7 @@ fn read_associations<F: Files>(
         Err(error) => return Err(map_error(error)),
     };
     match associations_of(alloc, &map, holding) {
-        Ok(associations) => Ok(associations),
+        Ok(associations) => Ok(Resolved { map, associations }),
         Err(error) => Err(map_error(error)),
     }
 }
@@ -148,6 +153,8 @@ fn pairs_of(
 /// What a map asks: its associations, and the pairs of a node and a Shape on which their answers depend.
 #[derive(Drop)]
 pub struct Asked {
+    /// The map.
+    pub map: ShapeMap,
     /// The associations, in the order of the map.
     pub associations: Vec<Association>,
     /// The pairs that they reach, in order.
@@ -171,6 +178,10 @@ pub fn read_map<F: Files>(
     ensures asked { (digests : Digests) → IsTaken (F.told files.old) (inputs_with inputs.now name.now) (held_by holding.old digests) →
         IfOk result (λ v. IsAskedOf (F.told files.old) (inputs_with inputs.now name.now)
         (record { held = held_by holding.old digests; terms = holding.new.terms; associations = v.associations.items; pairs = v.pairs })) }
+    ensures map { (digests : Digests) → IsTaken (F.told files.old) (inputs_with inputs.now name.now) (held_by holding.old digests) →
+        IfOk result (λ v. HoldsMap (F.told files.old) (inputs_with inputs.now name.now) (held_by holding.old digests) v.map) }
+    ensures ends { (digests : Digests) → IsTaken (F.told files.old) (inputs_with inputs.now name.now) (held_by holding.old digests) →
+        IfOk result (λ v. EndsAs (held_by holding.old digests) v.map (selected v.associations.items holding.new.terms)) }
     ensures closed { IfOk result (λ v. HoldNeeds holding.new.schema holding.new.graph.triples v.pairs) }
     ensures schema { holding.new.schema ≡ holding.old.schema }
     ensures strata { holding.new.strata ≡ holding.old.strata }
@@ -182,10 +193,11 @@ pub fn read_map<F: Files>(
     ensures faults_stay { OnOk result (F.faults files.new ≡ F.faults files.old) }
     ensures told_stays { F.told files.new ≡ F.told files.old }
 {
-    let associations = read_associations(alloc, files, inputs, name, holding)?;
-    match pairs_of(alloc, holding, associations.as_slice()) {
+    let resolved = read_associations(alloc, files, inputs, name, holding)?;
+    match pairs_of(alloc, holding, resolved.associations.as_slice()) {
         Ok(pairs) => Ok(Asked {
-            associations,
+            map: resolved.map,
+            associations: resolved.associations,
             pairs,
         }),
         Err(error) => Err(demand_error(error)),

@@ -164,6 +164,7 @@ pub fn decide(
     // The law by which what is sure is true.
     sure_answers_are_true();
     let Asked {
+        map: _,
         associations,
         pairs,
     } = asked;

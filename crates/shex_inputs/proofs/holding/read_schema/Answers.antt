@@ -2,7 +2,7 @@ use Rattle.std.proofs.Common.{map}
 use Rattle.std.proofs.lemmas.Result.{err_from_is_err_and}
 use Rattle.schema_documents.specs.Tree.{document_of}
 use Rattle.shex_inputs.specs.Named.{inputs_with}
-use Rattle.shex_inputs.proofs.Reading.{loaded_taken, unloaded_before_map, unloaded_explains, unloaded_faults}
+use Rattle.shex_inputs.proofs.Reading.{loaded_taken, unloaded_before_map, unloaded_explains, unloaded_faults, unloaded_of_schema}
 use Rattle.shex_inputs.proofs.holding.read_schema.Goals as goal
 
 pub returns-in_err-documents-clause-cause : goal.returns-in_err-documents-clause-cause
@@ -19,6 +19,9 @@ pub returns-clause-taken : goal.returns-clause-taken
 returns-clause-taken g c = λ map_name.
     let (ss, are, held) = c.in_ok-documents.ensures.taken map_name in
     loaded_taken (g.F.Files.told c.args.files.now) (inputs_with c.args.inputs.now map_name) c.in_ok-documents.documents ss c.load_schema.result are held c.load_schema.ensures.schema c.load_schema.ensures.labels c.load_schema.ensures.digests
+
+pub returns-clause-of_schema : goal.returns-clause-of_schema
+returns-clause-of_schema g c = unloaded_of_schema (map document_of c.in_ok-documents.documents.docs.items) c.load_schema.result c.load_schema.ensures.stops
 
 pub returns-clause-before_map : goal.returns-clause-before_map
 returns-clause-before_map g c = unloaded_before_map (map document_of c.in_ok-documents.documents.docs.items) c.load_schema.result c.load_schema.ensures.stops

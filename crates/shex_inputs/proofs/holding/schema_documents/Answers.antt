@@ -11,7 +11,7 @@ use Rattle.schema_files.specs.Sources.{AreSources}
 use Rattle.schema_load.proofs.OrderedParts.{ordered_parts}
 use Rattle.shex_inputs.specs.Named.{inputs_with}
 use Rattle.shex_inputs.proofs.Sources.{some_documents}
-use Rattle.shex_inputs.proofs.Reading.{base_scheme, files_before_map, files_explain, files_faults}
+use Rattle.shex_inputs.proofs.Reading.{base_scheme, files_before_map, files_explain, files_faults, files_of_schema}
 use Rattle.shex_inputs.proofs.holding.schema_documents.Goals as goal
 
 -- what is asked with these words
@@ -39,6 +39,9 @@ pub returns-in-Ok-clause-ordered : goal.returns-in-Ok-clause-ordered
 returns-in-Ok-clause-ordered g c =
     let docs = map document_of c.in-Ok.documents.docs.items in
     ordered_parts docs (recursion_from_All IsOrderedDocument docs c.in-Ok.ensures.ordered)
+
+pub returns-in-Err-clause-of_schema : goal.returns-in-Err-clause-of_schema
+returns-in-Err-clause-of_schema g c = files_of_schema c.in-Err.error c.files_error.result c.files_error.ensures
 
 pub returns-in-Err-clause-before_map : goal.returns-in-Err-clause-before_map
 returns-in-Err-clause-before_map g c = files_before_map c.in-Err.error c.files_error.result c.files_error.ensures

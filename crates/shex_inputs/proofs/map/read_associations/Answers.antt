@@ -33,14 +33,10 @@ pub returns-clause-faults : goal.returns-clause-faults
 returns-clause-faults g c =
     refused_faults MapErrors.Memory (λ e. Refusals.Map e) c.in-Err-associations_of.error c.map_error-in-Err-associations_of.result (inputs_with c.args.inputs.now c.args.name.now) _ _ _ _ c.map_error-in-Err-associations_of.ensures c.in_ok-bytes.ensures.faults_stay
 
-pub returns-in-Ok-associations_of-clause-asked : goal.returns-in-Ok-associations_of-clause-asked
-returns-in-Ok-associations_of-clause-asked g c = λ digests. (
-  c.in-Ok.map,
-  record {
-    bytes = c.in_ok-bytes.bytes.items;
-    file = c.in_ok-bytes.ensures.bytes;
-    spelled = subst (λ bs. IsMap (scope_of c.args.holding.now.names) (scope_of c.args.holding.now.labels) bs c.in-Ok.map) c.as_slice.ensures.value
-        c.in-Ok.ensures.found;
-  },
-  c.in-Ok-associations_of.ensures.ends,
-)
+pub returns-in-Ok-associations_of-clause-map : goal.returns-in-Ok-associations_of-clause-map
+returns-in-Ok-associations_of-clause-map g c = λ digests. record {
+  bytes = c.in_ok-bytes.bytes.items;
+  file = c.in_ok-bytes.ensures.bytes;
+  spelled = subst (λ bs. IsMap (scope_of c.args.holding.now.names) (scope_of c.args.holding.now.labels) bs c.in-Ok.map) c.as_slice.ensures.value
+      c.in-Ok.ensures.found;
+}
