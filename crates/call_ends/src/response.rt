@@ -29,15 +29,15 @@ pub struct Response {
 
 impl Response {
     ghost use Rattle.std.specs.Prelude.{◌<◌};
-    ghost use Rattle.program_ends.specs.Printing.{PrintsBoth};
+    ghost use Rattle.program_ends.specs.Printing.{PrintsBoth, sink_seen};
 
     /// Prints the text to the output and then the notes to the error stream, and gives the status, or 7 where a sink failed and 8
     /// where memory ran out before both were printed whole.
     pub fn print<O: Sink, E: Sink>(&self, out: &mut O, err: &mut E) -> u8
         requires { self.now.status < 7 }
         ensures { PrintsBoth
-            (record { got = O.got out.old; got_after = O.got out.new; faults = O.faults out.old; faults_after = O.faults out.new })
-            (record { got = E.got err.old; got_after = E.got err.new; faults = E.faults err.old; faults_after = E.faults err.new })
+            (sink_seen O.got O.faults out.old out.new)
+            (sink_seen E.got E.faults err.old err.new)
             self.now.text.items self.now.notes.items self.now.status result }
     {
         print_both(

@@ -13,6 +13,11 @@ pub record FilesSeen : Type 0 where
   pub blame : List ℕ
   pub act : Act
 
+-- what a call sees of the files, by what they tell before and after
+abbrev pub files_seen : {Files : Type 0} → (Files → Told) → (Files → ℕ) → (Files → List ℕ) → (Files → Act) → Files → Files → FilesSeen
+files_seen told faults blame act before after =
+    record { told = told before; told_after = told after; faults = faults before; faults_after = faults after; blame = blame after; act = act after }
+
 -- nothing is stored, and no fault of the files came
 pub record AreLeft (files : FilesSeen) : Type 0 where
   pub told_same : files.told_after ≡ files.told

@@ -21,6 +21,10 @@ pub record SinkSeen : Type 0 where
   pub faults : ℕ
   pub faults_after : ℕ
 
+-- what is seen of a sink in a call, by what it tells before and after
+abbrev pub sink_seen : {Sink : Type 0} → (Sink → Option (List ℕ)) → (Sink → ℕ) → Sink → Sink → SinkSeen
+sink_seen got faults before after = record { got = got before; got_after = got after; faults = faults before; faults_after = faults after }
+
 -- nothing was printed, and no fault came
 pub record IsQuiet (sink : SinkSeen) : Type 0 where
   pub got_same : sink.got_after ≡ sink.got

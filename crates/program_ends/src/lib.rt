@@ -2,7 +2,7 @@
 #![tactic(auto)]
 
 ghost use Rattle.std.specs.Prelude.{◌≡◌, ◌<◌, IfOk, List, string_bytes, ℕ};
-ghost use Rattle.program_ends.specs.Printing.{Prints, PrintsBoth};
+ghost use Rattle.program_ends.specs.Printing.{Prints, PrintsBoth, sink_seen};
 
 use shex_io::{Sink, SinkError, put_all};
 use std::alloc::AllocError;
@@ -42,8 +42,8 @@ pub fn print_both<O: Sink, E: Sink>(
 ) -> u8
     requires { status < 7 }
     ensures { PrintsBoth
-        (record { got = O.got out.old; got_after = O.got out.new; faults = O.faults out.old; faults_after = O.faults out.new })
-        (record { got = E.got err.old; got_after = E.got err.new; faults = E.faults err.old; faults_after = E.faults err.new })
+        (sink_seen O.got O.faults out.old out.new)
+        (sink_seen E.got E.faults err.old err.new)
         text.now notes.now status result }
 {
     match put_all(out, text) {

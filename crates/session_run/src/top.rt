@@ -16,6 +16,8 @@ ghost use Rattle.session_run.specs.Outcomes.{AreAnswers, IsAbsent, IsRefused};
 ghost use Rattle.session_run.specs.Replies.{Reply, status_of};
 ghost use Rattle.session_run.specs.Stopping.{IsFit};
 ghost use Rattle.session_run.specs.Texts.{session_line};
+ghost use Rattle.program_ends.specs.Printing.{sink_seen};
+ghost use Rattle.program_ends.specs.Ends.{files_seen};
 
 use crate::report;
 use crate::responding::respond;
@@ -32,7 +34,7 @@ use wide_pairs::laws::none_is_wide;
 
 /// Says what is wrong with the words, unless memory ran out, and gives the status.
 fn refuse<S: Sink>(alloc: Global, error: WordsError<'_>, sink: &mut S) -> u8
-    ensures { RefusesWords WordsError.Memory error.entry (session_line (codes "words") (words_text error.entry)) (record { got = S.got sink.old; got_after = S.got sink.new; faults = S.faults sink.old; faults_after = S.faults sink.new }) result }
+    ensures { RefusesWords WordsError.Memory error.entry (session_line (codes "words") (words_text error.entry)) (sink_seen S.got S.faults sink.old sink.new) result }
 {
     match error {
         WordsError::Memory => 8,
@@ -51,9 +53,9 @@ fn end_editing<F: Files, O: Sink, E: Sink>(
     requires { IsFit (editing_of editing.now) }
     ensures { (words : List Text) → IsEditing words (editing_of editing.now) → SessionEnds
         words
-        (record { told = F.told files.old; told_after = F.told files.new; faults = F.faults files.old; faults_after = F.faults files.new; blame = F.blame files.new; act = F.act files.new })
-        (record { got = O.got out.old; got_after = O.got out.new; faults = O.faults out.old; faults_after = O.faults out.new })
-        (record { got = E.got err.old; got_after = E.got err.new; faults = E.faults err.old; faults_after = E.faults err.new })
+        (files_seen F.told F.faults F.blame F.act files.old files.new)
+        (sink_seen O.got O.faults out.old out.new)
+        (sink_seen E.got E.faults err.old err.new)
         result }
 {
     match respond(alloc, files, editing) {
@@ -74,9 +76,9 @@ fn end<F: Files, O: Sink, E: Sink>(
 ) -> u8
     ensures { SessionEnds
         (map string_bytes words.now)
-        (record { told = F.told files.old; told_after = F.told files.new; faults = F.faults files.old; faults_after = F.faults files.new; blame = F.blame files.new; act = F.act files.new })
-        (record { got = O.got out.old; got_after = O.got out.new; faults = O.faults out.old; faults_after = O.faults out.new })
-        (record { got = E.got err.old; got_after = E.got err.new; faults = E.faults err.old; faults_after = E.faults err.new })
+        (files_seen F.told F.faults F.blame F.act files.old files.new)
+        (sink_seen O.got O.faults out.old out.new)
+        (sink_seen E.got E.faults err.old err.new)
         result }
 {
     match read_session(alloc, words) {
@@ -108,9 +110,9 @@ pub fn run_session<F: Files, O: Sink, E: Sink>(
     // How a call ends, with all that it has printed then. The clauses below follow from it.
     ensures ends { SessionEnds
         (map string_bytes words.now)
-        (record { told = F.told files.old; told_after = F.told files.new; faults = F.faults files.old; faults_after = F.faults files.new; blame = F.blame files.new; act = F.act files.new })
-        (record { got = O.got out.old; got_after = O.got out.new; faults = O.faults out.old; faults_after = O.faults out.new })
-        (record { got = E.got err.old; got_after = E.got err.new; faults = E.faults err.old; faults_after = E.faults err.new })
+        (files_seen F.told F.faults F.blame F.act files.old files.new)
+        (sink_seen O.got O.faults out.old out.new)
+        (sink_seen E.got E.faults err.old err.new)
         result }
     ensures statuses { IsStatus result }
     ensures told { F.told files.new ≡ F.told files.old }
@@ -139,7 +141,7 @@ pub fn run_session<F: Files, O: Sink, E: Sink>(
     ensures failed { result ≡ 5 →
         (line : List ℕ)
         × IsFailedBy
-        (record { told = F.told files.old; told_after = F.told files.new; faults = F.faults files.old; faults_after = F.faults files.new; blame = F.blame files.new; act = F.act files.new })
+        (files_seen F.told F.faults F.blame F.act files.old files.new)
         (map string_bytes words.now) line
         × Gains (E.got err.old) (E.got err.new) line }
     ensures fault { result ≡ 5 → Rose (F.faults files.old) (F.faults files.new) }
@@ -148,17 +150,17 @@ pub fn run_session<F: Files, O: Sink, E: Sink>(
     ensures nothing_out { (result ≡ 2) ⊎ ((result ≡ 3) ⊎ (result ≡ 5)) → O.got out.new ≡ O.got out.old }
     ensures in_part { result ≡ 7 → IsPrintedInPart
         (map string_bytes words.now)
-        (record { told = F.told files.old; told_after = F.told files.new; faults = F.faults files.old; faults_after = F.faults files.new; blame = F.blame files.new; act = F.act files.new })
-        (record { got = O.got out.old; got_after = O.got out.new; faults = O.faults out.old; faults_after = O.faults out.new })
-        (record { got = E.got err.old; got_after = E.got err.new; faults = E.faults err.old; faults_after = E.faults err.new }) }
+        (files_seen F.told F.faults F.blame F.act files.old files.new)
+        (sink_seen O.got O.faults out.old out.new)
+        (sink_seen E.got E.faults err.old err.new) }
     ensures unprinted { result ≡ 8 → IsPrintedInPart
         (map string_bytes words.now)
-        (record { told = F.told files.old; told_after = F.told files.new; faults = F.faults files.old; faults_after = F.faults files.new; blame = F.blame files.new; act = F.act files.new })
-        (record { got = O.got out.old; got_after = O.got out.new; faults = O.faults out.old; faults_after = O.faults out.new })
-        (record { got = E.got err.old; got_after = E.got err.new; faults = E.faults err.old; faults_after = E.faults err.new })
+        (files_seen F.told F.faults F.blame F.act files.old files.new)
+        (sink_seen O.got O.faults out.old out.new)
+        (sink_seen E.got E.faults err.old err.new)
         ⊎ AreQuiet
-        (record { got = O.got out.old; got_after = O.got out.new; faults = O.faults out.old; faults_after = O.faults out.new })
-        (record { got = E.got err.old; got_after = E.got err.new; faults = E.faults err.old; faults_after = E.faults err.new }) }
+        (sink_seen O.got O.faults out.old out.new)
+        (sink_seen E.got E.faults err.old err.new) }
 
     // Where contents are told, words and files decide how the call ends, but for faults and want of memory: with the status of the
     // answers, which is 4 exactly where one is Unknown.

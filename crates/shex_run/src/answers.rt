@@ -24,9 +24,9 @@ use crate::deciding::{Decided, decide};
 use crate::head::head_if;
 use crate::stop::{File, Stop, stop_of};
 use crate::upgrading::{Upgraded, confirm_newest};
+use call_ends::Response;
 use command_words::{Checking, Command, Upgrading, Validation, bases_are_lines};
 use data_reader::data_have_lines;
-use program_ends::print_both;
 use proof_file::head::Digests;
 use proof_file::write::write;
 use schema_tree::laws::width_is_one;
@@ -34,40 +34,6 @@ use shape_map::laws::map_has_lines;
 use shex_inputs::{Holding, Taken, Wanted, labels_have_lines, read_holding, read_map};
 use shex_io::{FetchError, Files, Sink, StoreError};
 use std::alloc::Global;
-
-/// A text that is due to the output, the notes that are due to the error stream behind it, and the status where both are printed.
-#[derive(Drop)]
-pub struct Response {
-    /// The status.
-    pub status: u8,
-    /// The text.
-    pub text: Vec<u8>,
-    /// The notes: a line for each wide pair, where an association has no answer.
-    pub notes: Vec<u8>,
-}
-
-impl Response {
-    ghost use Rattle.program_ends.specs.Printing.{PrintsBoth};
-    ghost use Rattle.shex_run.specs.Statuses.{IsAnswering};
-
-    /// Prints the text to the output and then the notes to the error stream, and gives the status, or 7 where a sink failed and 8
-    /// where memory ran out before both were printed whole.
-    pub fn print<O: Sink, E: Sink>(&self, out: &mut O, err: &mut E) -> u8
-        requires { IsAnswering self.now.status }
-        ensures { PrintsBoth
-            (record { got = O.got out.old; got_after = O.got out.new; faults = O.faults out.old; faults_after = O.faults out.new })
-            (record { got = E.got err.old; got_after = E.got err.new; faults = E.faults err.old; faults_after = E.faults err.new })
-            self.now.text.items self.now.notes.items self.now.status result }
-    {
-        print_both(
-            self.text.as_slice(),
-            self.notes.as_slice(),
-            self.status,
-            out,
-            err,
-        )
-    }
-}
 
 /// The bytes of the proof's file.
 fn fetch_proof<F: Files>(alloc: Global, files: &mut F, name: &str) -> Result<Vec<u8>, Stop>

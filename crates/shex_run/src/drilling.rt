@@ -19,10 +19,11 @@ ghost use Rattle.shex_run.specs.Stopping.{DrillStops};
 ghost use Rattle.shex_run.specs.Tasks.{inputs_of};
 ghost use Rattle.shex_run.specs.declared.stop.Stop.TheVariants as Stops;
 
-use crate::answers::{Response, decide_map, store};
+use crate::answers::{decide_map, store};
 use crate::checking::confirm;
 use crate::deciding::Decided;
 use crate::stop::{File, Stop};
+use call_ends::Response;
 use command_words::{DEFAULT_BASE, DEFAULT_BUDGET, Drilling, Inputs, Validation};
 use drill_laws::{drill_is_decided, drill_is_taken};
 use proof_file::write::write;

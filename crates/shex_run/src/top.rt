@@ -20,6 +20,8 @@ ghost use Rattle.shex_run.specs.Proofs.{Accepted};
 ghost use Rattle.shex_run.specs.Statuses.{Concludes, IsAnswering, IsInterrupted, IsStatus};
 ghost use Rattle.shex_run.specs.Stopping.{IsFit};
 ghost use Rattle.shex_run.specs.Tasks.{IsToStore, IsToValidate};
+ghost use Rattle.program_ends.specs.Printing.{sink_seen};
+ghost use Rattle.program_ends.specs.Ends.{files_seen};
 
 use crate::answers::respond;
 use crate::drilling::drill;
@@ -45,7 +47,7 @@ fn refuse<S: Sink>(alloc: Global, error: WordsError<'_>, sink: &mut S) -> u8
 
 /// Says what stops a command, unless memory ran out, and gives the status.
 fn say_stop<S: Sink>(alloc: Global, command: &Command<'_>, stop: &Stop, sink: &mut S) -> u8
-    ensures { SaysStop (command_of command.now) stop.now (record { got = S.got sink.old; got_after = S.got sink.new; faults = S.faults sink.old; faults_after = S.faults sink.new }) result }
+    ensures { SaysStop (command_of command.now) stop.now (sink_seen S.got S.faults sink.old sink.new) result }
 {
     match stop {
         Stop::Refused(refusal) => {
@@ -71,9 +73,9 @@ fn end_command<F: Files, O: Sink, E: Sink>(
     requires { IsFit (command_of command.now) }
     ensures { (words : List Text) → IsAsked words (command_of command.now) → Ends
         words
-        (record { told = F.told files.old; told_after = F.told files.new; faults = F.faults files.old; faults_after = F.faults files.new; blame = F.blame files.new; act = F.act files.new })
-        (record { got = O.got out.old; got_after = O.got out.new; faults = O.faults out.old; faults_after = O.faults out.new })
-        (record { got = E.got err.old; got_after = E.got err.new; faults = E.faults err.old; faults_after = E.faults err.new })
+        (files_seen F.told F.faults F.blame F.act files.old files.new)
+        (sink_seen O.got O.faults out.old out.new)
+        (sink_seen E.got E.faults err.old err.new)
         result }
 {
     match respond(alloc, files, command) {
@@ -89,7 +91,7 @@ fn end_command<F: Files, O: Sink, E: Sink>(
 /// Says what stops a drill, unless memory ran out, and gives the status.
 fn say_drill_stop<S: Sink>(alloc: Global, drilling: &Drilling<'_>, stop: &Stop, sink: &mut S) -> u8
     requires { MayStopDrill (drill_of drilling.now) stop.now }
-    ensures { SaysDrillStop (drill_of drilling.now) stop.now (record { got = S.got sink.old; got_after = S.got sink.new; faults = S.faults sink.old; faults_after = S.faults sink.new }) result }
+    ensures { SaysDrillStop (drill_of drilling.now) stop.now (sink_seen S.got S.faults sink.old sink.new) result }
 {
     match stop {
         Stop::Refused(_) => unreachable!(),
@@ -109,9 +111,9 @@ fn end_drill<F: Files, O: Sink, E: Sink>(
     requires { (1 ≤ drilling.now.items) × (drilling.now.items ≤ max_items) }
     ensures { (words : List Text) → IsDrill words (drill_of drilling.now) → Ends
         words
-        (record { told = F.told files.old; told_after = F.told files.new; faults = F.faults files.old; faults_after = F.faults files.new; blame = F.blame files.new; act = F.act files.new })
-        (record { got = O.got out.old; got_after = O.got out.new; faults = O.faults out.old; faults_after = O.faults out.new })
-        (record { got = E.got err.old; got_after = E.got err.new; faults = E.faults err.old; faults_after = E.faults err.new })
+        (files_seen F.told F.faults F.blame F.act files.old files.new)
+        (sink_seen O.got O.faults out.old out.new)
+        (sink_seen E.got E.faults err.old err.new)
         result }
 {
     match drill(alloc, files, drilling) {
@@ -134,9 +136,9 @@ fn end<F: Files, O: Sink, E: Sink>(
 ) -> u8
     ensures { Ends
         (map string_bytes words.now)
-        (record { told = F.told files.old; told_after = F.told files.new; faults = F.faults files.old; faults_after = F.faults files.new; blame = F.blame files.new; act = F.act files.new })
-        (record { got = O.got out.old; got_after = O.got out.new; faults = O.faults out.old; faults_after = O.faults out.new })
-        (record { got = E.got err.old; got_after = E.got err.new; faults = E.faults err.old; faults_after = E.faults err.new })
+        (files_seen F.told F.faults F.blame F.act files.old files.new)
+        (sink_seen O.got O.faults out.old out.new)
+        (sink_seen E.got E.faults err.old err.new)
         result }
 {
     match read(alloc, words) {
@@ -183,9 +185,9 @@ pub fn run<F: Files, O: Sink, E: Sink>(
     // How a call ends, with all that it has printed and stored then. The clauses below follow from it.
     ensures ends { Ends
         (map string_bytes words.now)
-        (record { told = F.told files.old; told_after = F.told files.new; faults = F.faults files.old; faults_after = F.faults files.new; blame = F.blame files.new; act = F.act files.new })
-        (record { got = O.got out.old; got_after = O.got out.new; faults = O.faults out.old; faults_after = O.faults out.new })
-        (record { got = E.got err.old; got_after = E.got err.new; faults = E.faults err.old; faults_after = E.faults err.new })
+        (files_seen F.told F.faults F.blame F.act files.old files.new)
+        (sink_seen O.got O.faults out.old out.new)
+        (sink_seen E.got E.faults err.old err.new)
         result }
     ensures statuses { IsStatus result }
 
@@ -219,7 +221,7 @@ pub fn run<F: Files, O: Sink, E: Sink>(
     ensures failed { result ≡ 5 →
         (line : List ℕ)
         × IsFailedBy
-        (record { told = F.told files.old; told_after = F.told files.new; faults = F.faults files.old; faults_after = F.faults files.new; blame = F.blame files.new; act = F.act files.new })
+        (files_seen F.told F.faults F.blame F.act files.old files.new)
         (map string_bytes words.now) line
         × Gains (E.got err.old) (E.got err.new) line }
     ensures fault { result ≡ 5 → Rose (F.faults files.old) (F.faults files.new) }
@@ -233,14 +235,14 @@ pub fn run<F: Files, O: Sink, E: Sink>(
         O.got out.new ≡ O.got out.old }
     ensures in_part { result ≡ 7 → IsPrintedInPart
         (map string_bytes words.now)
-        (record { told = F.told files.old; told_after = F.told files.new; faults = F.faults files.old; faults_after = F.faults files.new; blame = F.blame files.new; act = F.act files.new })
-        (record { got = O.got out.old; got_after = O.got out.new; faults = O.faults out.old; faults_after = O.faults out.new })
-        (record { got = E.got err.old; got_after = E.got err.new; faults = E.faults err.old; faults_after = E.faults err.new }) }
+        (files_seen F.told F.faults F.blame F.act files.old files.new)
+        (sink_seen O.got O.faults out.old out.new)
+        (sink_seen E.got E.faults err.old err.new) }
     ensures unprinted { result ≡ 8 → MayPrintInPart
         (map string_bytes words.now)
-        (record { told = F.told files.old; told_after = F.told files.new; faults = F.faults files.old; faults_after = F.faults files.new; blame = F.blame files.new; act = F.act files.new })
-        (record { got = O.got out.old; got_after = O.got out.new; faults = O.faults out.old; faults_after = O.faults out.new })
-        (record { got = E.got err.old; got_after = E.got err.new; faults = E.faults err.old; faults_after = E.faults err.new }) }
+        (files_seen F.told F.faults F.blame F.act files.old files.new)
+        (sink_seen O.got O.faults out.old out.new)
+        (sink_seen E.got E.faults err.old err.new) }
 
     // What is stored: nothing where the words, the inputs or the proof are refused or a file could not be fetched, the proof or
     // a part of it where the call is interrupted, the whole proof where a sink alone failed, and under no other name anything.
