@@ -1,6 +1,7 @@
 -- The blocks of an explanation in its text (own).
-use Rattle.std.specs.Prelude.{ℕ, suc, List, [], ◌∷◌, ◌++◌, ◌+◌, ◌-◌, ◌==◌, Option, Some, None, codes, if◌then◌else◌, length, slice_get, take}
+use Rattle.std.specs.Prelude.{ℕ, suc, Bool, true, false, List, [], ◌∷◌, ◌++◌, ◌+◌, ◌-◌, ◌==◌, Option, Some, None, codes, if◌then◌else◌, length, slice_get, take}
 use Rattle.std.specs.Fmt.{decimal}
+use Rattle.std.specs.List.{flat_map, list_any}
 use Rattle.rdf_terms.specs.declared.terms.Term.{Term}
 use Rattle.rdf_terms.specs.declared.terms.TermId.{TermId}
 use Rattle.rdf_terms.specs.declared.terms.Triple.{Triple}
@@ -8,9 +9,12 @@ use Rattle.rdf_terms.specs.Order.{text_at}
 use Rattle.schema_tree.specs.declared.schema.ExprId.{ExprId}
 use Rattle.schema_tree.specs.declared.schema.Occurrence.{Occurrence}
 use Rattle.schema_tree.specs.declared.schema.Shape.{Shape}
+use Rattle.schema_tree.specs.declared.verdicts.Place.{Place}
+use Rattle.schema_tree.specs.declared.verdicts.Place.TheVariants.{At, Rest}
 use Rattle.schema_tree.specs.Entries.{entry, shape_at}
 use Rattle.nonconformance.specs.declared.cause.Cause.{Cause}
 use Rattle.nonconformance.specs.declared.cause.Cause.TheVariants as Causes
+use Rattle.nonconformance.specs.declared.offers.Offer.{Offer}
 use Rattle.nonconformance.specs.declared.reason.Reason.{Reason}
 use Rattle.nonconformance.specs.declared.reason.Reason.TheVariants as Reasons
 use Rattle.explanations.specs.declared.explanation.Block.{Block}
@@ -68,21 +72,50 @@ abbrev pub counts_text : List Term → List Occurrence → List ℕ → ℕ → 
 counts_text terms occs high i [] = []
 counts_text terms occs high i (low ∷ more) = count_text terms occs i low (slice_get high i) ++ counts_text terms occs high (suc i) more
 
+-- the triple constraint of a place, if it is not the remainder
+abbrev pub constraint_at : Place → List ℕ
+constraint_at (At i) = i ∷ []
+constraint_at Rest = []
+
+-- the place is the remainder
+abbrev pub is_rest : Place → Bool
+is_rest (At i) = false
+is_rest Rest = true
+
+-- what is said of a triple that no triple constraint may take
+abbrev pub untaken : Bool → List ℕ
+untaken left = if left then codes " may be left over" else codes " fits nothing"
+
+-- what stands behind the triple constraints that may take a triple
+abbrev pub or_left : Bool → List ℕ
+or_left left = if left then codes ", or may be left over" else []
+
+-- which triple constraints may take a triple, and whether it may be left over
+abbrev pub fits_text : List Term → List Occurrence → Bool → List ℕ → List ℕ
+fits_text terms occs left numbers =
+    if length numbers == 0 then untaken left else codes " fits " ++ (constraints_text terms occs numbers ++ or_left left)
+
+-- a triple with what may be done with it
+abbrev pub offer_line : List Term → List Occurrence → Offer → List ℕ
+offer_line terms occs o =
+    inner_margin ++ (triple_text terms o.triple ++ (fits_text terms occs (list_any is_rest o.places) (flat_map constraint_at o.places) ++ codes "\n"))
+
 -- a reason why a node does not have a Shape with these triple constraints, with what it rests on
-abbrev pub reason_text : Setting → List Occurrence → List Misfit → Reason → List ℕ
-reason_text s occs misfits (Reasons.Forbidden t) = codes "  closed: " ++ (triple_text s.terms.now t ++ codes "\n")
-reason_text s occs misfits (Reasons.Unmatched t) =
+abbrev pub reason_text : Setting → List Occurrence → List Misfit → List Offer → Reason → List ℕ
+reason_text s occs misfits offers (Reasons.Forbidden t) = codes "  closed: " ++ (triple_text s.terms.now t ++ codes "\n")
+reason_text s occs misfits offers (Reasons.Unmatched t) =
     codes "  unmatched: " ++ (triple_text s.terms.now t ++ (codes "\n" ++ limited s.limit inner_margin (misfit_line s occs) misfits))
-reason_text s occs misfits (Reasons.TooFew own least found) =
+reason_text s occs misfits offers (Reasons.TooFew own least found) =
     codes "  too few: " ++ (constraints_text s.terms.now occs own ++ (codes " at least " ++ (decimal least ++ found_text s found)))
-reason_text s occs misfits (Reasons.TooMany own most found) =
+reason_text s occs misfits offers (Reasons.TooMany own most found) =
     codes "  too many: " ++ (constraints_text s.terms.now occs own ++ (codes " at most " ++ (decimal most ++ found_text s found)))
-reason_text s occs misfits (Reasons.NoMatchingCounts low high) =
+reason_text s occs misfits offers (Reasons.NoMatchingCounts low high) =
     codes "  no match with these numbers: " ++ (counts_text s.terms.now occs high 0 low ++ codes "\n")
-reason_text s occs misfits Reasons.NoMatchingPlaces = codes "  no way to match\n"
+reason_text s occs misfits offers Reasons.NoMatchingPlaces =
+    codes "  no way to match\n" ++ limited s.limit inner_margin (offer_line s.terms.now occs) offers
 
 abbrev pub told_reason_text : Setting → List Occurrence → ToldReason → List ℕ
-told_reason_text s occs told = reason_text s occs told.misfits told.reason
+told_reason_text s occs told = reason_text s occs told.misfits told.offers told.reason
 
 -- why a node does not satisfy a member, if that is told
 abbrev pub member_line : Setting → TermId → ExprId → Option Why → List ℕ

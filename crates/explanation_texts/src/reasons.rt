@@ -1,12 +1,12 @@
 //! Reasons and causes in the text of an explanation.
 
-ghost use Rattle.std.specs.Prelude.{◌≡◌, ◌++◌, ◌-◌, OnOk, codes};
-ghost use Rattle.std.specs.List.{flat_map};
+ghost use Rattle.std.specs.Prelude.{◌≡◌, ◌++◌, ◌-◌, [], IfOk, OnOk, codes};
+ghost use Rattle.std.specs.List.{flat_map, list_any};
 ghost use Rattle.std.specs.Fmt.{decimal};
 ghost use Rattle.std.specs.Option.{option_copied};
-ghost use Rattle.nonconformance.specs.declared.reason.Reason.TheVariants.{Unmatched};
+ghost use Rattle.nonconformance.specs.declared.reason.Reason.TheVariants.{NoMatchingPlaces, Unmatched};
 ghost use Rattle.explanation_texts.specs.Words.{constraint_text, constraints_text, limited, more_text, triple_text};
-ghost use Rattle.explanation_texts.specs.Reasons.{count_text, counts_text, found_text, inner_margin, member_line, member_lines, member_text, misfit_line, negated_text, no_member_text, range_text, reason_text, separator, told_cause_text, told_reason_text, triple_line};
+ghost use Rattle.explanation_texts.specs.Reasons.{constraint_at, count_text, counts_text, fits_text, found_text, inner_margin, is_rest, member_line, member_lines, member_text, misfit_line, negated_text, no_member_text, offer_line, or_left, range_text, reason_text, separator, told_cause_text, told_reason_text, triple_line, untaken};
 
 use crate::setting::Setting;
 use crate::words::{
@@ -14,9 +14,11 @@ use crate::words::{
 };
 use explanations::explanation::{Misfit, ToldCause, ToldReason, Why};
 use nonconformance::cause::Cause;
+use nonconformance::offers::Offer;
 use nonconformance::reason::Reason;
 use rdf_terms::terms::{TermId, Triple};
 use schema_tree::schema::{ExprId, Occurrence};
+use schema_tree::verdicts::Place;
 use std::alloc::{AllocError, Global};
 
 /// How far in a line below another stands.
@@ -46,6 +48,62 @@ fn push_range(
         }
         _ => Ok(()),
     }
+}
+
+/// Puts the triple constraint of a place behind the others, if the place is not the remainder.
+fn push_constraint_at(place: Place, numbers: &mut Vec<u16>) -> Result<(), AllocError>
+    ensures { OnOk result (numbers.new.items ≡ numbers.old.items ++ constraint_at place) }
+{
+    if let Place::At(number) = place {
+        numbers.push(number)?;
+    }
+    Ok(())
+}
+
+/// The triple constraints among places.
+fn constraints_at(alloc: Global, places: &[Place]) -> Result<Vec<u16>, AllocError>
+    ensures { IfOk result (λ v. v.items ≡ flat_map constraint_at places.now) }
+{
+    let mut numbers = Vec::new(alloc);
+    for place in places {
+        push_constraint_at(*place, &mut numbers)?;
+    }
+    Ok(numbers)
+}
+
+/// Whether the place is the remainder.
+fn is_rest(place: Place) -> bool
+    ensures { result ≡ is_rest place }
+{
+    matches!(place, Place::Rest)
+}
+
+/// Whether one of the places is the remainder.
+fn may_be_left(places: &[Place]) -> bool
+    ensures { result ≡ list_any is_rest places.now }
+{
+    places.iter().any(|place| is_rest(*place))
+}
+
+/// What is said of a triple that no triple constraint may take.
+fn untaken(left: bool) -> &'static [u8]
+    ensures { result.now ≡ untaken left }
+{
+    if left {
+        b" may be left over"
+    } else {
+        b" fits nothing"
+    }
+}
+
+/// Appends, behind the triple constraints that may take a triple, that it may be left over, where it may.
+fn push_or_left(left: bool, out: &mut Vec<u8>) -> Result<(), AllocError>
+    ensures { OnOk result (out.new.items ≡ out.old.items ++ or_left left) }
+{
+    if left {
+        out.extend_from_slice(b", or may be left over")?;
+    }
+    Ok(())
 }
 
 impl Setting<'_> {
@@ -149,7 +207,7 @@ impl Setting<'_> {
         misfits: &[Misfit],
         out: &mut Vec<u8>,
     ) -> Result<(), AllocError>
-        ensures { OnOk result (out.new.items ≡ out.old.items ++ reason_text self.now occs.now misfits.now (Unmatched triple)) }
+        ensures { OnOk result (out.new.items ≡ out.old.items ++ reason_text self.now occs.now misfits.now [] (Unmatched triple)) }
     {
         out.extend_from_slice(b"  unmatched: ")?;
         push_triple(self.alloc, self.terms, triple, out)?;
@@ -267,6 +325,109 @@ impl Setting<'_> {
         out.extend_from_slice(b"\n")
     }
 
+    /// Appends which triple constraints may take a triple, and that it may be left over, where it may.
+    fn push_taking(
+        &self,
+        occs: &[Occurrence],
+        left: bool,
+        numbers: &[u16],
+        out: &mut Vec<u8>,
+    ) -> Result<(), AllocError>
+        ensures { OnOk result (out.new.items ≡ out.old.items ++
+            (codes " fits " ++ (constraints_text self.now.terms.now occs.now numbers.now ++ or_left left))) }
+    {
+        out.extend_from_slice(b" fits ")?;
+        push_constraints(self.alloc, self.terms, occs, numbers, out)?;
+        push_or_left(left, out)
+    }
+
+    /// Appends which triple constraints may take a triple, and whether it may be left over.
+    fn push_fits(
+        &self,
+        occs: &[Occurrence],
+        left: bool,
+        numbers: &[u16],
+        out: &mut Vec<u8>,
+    ) -> Result<(), AllocError>
+        ensures { OnOk result (out.new.items ≡ out.old.items ++ fits_text self.now.terms.now occs.now left numbers.now) }
+    {
+        if numbers.is_empty() {
+            return out.extend_from_slice(untaken(left));
+        }
+        self.push_taking(occs, left, numbers, out)
+    }
+
+    /// Appends what may be done with a triple that has these places.
+    fn push_places(
+        &self,
+        occs: &[Occurrence],
+        places: &[Place],
+        out: &mut Vec<u8>,
+    ) -> Result<(), AllocError>
+        ensures { OnOk result (out.new.items ≡ out.old.items ++
+            fits_text self.now.terms.now occs.now (list_any is_rest places.now) (flat_map constraint_at places.now)) }
+    {
+        let numbers = constraints_at(self.alloc, places)?;
+        let left = may_be_left(places);
+        self.push_fits(occs, left, numbers.as_slice(), out)
+    }
+
+    /// Appends a triple with what may be done with it.
+    fn push_offer(
+        &self,
+        occs: &[Occurrence],
+        offer: &Offer,
+        out: &mut Vec<u8>,
+    ) -> Result<(), AllocError>
+        ensures { OnOk result (out.new.items ≡ out.old.items ++ offer_line self.now.terms.now occs.now offer.now) }
+    {
+        out.extend_from_slice(INNER_MARGIN)?;
+        push_triple(self.alloc, self.terms, offer.triple, out)?;
+        self.push_places(occs, offer.places.as_slice(), out)?;
+        out.extend_from_slice(b"\n")
+    }
+
+    /// Appends triples with what may be done with each.
+    fn push_offers(
+        &self,
+        occs: &[Occurrence],
+        offers: &[Offer],
+        out: &mut Vec<u8>,
+    ) -> Result<(), AllocError>
+        ensures { OnOk result (out.new.items ≡ out.old.items ++ flat_map (offer_line self.now.terms.now occs.now) offers.now) }
+    {
+        for offer in offers {
+            self.push_offer(occs, offer, out)?;
+        }
+        Ok(())
+    }
+
+    /// Appends triples with what may be done with each, at most so many of them, and how many more there are.
+    fn push_limited_offers(
+        &self,
+        occs: &[Occurrence],
+        offers: &[Offer],
+        out: &mut Vec<u8>,
+    ) -> Result<(), AllocError>
+        ensures { OnOk result (out.new.items ≡ out.old.items ++ limited self.now.limit inner_margin (offer_line self.now.terms.now occs.now) offers.now) }
+    {
+        self.push_offers(occs, shown(offers, self.limit), out)?;
+        self.push_more(INNER_MARGIN, offers.len(), out)
+    }
+
+    /// Appends that no way deals the triples, and what may be done with each.
+    fn push_no_way(
+        &self,
+        occs: &[Occurrence],
+        offers: &[Offer],
+        out: &mut Vec<u8>,
+    ) -> Result<(), AllocError>
+        ensures { OnOk result (out.new.items ≡ out.old.items ++ reason_text self.now occs.now [] offers.now NoMatchingPlaces) }
+    {
+        out.extend_from_slice(b"  no way to match\n")?;
+        self.push_limited_offers(occs, offers, out)
+    }
+
     /// Appends a reason why a node does not have a Shape.
     pub(crate) fn push_reason(
         &self,
@@ -290,7 +451,7 @@ impl Setting<'_> {
             Reason::NoMatchingCounts(low, high) => {
                 self.push_no_matching_counts(occs, low.as_slice(), high.as_slice(), out)
             }
-            Reason::NoMatchingPlaces => out.extend_from_slice(b"  no way to match\n"),
+            Reason::NoMatchingPlaces => self.push_no_way(occs, told.offers.as_slice(), out),
         }
     }
 

@@ -20,9 +20,9 @@ use Rattle.explanations.specs.Blocks.{AreReasons, IsBlock, IsToldCause, IsToldRe
 
 module _ (s : Schema) (terms : List Term) (view : Known) (all : List Subject) (g : List Triple) where
   pub pair_block : (p : Pair) (reasons : List Reason) (told given : List ToldReason) → given ≡ told → AreReasons s terms g view p reasons →
-      AllZip (IsToldReason s terms view all p) reasons told → IsBlock s terms view all g (Subjects.Pair p) (Blocks.Reasons p given)
+      AllZip (IsToldReason s terms view all g p) reasons told → IsBlock s terms view all g (Subjects.Pair p) (Blocks.Reasons p given)
   pair_block p reasons told given is are zip =
-      (refl, reasons, are, subst (λ z. AllZip (IsToldReason s terms view all p) reasons z) (sym is) zip)
+      (refl, reasons, are, subst (λ z. AllZip (IsToldReason s terms view all g p) reasons z) (sym is) zip)
 
   pub expr_block : (n : TermId) (e : ExprId) (causes : List Cause) (told given : List ToldCause) → given ≡ told → AreCauses s terms view n e causes →
       0 < length causes → AllZip (IsToldCause s terms view all n) causes told → IsBlock s terms view all g (Subjects.Expr n e) (Blocks.Causes n e given)

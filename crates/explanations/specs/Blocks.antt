@@ -16,9 +16,11 @@ use Rattle.schema_tree.specs.Matches.{fits, other_end}
 use Rattle.schema_tree.specs.Sure.{Known}
 use Rattle.nonconformance.specs.declared.cause.Cause.{Cause}
 use Rattle.nonconformance.specs.declared.cause.Cause.TheVariants as Causes
+use Rattle.nonconformance.specs.declared.offers.Offer.{Offer}
 use Rattle.nonconformance.specs.declared.reason.Reason.{Reason}
-use Rattle.nonconformance.specs.declared.reason.Reason.TheVariants.{Unmatched}
+use Rattle.nonconformance.specs.declared.reason.Reason.TheVariants.{NoMatchingPlaces, Unmatched}
 use Rattle.nonconformance.specs.Causes.{AreCauses, IsFirstFailedAt}
+use Rattle.nonconformance.specs.Offers.{AreKnownOffers}
 use Rattle.nonconformance.specs.Reasons.{IsKnownReason, IsNamed, IsOfConstraint, IsOfTriple}
 use Rattle.explanations.specs.declared.explanation.Block.{Block}
 use Rattle.explanations.specs.declared.explanation.Block.TheVariants as Blocks
@@ -57,6 +59,12 @@ pub record AreReasons (s : Schema) (terms : List Term) (g : List Triple) (view :
   pub counted : (r : Reason) → IsOfConstraint s p r → IsKnownReason s terms g view p r → Contains reasons r
   pub alone : (r : Reason) → ¬ IsNamed r → Contains reasons r → reasons ≡ r ∷ []
 
+-- where no way deals the triples, the relevant triples of the pair, each with the places that are allowed for it; of any other reason,
+-- none
+abbrev pub HasOffers : Schema → List Term → List Triple → Known → Pair → Reason → List Offer → Type 0
+HasOffers s terms g view p NoMatchingPlaces offers = AreKnownOffers s terms g view p offers
+HasOffers s terms g view p r offers = offers ≡ []
+
 -- view is what is known of pairs, and all are the subjects of the blocks in their order
 module _ (s : Schema) (terms : List Term) (view : Known) (all : List Subject) where
   -- why a node does not satisfy an expression: the first part of a node constraint that does not hold, or the number of the block that
@@ -88,9 +96,9 @@ module _ (s : Schema) (terms : List Term) (view : Known) (all : List Subject) wh
       (sh : Shape) × (shape_at s p.shape ≡ Some sh) × AllZip (IsMisfit sh.occs t) (fitting p.node t sh.occs) misfits
   HasMisfits p r misfits = misfits ≡ []
 
-  -- the reason is told with its misfits
-  abbrev pub IsToldReason : Pair → Reason → ToldReason → Type 0
-  IsToldReason p r told = (told.reason ≡ r) × HasMisfits p r told.misfits
+  -- the reason is told with its misfits and its offers
+  abbrev pub IsToldReason : List Triple → Pair → Reason → ToldReason → Type 0
+  IsToldReason g p r told = (told.reason ≡ r) × HasMisfits p r told.misfits × HasOffers s terms g view p r told.offers
 
   -- the cause is told with why each member that it names is not satisfied
   abbrev pub IsToldCause : TermId → Cause → ToldCause → Type 0
@@ -99,7 +107,7 @@ module _ (s : Schema) (terms : List Term) (view : Known) (all : List Subject) wh
   -- the block is about the subject, and tells all its reasons, or all its causes
   abbrev pub IsBlock : List Triple → Subject → Block → Type 0
   IsBlock g (Subjects.Pair p) (Blocks.Reasons q told) =
-      (q ≡ p) × (reasons : List Reason) × AreReasons s terms g view p reasons × AllZip (IsToldReason p) reasons told
+      (q ≡ p) × (reasons : List Reason) × AreReasons s terms g view p reasons × AllZip (IsToldReason g p) reasons told
   IsBlock g (Subjects.Expr n e) (Blocks.Causes m d told) =
       (m ≡ n) × (d ≡ e) × (causes : List Cause) × AreCauses s terms view n e causes × (0 < length causes) × AllZip (IsToldCause n) causes told
   IsBlock g subject block = ⊥

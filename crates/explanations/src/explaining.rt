@@ -17,7 +17,7 @@ ghost use Rattle.shape_map.specs.declared.resolve.Association.{Association as As
 ghost use Rattle.explanations.specs.declared.explanation.Block.{Block as Piece};
 ghost use Rattle.explanations.specs.declared.subject.Subject.{Subject as About};
 ghost use Rattle.explanations.specs.declared.subject.Subject.TheVariants as Abouts;
-ghost use Rattle.explanations.specs.Blocks.{HasMisfits, IsBlock, IsMisfit, IsToldCause, IsToldReason, IsWhy, IsWhyOf, fitting, members_of};
+ghost use Rattle.explanations.specs.Blocks.{HasMisfits, HasOffers, IsBlock, IsMisfit, IsToldCause, IsToldReason, IsWhy, IsWhyOf, fitting, members_of};
 ghost use Rattle.explanations.specs.Explanations.{IsAskedWhy, IsExplanation, IsTold};
 ghost use Rattle.explanations.specs.Finding.{AreTold, IsConstraint, IsRefused, IsSeen};
 ghost use Rattle.explanations.specs.Laws.{NoneCanMatch};
@@ -30,8 +30,9 @@ use crate::subjects::Subjects;
 use graph_index::graph::Graph;
 use nonconformance::cause::Cause;
 use nonconformance::causes::causes_of;
-use nonconformance::finding::reasons_of;
+use nonconformance::finding::{offers_of, reasons_of};
 use nonconformance::laws::reasons_are_whole;
+use nonconformance::offers::Offer;
 use nonconformance::reason::Reason;
 use rdf_terms::items::Items;
 use rdf_terms::table::TermTable;
@@ -251,6 +252,27 @@ impl<V: View> Source<'_, V> {
         }
     }
 
+    /// Where a reason of a pair is that no places match, the places that are allowed for each relevant triple.
+    fn offers(&self, pair: Pair, reason: &Reason) -> Result<Vec<Offer>, AllocError>
+        requires loaded { IsLoaded self.now.schema.now }
+        requires sealed { IsSealedWith self.now.terms.now self.now.graph.now }
+        requires shape { pair.shape.0 < length self.now.schema.now.shapes }
+        ensures { IfOk result (λ v. HasOffers self.now.schema.now self.now.terms.now self.now.graph.now.triples (V.known self.now.view.now) pair reason.now
+            v.items) }
+    {
+        match reason {
+            Reason::NoMatchingPlaces => offers_of(
+                self.alloc,
+                self.schema,
+                self.graph,
+                self.terms,
+                self.view,
+                pair,
+            ),
+            _ => Ok(Vec::new(self.alloc)),
+        }
+    }
+
     /// A reason of a pair with what it rests on.
     fn told_reason(
         &self,
@@ -259,17 +281,20 @@ impl<V: View> Source<'_, V> {
         seen: &mut Subjects,
     ) -> Result<ToldReason, AllocError>
         requires loaded { IsLoaded self.now.schema.now }
+        requires sealed { IsSealedWith self.now.terms.now self.now.graph.now }
         requires shape { pair.shape.0 < length self.now.schema.now.shapes }
         requires reason { IsKnownReason self.now.schema.now self.now.terms.now self.now.graph.now.triples (V.known self.now.view.now) pair reason }
         ensures numbers { IfOk result (λ x. Numbers self.now.schema.now self.now.terms.now (V.known self.now.view.now) seen.old
             (reason_mentions x) seen.new) }
         ensures is { IfOk result (λ x. (all : List About) → GoesOn seen.new all →
-            IsToldReason self.now.schema.now self.now.terms.now (V.known self.now.view.now) all pair reason x) }
+            IsToldReason self.now.schema.now self.now.terms.now (V.known self.now.view.now) all self.now.graph.now.triples pair reason x) }
     {
         let misfits = self.grounds(pair, &reason, seen)?;
+        let offers = self.offers(pair, &reason)?;
         Ok(ToldReason {
             reason,
             misfits: Items::of(misfits),
+            offers: Items::of(offers),
         })
     }
 
@@ -281,13 +306,15 @@ impl<V: View> Source<'_, V> {
         seen: &mut Subjects,
     ) -> Result<Vec<ToldReason>, AllocError>
         requires loaded { IsLoaded self.now.schema.now }
+        requires sealed { IsSealedWith self.now.terms.now self.now.graph.now }
         requires shape { pair.shape.0 < length self.now.schema.now.shapes }
         requires reasons { AllByRecursion (IsKnownReason self.now.schema.now self.now.terms.now self.now.graph.now.triples (V.known self.now.view.now) pair)
             reasons.items }
         ensures numbers { IfOk result (λ v. Numbers self.now.schema.now self.now.terms.now (V.known self.now.view.now) seen.old
             (flat_map reason_mentions v.items) seen.new) }
         ensures are { IfOk result (λ v. (all : List About) → GoesOn seen.new all →
-            AllZip (IsToldReason self.now.schema.now self.now.terms.now (V.known self.now.view.now) all pair) reasons.items v.items) }
+            AllZip (IsToldReason self.now.schema.now self.now.terms.now (V.known self.now.view.now) all self.now.graph.now.triples pair) reasons.items
+            v.items) }
     {
         let mut told = Vec::new(self.alloc);
         for reason in reasons {

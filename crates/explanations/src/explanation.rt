@@ -2,6 +2,7 @@
 
 use node_constraint::ConstraintPart;
 use nonconformance::cause::Cause;
+use nonconformance::offers::Offer;
 use nonconformance::reason::Reason;
 use rdf_terms::items::Items;
 use rdf_terms::terms::TermId;
@@ -37,6 +38,8 @@ pub struct ToldReason {
     pub reason: Reason,
     /// Of an unmatched triple, the triple constraints that fit it, in their order; of any other reason, none.
     pub misfits: Items<Misfit>,
+    /// Where no way deals the triples, each relevant triple with the places that are allowed for it; of any other reason, none.
+    pub offers: Items<Offer>,
 }
 
 /// A cause why a node does not satisfy a shape expression, with what it rests on.

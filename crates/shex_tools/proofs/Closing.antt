@@ -1,5 +1,5 @@
 -- What the ways to end say of the status.
-use Rattle.std.proofs.Common.{◌≡◌, ◌≢◌, ◌∙◌, ap, sym, subst, refl, List, ℕ, [], ◌⊎◌, inl, inr, arith, Bool, true, false}
+use Rattle.std.proofs.Common.{◌≡◌, ◌≢◌, ◌∙◌, ap, sym, subst, refl, List, ℕ, [], ◌++◌, ◌⊎◌, inl, inr, arith, Bool, true, false}
 use Rattle.std.specs.Prelude.{◌↔◌, Option, Some, IsTrue, if◌then◌else◌, not}
 use Rattle.clap.specs.Words.{Text}
 use Rattle.rdf_terms.specs.declared.terms.Term.{Term}
@@ -12,6 +12,8 @@ use Rattle.schema_tree.specs.declared.schema.ExprId.{ExprId}
 use Rattle.schema_tree.specs.declared.verdicts.Verdict.{Verdict}
 use Rattle.schema_tree.specs.declared.verdicts.Verdict.TheVariants.{Unknown}
 use Rattle.rdf_terms.specs.declared.terms.TermId.{TermId}
+use Rattle.idle_selectors.specs.Laws.{LinesAreExact}
+use Rattle.shape_map.specs.declared.items.Item.{Item}
 use Rattle.shape_map.specs.declared.resolve.Association.{Association}
 use Rattle.explanations.specs.declared.explanation.Told.{Told as Told_of}
 use Rattle.explanations.specs.Explanations.{IsTold}
@@ -37,16 +39,18 @@ use Rattle.typing_refiner.specs.declared.building.WidePair.{WidePair}
 use Rattle.demand.proofs.Led.{not_decided}
 use Rattle.shex_tools.specs.declared.stop.Refusal.{Refusal}
 use Rattle.shex_tools.specs.Calls.{inputs_of}
-use Rattle.shex_tools.specs.Endings.{HasFailing, IsAnswered, IsFailedBy, IsRefusedBy, IsWordsLine, ToolEnds}
+use Rattle.shex_tools.specs.Endings.{AreNotedQuietly, AreQuietNotes, HasFailing, IsAnswered, IsFailedBy, IsRefusedBy, IsWordsLine, TellsIdle, ToolEnds}
 use Rattle.shex_tools.specs.Finding.{IsFound}
 use Rattle.shex_tools.specs.Outcomes.{AreHeld, AreTaken, IsAbsent, IsQuestionOf, IsRefused}
 use Rattle.shex_tools.specs.Reasons.{AreAsAsked, HaveFailing, HaveUnknown, IsToldTruly, are_as_asked, are_undecided}
 use Rattle.shex_tools.specs.Laws.{DocumentsAreOne}
 use Rattle.shex_tools.specs.Results.{Concludes, IsAnswer, IsExplained, IsExplainedBy, IsListed}
 use Rattle.shex_tools.specs.Statuses.{IsAnswering, IsStatus}
+use Rattle.shex_tools.specs.Notes.{named_by}
 use Rattle.shex_tools.specs.Texts.{notes_by}
 use Rattle.shex_tools.proofs.Exclusive.{AreOne, answer_taken, refused_not_absent, taken_not_absent, taken_not_refused}
 use Rattle.shex_tools.proofs.Fitting.{fit}
+use Rattle.shex_tools.proofs.Noted.{idle_alone, none_wide}
 use Rattle.shex_tools.proofs.Settled.{as_asked_by, decided_by, four_means, is_four, is_nought, is_one, known_as, known_off, known_unless, low_means, off_by, off_one, off_truth, one_means, status_answers, undecided_by, undecided_one, unknown_is, unsure_wide}
 use Rattle.shex_tools.proofs.Unknowns.{alike, undecided_to}
 use Rattle.wide_pairs.specs.Laws.{NoneIsWide}
@@ -99,18 +103,40 @@ nought_listed undecided status is (inr e) = absurd (other (low_status undecided 
     other (inl at) = omega (arith, e, at)
     other (inr at) = omega (arith, e, at)
 
-unnoted_answer : (told : Told) (call : ToolCall) (status : ℕ) (text notes : List ℕ) → (status ≡ 0) ⊎ (status ≡ 1) → IsAnswer told call status text notes → notes ≡ []
-unnoted_answer told (of_schema c) status text notes at answer = answer.notes_are
-unnoted_answer told (of_labels l) status text notes at answer =
+quiet_answer : (told : Told) (call : ToolCall) (status : ℕ) (text notes : List ℕ) → (status ≡ 0) ⊎ (status ≡ 1) → IsAnswer told call status text notes → AreQuietNotes told call notes
+quiet_answer told (of_schema c) status text notes at answer = answer.notes_are
+quiet_answer told (of_labels l) status text notes at answer =
     let x = answer.listed.extents in
     answer.listed.notes_are ∙ none_noted answer.held.terms l.budget x.undecided x.wide (closing.decided_by x.undecided (nought_listed x.undecided status answer.listed.status_is at))
-unnoted_answer told (of_reasons e) status text notes at answer =
+quiet_answer told (of_reasons e) status text notes at answer =
+    let q = answer.question in
     let x = answer.explained in
-    let told_of = x.explanation.answers in
-    x.notes_are ∙ none_noted answer.question.terms e.budget (are_undecided told_of) x.wide (low_means (are_undecided told_of) (are_as_asked answer.question.associations told_of) status x.status_is at)
+    let told_of = x.explanation.answers in (
+      q,
+      answer.is_asked,
+      idle_alone q.held.schema q.terms q.held.graph answer.is_asked.items e (are_undecided told_of) x.wide notes x.notes_are
+          (low_means (are_undecided told_of) (are_as_asked q.associations told_of) status x.status_is at),
+    )
 
-pub unnoted : (told : Told) (words : List Text) (status : ℕ) (text notes : List ℕ) → (status ≡ 0) ⊎ (status ≡ 1) → IsAnswered told words status text notes → notes ≡ []
-unnoted told words status text notes at (call, is_call, answer) = unnoted_answer told call status text notes at answer
+quiet : (told : Told) (words : List Text) (status : ℕ) (text notes : List ℕ) → (status ≡ 0) ⊎ (status ≡ 1) → IsAnswered told words status text notes → AreNotedQuietly told words notes
+quiet told words status text notes at (call, is_call, answer) = (call, is_call, quiet_answer told call status text notes at answer)
+
+-- each idle selector of the map of `explain` has its line
+tells_idle : LinesAreExact → (told : Told) (e : Explaining) (status : ℕ) (text notes : List ℕ) (got after : Option (List ℕ)) → IsExplained told e status text notes → Gains got after notes → TellsIdle told e got after
+tells_idle law told e status text notes got after answer gains =
+    let q = answer.question in
+    let n = answer.explained.notes_are in
+    let (have, of) = law q.terms q.held.graph answer.is_asked.items n.idle_are.lines n.idle_are.are_idle in
+    let front = named_by n.names q.terms e.budget (are_undecided answer.explained.explanation.answers) answer.explained.wide in
+    record {
+      question = q;
+      is_asked = answer.is_asked;
+      lines = n.idle_are.lines;
+      have = have;
+      of_idle = of;
+      before = front;
+      gained = subst (λ z. Gains got after z) (n.notes_are ∙ ap (λ z. front ++ z) n.idle_are.notes_are) gains;
+    }
 
 -- with 4 a wide pair is noted
 lines_due : (terms : List Term) (budget : ℕ) (undecided : Bool) (wide : List WidePair) → undecided ≡ true → notes_by terms budget undecided wide ≡ wide_lines terms budget wide
@@ -135,7 +161,7 @@ noted_answer law told words (of_reasons e) text notes is_call answer none =
     let x = answer.explained in
     let told_of = x.explanation.answers in
     let some : are_undecided told_of ≡ true = four_means (are_undecided told_of) (are_as_asked q.associations told_of) x.status_is in
-    let lines : wide_lines q.terms e.budget x.wide ≡ [] = sym (lines_due q.terms e.budget (are_undecided told_of) x.wide some) ∙ sym x.notes_are ∙ none in
+    let lines : wide_lines q.terms e.budget x.wide ≡ [] = none_wide q.held.schema q.terms q.held.graph answer.is_asked.items e (are_undecided told_of) x.wide notes x.notes_are some none in
     let few = (fit words (of_reasons e) is_call).2 in
     let R : Association → Told_of → Type 0 = λ a t. IsToldTruly q.held.schema q.terms q.held.graph e.budget a t in
     let u = undecided_one R q.associations told_of x.reasons.told_truly some in
@@ -199,15 +225,22 @@ module _ (words : List Text) (files : FilesSeen) (out err : SinkSeen) (status : 
       go (inl is) = is
       go (inr cut) = inr (inr (inr cut))
 
-  -- with 0 and 1 nothing is printed to the error stream
+  -- with 0 and 1 nothing is printed to the error stream but, of `explain`, the lines for idle selectors
   low_at : (status ≡ 0) ⊎ (status ≡ 1) → IsAnswering status
   low_at (inl e) = inl e
   low_at (inr e) = inr (inl e)
 
-  pub quietly : (status ≡ 0) ⊎ (status ≡ 1) → ToolEnds words files out err status → err.got_after ≡ err.got
+  pub quietly : (status ≡ 0) ⊎ (status ≡ 1) → ToolEnds words files out err status → (notes : List ℕ) × AreNotedQuietly files.told words notes × Gains err.got err.got_after notes
   quietly at ends =
       let (text, notes, by, printed, noted) = gives (low_at at) ends in
-      closing.gains_none err.got err.got_after notes (unnoted files.told words status text notes at by) noted
+      (notes, quiet files.told words status text notes at by, noted)
+
+  pub idle_told : LinesAreExact → AnswersAreOne → (e : Explaining) → IsToolCall words (of_reasons e) → IsAnswering status → ToolEnds words files out err status → TellsIdle files.told e err.got err.got_after
+  idle_told exact law e is_call at ends =
+      let (text, notes, by, printed, noted) = gives at ends in
+      let (call, is_other, answer) = by in
+      tells_idle exact files.told e status text notes err.got err.got_after
+      (subst (λ d. IsAnswer files.told d status text notes) (law.calls words call (of_reasons e) is_other is_call) answer) noted
 
   pub four_leaves_out : status ≡ 4 → ToolEnds words files out err status → LeavesOut words
   four_leaves_out at ends =
@@ -315,16 +348,18 @@ module _ (words : List Text) (files : FilesSeen) (out err : SinkSeen) (status : 
     (refinements : OneRefinement) (follows : SureFollowsAnswers) (verdict : OneVerdict) (q : Question) (asked : IsQuestionOf files.told e q) (loaded : IsLoaded q.held.schema)
     (verdicts : Known) (refined : IsRefined q.held.schema q.terms q.held.graph q.held.strata q.pairs e.budget verdicts) where
   abbrev Explained : ℕ → List ℕ → List ℕ → Type 0
-  Explained wanted text notes = IsExplainedBy q.held.schema q.terms q.held.graph q.held.strata q.associations q.pairs e wanted text notes
+  Explained wanted text notes = (items : List Item) × IsExplainedBy q.held.schema q.terms q.held.graph q.held.strata q.associations q.pairs items e wanted text notes
 
   -- what is explained is the same question
   same_explained : (text notes : List ℕ) (wanted : ℕ) → IsExplained files.told e wanted text notes → Explained wanted text notes
-  same_explained text notes wanted answer = subst
-      (λ (k : Question). IsExplainedBy k.held.schema k.terms k.held.graph k.held.strata k.associations k.pairs e wanted text notes)
-      (one.question answer.question q answer.is_asked asked) answer.explained
+  same_explained text notes wanted answer = (
+    answer.is_asked.items,
+    subst (λ (k : Question). IsExplainedBy k.held.schema k.terms k.held.graph k.held.strata k.associations k.pairs answer.is_asked.items e wanted text notes)
+        (one.question answer.question q answer.is_asked asked) answer.explained,
+  )
 
   -- the verdicts are the same
-  module _ (text notes : List ℕ) (wanted : ℕ) (x : Explained wanted text notes) where
+  module _ (text notes : List ℕ) (wanted : ℕ) (items : List Item) (x : IsExplainedBy q.held.schema q.terms q.held.graph q.held.strata q.associations q.pairs items e wanted text notes) where
     abbrev view : Known
     view = x.reasons.verdicts
 
@@ -374,11 +409,11 @@ module _ (words : List Text) (files : FilesSeen) (out err : SinkSeen) (status : 
       ends
 
   pub unsure_ends : HaveUnknown q.held.schema q.terms verdicts q.associations → ToolEnds words files out err status → (status ≡ 4) ⊎ IsInterrupted status
-  unsure_ends some ends = explained_ends (λ n. n ≡ 4) (λ text notes wanted x. status_four text notes wanted x some) ends
+  unsure_ends some ends = explained_ends (λ n. n ≡ 4) (λ text notes wanted x. status_four text notes wanted x.0 x.1 some) ends
 
   pub as_asked_ends : AreAsAsked q.held.schema q.terms verdicts q.associations → ToolEnds words files out err status → (status ≡ 0) ⊎ IsInterrupted status
-  as_asked_ends each ends = explained_ends (λ n. n ≡ 0) (λ text notes wanted x. status_nought text notes wanted x each) ends
+  as_asked_ends each ends = explained_ends (λ n. n ≡ 0) (λ text notes wanted x. status_nought text notes wanted x.0 x.1 each) ends
 
   pub failing_ends : (¬ HaveUnknown q.held.schema q.terms verdicts q.associations) → HaveFailing q.held.schema q.terms verdicts q.associations →
       ToolEnds words files out err status → (status ≡ 1) ⊎ IsInterrupted status
-  failing_ends none some ends = explained_ends (λ n. n ≡ 1) (λ text notes wanted x. status_one text notes wanted x none some) ends
+  failing_ends none some ends = explained_ends (λ n. n ≡ 1) (λ text notes wanted x. status_one text notes wanted x.0 x.1 none some) ends

@@ -1,9 +1,11 @@
 pub mod Asking
+pub mod Bases
 pub mod Closing
 pub mod Ended
 pub mod Exclusive
 pub mod Fitting
 pub mod Judged
+pub mod Noted
 pub mod Reasoned
 pub mod Settled
 pub mod Places

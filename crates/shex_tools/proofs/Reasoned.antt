@@ -1,8 +1,7 @@
 -- What is told of associations is true.
 use Rattle.std.proofs.Common.{◌≡◌, ℕ, List, subst}
 use Rattle.std.specs.List.{AllZip}
-use Rattle.std.specs.Prelude.{Contains, Err, IfOk, Ok, Result}
-use Rattle.std.specs.declared.alloc.AllocError.{AllocError}
+use Rattle.std.specs.Prelude.{Contains}
 use Rattle.explanation_texts.specs.Naming.{AreNames}
 use Rattle.explanation_texts.specs.declared.setting.Setting.{Setting}
 use Rattle.explanations.specs.Explanations.{IsExplanation, IsTold}
@@ -77,21 +76,20 @@ are_reasons h asked pairs budget is sure blocks narrow_known cannot true_of view
 }
 
 -- what is due for what is held is due for what the map asks of the files
-pub when_explained : (told : Told) (e : Explaining) (q : Question) (h : Holding) → IsQuestionOf told e q → h.schema ≡ q.held.schema → h.strata ≡ q.held.strata → h.graph.triples ≡ q.held.graph →
-    h.terms ≡ q.terms → (status : ℕ) (text notes : List ℕ) → IsExplainedBy h.schema h.terms h.graph.triples h.strata q.associations q.pairs e status text notes → IsExplained told e status text notes
+pub when_explained : (told : Told) (e : Explaining) (q : Question) (h : Holding) (is : IsQuestionOf told e q) → h.schema ≡ q.held.schema → h.strata ≡ q.held.strata → h.graph.triples ≡ q.held.graph →
+    h.terms ≡ q.terms → (status : ℕ) (text notes : List ℕ) → IsExplainedBy h.schema h.terms h.graph.triples h.strata q.associations q.pairs is.items e status text notes →
+    IsExplained told e status text notes
 when_explained told e q h is schema strata graph terms status text notes x = record {
   question = q;
   is_asked = is;
   explained =
-      subst (λ ts. IsExplainedBy q.held.schema ts q.held.graph q.held.strata q.associations q.pairs e status text notes) terms
-      (subst (λ g. IsExplainedBy q.held.schema h.terms g q.held.strata q.associations q.pairs e status text notes) graph
-      (subst (λ f. IsExplainedBy q.held.schema h.terms h.graph.triples f q.associations q.pairs e status text notes) strata
-      (subst (λ s. IsExplainedBy s h.terms h.graph.triples h.strata q.associations q.pairs e status text notes) schema x)));
+      subst (λ ts. IsExplainedBy q.held.schema ts q.held.graph q.held.strata q.associations q.pairs is.items e status text notes) terms
+      (subst (λ g. IsExplainedBy q.held.schema h.terms g q.held.strata q.associations q.pairs is.items e status text notes) graph
+      (subst (λ f. IsExplainedBy q.held.schema h.terms h.graph.triples f q.associations q.pairs is.items e status text notes) strata
+      (subst (λ s. IsExplainedBy s h.terms h.graph.triples h.strata q.associations q.pairs is.items e status text notes) schema x)));
 }
 
 -- what is printed with a setting
-pub when_printed : {V : Type 0} (items : V → List ℕ) (s : Schema) (terms : List Term) (e : Explaining) (asked : List Association) (answers : List Telling) (setting : Setting) →
-    setting.schema.now ≡ s → setting.terms.now ≡ terms → AreNames s terms setting.names.now → setting.limit ≡ e.limit →
-    (r : Result V AllocError) → IfOk r (λ v. items v ≡ printed setting e.json asked answers) → IfOk r (λ v. IsPrinted s terms e asked answers (items v))
-when_printed items s terms e asked answers setting schema is names limit (Ok v) made = record { setting = setting; schema = schema; terms_are = is; names = names; limit = limit; text_is = made }
-when_printed items s terms e asked answers setting schema is names limit (Err x) made = tt
+pub is_printed : (s : Schema) (terms : List Term) (e : Explaining) (asked : List Association) (answers : List Telling) (setting : Setting) (text : List ℕ) → setting.schema.now ≡ s →
+    setting.terms.now ≡ terms → AreNames s terms setting.names.now → setting.limit ≡ e.limit → text ≡ printed setting e.json asked answers → IsPrinted s terms e asked answers text
+is_printed s terms e asked answers setting text schema is names limit made = record { setting = setting; schema = schema; terms_are = is; names = names; limit = limit; text_is = made }

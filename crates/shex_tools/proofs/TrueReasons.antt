@@ -81,9 +81,9 @@ module _ (s : Schema) (terms : List Term) (g : List Triple) (f : List ℕ) (pair
 
   module _ (true_of : KnownReasonIsTrue) (all : List Subject) (told : List ToldReason) (r : ToldReason) (listed : Contains told r) where
     one_true : (p : Pair) → PairIs view p No → LeadsToNarrow s terms g budget p → (reasons : List Reason) → AreReasons s terms g view p reasons →
-        AllZip (IsToldReason s terms view all p) reasons told → IsTrueReason s terms g T p r.reason
+        AllZip (IsToldReason s terms view all g p) reasons told → IsTrueReason s terms g T p r.reason
     one_true p is narrow reasons known_are side =
-        let (reason, there, by) = beside_back (IsToldReason s terms view all p) reasons told side r listed in
+        let (reason, there, by) = beside_back (IsToldReason s terms view all g p) reasons told side r listed in
         subst (IsTrueReason s terms g T p) (sym by.0)
         (true_of s terms g view T p reason are.loaded (tells p (no_of p is) narrow) (all_at (IsKnownReason s terms g view p) reasons reason known_are.sound there))
 

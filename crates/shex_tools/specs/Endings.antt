@@ -1,19 +1,23 @@
 -- How a call ends, and what it has printed then.
-use Rattle.std.specs.Prelude.{ℕ, List, Contains, not, ◌≡◌}
+use Rattle.std.specs.Prelude.{ℕ, List, [], ◌++◌, Contains, Option, not, ◌≡◌}
 use Rattle.clap.specs.Words.{Text}
 use Rattle.shex_io.specs.Faults.{Rose}
 use Rattle.shex_io.specs.Files.{Told}
+use Rattle.shex_io.specs.Sinks.{Gains}
 use Rattle.shex_io.specs.declared.files.Act.TheVariants.{Fetch}
 use Rattle.command_words.specs.Checks.{Fault}
 use Rattle.program_ends.specs.Ends.{EndsBy, FilesSeen}
 use Rattle.call_ends.specs.Parts.{ArePrintedInPart, IsDueBy}
+use Rattle.idle_selectors.specs.Laws.{AreOfIdle, HaveLines}
+use Rattle.idle_selectors.specs.Texts.{idle_text}
 use Rattle.program_ends.specs.Printing.{SinkSeen}
 use Rattle.shex_inputs.specs.declared.error.Source.{Source}
 use Rattle.schema_tree.specs.Truths.{IsTruth}
 use Rattle.shape_map.specs.declared.resolve.Association.{Association}
 use Rattle.shex_inputs.specs.Asked.{Question}
-use Rattle.tool_words.specs.Asked.{Explaining, IsToolCall, IsToolFault, ToolCall, of_reasons}
+use Rattle.tool_words.specs.Asked.{Explaining, IsToolCall, IsToolFault, ToolCall, of_labels, of_reasons, of_schema}
 use Rattle.shex_tools.specs.declared.stop.Refusal.{Refusal}
+use Rattle.shex_tools.specs.Notes.{AreIdleNotes}
 use Rattle.shex_tools.specs.Outcomes.{IsQuestionOf, IsRefused, Reaches}
 use Rattle.shex_tools.specs.Results.{IsAnswer}
 use Rattle.shex_tools.specs.Showing.{IsRefusalText}
@@ -56,6 +60,28 @@ pub record HasFailing (told : Told) (words : List Text) : Type 0 where
   pub association : Association
   pub listed : Contains question.associations association
   pub failing : IsTruth question.held.schema question.terms question.held.graph association.node association.expr (not association.want)
+
+-- what is noted where nothing is Unknown: of `explain` the lines for the idle selectors of its map, at most so many as its limit says, and of
+-- each other call nothing
+abbrev pub AreQuietNotes : Told → ToolCall → List ℕ → Type 0
+AreQuietNotes told (of_schema c) notes = notes ≡ []
+AreQuietNotes told (of_labels l) notes = notes ≡ []
+AreQuietNotes told (of_reasons e) notes = (q : Question) × (asked : IsQuestionOf told e q) × AreIdleNotes q.terms q.held.graph asked.items e.limit notes
+
+-- so it is of a call for which the words ask
+abbrev pub AreNotedQuietly : Told → List Text → List ℕ → Type 0
+AreNotedQuietly told words notes = (call : ToolCall) × IsToolCall words call × AreQuietNotes told call notes
+
+-- what the error stream gains ends with lines, at most so many as the limit says: each selector of the map that is idle has its line, and each
+-- line is that of one that is
+pub record TellsIdle (told : Told) (e : Explaining) (got after : Option (List ℕ)) : Type 0 where
+  pub question : Question
+  pub is_asked : IsQuestionOf told e question
+  pub lines : List (List ℕ)
+  pub have : HaveLines question.terms question.held.graph is_asked.items lines
+  pub of_idle : AreOfIdle question.terms question.held.graph is_asked.items lines
+  pub before : List ℕ
+  pub gained : Gains got after (before ++ idle_text e.limit lines)
 
 -- how a call ends: the words are at fault; or there is an answer; or a file is refused; or one was not fetched; or memory ran out before
 -- anything was printed

@@ -5,6 +5,7 @@ pub mod Reasons
 pub mod Laws
 pub mod Outcomes
 pub mod Texts
+pub mod Notes
 pub mod Showing
 pub mod Finding
 pub mod Results

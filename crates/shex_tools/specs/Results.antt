@@ -10,6 +10,7 @@ use Rattle.rdf_terms.specs.declared.terms.Triple.{Triple}
 use Rattle.schema_tree.specs.declared.schema.Pair.{Pair}
 use Rattle.schema_tree.specs.declared.schema.Schema.{Schema}
 use Rattle.serde_json.specs.Written.{compact_text}
+use Rattle.shape_map.specs.declared.items.Item.{Item}
 use Rattle.shape_map.specs.declared.resolve.Association.{Association}
 use Rattle.shape_map.specs.Results.{result_text}
 use Rattle.shex_inputs.specs.Asked.{Question}
@@ -21,6 +22,7 @@ use Rattle.tool_words.specs.Asked.{Explaining, Listing, ToolCall, of_labels, of_
 use Rattle.tool_words.specs.Requests.{Converting}
 use Rattle.shex_tools.specs.Documents.{HasText, HoldsDocument}
 use Rattle.shex_tools.specs.Finding.{IsFound}
+use Rattle.shex_tools.specs.Notes.{AreNotes}
 use Rattle.shex_tools.specs.Outcomes.{AreHeld, IsQuestionOf}
 use Rattle.shex_tools.specs.Reasons.{AreTrueReasons, are_undecided, status_of}
 use Rattle.shex_tools.specs.Texts.{IsPrinted, notes_by}
@@ -52,24 +54,25 @@ pub record IsListed (told : Told) (l : Listing) (status : ℕ) (text notes : Lis
   pub taken : AreHeld told l held
   pub listed : IsListedOf held l.budget status text notes
 
--- f gives the Shapes their strata, and the associations ask for the pairs
-module _ (s : Schema) (terms : List Term) (g : List Triple) (f : List ℕ) (asked : List Association) (pairs : List Pair) where
+-- f gives the Shapes their strata, and the associations are those of the items and ask for the pairs
+module _ (s : Schema) (terms : List Term) (g : List Triple) (f : List ℕ) (asked : List Association) (pairs : List Pair) (items : List Item) where
   -- the text is that of the reasons why the associations are not as asked, or the JSON of it; the status is that of what is told of
-  -- them, and the notes are a line for each pair that is wide, where the verdict on some association is Unknown
+  -- them, and the notes are a line for each pair that is wide, where the verdict on some association is Unknown, and one for each selector
+  -- that finds nothing
   pub record IsExplainedBy (e : Explaining) (status : ℕ) (text notes : List ℕ) : Type 0 where
     pub explanation : Explanation
     pub wide : List WidePair
     pub reasons : AreTrueReasons s terms g f e.budget asked pairs explanation wide
     pub status_is : status ≡ status_of asked explanation.answers
     pub text_is : IsPrinted s terms e asked explanation.answers text
-    pub notes_are : notes ≡ notes_by terms e.budget (are_undecided explanation.answers) wide
+    pub notes_are : AreNotes s terms g items e (are_undecided explanation.answers) wide notes
 
 -- so it is of what the map asks of the schema and the graph that the files hold
 pub record IsExplained (told : Told) (e : Explaining) (status : ℕ) (text notes : List ℕ) : Type 0 where
   pub question : Question
   pub is_asked : IsQuestionOf told e question
-  pub explained : IsExplainedBy question.held.schema question.terms question.held.graph question.held.strata question.associations question.pairs e
-      status text notes
+  pub explained : IsExplainedBy question.held.schema question.terms question.held.graph question.held.strata question.associations question.pairs
+      is_asked.items e status text notes
 
 -- the text answers the call with this status, and the notes say what is left out
 abbrev pub IsAnswer : Told → ToolCall → ℕ → List ℕ → List ℕ → Type 0

@@ -9,7 +9,8 @@ ghost use Rattle.proof_file.specs.declared.head.Digests.{Digests};
 ghost use Rattle.rdf_lex.specs.Prefixes.{base_of};
 ghost use Rattle.schema_tree.specs.Edges.{IsStratum};
 ghost use Rattle.schema_tree.specs.Loaded.{IsLoaded};
-ghost use Rattle.shex_inputs.specs.Asked.{IsAskedOf};
+ghost use Rattle.shape_map.specs.Selection.{selected};
+ghost use Rattle.shex_inputs.specs.Asked.{EndsAs, HoldsMap, IsAskedOf};
 ghost use Rattle.shex_inputs.specs.Held.{IsTaken, held_by};
 ghost use Rattle.explanation_texts.specs.Answers.{explanation_text};
 ghost use Rattle.explanation_texts.specs.Data.{explanation_data};
@@ -20,9 +21,9 @@ ghost use Rattle.shex_tools.specs.Calls.{inputs_of};
 ghost use Rattle.shex_tools.specs.Reasons.{AreTrueReasons, IsReady, are_as_asked, are_undecided, is_as_asked, is_unknown, status_of};
 ghost use Rattle.shex_tools.specs.Results.{IsExplained, IsExplainedBy};
 ghost use Rattle.shex_tools.specs.Stopping.{Explains, FaultsAs};
-ghost use Rattle.shex_tools.specs.Texts.{IsPrinted, printed};
+ghost use Rattle.shex_tools.specs.Texts.{printed};
 
-use crate::listing::notes_of;
+use crate::noting::{push_idle_notes, wide_notes};
 use crate::stop::{Stop, stop_of};
 use call_ends::Response;
 use explanation_texts::names::names_of;
@@ -85,6 +86,10 @@ fn ask<F: Files>(
     ensures asked { (digests : Digests) → IsTaken (F.told files.old) (inputs_of (of_reasons (explaining_of explaining.now))) (held_by holding.old digests) →
         IfOk result (λ v. IsAskedOf (F.told files.old) (inputs_of (of_reasons (explaining_of explaining.now)))
         (record { held = held_by holding.old digests; terms = holding.new.terms; associations = v.associations.items; pairs = v.pairs })) }
+    ensures map { (digests : Digests) → IsTaken (F.told files.old) (inputs_of (of_reasons (explaining_of explaining.now))) (held_by holding.old digests) →
+        IfOk result (λ v. HoldsMap (F.told files.old) (inputs_of (of_reasons (explaining_of explaining.now))) (held_by holding.old digests) v.map) }
+    ensures ends { (digests : Digests) → IsTaken (F.told files.old) (inputs_of (of_reasons (explaining_of explaining.now))) (held_by holding.old digests) →
+        IfOk result (λ v. EndsAs (held_by holding.old digests) v.map (selected v.associations.items holding.new.terms)) }
     ensures ready { IfOk result (λ v. IsReady holding.new v.associations.items v.pairs explaining.now.budget) }
     ensures schema { holding.new.schema ≡ holding.old.schema }
     ensures strata { holding.new.strata ≡ holding.old.strata }
@@ -260,29 +265,6 @@ fn printed(
     }
 }
 
-/// The text or the JSON that is due for an explanation of associations.
-fn text_for(
-    alloc: Global,
-    holding: &Holding,
-    associations: &[Association],
-    explaining: &Explaining<'_>,
-    explanation: &Explanation,
-) -> Result<Vec<u8>, AllocError>
-    ensures { IfOk result (λ v. IsPrinted holding.now.schema holding.now.terms (explaining_of explaining.now) associations.now explanation.now.answers v.items) }
-{
-    let schema = &holding.schema;
-    let terms = &holding.terms;
-    let names = names_of(alloc, schema, terms)?;
-    let setting = Setting {
-        alloc,
-        schema,
-        terms,
-        names: &names,
-        limit: explaining.limit as usize,
-    };
-    printed(&setting, explaining.json, associations, explanation)
-}
-
 /// What is due for reasons.
 fn response_of(
     alloc: Global,
@@ -295,21 +277,29 @@ fn response_of(
     requires findings { AreTrueReasons holding.now.schema holding.now.terms holding.now.graph.triples holding.now.strata explaining.now.budget
         asked.now.associations.items asked.now.pairs findings.now.explanation findings.now.wide }
     ensures explained { IfOk result (λ r. IsExplainedBy holding.now.schema holding.now.terms holding.now.graph.triples holding.now.strata
-        asked.now.associations.items asked.now.pairs (explaining_of explaining.now) r.status r.text.items r.notes.items) }
+        asked.now.associations.items asked.now.pairs asked.now.map (explaining_of explaining.now) r.status r.text.items r.notes.items) }
     ensures low { IfOk result (λ r. r.status < 7) }
 {
     let associations = asked.associations.as_slice();
     let answers = findings.explanation.answers.as_slice();
-    let text = text_for(
+    let wide = findings.wide.as_slice();
+    let names = names_of(alloc, &holding.schema, &holding.terms)?;
+    let setting = Setting {
         alloc,
-        holding,
+        schema: &holding.schema,
+        terms: &holding.terms,
+        names: &names,
+        limit: explaining.limit as usize,
+    };
+    let text = printed(
+        &setting,
+        explaining.json,
         associations,
-        explaining,
         &findings.explanation,
     )?;
     let undecided = are_undecided(answers);
-    let wide = findings.wide.as_slice();
-    let notes = notes_of(alloc, &holding.terms, explaining.budget, undecided, wide)?;
+    let mut notes = wide_notes(&setting, explaining.budget, undecided, wide)?;
+    push_idle_notes(&setting, &holding.graph, &asked.map, &mut notes)?;
     Ok(Response {
         status: status(associations, answers),
         text,
@@ -326,7 +316,7 @@ fn answer(
 ) -> Result<Response, AllocError>
     requires { IsReady holding.now asked.now.associations.items asked.now.pairs explaining.now.budget }
     ensures explained { IfOk result (λ r. IsExplainedBy holding.now.schema holding.now.terms holding.now.graph.triples holding.now.strata
-        asked.now.associations.items asked.now.pairs (explaining_of explaining.now) r.status r.text.items r.notes.items) }
+        asked.now.associations.items asked.now.pairs asked.now.map (explaining_of explaining.now) r.status r.text.items r.notes.items) }
     ensures low { IfOk result (λ r. r.status < 7) }
 {
     let findings = reasons(alloc, holding, asked, explaining.budget)?;

@@ -6,6 +6,7 @@ mod converting;
 mod explaining;
 mod laws;
 mod listing;
+mod noting;
 mod report;
 mod showing;
 mod stop;

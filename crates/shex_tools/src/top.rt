@@ -11,20 +11,21 @@ ghost use Rattle.label_extents.specs.Extents.{IsUndecided};
 ghost use Rattle.call_ends.specs.Parts.{AreQuiet};
 ghost use Rattle.call_ends.specs.Statuses.{IsCutOff, IsInterrupted};
 ghost use Rattle.call_ends.specs.Words.{RefusesWords};
-ghost use Rattle.program_ends.specs.Printing.{IsQuiet, SinkSeen};
+ghost use Rattle.program_ends.specs.Printing.{IsQuiet, SinkSeen, sink_seen};
 ghost use Rattle.shex_inputs.specs.Asked.{Question};
 ghost use Rattle.shex_inputs.specs.Held.{Held};
 ghost use Rattle.shex_io.specs.Faults.{Rose};
 ghost use Rattle.shex_io.specs.Sinks.{Gains};
 ghost use Rattle.tool_words.specs.Asked.{Explaining as Explained, IsToolCall, IsToolFault, Listing as Listed, ToolCall as Asked, of_labels, of_reasons};
 ghost use Rattle.tool_words.specs.Lent.{tool_call_of};
-ghost use Rattle.shex_tools.specs.Endings.{HasFailing, IsAnswered, IsFailedBy, IsPrintedInPart, IsRefusedBy, IsWordsLine, ToolEnds};
+ghost use Rattle.shex_tools.specs.Endings.{AreNotedQuietly, HasFailing, IsAnswered, IsFailedBy, IsPrintedInPart, IsRefusedBy, IsWordsLine, TellsIdle, ToolEnds};
 ghost use Rattle.shex_tools.specs.Outcomes.{AreHeld, AreTaken, IsAbsent, IsQuestionOf, IsRefused};
 ghost use Rattle.shex_tools.specs.Reasons.{AreAsAsked, HaveFailing, HaveUnknown};
 ghost use Rattle.shex_tools.specs.Results.{Concludes, IsAnswer};
 ghost use Rattle.shex_tools.specs.Statuses.{IsAnswering, IsStatus};
 ghost use Rattle.shex_tools.specs.Stopping.{Explains, FaultsAs, IsFit};
 ghost use Rattle.shex_tools.specs.Texts.{tool_line};
+ghost use Rattle.program_ends.specs.Ends.{files_seen};
 
 use crate::converting::convert;
 use crate::explaining::explain;
@@ -35,6 +36,7 @@ use crate::showing::{Unshown, refusal_text};
 use crate::stop::{Refusal, Stop};
 use call_ends::Response;
 use command_words::WordsError;
+use idle_selectors::laws::lines_are_exact;
 use program_ends::{print, say};
 use schema_tree::laws::{layers_are_meanings, refinement_is_one, verdict_is_one};
 use shex_inputs::{Source, inputs_are_one, taken_is_loaded};
@@ -62,7 +64,7 @@ fn respond<F: Files>(alloc: Global, files: &mut F, call: &ToolCall<'_>) -> Resul
 
 /// Says what is wrong with the words, unless memory ran out, and gives the status.
 fn refuse<S: Sink>(alloc: Global, error: WordsError<'_>, sink: &mut S) -> u8
-    ensures { RefusesWords WordsError.Memory error.entry (tool_line (codes "words") (words_text error.entry)) (record { got = S.got sink.old; got_after = S.got sink.new; faults = S.faults sink.old; faults_after = S.faults sink.new }) result }
+    ensures { RefusesWords WordsError.Memory error.entry (tool_line (codes "words") (words_text error.entry)) (sink_seen S.got S.faults sink.old sink.new) result }
 {
     match error {
         WordsError::Memory => 8,
@@ -82,9 +84,9 @@ fn end_refusal<F: Files, E: Sink>(
     requires { IsRefused (F.told files.old) (tool_call_of call.now) refusal.now }
     ensures { (words : List (List ℕ)) → IsToolCall words (tool_call_of call.now) → (out : SinkSeen) → IsQuiet out → ToolEnds
         words
-        (record { told = F.told files.old; told_after = F.told files.new; faults = F.faults files.old; faults_after = F.faults files.new; blame = F.blame files.new; act = F.act files.new })
+        (files_seen F.told F.faults F.blame F.act files.old files.new)
         out
-        (record { got = E.got err.old; got_after = E.got err.new; faults = E.faults err.old; faults_after = E.faults err.new })
+        (sink_seen E.got E.faults err.old err.new)
         result }
 {
     match refusal_text(alloc, files, call, refusal) {
@@ -105,9 +107,9 @@ fn end_call<F: Files, O: Sink, E: Sink>(
     requires { IsFit (tool_call_of call.now) }
     ensures { (words : List (List ℕ)) → IsToolCall words (tool_call_of call.now) → ToolEnds
         words
-        (record { told = F.told files.old; told_after = F.told files.new; faults = F.faults files.old; faults_after = F.faults files.new; blame = F.blame files.new; act = F.act files.new })
-        (record { got = O.got out.old; got_after = O.got out.new; faults = O.faults out.old; faults_after = O.faults out.new })
-        (record { got = E.got err.old; got_after = E.got err.new; faults = E.faults err.old; faults_after = E.faults err.new })
+        (files_seen F.told F.faults F.blame F.act files.old files.new)
+        (sink_seen O.got O.faults out.old out.new)
+        (sink_seen E.got E.faults err.old err.new)
         result }
 {
     match respond(alloc, files, call) {
@@ -128,9 +130,9 @@ fn end<F: Files, O: Sink, E: Sink>(
 ) -> u8
     ensures { ToolEnds
         (map string_bytes words.now)
-        (record { told = F.told files.old; told_after = F.told files.new; faults = F.faults files.old; faults_after = F.faults files.new; blame = F.blame files.new; act = F.act files.new })
-        (record { got = O.got out.old; got_after = O.got out.new; faults = O.faults out.old; faults_after = O.faults out.new })
-        (record { got = E.got err.old; got_after = E.got err.new; faults = E.faults err.old; faults_after = E.faults err.new })
+        (files_seen F.told F.faults F.blame F.act files.old files.new)
+        (sink_seen O.got O.faults out.old out.new)
+        (sink_seen E.got E.faults err.old err.new)
         result }
 {
     match read_tool(alloc, words) {
@@ -149,21 +151,28 @@ fn end<F: Files, O: Sink, E: Sink>(
 /// those on which the verdict is Unknown, which comes only where it depends on a pair of a node and a Shape whose Width is
 /// above the budget.
 ///
-/// `explain --schema F --data F --map F [--budget N] [--limit N] [--json] [--schema-base I] [--data-base I] [IRI=FILE ..]` prints to `out`
-/// why associations of the shape map are not as asked (ShEx 2.1, sections 5.2 and 5.5.2): in the map's order each whose node is to
+/// `explain --schema F --data F --map F [--budget N] [--limit N] [--json] [--schema-base I] [--data-base I] [IRI=FILE ..]` prints to
+/// `out` why associations of the shape map are not as asked (ShEx 2.1, sections 5.2 and 5.5.2): in the map's order each whose node is to
 /// satisfy its expression and does not, with the reasons, and each whose node is not to satisfy it and does. A node with a Shape is
 /// explained where it is mentioned first. With `--json` it is a result shape map in JSON of all associations (ShapeMap Structure and
 /// Language, section 4).
 ///
+/// Beside its answer, `explain` names on `err` the selectors of the map that find nothing (ShapeMap Structure and Language, section 3.1),
+/// each once and in the map's order, with status 4 behind the lines for wide pairs: `nothing selected: PATTERN` for a triple pattern that
+/// matches no triple, and `not in the data: NODE` for a node that is neither the subject nor the object of a triple. Of more than the
+/// limit the first are named, and how many more there are.
+///
 /// A refusal, and a file that is not fetched, are told by one line on `err`, unless memory ran out. Where `explain` refuses a file that
-/// is wrong at a place, the file is fetched once more, and behind that line `err` gets `FILE:LINE:COLUMN` and lines that show the place
-/// in what the file holds then. N of `--budget` is from 1 to 1,099,511,627,776, and 1,048,576 where none is given; N of `--limit`, how
-/// much is printed in one place, is as great, and 20 where none is given.
+/// is wrong at a place, or a schema in ShExC for a thing in it, the file is fetched once more, and behind that line `err` gets
+/// `FILE:LINE:COLUMN` and lines that show the place, or that of the thing, in what the file holds then. N of `--budget` is from 1 to
+/// 1,099,511,627,776, and 1,048,576 where none is given; N of `--limit`, how much is printed in one place, is as great, and 20 where none
+/// is given.
 ///
 /// The status is 0 where there is an answer; of `explain`, 1 where some association is not as asked; 4 where the membership of some
 /// node in the extents is not told, or whether some association is as asked, since it depends on a pair that is wider than the
-/// budget, and then `err` gets a line for each wide pair that the nodes with the labels, or the associations, reach; 2 where the
-/// words are refused, 3 where a file is refused, 5 where a file was not fetched, 7 where a sink failed, 8 where memory ran out.
+/// budget, and then `err` gets a line for each wide pair that the nodes with the labels, or the associations, reach, of `explain` with
+/// the name of the Shape; 2 where the words are refused, 3 where a file is refused, 5 where a file was not fetched, 7 where a sink
+/// failed, 8 where memory ran out.
 pub fn run_tool<F: Files, O: Sink, E: Sink>(
     alloc: Global,
     words: &[String],
@@ -174,9 +183,9 @@ pub fn run_tool<F: Files, O: Sink, E: Sink>(
     // How a call ends, with all that it has printed then. The clauses below follow from it.
     ensures ends { ToolEnds
         (map string_bytes words.now)
-        (record { told = F.told files.old; told_after = F.told files.new; faults = F.faults files.old; faults_after = F.faults files.new; blame = F.blame files.new; act = F.act files.new })
-        (record { got = O.got out.old; got_after = O.got out.new; faults = O.faults out.old; faults_after = O.faults out.new })
-        (record { got = E.got err.old; got_after = E.got err.new; faults = E.faults err.old; faults_after = E.faults err.new })
+        (files_seen F.told F.faults F.blame F.act files.old files.new)
+        (sink_seen O.got O.faults out.old out.new)
+        (sink_seen E.got E.faults err.old err.new)
         result }
     ensures statuses { IsStatus result }
     ensures four { result ≡ 4 →
@@ -195,7 +204,16 @@ pub fn run_tool<F: Files, O: Sink, E: Sink>(
         × IsAnswered (F.told files.old) (map string_bytes words.now) result text notes
         × Gains (O.got out.old) (O.got out.new) text
         × Gains (E.got err.old) (E.got err.new) notes }
-    ensures answered_quietly { (result ≡ 0) ⊎ (result ≡ 1) → E.got err.new ≡ E.got err.old }
+
+    // With 0 and 1 what is noted is of `explain` the lines for the idle selectors of its map, and of the other commands nothing. Beside each
+    // answer of `explain` each idle selector has its line, or is counted among those that are left out, and each line is that of one.
+    ensures answered_quietly { (result ≡ 0) ⊎ (result ≡ 1) →
+        (notes : List ℕ)
+        × AreNotedQuietly (F.told files.old) (map string_bytes words.now) notes
+        × Gains (E.got err.old) (E.got err.new) notes }
+    ensures idle { IsAnswering result → (e : Explained) →
+        IsToolCall (map string_bytes words.now) (of_reasons e) →
+        TellsIdle (F.told files.old) e (E.got err.old) (E.got err.new) }
     ensures noted { result ≡ 4 → (text notes : List ℕ) →
         IsAnswered (F.told files.old) (map string_bytes words.now) result text notes → notes ≢ [] }
 
@@ -212,7 +230,7 @@ pub fn run_tool<F: Files, O: Sink, E: Sink>(
     ensures failed { result ≡ 5 →
         (line : List ℕ)
         × IsFailedBy
-        (record { told = F.told files.old; told_after = F.told files.new; faults = F.faults files.old; faults_after = F.faults files.new; blame = F.blame files.new; act = F.act files.new })
+        (files_seen F.told F.faults F.blame F.act files.old files.new)
         (map string_bytes words.now) line
         × Gains (E.got err.old) (E.got err.new) line }
     ensures fault { result ≡ 5 → Rose (F.faults files.old) (F.faults files.new) }
@@ -221,17 +239,17 @@ pub fn run_tool<F: Files, O: Sink, E: Sink>(
     ensures nothing_out { (result ≡ 2) ⊎ ((result ≡ 3) ⊎ (result ≡ 5)) → O.got out.new ≡ O.got out.old }
     ensures in_part { result ≡ 7 → IsPrintedInPart
         (map string_bytes words.now)
-        (record { told = F.told files.old; told_after = F.told files.new; faults = F.faults files.old; faults_after = F.faults files.new; blame = F.blame files.new; act = F.act files.new })
-        (record { got = O.got out.old; got_after = O.got out.new; faults = O.faults out.old; faults_after = O.faults out.new })
-        (record { got = E.got err.old; got_after = E.got err.new; faults = E.faults err.old; faults_after = E.faults err.new }) }
+        (files_seen F.told F.faults F.blame F.act files.old files.new)
+        (sink_seen O.got O.faults out.old out.new)
+        (sink_seen E.got E.faults err.old err.new) }
     ensures unprinted { result ≡ 8 → IsPrintedInPart
         (map string_bytes words.now)
-        (record { told = F.told files.old; told_after = F.told files.new; faults = F.faults files.old; faults_after = F.faults files.new; blame = F.blame files.new; act = F.act files.new })
-        (record { got = O.got out.old; got_after = O.got out.new; faults = O.faults out.old; faults_after = O.faults out.new })
-        (record { got = E.got err.old; got_after = E.got err.new; faults = E.faults err.old; faults_after = E.faults err.new })
+        (files_seen F.told F.faults F.blame F.act files.old files.new)
+        (sink_seen O.got O.faults out.old out.new)
+        (sink_seen E.got E.faults err.old err.new)
         ⊎ AreQuiet
-        (record { got = O.got out.old; got_after = O.got out.new; faults = O.faults out.old; faults_after = O.faults out.new })
-        (record { got = E.got err.old; got_after = E.got err.new; faults = E.faults err.old; faults_after = E.faults err.new }) }
+        (sink_seen O.got O.faults out.old out.new)
+        (sink_seen E.got E.faults err.old err.new) }
 
     // Where contents are told, words and files decide how the call ends, but for faults and want of memory.
     ensures unasked { (f : Fault) → IsToolFault (map string_bytes words.now) f → (result ≡ 2) ⊎ IsCutOff result }
@@ -286,7 +304,8 @@ pub fn run_tool<F: Files, O: Sink, E: Sink>(
     ensures sink_fault { (O.faults out.old < O.faults out.new) ⊎ (E.faults err.old < E.faults err.new) →
         result ≡ 7 }
 {
-    // The laws by which words and files say one thing, refinement too, and pairs without a line are within the budget.
+    // The laws by which words and files say one thing, refinement too, pairs without a line are within the budget, and lines of selectors are
+    // those of idle ones.
     answers_are_one();
     inputs_are_one();
     taken_is_loaded();
@@ -295,5 +314,6 @@ pub fn run_tool<F: Files, O: Sink, E: Sink>(
     layers_are_meanings();
     verdict_is_one();
     none_is_wide();
+    lines_are_exact();
     end(alloc, words, files, out, err)
 }

@@ -2,7 +2,7 @@ use Rattle.std.proofs.Common.{rules}
 use Rattle.call_ends.proofs.Closing.{fault_interrupts, five_says, in_part, nothing_out, seven_rose, sink_seven, three_says, told_stays, two_says, unfaulted, unprinted}
 use Rattle.tool_words.specs.Asked.{of_labels, of_reasons}
 use Rattle.shex_tools.specs.Calls.{inputs_of}
-use Rattle.shex_tools.proofs.Closing.{absent_ends, as_asked_ends, decided_ends, failing_ends, faulty_ends, four_leaves_out, four_noted, gives, is_status, of_answer, one_fails, quietly, refused_ends, taken_ends, undecided_ends, unsure_ends}
+use Rattle.shex_tools.proofs.Closing.{absent_ends, as_asked_ends, decided_ends, failing_ends, faulty_ends, four_leaves_out, four_noted, gives, idle_told, is_status, of_answer, one_fails, quietly, refused_ends, taken_ends, undecided_ends, unsure_ends}
 use Rattle.shex_tools.proofs.Exclusive.{are_one}
 use Rattle.shex_tools.proofs.top.run_tool.Goals as goal
 
@@ -24,6 +24,9 @@ returns-clause-answered g c = λ at. gives _ _ _ _ _ at (returns-clause-ends g c
 
 pub returns-clause-answered_quietly : goal.returns-clause-answered_quietly
 returns-clause-answered_quietly g c = λ at. quietly _ _ _ _ _ at (returns-clause-ends g c)
+
+pub returns-clause-idle : goal.returns-clause-idle
+returns-clause-idle g c = λ at e is_call. idle_told _ _ _ _ _ c.lines_are_exact.ensures c.answers_are_one.ensures e is_call at (returns-clause-ends g c)
 
 pub returns-clause-noted : goal.returns-clause-noted
 returns-clause-noted g c = λ at text notes by. four_noted c.none_is_wide.ensures _ _ text notes _ at by

@@ -14,7 +14,7 @@ loop-reason-init g c =
     let view = g.V.View.known c.args.self.now.view.now in
     record {
       all = sym c.into_iter-reason-iterator.ensures.into_iter_gives.0;
-      told = tell_none s terms view (λ all. IsToldReason s terms view all c.args.pair) reason_mentions c.args.seen.now c.new-told.result.items c.new-told.ensures.items;
+      told = tell_none s terms view (λ all. IsToldReason s terms view all c.args.self.now.graph.now.triples c.args.pair) reason_mentions c.args.seen.now c.new-told.result.items c.new-told.ensures.items;
     }
 
 pub told_reason-requires-clause-reason : goal.told_reason-requires-clause-reason
@@ -34,7 +34,7 @@ loop-reason-preserved g c =
     record {
       all = yields_on c.args.reasons.items c.loop-reason.yielded c.loop-reason.reason-iterator.rest.items c.next.new.self.rest.items c.in-Some.reason
           c.loop-reason.invariant.all c.in-Some.ensures.steps.0;
-      told = tell_one s terms view (λ all. IsToldReason s terms view all c.args.pair) reason_mentions c.args.seen.now c.loop-reason.seen c.told_reason.new.seen c.loop-reason.yielded
+      told = tell_one s terms view (λ all. IsToldReason s terms view all c.args.self.now.graph.now.triples c.args.pair) reason_mentions c.args.seen.now c.loop-reason.seen c.told_reason.new.seen c.loop-reason.yielded
           c.loop-reason.told.items _ c.in-Some.reason c.in_ok-told_reason.field-0 c.loop-reason.invariant.told c.in_ok-told_reason.ensures.numbers
           c.in_ok-told_reason.ensures.is c.in_ok-push.ensures.items;
     }
@@ -44,6 +44,6 @@ returns-clause-are g c =
     let s = c.args.self.now.schema.now in
     let terms = c.args.self.now.terms.now in
     let view = g.V.View.known c.args.self.now.view.now in
-    (tell_yielded s terms view (λ all. IsToldReason s terms view all c.args.pair) reason_mentions c.args.seen.now c.loop-reason.seen c.args.reasons.items c.loop-reason.yielded
+    (tell_yielded s terms view (λ all. IsToldReason s terms view all c.args.self.now.graph.now.triples c.args.pair) reason_mentions c.args.seen.now c.loop-reason.seen c.args.reasons.items c.loop-reason.yielded
     c.loop-reason.reason-iterator.rest.items c.loop-reason.told.items c.loop-reason.invariant.all
     (sym c.loop-reason.reason-iterator.rest.ok.0 ∙ c.in-None.ensures.steps.0) c.loop-reason.invariant.told).are

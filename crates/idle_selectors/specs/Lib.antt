@@ -1,0 +1,4 @@
+pub mod Idle
+pub mod Texts
+pub mod Noting
+pub mod Laws
