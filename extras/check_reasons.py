@@ -35,6 +35,9 @@ NAMED = re.compile(r"(\S+) (?:is not|does not satisfy) (\S+), see \[(\d+)\]")
 TRIPLE = re.compile(r"(\S+) <(\S+)> (\S+) \.")
 PLACE = re.compile(r"(\^?)<([^>]*)>(?:#(\d+))?")
 
+# What a triple fits where no way deals the triples: constraints, or the remainder, or both.
+OFFER = re.compile(r"(.* \.) (?:fits (.+?)(, or may be left over)?|(may be left over))")
+
 # A block: its number, the node, and the name of what it does not satisfy; and its lines, each with the lines below it.
 Block = namedtuple("Block", "number node name lines")
 
@@ -135,7 +138,7 @@ class Judge:
         if found := re.fullmatch(r"no match with these numbers: (.*)", line):
             return not self.reading.has_shape(block.node, expression) and self.are_numbers(block.node, expression, found[1].split(", "))
         if line == "no way to match":
-            return not self.reading.has_shape(block.node, expression)
+            return not self.reading.has_shape(block.node, expression) and self.are_offers(block.node, expression, below)
         if found := re.fullmatch(r"not: (\S+) (?:is|satisfies) (\S+)", line):
             member = self.followed(expression["shapeExpr"])
             return found[1] == block.node and self.named(found[2]) == member and self.reading.holds(block.node, member)
@@ -174,6 +177,15 @@ class Judge:
         other = [triple[0 if one.get("inverse") else 2] for one in alike]
         values = [one.get("valueExpr") for one in alike]
         return [self.placed(shape, place) for place, _ in said] == alike and all(map(self.is_cause, (cause for _, cause in said), other, values))
+
+    def are_offers(self, node, shape, below):
+        """Whether the lines below say of each triple that a constraint fits which constraints take it, and whether it may be left over."""
+        said = {}
+        for line in below:
+            text, taking, besides, alone = OFFER.fullmatch(line).groups()
+            places = [self.placed(shape, place) for place in taking.split(", ")] if taking else []
+            said[TRIPLE.fullmatch(text).groups()] = places + ([None] if besides or alone else [])
+        return len(said) == len(below) and said == {triple: self.places(node, shape, triple) for triple in self.relevant(node, shape)}
 
     def named_triples(self, node, shape):
         """The lines of the triples that are forbidden, and of those that fit nothing and may not be left over."""
