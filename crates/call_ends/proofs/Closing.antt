@@ -153,7 +153,7 @@ module _ (Faulty Refused Failed : List ℕ → Type 0) (Answers : ℕ → List �
   comes_to C two with three five (failed line by same later quiet prints) = at_wanted C 5 (five line by) (wanted_or err line 5 status prints)
   comes_to C two with three five (wanting left quiet also at) = inr (inr at)
 
-  -- the same where a failed call leaves nothing to say
+  -- what is so of the status that is wanted is so of the status, where a failed call leaves nothing to say
   pub concludes : (C : ℕ → Type 0) → ((line : List ℕ) → Faulty line → C 2) → ((text notes : List ℕ) (wanted : ℕ) → Answers wanted text notes → C wanted) →
       ((line : List ℕ) → Refused line → C 3) → Ends → C status ⊎ IsInterrupted status
   concludes C two with three ends = go (comes_to (λ n. C n ⊎ (n ≡ 5)) (λ line by. inl (two line by)) (λ text notes wanted by. inl (with text notes wanted by)) (λ line by. inl (three line by)) (λ line by. inr refl) ends)

@@ -3,5 +3,7 @@
 #![tactic(auto)]
 
 mod response;
+mod words;
 
 pub use response::{Response, status_of};
+pub use words::refuse_words;

@@ -39,7 +39,7 @@ over_then file printed said before cleared after left over = record {
   file_is = file_then before.file cleared.file after.file file left.file_is over.file_is;
 }
 
--- the same end over words and sinks that are equal
+-- a call ends in this way over words and sinks that are equal to these, too
 ends_over : (Ends : Ending) (words given : List (List ℕ)) (seen : FilesSeen) (out err printed said : List ℕ) (status : ℕ) →
     words ≡ given → out ≡ [] → err ≡ [] → Ends words seen (sink_seen out printed) (sink_seen err said) status →
     Ends given seen (sink_seen [] printed) (sink_seen [] said) status

@@ -8,7 +8,8 @@ use Rattle.std.proofs.lemmas.List.Elements.{All-from_get_or}
 use Rattle.std.proofs.lemmas.Str.Pattern.{NoCharPasses-char, drop_at_char}
 use Rattle.clap.specs.Words.{Text}
 use Rattle.iri_resolve.specs.Text.{Lacks}
-use Rattle.command_words.specs.Checks.{Divides, Import}
+use Rattle.input_names.specs.Names.{Import}
+use Rattle.command_words.specs.Checks.{Divides}
 use Rattle.command_words.proofs.Once.{one_split}
 
 -- the parts round the last `=`

@@ -2,14 +2,16 @@
 use Rattle.std.proofs.Common.{◌≡◌, ◌∙◌, List, [], true, refl, sym, ap, subst}
 use Rattle.std.specs.Prelude.{IfErr, IfOk, IsErrAnd, MatchResult, Result, Ok, Err}
 use Rattle.clap.specs.Words.{Text}
+use Rattle.input_names.specs.declared.inputs.Inputs.{Inputs as LentInputs}
+use Rattle.input_names.specs.Names.{Import, Inputs, is_data_name, is_schema_name}
+use Rattle.input_names.specs.Lent.{inputs_of}
 use Rattle.command_words.specs.declared.command.Command.{Command as LentCommand}
-use Rattle.command_words.specs.declared.command.Inputs.{Inputs as LentInputs}
 use Rattle.command_words.specs.declared.error.WordsError.{WordsError}
 use Rattle.command_words.specs.declared.error.WordsError.TheVariants as Error
 use Rattle.command_words.specs.Asked.{Command, IsAsked, IsFirstFault, command_by, failing, unasked}
-use Rattle.command_words.specs.Checks.{AreImports, Fault, HasEndings, HasImports, Import, Inputs, IsGivenFault, IsImportFault, IsRequestFault, Passes, arguments, import_words, inputs_by, is_data_name, is_schema_name, of_given}
+use Rattle.command_words.specs.Checks.{AreImports, Fault, HasEndings, HasImports, IsGivenFault, IsImportFault, IsRequestFault, Passes, arguments, import_words, inputs_by, of_given}
 use Rattle.command_words.specs.Requests.{Asks, Given, Request}
-use Rattle.command_words.specs.Lent.{Because, command_of, command_with, inputs_of}
+use Rattle.command_words.specs.Lent.{Because, command_of, command_with}
 use Rattle.command_words.proofs.Once.{no_request_fault, one_list, one_request_fault}
 use Rattle.command_words.proofs.Requested.{one_request}
 

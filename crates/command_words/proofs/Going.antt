@@ -13,9 +13,10 @@ use Rattle.std.proofs.lemmas.List.Folds.{list_any-append}
 use Rattle.std.proofs.lemmas.Map.Text.{is_eq-slice_cmp}
 use Rattle.std.specs.Borrow.{Bor}
 use Rattle.clap.specs.Words.{Text}
-use Rattle.command_words.specs.declared.command.Import.{Import as LentImport}
-use Rattle.command_words.specs.Checks.{AreImports, Divides, Fault, Import, IsImport, IsImportFault, IsWordFault, is_among, is_schema_name}
-use Rattle.command_words.specs.Lent.{import_of}
+use Rattle.input_names.specs.declared.inputs.Import.{Import as LentImport}
+use Rattle.input_names.specs.Names.{Import, is_among, is_schema_name}
+use Rattle.input_names.specs.Lent.{import_of}
+use Rattle.command_words.specs.Checks.{AreImports, Divides, Fault, IsImport, IsImportFault, IsWordFault}
 
 -- the order of lent texts
 abbrev pub text_order : Bor Text → Bor Text → Ordering

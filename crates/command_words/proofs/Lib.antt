@@ -7,5 +7,4 @@ pub mod Budgets
 pub mod Once
 pub mod Requested
 pub mod Seen
-pub mod BaseLines
 pub mod Drilled

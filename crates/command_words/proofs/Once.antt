@@ -5,8 +5,9 @@ use Rattle.std.proofs.lemmas.List.{append_cancel_left}
 use Rattle.clap.specs.Words.{Text}
 use Rattle.iri_resolve.specs.Text.{Lacks, until_last}
 use Rattle.iri_resolve.proofs.Places.{until_last-append}
+use Rattle.input_names.specs.Names.{Import, is_among, is_schema_name}
 use Rattle.command_words.specs.Requests.{Given, Request, proof_of, to_of}
-use Rattle.command_words.specs.Checks.{AreImports, Divides, Fault, HasImports, Import, IsApart, IsGivenFault, IsImport, IsImportFault, IsRequestFault, IsWordFault, Passes, PassesBases, again, data_base, data_ending, file, form, import_words, inputs_by, is_among, is_schema_name, names_with_proof, of_given, other_names, same, same_name, same_to, schema_base, schema_ending}
+use Rattle.command_words.specs.Checks.{AreImports, Divides, Fault, HasImports, IsApart, IsGivenFault, IsImport, IsImportFault, IsRequestFault, IsWordFault, Passes, PassesBases, again, data_base, data_ending, file, form, import_words, inputs_by, names_with_proof, of_given, other_names, same, same_name, same_to, schema_base, schema_ending}
 
 pub apart : {b : Bool} → b ≡ true → b ≡ false → ⊥
 apart yes_it no_it = true≢false (sym yes_it ∙ no_it)

@@ -1,8 +1,9 @@
 -- What words ask for, or what is wrong with them (own).
 use Rattle.std.specs.Prelude.{◌≡◌, ◌++◌, List, codes}
 use Rattle.clap.specs.Words.{Text}
+use Rattle.input_names.specs.Names.{Import}
 use Rattle.command_words.specs.Requests.{Asks, Request, Task}
-use Rattle.command_words.specs.Checks.{Fault, Import, IsRequestFault, Passes, arguments, base, ending, import_word, same}
+use Rattle.command_words.specs.Checks.{Fault, IsRequestFault, Passes, arguments, base, ending, import_word, same}
 
 -- what words ask for once all checks are passed
 pub record Command : Type 0 where

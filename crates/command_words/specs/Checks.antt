@@ -1,12 +1,9 @@
 -- The checks of a request, and the first one that it fails (own).
-use Rattle.std.specs.Prelude.{◌≡◌, ◌≢◌, ◌⊎◌, ◌||◌, ◌&&◌, ◌++◌, Bool, true, false, List, [], ◌∷◌, Option, Some, ⊤, codes, is_some, map, nat_eq}
-use Rattle.std.specs.List.{ends_with, list_all, list_any}
+use Rattle.std.specs.Prelude.{◌≡◌, ◌≢◌, ◌⊎◌, ◌++◌, true, false, List, [], ◌∷◌, Option, Some, ⊤, codes, map}
 use Rattle.std.specs.Option.{option_to_list}
-use Rattle.std.specs.Str.{bytes_eq, chars}
 use Rattle.clap.specs.Words.{Text}
-use Rattle.iri_resolve.specs.Reference.{scheme_of}
+use Rattle.input_names.specs.Names.{Import, Inputs, is_among, is_base, is_data_name, is_schema_name}
 use Rattle.iri_resolve.specs.Text.{Lacks}
-use Rattle.rdf_lex.specs.Characters.{has, iri_char}
 use Rattle.command_words.specs.Requests.{Given, Request, Task, map_names, proof_of, to_of}
 
 -- why words are refused, with the name, the word or the IRI that is at fault
@@ -17,30 +14,9 @@ pub data Fault : Type 0 where
   base : Text → Fault
   same : Text → Fault
 
--- the name of a schema file ends in `.shex` (ShExC), `.json` or `.shexj` (ShExJ)
-unfoldable pub is_schema_name : Text → Bool
-is_schema_name name = ends_with nat_eq name (codes ".shex") || (ends_with nat_eq name (codes ".json") || ends_with nat_eq name (codes ".shexj"))
-
--- the name of a data file ends in `.nt` (N-Triples) or `.ttl` (Turtle)
-unfoldable pub is_data_name : Text → Bool
-is_data_name name = ends_with nat_eq name (codes ".nt") || ends_with nat_eq name (codes ".ttl")
-
--- a base has a scheme (RFC 3986, section 3.1), and only characters that an IRI may have unescaped (RDF 1.1 Turtle, section 6.5, IRIREF)
-unfoldable pub is_base : Text → Bool
-is_base text = is_some (scheme_of text) && list_all (has iri_char) (chars text)
-
--- the text is one of these
-abbrev pub is_among : Text → List Text → Bool
-is_among text texts = list_any (λ other. bytes_eq other text) texts
-
 -- the name, if there is one, is none of these
 abbrev pub IsApart : Option Text → List Text → Type 0
 IsApart given names = (name : Text) → given ≡ Some name → is_among name names ≡ false
-
--- an IRI, and the file that holds the document which is imported by it
-pub record Import : Type 0 where
-  pub iri : Text
-  pub file : Text
 
 -- the last `=` of a word divides it, and neither part is empty
 pub record Divides (word : Text) (i : Import) : Type 0 where
@@ -96,14 +72,6 @@ pub data IsGivenFault (g : Given) : Fault → Type 0 where
   import_words : (f : Fault) → HasEndings g → IsImportFault [] g.import_words f → IsGivenFault g f
   schema_base : (imports : List Import) → HasImports g imports → is_base g.schema_base ≡ false → IsGivenFault g (base g.schema_base)
   data_base : (imports : List Import) → HasImports g imports → is_base g.schema_base ≡ true → is_base g.data_base ≡ false → IsGivenFault g (base g.data_base)
-
--- what every command of files is given, with the imports in place of their words
-pub record Inputs : Type 0 where
-  pub schema : Text
-  pub data_file : Text
-  pub schema_base : Text
-  pub data_base : Text
-  pub imports : List Import
 
 -- what is given, where its words give these imports
 abbrev pub inputs_by : Given → List Import → Inputs

@@ -1,10 +1,8 @@
 -- Laws of what words ask for.
-use Rattle.std.specs.Prelude.{◌≡◌, ℕ, List, true}
-use Rattle.std.specs.Str.{IsUtf8}
+use Rattle.std.specs.Prelude.{◌≡◌, List}
 use Rattle.clap.specs.Words.{Text}
-use Rattle.rdf_terms.specs.OneLine.{IsOneLine}
 use Rattle.command_words.specs.Asked.{Command, IsAsked, IsFirstFault}
-use Rattle.command_words.specs.Checks.{Fault, is_base}
+use Rattle.command_words.specs.Checks.{Fault}
 use Rattle.command_words.specs.Drills.{Drill, IsDrill}
 
 -- words ask for one command at most and for one drill at most, and have one first fault at most; words that ask for a command ask for no drill and have no first fault
@@ -14,7 +12,3 @@ pub record AnswersAreOne : Type 0 where
   pub apart : (words : List Text) (c : Command) (f : Fault) → IsAsked words c → ¬ IsFirstFault words f
   pub drills : (words : List Text) (d e : Drill) → IsDrill words d → IsDrill words e → d ≡ e
   pub drill_apart : (words : List Text) (c : Command) (d : Drill) → IsAsked words c → ¬ IsDrill words d
-
--- a text of UTF-8 that passes the check of a base is on one line
-abbrev pub BasesAreLines : Type 0
-BasesAreLines = (text : List ℕ) → IsUtf8 text → is_base text ≡ true → IsOneLine text

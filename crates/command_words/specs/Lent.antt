@@ -1,13 +1,13 @@
 -- The commands and the errors as they are lent from the words.
 use Rattle.std.specs.Prelude.{codes, map, option_map, ⊤}
 use Rattle.clap.specs.Words.{Text}
+use Rattle.input_names.specs.declared.inputs.Inputs.{Inputs as LentInputs}
+use Rattle.input_names.specs.Lent.{import_of}
 use Rattle.command_words.specs.declared.command.Call.{Call as LentCall}
 use Rattle.command_words.specs.declared.command.Call.TheVariants as Calls
 use Rattle.command_words.specs.declared.command.Command.{Command as LentCommand}
 use Rattle.command_words.specs.declared.command.Command.TheVariants as Lent
 use Rattle.command_words.specs.declared.command.Drilling.{Drilling}
-use Rattle.command_words.specs.declared.command.Import.{Import as LentImport}
-use Rattle.command_words.specs.declared.command.Inputs.{Inputs as LentInputs}
 use Rattle.command_words.specs.declared.error.WordsError.{WordsError}
 use Rattle.command_words.specs.declared.error.WordsError.TheVariants as Error
 use Rattle.command_words.specs.declared.requests.Given.{Given as LentGiven}
@@ -15,12 +15,9 @@ use Rattle.command_words.specs.declared.requests.Request.{Request as LentRequest
 use Rattle.command_words.specs.declared.requests.Task.{Task as LentTask}
 use Rattle.command_words.specs.declared.requests.Task.TheVariants as Tasks
 use Rattle.command_words.specs.Requests.{Given, Request, Task, checking, upgrading, validation}
-use Rattle.command_words.specs.Checks.{Fault, Import, Inputs, arguments, base, ending, import_word, same}
+use Rattle.command_words.specs.Checks.{Fault, arguments, base, ending, import_word, same}
 use Rattle.command_words.specs.Asked.{Command, fault_text}
 use Rattle.command_words.specs.Drills.{Call, Drill, of_files, of_items}
-
-abbrev pub import_of : LentImport → Import
-import_of i = record { iri = i.iri.now; file = i.file.now }
 
 abbrev pub task_of : LentTask → Task
 task_of (Tasks.Validate map_file proof budget) = validation map_file.now (option_map (λ s. s.now) proof) budget
@@ -38,15 +35,6 @@ given_of g = record {
 
 abbrev pub request_of : LentRequest → Request
 request_of r = record { given = given_of r.given; task = task_of r.task }
-
-abbrev pub inputs_of : LentInputs → Inputs
-inputs_of i = record {
-  schema = i.schema.now;
-  data_file = i.data.now;
-  schema_base = i.schema_base.now;
-  data_base = i.data_base.now;
-  imports = map import_of i.imports.items;
-}
 
 -- a command of these inputs and this task
 abbrev pub command_with : LentInputs → Task → Command

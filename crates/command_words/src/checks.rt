@@ -1,60 +1,22 @@
-//! The checks of names and bases, and of a whole request.
+//! The checks of what a command is given, and of a whole request.
 
-ghost use Rattle.std.specs.Prelude.{◌≡◌, List, ℕ, IfErr, IfOk, IfSome, IsNone, Some, false, nat_eq, option_map, true};
-ghost use Rattle.std.specs.List.{ends_with, list_all, list_any};
+ghost use Rattle.std.specs.Prelude.{◌≡◌, IfErr, IfOk, IfSome, IsNone, Some, option_map, true};
+ghost use Rattle.std.specs.List.{list_any};
 ghost use Rattle.std.specs.Option.{option_to_list};
-ghost use Rattle.std.specs.Str.{bytes_eq, chars};
-ghost use Rattle.rdf_lex.specs.Characters.{has, iri_char};
+ghost use Rattle.std.specs.Str.{bytes_eq};
+ghost use Rattle.input_names.specs.Names.{is_among, is_base, is_data_name, is_schema_name};
+ghost use Rattle.input_names.specs.Lent.{inputs_of};
 ghost use Rattle.command_words.specs.Asked.{command_by};
-ghost use Rattle.command_words.specs.Checks.{AreInputs, IsApart, IsGivenFault, IsRequestFault, Passes, is_among, is_base, is_data_name, is_schema_name, names_with_proof, other_names};
-ghost use Rattle.command_words.specs.Lent.{Because, command_of, command_with, given_of, inputs_of, request_of, task_of};
+ghost use Rattle.command_words.specs.Checks.{AreInputs, IsApart, IsGivenFault, IsRequestFault, Passes, names_with_proof, other_names};
+ghost use Rattle.command_words.specs.Lent.{Because, command_of, command_with, given_of, request_of, task_of};
 ghost use Rattle.command_words.specs.Requests.{map_names, proof_of, to_of};
 
-use crate::command::{Checking, Command, Import, Inputs, Upgrading, Validation};
+use crate::command::{Checking, Command, Upgrading, Validation};
 use crate::error::WordsError;
 use crate::imports::read_imports;
 use crate::requests::{Given, Request, Task};
-use iri_resolve::split;
-use rdf_lex::is_iri_char;
+use input_names::{Import, Inputs, is_base, is_data_name, is_schema_name};
 use std::alloc::Global;
-
-/// Whether a name ends in this.
-fn ends_in(name: &str, ending: &str) -> bool
-    ensures { result ≡ ends_with nat_eq name.now ending.now }
-{
-    name.ends_with(ending)
-}
-
-/// Whether the name of a schema file says how it is read.
-#[tactic(auto, unfolding(crate::specs::Checks::is_schema_name))]
-pub fn is_schema_name(name: &str) -> bool
-    ensures { result ≡ is_schema_name name.now }
-{
-    ends_in(name, ".shex") || ends_in(name, ".json") || ends_in(name, ".shexj")
-}
-
-/// Whether the name of a data file says how it is read.
-#[tactic(auto, unfolding(crate::specs::Checks::is_data_name))]
-pub fn is_data_name(name: &str) -> bool
-    ensures { result ≡ is_data_name name.now }
-{
-    ends_in(name, ".nt") || ends_in(name, ".ttl")
-}
-
-/// Whether each character may stand in an IRI.
-fn has_iri_chars(text: &str) -> bool
-    ensures { result ≡ list_all (has iri_char) (chars text.now) }
-{
-    text.chars().all(|c| is_iri_char(c))
-}
-
-/// Whether references can be resolved against the text.
-#[tactic(auto, unfolding(crate::specs::Checks::is_base))]
-pub fn is_base(text: &str) -> bool
-    ensures { result ≡ is_base text.now }
-{
-    split(text).scheme.is_some() && has_iri_chars(text)
-}
 
 /// The name of the proof, if there is one.
 fn proof_name<'a>(task: Task<'a>) -> Option<&'a str>

@@ -1,28 +1,6 @@
 //! What words ask for.
 
-/// A file for the document that is imported by an IRI.
-#[derive(Clone, Copy, Debug, PartialEq, Eq)]
-pub struct Import<'a> {
-    /// The IRI.
-    pub iri: &'a str,
-    /// The name of the file.
-    pub file: &'a str,
-}
-
-/// What every command is given.
-#[derive(Debug, Drop, PartialEq, Eq)]
-pub struct Inputs<'a> {
-    /// The name of the schema file.
-    pub schema: &'a str,
-    /// The name of the data file.
-    pub data: &'a str,
-    /// The base of the schema, by default `http://localhost/`.
-    pub schema_base: &'a str,
-    /// The base of the data, by default `http://localhost/`.
-    pub data_base: &'a str,
-    /// The files for imported documents, in the order of the words, each IRI once.
-    pub imports: Vec<Import<'a>>,
-}
+use input_names::Inputs;
 
 /// What `validate` asks for.
 #[derive(Debug, Drop, PartialEq, Eq)]

@@ -1,12 +1,13 @@
 //! The import words.
 
 ghost use Rattle.std.specs.Prelude.{[], IfErr, IfOk, IfSome, IsNone, map};
-ghost use Rattle.command_words.specs.Checks.{AreImports, Divides, Import as Importing, IsImportFault};
-ghost use Rattle.command_words.specs.Lent.{Because, import_of};
+ghost use Rattle.input_names.specs.Names.{Import as Importing};
+ghost use Rattle.input_names.specs.Lent.{import_of};
+ghost use Rattle.command_words.specs.Checks.{AreImports, Divides, IsImportFault};
+ghost use Rattle.command_words.specs.Lent.{Because};
 
-use crate::checks::is_schema_name;
-use crate::command::Import;
 use crate::error::WordsError;
+use input_names::{Import, is_schema_name};
 use std::alloc::Global;
 use std::collections::BTreeSet;
 

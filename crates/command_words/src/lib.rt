@@ -13,9 +13,9 @@ pub mod numbers;
 mod requests;
 mod words;
 
-pub use command::{Call, Checking, Command, Drilling, Import, Inputs, Upgrading, Validation};
+pub use command::{Call, Checking, Command, Drilling, Upgrading, Validation};
 pub use error::WordsError;
-pub use laws::{answers_are_one, bases_are_lines};
+pub use laws::answers_are_one;
 pub use numbers::DEFAULT_BUDGET;
 pub use requests::{DEFAULT_BASE, Given, read_given};
 pub use words::read;

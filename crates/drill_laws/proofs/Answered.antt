@@ -7,7 +7,7 @@ use Rattle.rdf_terms.specs.declared.terms.Triple.{Triple}
 use Rattle.demand.specs.Demand.{AreTooMany}
 use Rattle.schema_files.specs.declared.error.SchemaFile.{SchemaFile}
 use Rattle.schema_files.specs.declared.error.SchemaFile.TheVariants.{Root}
-use Rattle.schema_files.specs.Files.{IsFile, IsTooLong}
+use Rattle.shex_io.specs.Fetching.{IsFile, IsTooLong}
 use Rattle.schema_tree.specs.Laws.{PlainShapesAreNarrow, WidthIsOne}
 use Rattle.schema_tree.specs.Needs.{IsDecided}
 use Rattle.shape_map.specs.declared.error.MapError.{MapError}

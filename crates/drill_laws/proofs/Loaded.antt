@@ -56,7 +56,8 @@ all_loaded terms graph (t ∷ ts) =
     (new, grown, triple n adds is a rest)
 
 -- how many terms and triples there are then
-pub loaded_few : (old new : List Term) (graph grown : List Triple) (ts : List TermTriple) → Loads old graph ts new grown → (length new ≤ length old + 3 * length ts) × (length grown ≤ length graph + length ts)
+pub loaded_few : (old new : List Term) (graph grown : List Triple) (ts : List TermTriple) → Loads old graph ts new grown →
+    (length new ≤ length old + 3 * length ts) × (length grown ≤ length graph + length ts)
 loaded_few old new graph grown ts nothing = (omega arith, omega arith)
 loaded_few old new graph grown ts (triple {mid = mid} {grown = g} {t = t} {ts = us} n adds is a rest) =
     let (terms, triples) = loaded_few mid new g grown us rest in

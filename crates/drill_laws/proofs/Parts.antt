@@ -92,7 +92,8 @@ module _ (item : Label) (next tag : List ℕ) (tags : Constraint) where
   IsHeadFirst p x = declares x ≡ true → p ≡ 0
 
   declared_first : (p : ℕ) (l : Label) → IsAt item_parts p (Parts.Declares l) → p ≡ 0
-  declared_first p l at = each_part IsHeadFirst (λ e. refl) (λ e. absurd (no e)) (λ e. absurd (no e)) (λ e. absurd (no e)) (λ e. absurd (no e)) (λ e. absurd (no e)) (λ e. absurd (no e)) p (Parts.Declares l) at refl
+  declared_first p l at = each_part IsHeadFirst (λ e. refl) (λ e. absurd (no e)) (λ e. absurd (no e)) (λ e. absurd (no e)) (λ e. absurd (no e))
+      (λ e. absurd (no e)) (λ e. absurd (no e)) p (Parts.Declares l) at refl
     where
       no : false ≡ true → ⊥
       no e = cc
@@ -145,7 +146,8 @@ module _ (item : Label) (next tag : List ℕ) (tags : Constraint) where
 
   are_below : (p : ℕ) (x : Part) → IsAt item_parts p x → IsBelow p x
   are_below p x at = each_part IsBelow
-      (omega arith, λ q h. absurd h) (omega arith, λ q h. absurd h) (omega arith, body_below) (omega arith, λ q h. absurd h) (omega arith, ref_below) (omega arith, λ q h. absurd h) (omega arith, λ q h. absurd h) p x at
+      (omega arith, λ q h. absurd h) (omega arith, λ q h. absurd h) (omega arith, body_below) (omega arith, λ q h. absurd h) (omega arith, ref_below)
+      (omega arith, λ q h. absurd h) (omega arith, λ q h. absurd h) p x at
 
   pub no_deeper : (p e : ℕ) → IsAsDeepAs item_parts p e → e ≤ get_or item_depths p 0
   no_deeper p _ (alone {x = x} at) = (are_below p x at).0
@@ -213,7 +215,8 @@ module _ (item : Label) (next tag : List ℕ) (tags : Constraint) where
 
   are_roomy : (p : ℕ) (x : Part) → IsAt item_parts p x → AreRoomy p x
   are_roomy p x at = each_part AreRoomy
-      (omega arith, omega arith) (omega arith, omega arith) (omega arith, omega arith) (omega arith, omega arith) (omega arith, omega arith) (omega arith, omega arith) (omega arith, omega arith) p x at
+      (omega arith, omega arith) (omega arith, omega arith) (omega arith, omega arith) (omega arith, omega arith) (omega arith, omega arith)
+      (omega arith, omega arith) (omega arith, omega arith) p x at
 
   mutual
     has_few : (p n : ℕ) → HasOccurrences item_parts p n → n ≤ get_or item_depths p 0

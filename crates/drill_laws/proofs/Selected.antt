@@ -142,7 +142,8 @@ module _ (tags : Constraint) (graph : List Triple) (old : List Term) (few : leng
 
   -- each association is of a node of the table
   pub association_below : (xs : List Association) (terms : List Term) → Resolves s graph old (map_item ∷ []) (selected xs terms) → (a : Association) → Contains xs a → a.node.0 < length old
-  association_below xs terms ends a c = by (opened s graph old [] map_item [] (selected xs terms) (subst (λ ts. Ends s graph ts [] (map_item ∷ []) (selected xs terms)) (same_table old terms ends.takes) ends.ends))
+  association_below xs terms ends a c =
+      by (opened s graph old [] map_item [] (selected xs terms) (subst (λ ts. Ends s graph ts [] (map_item ∷ []) (selected xs terms)) (same_table old terms ends.takes) ends.ends))
     where
       made : (ys : List Association) → Selects s graph old map_item ys → Contains ys a → a.node.0 < length old
       made ys x h =
@@ -151,6 +152,7 @@ module _ (tags : Constraint) (graph : List Triple) (old : List Term) (few : leng
           let same : n.0 ≡ a.node.0 = ap (λ (z : Association). z.node.0) e in
           omega (arith, l, same)
 
-      by : ((ys : List Association) × Selects s graph old map_item ys × Ends s graph old ([] ++ ys) [] (selected xs terms)) ⊎ ((e : MapError) × (selected xs terms ≡ refused e) × Refuses s graph old [] map_item e) → a.node.0 < length old
+      by : ((ys : List Association) × Selects s graph old map_item ys × Ends s graph old ([] ++ ys) [] (selected xs terms)) ⊎
+          ((e : MapError) × (selected xs terms ≡ refused e) × Refuses s graph old [] map_item e) → a.node.0 < length old
       by (inl (ys, x, rest)) = made ys x (subst (λ zs. Contains zs a) (same_associations xs ys terms old (closed s graph old ys (selected xs terms) rest)) c)
       by (inr (e, bad, h)) = absurd (let apart : ⊥ = cc in apart)

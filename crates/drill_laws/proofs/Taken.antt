@@ -20,7 +20,7 @@ use Rattle.data_reader.specs.Documents.{context_in}
 use Rattle.schema_documents.specs.Tree.{Document}
 use Rattle.schema_files.specs.declared.error.SchemaFile.TheVariants.{Root}
 use Rattle.schema_files.specs.Sources.{AreSources, HoldsSource, Source, root}
-use Rattle.schema_files.specs.Files.{IsFile}
+use Rattle.shex_io.specs.Fetching.{IsFile}
 use Rattle.shex_inputs.specs.Held.{AreFilesOf, Held, HoldsData, IsHolding, IsSchemaOf, IsTaken, predicates_in}
 use Rattle.shex_inputs.specs.Named.{asked_of}
 use Rattle.shex_inputs.proofs.Counted.{of_table}
@@ -134,7 +134,8 @@ holds_data law n le = record { bytes = graph_text n; file = data_file n le; spel
 digests : (n : ℕ) (terms : List Term) (graph : List Triple) → AreFilesOf (drill_source ∷ []) (graph_text n) (held_with n terms graph).files
 digests n terms graph = record { schemas = refl; graph = refl }
 
-pub taken : SchemaIsDocument → GraphIsDocument → (n : ℕ) → n ≤ 100000 → (terms : List Term) (graph : List Triple) → IsDrill n terms graph → IsTaken (drill_told n) drill_inputs (held_with n terms graph)
+pub taken : SchemaIsDocument → GraphIsDocument → (n : ℕ) → n ≤ 100000 → (terms : List Term) (graph : List Triple) → IsDrill n terms graph →
+    IsTaken (drill_told n) drill_inputs (held_with n terms graph)
 unfolding holds_data
 taken schema data_law n le terms graph d = record {
   sources = drill_source ∷ [];

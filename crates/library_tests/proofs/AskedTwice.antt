@@ -9,7 +9,8 @@ use Rattle.typing_session.specs.Questions.{Keeps}
 use Rattle.typing_session.specs.Seen.{Seen, with_graph, with_kept}
 
 -- verdicts on all pairs that the question reaches are kept
-pub kept_then : (n : TermId) (e : ExprId) (old new : Seen) → new ≡ with_kept new.kept old → Keeps old.schema old.graph n e old.kept new.kept → (q : Pair) → Reaches new.schema new.graph n e q → Contains new.kept q
+pub kept_then : (n : TermId) (e : ExprId) (old new : Seen) → new ≡ with_kept new.kept old → Keeps old.schema old.graph n e old.kept new.kept → (q : Pair) →
+    Reaches new.schema new.graph n e q → Contains new.kept q
 kept_then n e old new alone keeps q reaches = (keeps q).1 (inr (subst (λ (x : Seen). Reaches x.schema x.graph n e q) alone reaches))
 
 -- the terms are as they were

@@ -41,6 +41,7 @@ module _ (t : Pair → Bool) where
 pub all_kept : (s : Schema) (terms : List Term) (g : List Triple) (f : List ℕ) (budget : ℕ) (known : Known) (pairs : List Pair) → HoldNeeds s g pairs → AreKept s terms g f budget known pairs
 all_kept s terms g f budget known pairs closed p q c need = inl (closed p q c need)
 
-pub some_kept : (s : Schema) (terms : List Term) (g : List Triple) (f : List ℕ) (budget : ℕ) (known : Known) (all : List Pair) (t : Pair → Bool) → HoldNeeds s g all → AreVerdictsOn s terms g f budget all known →
+pub some_kept : (s : Schema) (terms : List Term) (g : List Triple) (f : List ℕ) (budget : ℕ) (known : Known) (all : List Pair) (t : Pair → Bool) →
+    HoldNeeds s g all → AreVerdictsOn s terms g f budget all known →
     AreKept s terms g f budget known (filter t all)
 some_kept s terms g f budget known all t closed are p q c need = inr (λ v is. are.0 q v (closed p q (in_filter t all p c).0 need) is)

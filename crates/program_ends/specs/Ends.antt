@@ -29,5 +29,6 @@ pub data EndsBy (Faulty Refused Failed : List ℕ → Type 0) (Answers : ℕ →
   faulty : (line : List ℕ) → Faulty line → AreLeft files → IsQuiet out → PrintsTo err line 2 status → EndsBy Faulty Refused Failed Answers files out err status
   answered : (text notes : List ℕ) (wanted : ℕ) → Answers wanted text notes → AreLeft files → PrintsBoth out err text notes wanted status → EndsBy Faulty Refused Failed Answers files out err status
   refused : (line : List ℕ) → Refused line → AreLeft files → IsQuiet out → PrintsTo err line 3 status → EndsBy Faulty Refused Failed Answers files out err status
-  failed : (line : List ℕ) → Failed line → files.told_after ≡ files.told → files.faults ≤ files.faults_after → IsQuiet out → PrintsTo err line 5 status → EndsBy Faulty Refused Failed Answers files out err status
+  failed : (line : List ℕ) → Failed line → files.told_after ≡ files.told → files.faults ≤ files.faults_after → IsQuiet out → PrintsTo err line 5 status →
+      EndsBy Faulty Refused Failed Answers files out err status
   wanting : AreLeft files → IsQuiet out → IsQuiet err → status ≡ 8 → EndsBy Faulty Refused Failed Answers files out err status

@@ -1,9 +1,12 @@
 //! How a program ends once it is known what is to be printed: with the status that is due, or with 7 or 8 where printing stopped.
 #![tactic(auto)]
 
+mod lines;
+
 ghost use Rattle.std.specs.Prelude.{◌≡◌, ◌<◌, IfOk, List, string_bytes, ℕ};
 ghost use Rattle.program_ends.specs.Printing.{Prints, PrintsBoth, sink_seen};
 
+pub use lines::error_line;
 use shex_io::{Sink, SinkError, put_all};
 use std::alloc::AllocError;
 

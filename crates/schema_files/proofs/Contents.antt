@@ -1,7 +1,7 @@
 -- What a file holds is one thing, where contents are told.
 use Rattle.std.proofs.Common.{◌≡◌, ◌≤◌, ◌<◌, ap, ℕ, List, arith, length}
 use Rattle.std.specs.Prelude.{Option, Some, None}
-use Rattle.schema_files.specs.Files.{IsFile, IsTooLong, max_file}
+use Rattle.shex_io.specs.Fetching.{IsFile, IsTooLong, max_file}
 
 module _ (contents : List ℕ → Option (List ℕ)) where
   pub same_bytes : (name a b : List ℕ) → contents name ≡ Some a → contents name ≡ Some b → a ≡ b

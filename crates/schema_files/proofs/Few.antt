@@ -14,7 +14,7 @@ use Rattle.lists.proofs.Distinct.{distinct_items}
 use Rattle.lists.proofs.Members.{in_one, is_first, is_later, item_there}
 use Rattle.lists.specs.Equality.{decided_equiv}
 use Rattle.shex_io.specs.Files.{Told}
-use Rattle.command_words.specs.Checks.{Import as Word}
+use Rattle.input_names.specs.Names.{Import as Word}
 use Rattle.schema_files.specs.declared.error.SchemaFile.{SchemaFile}
 use Rattle.schema_files.specs.declared.error.SchemaFile.TheVariants.{Imported}
 use Rattle.schema_files.specs.Named.{Asked, file_for, name_of}

@@ -11,7 +11,7 @@ use Rattle.std.proofs.lemmas.List.Folds.{find-append, list_any-append}
 use Rattle.std.proofs.lemmas.Slice.Eq.{bytes_eq-Decides}
 use Rattle.std.proofs.Math.Seq.{take-length}
 use Rattle.lists.proofs.Members.{items_left}
-use Rattle.command_words.specs.Checks.{is_among}
+use Rattle.input_names.specs.Names.{is_among}
 use Rattle.schema_files.specs.declared.error.SchemaFile.{SchemaFile}
 use Rattle.schema_files.specs.Held.{AreFollowed, ComesTo, imports_at, imports_before}
 use Rattle.schema_files.specs.Named.{Asked, file_for, name_of}
@@ -114,7 +114,9 @@ module _ (ss : List Source) (at : ℕ) (s : Source) (rest : List Source) (here :
     one_more =
         let front = imports_of (take at ss) in
         let within : number < length (imports_at ss at) = omega (arith, inside, counted) in
-        let same : get_or (imports_at ss at) number (import_by s.file iri) ≡ import_by s.file iri = ap (λ (xs : List Import). get_or xs number (import_by s.file iri)) at_own ∙ get_or-map (import_by s.file) s.read.document.imports number iri (import_by s.file iri) inside ∙ ap (import_by s.file) (sym is) in
+        let same : get_or (imports_at ss at) number (import_by s.file iri) ≡ import_by s.file iri =
+        ap (λ (xs : List Import). get_or xs number (import_by s.file iri)) at_own
+        ∙ get_or-map (import_by s.file) s.read.document.imports number iri (import_by s.file iri) inside ∙ ap (import_by s.file) (sym is) in
         ap (λ (xs : List Import). front ++ xs) (take_more (imports_at ss at) number (import_by s.file iri) within ∙ ap (λ i. take number (imports_at ss at) ++ i ∷ []) same)
         ∙ sym (append_assoc front (take number (imports_at ss at)) (import_by s.file iri ∷ []))
 

@@ -1,5 +1,4 @@
 mod Words
-mod Fetched
 mod Following
 pub mod Contents
 mod Order

@@ -12,7 +12,7 @@ use Rattle.schema_files.specs.declared.error.FilesRefusal.{FilesRefusal}
 use Rattle.schema_files.specs.declared.error.FilesRefusal.TheVariants as refusals
 use Rattle.schema_files.specs.declared.error.SchemaFile.{SchemaFile}
 use Rattle.schema_files.specs.declared.error.SchemaFile.TheVariants.{Root}
-use Rattle.schema_files.specs.Files.{IsTooLong}
+use Rattle.shex_io.specs.Fetching.{IsTooLong}
 use Rattle.schema_files.specs.Laws.{ReadIsNotLeft, RefusedIsOne, SourcesAreOne}
 use Rattle.schema_files.specs.Named.{Asked, file_for, file_of, name_of}
 use Rattle.schema_files.specs.Refusals.{IsAbsent, IsNext, IsNoDocument, IsRefused, LacksWord, Reaches, imported, root as next_root}
@@ -64,7 +64,8 @@ module _ (contents : List ℕ → Option (List ℕ)) (a : Asked) (one : SchemasA
 
   -- ---- a file holds one document
 
-  one_held : (file : SchemaFile) (base : List ℕ) (r q : Read) (d e : Digest256) → HoldsSource told a (source_in file base r d) → HoldsSource told a (source_in file base q e) → source_in file base r d ≡ source_in file base q e
+  one_held : (file : SchemaFile) (base : List ℕ) (r q : Read) (d e : Digest256) → HoldsSource told a (source_in file base r d) →
+      HoldsSource told a (source_in file base q e) → source_in file base r d ≡ source_in file base q e
   one_held file base r q d e h k =
       let format = format_of (name_of a file) in
       let bytes : k.bytes ≡ h.bytes = same_bytes contents (name_of a file) k.bytes h.bytes k.is_file.held h.is_file.held in
@@ -72,7 +73,8 @@ module _ (contents : List ℕ → Option (List ℕ)) (a : Asked) (one : SchemasA
       let digests : d.0 ≡ e.0 = h.is_digest ∙ ap sha256 (sym bytes) ∙ sym k.is_digest in
       λ i. source_in file base (reads i) (record { 0 = digests i })
 
-  moved : (file other : SchemaFile) (base final : List ℕ) (r : Read) (d : Digest256) → file ≡ other → base ≡ final → HoldsSource told a (source_in file base r d) → HoldsSource told a (source_in other final r d)
+  moved : (file other : SchemaFile) (base final : List ℕ) (r : Read) (d : Digest256) → file ≡ other → base ≡ final →
+      HoldsSource told a (source_in file base r d) → HoldsSource told a (source_in other final r d)
   moved file other base final r d e f h = subst (λ b. HoldsSource told a (source_in other b r d)) f (subst (λ n. HoldsSource told a (source_in n base r d)) e h)
 
   same_source :
@@ -101,7 +103,8 @@ module _ (contents : List ℕ → Option (List ℕ)) (a : Asked) (one : SchemasA
 
   follows_one : (ss : List Source) (s t : Source) → Follows ss s → Follows ss t → s ≡ t
   follows_one ss s t f g =
-      f.same ∙ same_source f.file g.file f.by.iri g.by.iri f.read g.read f.digest g.digest (same_file ss s f g.by g.file g.is_next g.named) (ap (λ (j : Import). j.iri) (same_import ss s f g.by g.is_next)) f.held g.held
+      f.same ∙ same_source f.file g.file f.by.iri g.by.iri f.read g.read f.digest g.digest (same_file ss s f g.by g.file g.is_next g.named)
+      (ap (λ (j : Import). j.iri) (same_import ss s f g.by g.is_next)) f.held g.held
       ∙ sym g.same
 
   behind : (ts : List Source) → AreRead told a ts → (ss : List Source) (s : Source) (more : List Source) → 0 < length ss → ts ≡ ss ++ s ∷ more → Follows ss s

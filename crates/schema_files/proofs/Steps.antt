@@ -9,8 +9,8 @@ use Rattle.std.proofs.lemmas.List.Quantifiers.{position-Some}
 use Rattle.std.proofs.lemmas.Slice.Eq.{bytes_eq-Decides}
 use Rattle.iri_resolve.specs.Reference.{scheme_of}
 use Rattle.lists.proofs.Members.{items_left}
-use Rattle.command_words.specs.Checks.{Import as Word, is_among}
-use Rattle.command_words.specs.Lent.{import_of}
+use Rattle.input_names.specs.Names.{Import as Word, is_among}
+use Rattle.input_names.specs.Lent.{import_of}
 use Rattle.schema_documents.specs.Ordered.{IsOrderedDocument}
 use Rattle.schema_documents.specs.Tree.{document_of}
 use Rattle.schema_documents.specs.declared.error.SchemaError.{SchemaError}
@@ -29,7 +29,7 @@ use Rattle.schema_files.specs.declared.error.SchemaFile.TheVariants.{Imported, R
 use Rattle.schema_files.specs.declared.asked.Asked.{Asked as LentAsked}
 use Rattle.schema_files.specs.declared.held.Held.{Held}
 use Rattle.schema_files.specs.declared.reading.Documents.{Documents}
-use Rattle.schema_files.specs.Files.{IsFile}
+use Rattle.shex_io.specs.Fetching.{IsFile}
 use Rattle.schema_files.specs.Held.{AreAll, AreFollowed, AreFollowedTo, ComesTo, WereRead, and_next, asked_of, digests_of, held_document, imports_at, imports_before, source_of, sources_of}
 use Rattle.schema_files.specs.Named.{Asked, base_for, file_for, name_of}
 use Rattle.schema_files.specs.Refusals.{Explains, IsNext, LacksWord, imported}
@@ -84,7 +84,8 @@ module _ (told : Told) (a : Asked) where
       })
 
   module _ (ss : List Source) (i : Import) (read : AreRead told a ss) (comes : ComesTo a ss i) where
-    pub lacking_stops : (by : SchemaFile) (iri : List ℕ) (stop : FilesError) → i ≡ record { by = by; iri = encode_utf8_all iri } → file_for a.words i.iri ≡ None → (stop ≡ errors.Memory) ⊎ (stop ≡ errors.Refused (refusals.Import by iri)) → Explains told a stop
+    pub lacking_stops : (by : SchemaFile) (iri : List ℕ) (stop : FilesError) → i ≡ record { by = by; iri = encode_utf8_all iri } →
+        file_for a.words i.iri ≡ None → (stop ≡ errors.Memory) ⊎ (stop ≡ errors.Refused (refusals.Import by iri)) → Explains told a stop
     lacking_stops by iri stop same none (inl is) = subst (λ s. Explains told a s) (sym is) tt
     lacking_stops by iri stop same none (inr is) =
         let l : LacksWord told a i = record { sources = ss; are_read = read; next = comes_next a ss i comes (ap (is_read a ss) none); missing = none } in
@@ -131,14 +132,17 @@ module _ (a : Asked) (held : List Held) (at : ℕ) (h : Held) (inside : at < len
   pub number_inside : (number : ℕ) → number < length (imports_at (sources_of a held) at) → number < length h.parsed.doc.imports
   number_inside number l = omega (arith, l, imports_counted)
 
-  module _ (number : ℕ) (l : number < length (imports_at (sources_of a held) at)) (iri : List ℕ) (got : iri ≡ get_or h.parsed.doc.imports number iri) (followed : AreFollowed a (sources_of a held) (imports_before (sources_of a held) at number)) where
+  module _ (number : ℕ) (l : number < length (imports_at (sources_of a held) at)) (iri : List ℕ) (got : iri ≡ get_or h.parsed.doc.imports number iri)
+      (followed : AreFollowed a (sources_of a held) (imports_before (sources_of a held) at number)) where
     pub comes_here : ComesTo a (sources_of a held) (record { by = h.file; iri = encode_utf8_all iri })
     comes_here = comes_to (sources_of a held) at (source_of a h) (drop (at + 1) (sources_of a held)) here number iri (number_inside number l) got a followed
 
-    followed_with : (more : List Source) → is_read a (sources_of a held ++ more) (file_for a.words (encode_utf8_all iri)) ≡ true → AreFollowed a (sources_of a held ++ more) (imports_before (sources_of a held ++ more) at (number + 1))
+    followed_with : (more : List Source) → is_read a (sources_of a held ++ more) (file_for a.words (encode_utf8_all iri)) ≡ true →
+        AreFollowed a (sources_of a held ++ more) (imports_before (sources_of a held ++ more) at (number + 1))
     followed_with more e = followed_on (sources_of a held) at (source_of a h) (drop (at + 1) (sources_of a held)) here a more number iri (number_inside number l) got followed e
 
-    pub followed_here : (o : Option Held) → is_read a (sources_of a (and_next held o)) (file_for a.words (encode_utf8_all iri)) ≡ true → AreFollowed a (sources_of a (and_next held o)) (imports_before (sources_of a (and_next held o)) at (number + 1))
+    pub followed_here : (o : Option Held) → is_read a (sources_of a (and_next held o)) (file_for a.words (encode_utf8_all iri)) ≡ true →
+        AreFollowed a (sources_of a (and_next held o)) (imports_before (sources_of a (and_next held o)) at (number + 1))
     followed_here None e =
         subst (λ (ss : List Source). AreFollowed a ss (imports_before ss at (number + 1))) (append-nil (sources_of a held))
         (followed_with [] (ap (λ (ss : List Source). is_read a ss (file_for a.words (encode_utf8_all iri))) (append-nil (sources_of a held)) ∙ e))
@@ -152,7 +156,8 @@ grown_by held (Some h) = (h ∷ [], refl)
 
 -- all imports of the document at a place are followed, and so all before the next document
 pub passed_here :
-    (a : Asked) (held now : List Held) (at number count : ℕ) → at < length held → ((more : List Held) × (now ≡ held ++ more)) → length (imports_at (sources_of a held) at) ≡ count → count ≤ number → number ≤ count →
+    (a : Asked) (held now : List Held) (at number count : ℕ) → at < length held → ((more : List Held) × (now ≡ held ++ more)) →
+    length (imports_at (sources_of a held) at) ≡ count → count ≤ number → number ≤ count →
     AreFollowed a (sources_of a now) (imports_before (sources_of a now) at number) → AreFollowed a (sources_of a now) (imports_before (sources_of a now) (at + 1) 0)
 passed_here a [] now at number count inside grown counted_is low high followed = absurd (omega (arith, inside))
 passed_here a (k ∷ ks) now at number count inside (more, e) counted_is low high followed =
@@ -168,8 +173,10 @@ passed_here a (k ∷ ks) now at number count inside (more, e) counted_is low hig
         let new = sources_of a more in
         let rest = drop (at + 1) old in
         let there : drop at old ≡ source_of a h ∷ rest = here a (k ∷ ks) at h inside is in
-        let still : drop at (old ++ new) ≡ source_of a h ∷ (rest ++ new) = drop-append-le at old new (omega (arith, inside, length-map (k ∷ ks) (source_of a))) ∙ ap (λ (us : List Source). us ++ new) there in
-        let same : number ≡ length (imports_at (old ++ new) at) = omega (arith, low, high, counted_is, counted old at (source_of a h) rest there, counted (old ++ new) at (source_of a h) (rest ++ new) still) in
+        let still : drop at (old ++ new) ≡ source_of a h ∷ (rest ++ new) = drop-append-le at old new (omega (arith, inside, length-map (k ∷ ks) (source_of a)))
+        ∙ ap (λ (us : List Source). us ++ new) there in
+        let same : number ≡ length (imports_at (old ++ new) at) =
+        omega (arith, low, high, counted_is, counted old at (source_of a h) rest there, counted (old ++ new) at (source_of a h) (rest ++ new) still) in
         passed (old ++ new) at (source_of a h) (rest ++ new) still a (subst (λ n. AreFollowed a (old ++ new) (imports_before (old ++ new) at n)) same followed)
 
 -- ---- the loop over the documents
@@ -191,7 +198,8 @@ pub first_read :
     WereRead other asked items
 first_read told other asked h items is held items_are same =
     let a = asked_of asked in
-    let source : source_of a h ≡ record { file = Root; base = a.base; read = read_of h.parsed; digest = h.digest } = λ i. record { file = is i; base = base_for a (is i); read = read_of h.parsed; digest = h.digest } in
+    let source : source_of a h ≡ record { file = Root; base = a.base; read = read_of h.parsed; digest = h.digest } =
+    λ i. record { file = is i; base = base_for a (is i); read = read_of h.parsed; digest = h.digest } in
     let one : WereRead told asked (h ∷ []) = subst (λ s. AreRead told a (s ∷ [])) (sym source) (root (read_of h.parsed) h.digest (subst (λ s. HoldsSource told a s) source held)) in
     subst (λ t. WereRead t asked items) (sym same) (subst (λ hs. WereRead told asked hs) (sym items_are) one)
 

@@ -4,8 +4,8 @@ use Rattle.std.specs.Prelude.{nat_lt, Option, Some, None, option_map}
 use Rattle.std.specs.Str.{bytes_eq}
 use Rattle.std.specs.List.{position, position_or_len}
 use Rattle.std.proofs.lemmas.List.{get_or-map, length-map}
-use Rattle.command_words.specs.Lent.{import_of}
-use Rattle.command_words.specs.declared.command.Import.{Import as Lent}
+use Rattle.input_names.specs.Lent.{import_of}
+use Rattle.input_names.specs.declared.inputs.Import.{Import as Lent}
 use Rattle.schema_files.specs.declared.error.SchemaFile.TheVariants.{Imported}
 use Rattle.schema_files.specs.Named.{file_for}
 
@@ -26,6 +26,7 @@ seen_twice f g xs n x d inside is =
     ap (λ y. g (f y)) is ∙ ap g (sym (get_or-map f xs n x (f x) inside)) ∙ sym (get_or-map g (map f xs) n (f x) d within)
 
 -- the number of the first word with an IRI, by the words as they are lent
-pub numbered : (words : List Lent) (iri bytes : List ℕ) (o : Option ℕ) → iri ≡ bytes → o ≡ position (λ w. bytes_eq w.iri.now iri) words → option_map (λ n. Imported n) o ≡ file_for (map import_of words) bytes
+pub numbered : (words : List Lent) (iri bytes : List ℕ) (o : Option ℕ) → iri ≡ bytes → o ≡ position (λ w. bytes_eq w.iri.now iri) words →
+    option_map (λ n. Imported n) o ≡ file_for (map import_of words) bytes
 numbered words iri bytes o same is =
     ap (option_map (λ n. Imported n)) (is ∙ ap (λ t. position (λ w. bytes_eq w.iri.now t) words) same ∙ sym (position_in_map import_of (λ w. bytes_eq w.iri bytes) words))

@@ -1,6 +1,6 @@
 -- What the code holds of the documents that were read.
 use Rattle.std.specs.Prelude.{ℕ, List, [], ◌∷◌, ◌++◌, ◌≡◌, All, Option, Some, None, drop, map, take, true}
-use Rattle.command_words.specs.Lent.{import_of}
+use Rattle.input_names.specs.Lent.{import_of}
 use Rattle.proof_file.specs.declared.head.Digest256.{Digest256}
 use Rattle.schema_documents.specs.Tree.{Document, document_of}
 use Rattle.schema_reader.specs.Documents.{read_of}

@@ -1,4 +1,3 @@
-pub mod Files
 pub mod Named
 pub mod Sources
 pub mod Held

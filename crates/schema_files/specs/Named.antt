@@ -2,7 +2,7 @@
 use Rattle.std.specs.Prelude.{ℕ, List, [], Option, get_or, map, option_map}
 use Rattle.std.specs.List.{position}
 use Rattle.std.specs.Str.{bytes_eq}
-use Rattle.command_words.specs.Checks.{Import}
+use Rattle.input_names.specs.Names.{Import}
 use Rattle.schema_files.specs.declared.error.SchemaFile.{SchemaFile}
 use Rattle.schema_files.specs.declared.error.SchemaFile.TheVariants.{Root, Imported}
 use Rattle.schema_files.specs.declared.error.FilesRefusal.{FilesRefusal}

@@ -12,7 +12,7 @@ use Rattle.schema_files.specs.declared.error.FilesRefusal.{FilesRefusal}
 use Rattle.schema_files.specs.declared.error.FilesRefusal.TheVariants as refusals
 use Rattle.schema_files.specs.declared.error.SchemaFile.{SchemaFile}
 use Rattle.schema_files.specs.declared.error.SchemaFile.TheVariants.{Root}
-use Rattle.schema_files.specs.Files.{HasFailed, IsFile, IsTooLong}
+use Rattle.shex_io.specs.Fetching.{HasFailed, IsFile, IsTooLong}
 use Rattle.schema_files.specs.Named.{Asked, file_for, name_of}
 use Rattle.schema_files.specs.Sources.{AreRead, Import, Source, next_import}
 

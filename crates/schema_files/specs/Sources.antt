@@ -1,7 +1,7 @@
 -- The documents of a schema, in the order in which they are read.
 use Rattle.std.specs.Prelude.{ℕ, Bool, false, List, [], ◌∷◌, ◌++◌, ◌≡◌, Option, Some, None, encode_utf8_all, map, not, option_map, slice_get}
 use Rattle.std.specs.List.{find, flat_map}
-use Rattle.command_words.specs.Checks.{is_among}
+use Rattle.input_names.specs.Names.{is_among}
 use Rattle.proof_file.specs.declared.head.Digest256.{Digest256}
 use Rattle.schema_documents.specs.Tree.{Document, document_of}
 use Rattle.schema_reader.specs.Documents.{IsSchema, Read}
@@ -13,7 +13,7 @@ use Rattle.schema_files.specs.declared.error.SchemaFile.{SchemaFile}
 use Rattle.schema_files.specs.declared.error.SchemaFile.TheVariants.{Root}
 use Rattle.schema_files.specs.declared.reading.Documents.{Documents}
 use Rattle.schema_files.specs.declared.reading.FileDigests.{FileDigests}
-use Rattle.schema_files.specs.Files.{IsFile}
+use Rattle.shex_io.specs.Fetching.{IsFile}
 use Rattle.schema_files.specs.Named.{Asked, file_for, name_of}
 
 -- a document that was read: its file, the base under which it was read, what it is with the base and the prefixes at its end, and the

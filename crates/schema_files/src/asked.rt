@@ -3,11 +3,11 @@
 ghost use Rattle.std.specs.Prelude.{◌≡◌, map};
 ghost use Rattle.std.specs.List.{position};
 ghost use Rattle.std.specs.Str.{bytes_eq};
-ghost use Rattle.command_words.specs.Lent.{import_of};
+ghost use Rattle.input_names.specs.Lent.{import_of};
 ghost use Rattle.schema_files.specs.Named.{file_named};
 
 use crate::error::SchemaFile;
-use command_words::Import;
+use input_names::Import;
 use rdf_terms::text::Text;
 
 /// What is asked of the files: the schema and all that it imports.

@@ -3,7 +3,7 @@
 ghost use Rattle.std.specs.Prelude.{◌≡◌, IfErr, IfOk, IsSome, OnOk};
 ghost use Rattle.iri_resolve.specs.Reference.{scheme_of};
 ghost use Rattle.shex_io.specs.Files.{Told};
-ghost use Rattle.schema_files.specs.Files.{IsFile};
+ghost use Rattle.shex_io.specs.Fetching.{IsFile};
 ghost use Rattle.schema_files.specs.Held.{asked_of, source_of};
 ghost use Rattle.schema_files.specs.Named.{base_for, name_of};
 ghost use Rattle.schema_files.specs.Refusals.{Explains, FaultsAs, IsNext, Reaches};
@@ -11,12 +11,12 @@ ghost use Rattle.schema_files.specs.Sources.{HoldsSource};
 ghost use Rattle.schema_files.specs.Stops.{IsRefusalOf};
 
 use crate::asked::Asked;
+use crate::digests::digest_of;
 use crate::error::{FilesError, FilesRefusal, SchemaFile};
-use crate::file_bytes::{digest_of, fetch};
 use crate::held::Held;
 use schema_documents::SchemaError;
 use schema_reader::Format;
-use shex_io::{FetchError, Files};
+use shex_io::{FetchError, Files, fetch};
 use std::alloc::Global;
 
 /// The bytes of a file.

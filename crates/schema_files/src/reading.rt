@@ -1,7 +1,7 @@
 //! The documents of a schema.
 
 ghost use Rattle.std.specs.Prelude.{◌≡◌, ◌∷◌, All, IfErr, IfOk, IsSome, List, OnOk, map};
-ghost use Rattle.command_words.specs.Lent.{import_of};
+ghost use Rattle.input_names.specs.Lent.{import_of};
 ghost use Rattle.iri_resolve.specs.Reference.{scheme_of};
 ghost use Rattle.rdf_lex.specs.Prefixes.{base_of};
 ghost use Rattle.schema_documents.specs.Ordered.{IsOrderedDocument};
@@ -15,7 +15,7 @@ use crate::document::read_file;
 use crate::error::{FilesError, SchemaFile};
 use crate::held::Held;
 use crate::imports::follow_all;
-use command_words::Import;
+use input_names::Import;
 use proof_file::head::Digest256;
 use rdf_lex::Prefixes;
 use rdf_terms::items::Items;

@@ -193,7 +193,8 @@ module _ (s : Schema) (f : List ℕ) (budget : ℕ) (loaded : IsLoaded s) (sets 
   one_reply : (r q : Reply) (more others : List Reply) → more ≡ r ∷ [] → others ≡ q ∷ [] → q.verdict ≡ r.verdict → any_unknown more ≡ any_unknown others
   one_reply r q more others a b e = ap any_unknown a ∙ ap (λ v. is_unknown v || false) (sym e) ∙ sym (ap any_unknown b)
 
-  steps_same : (x y : State) → AreSame x y → (c : Command) (z : State) (more : List Reply) → Steps s f budget x c z more → (w : State) (others : List Reply) → Steps s f budget y c w others → StepSame z more w others
+  steps_same : (x y : State) → AreSame x y → (c : Command) (z : State) (more : List Reply) → Steps s f budget x c z more → (w : State) (others : List Reply) →
+      Steps s f budget y c w others → StepSame z more w others
   steps_same x y h (Add t) z more (e, a) w others (k, b) = (added_same x y h t z w e k, no_replies more others a b)
   steps_same x y h (Remove t) z more (e, a) w others (k, b) = (removed_same x y h t z w e k, no_replies more others a b)
   steps_same x y h (Ask node target) z more (r, e, a) w others (q, k, b) =
@@ -220,12 +221,14 @@ module _ (s : Schema) (f : List ℕ) (budget : ℕ) (loaded : IsLoaded s) (sets 
   agree_at : (a b o p : Outcome) → o ≡ a → p ≡ b → Agree a b → Agree o p
   agree_at a b o p e k h = subst (λ z. Agree z p) (sym e) (subst (λ z. Agree a z) (sym k) h)
 
-  pub runs_agree : (x y : State) → AreSame x y → (so also : List Reply) → any_unknown so ≡ any_unknown also → (cs : List Command) (o p : Outcome) → Runs s f budget x so cs o → Runs s f budget y also cs p → Agree o p
+  pub runs_agree : (x y : State) → AreSame x y → (so also : List Reply) → any_unknown so ≡ any_unknown also → (cs : List Command) (o p : Outcome) →
+      Runs s f budget x so cs o → Runs s f budget y also cs p → Agree o p
   runs_agree x y h so also same [] o p a b = agree_at (answered so) (answered also) o p (at_end x so o a) (at_end y also p b) same
   runs_agree x y h so also same (c ∷ cs) o p a b = by (at_first x so c cs o a) (at_first y also c cs p b) (λ z w k more others e. runs_agree z w k (so ++ more) (also ++ others) e cs o p)
     where
       by : Next x so c cs o → Next y also c cs p →
-          ((z w : State) → AreSame z w → (more others : List Reply) → any_unknown (so ++ more) ≡ any_unknown (also ++ others) → Runs s f budget z (so ++ more) cs o → Runs s f budget w (also ++ others) cs p → Agree o p) → Agree o p
+          ((z w : State) → AreSame z w → (more others : List Reply) → any_unknown (so ++ more) ≡ any_unknown (also ++ others) →
+          Runs s f budget z (so ++ more) cs o → Runs s f budget w (also ++ others) cs p → Agree o p) → Agree o p
       by (inl (z, more, st, rest)) (inl (w, others, step, behind)) deeper =
           let (k, e) = steps_same x y h c z more st w others step in
           deeper z w k more others (more_unknown so also more others same e) rest behind

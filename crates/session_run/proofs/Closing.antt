@@ -6,7 +6,7 @@ use Rattle.std.specs.Prelude.{Option, Some, ◌-◌, ◌^◌}
 use Rattle.call_ends.specs.Parts.{AreQuiet}
 use Rattle.call_ends.specs.Statuses.{IsAnswering, IsCutOff, IsInterrupted, IsStatus}
 use Rattle.call_ends.proofs.Closing.{IsOfAnswer, answers, by_status, comes_to, concludes, decided_by, fault_interrupts, five_says, in_part, is_status, nothing_out, of_answering, quietly, seven_rose, sink_seven, three_says, told_stays, two_says, undecided_by, unprinted}
-use Rattle.clap.specs.Words.{Text}
+use Rattle.input_names.specs.Names.{Text}
 use Rattle.command_words.specs.Checks.{Fault}
 use Rattle.lists.proofs.Members.{is_first}
 use Rattle.program_ends.specs.Ends.{FilesSeen}
@@ -66,7 +66,8 @@ module _ (words : List Text) (files : FilesSeen) (out err : SinkSeen) (status : 
     refusal_of : (line : List ℕ) (by : IsRefusedBy files.told words line) → IsRefused files.told e by.refusal
     refusal_of line by = subst (λ z. IsRefused files.told z by.refusal) (law.edits words by.editing e by.is_asked is_asked) by.refused
 
-    ends_with : (C : ℕ → Type 0) → ((text notes : List ℕ) (wanted : ℕ) → IsAnswered files.told e wanted text notes → C wanted) → ((refusal : Refusal) → IsRefused files.told e refusal → C 3) → SessionEnds words files out err status → C status ⊎ IsInterrupted status
+    ends_with : (C : ℕ → Type 0) → ((text notes : List ℕ) (wanted : ℕ) → IsAnswered files.told e wanted text notes → C wanted) →
+        ((refusal : Refusal) → IsRefused files.told e refusal → C 3) → SessionEnds words files out err status → C status ⊎ IsInterrupted status
     ends_with C with three ends =
         concludes (IsWordsLine words) (IsRefusedBy files.told words) (IsFailedBy files words) (IsAnsweredBy files.told words) files out err status C
         (λ line by. absurd (not_faulty line by))
@@ -175,12 +176,14 @@ more_noted so more h k some none = by (either_true (any_unknown so) (any_unknown
     by (inr b) = k b parts.1
 
 -- an Unknown answer reaches a wide pair, for which there is a line
-some_noted : NoneIsWide → (s : Schema) (x : State) (budget : ℕ) (n : TermId) (e : ExprId) (v : Verdict) (notes : List ℕ) → budget < 2 ^ 64 - 1 → IsUnknownOnlyWide s x.terms x.graph budget n e v → AreNotes s x budget n e v notes →
+some_noted : NoneIsWide → (s : Schema) (x : State) (budget : ℕ) (n : TermId) (e : ExprId) (v : Verdict) (notes : List ℕ) → budget < 2 ^ 64 - 1 →
+    IsUnknownOnlyWide s x.terms x.graph budget n e v → AreNotes s x budget n e v notes →
     is_unknown v ≡ true → notes ≢ []
 some_noted law s x budget n e Yes notes few only noted some = absurd (true≢false (sym some))
 some_noted law s x budget n e No notes few only noted some = absurd (true≢false (sym some))
 some_noted law s x budget n e Unknown notes few only (wide, are, is) some = λ none.
-    not_decided s x.terms x.graph budget n e (only refl) (λ q reached. law s x.terms x.graph budget are.pairs wide few are.wide (sym is ∙ none) q ((are.asked.exactly q).1 (record { node = n; expr = e }, is_first (record { node = n; expr = e }) [], reached)))
+    not_decided s x.terms x.graph budget n e (only refl) (λ q reached. law s x.terms x.graph budget are.pairs wide few are.wide (sym is
+    ∙ none) q ((are.asked.exactly q).1 (record { node = n; expr = e }, is_first (record { node = n; expr = e }) [], reached)))
 
 module _ (law : NoneIsWide) (s : Schema) (f : List ℕ) (budget : ℕ) (few : budget < 2 ^ 64 - 1) where
   step_noted : (x : State) (c : Command) (y : State) (more : List Reply) → Steps s f budget x c y more → AreNoted more
@@ -209,7 +212,8 @@ noted_answer : NoneIsWide → (told : Told) (words : List Text) (text notes : Li
 noted_answer law told words text notes by none =
     let a = by.answered in
     let are = a.are_answers in
-    runs_noted law are.held.schema are.held.strata by.editing.budget (let le = (fit words by.editing by.is_asked).budget in omega (arith, le)) (start_of are.held) [] are.commands (answered a.replies) a.replies refl are.ends (λ some. absurd (true≢false (sym some)))
+    runs_noted law are.held.schema are.held.strata by.editing.budget (let le = (fit words by.editing by.is_asked).budget in omega (arith, le))
+    (start_of are.held) [] are.commands (answered a.replies) a.replies refl are.ends (λ some. absurd (true≢false (sym some)))
     (undecided_by (any_unknown a.replies) a.status_is) (sym a.notes_are ∙ none)
 
 -- ---- the clauses that follow from each way to end
@@ -246,7 +250,8 @@ module _ (words : List Text) (files : FilesSeen) (out err : SinkSeen) (status : 
   seven_comes at = seven_rose (IsWordsLine words) (IsRefusedBy files.told words) (IsFailedBy files words) (IsAnsweredBy files.told words) files out err status (of_answer files.told words) at ends
 
   pub says_nothing_out : (status ≡ 2) ⊎ ((status ≡ 3) ⊎ (status ≡ 5)) → out.got_after ≡ out.got
-  says_nothing_out at = nothing_out (IsWordsLine words) (IsRefusedBy files.told words) (IsFailedBy files words) (IsAnsweredBy files.told words) files out err status (of_answer files.told words) at ends
+  says_nothing_out at = nothing_out (IsWordsLine words) (IsRefusedBy files.told words) (IsFailedBy files words)
+      (IsAnsweredBy files.told words) files out err status (of_answer files.told words) at ends
 
   pub says_in_part : status ≡ 7 → IsPrintedInPart words files out err
   says_in_part at = in_part (IsWordsLine words) (IsRefusedBy files.told words) (IsFailedBy files words) (IsAnsweredBy files.told words) files out err status (of_answer files.told words) at ends

@@ -113,7 +113,8 @@ module _ (first mid last : Seen) (t : TermTriple) (n : Triple) (by_terms : mid �
     (λ full. room (subst (λ g. IsFullFor g n) (sym same_graph) full)),
   )
 
-  pub removed : AreDistinct first.graph → (b : Bool) → IsTrue b ↔ Contains mid.graph n → OnTrue b (IsPermutation mid.graph (n ∷ last.graph)) → OnFalse b (last ≡ mid) → Edits IsWithout (state_of first) t (state_of last)
+  pub removed : AreDistinct first.graph → (b : Bool) → IsTrue b ↔ Contains mid.graph n → OnTrue b (IsPermutation mid.graph (n ∷ last.graph)) →
+      OnFalse b (last ≡ mid) → Edits IsWithout (state_of first) t (state_of last)
   removed d b held was same = edits IsWithout (without first.graph last.graph n b d
       (subst (λ g. IsTrue b ↔ Contains g n) same_graph held) (subst (λ g. OnTrue b (IsPermutation g (n ∷ last.graph))) same_graph was) (on_false b same))
     where

@@ -4,14 +4,14 @@ use Rattle.std.specs.Prelude.{codes}
 use Rattle.call_ends.proofs.Closing.{with_words as refused_words}
 use Rattle.call_ends.specs.Statuses.{status_by}
 use Rattle.call_ends.specs.Words.{RefusesWords}
-use Rattle.clap.specs.Words.{Text}
+use Rattle.input_names.specs.Names.{Text}
 use Rattle.command_words.specs.Checks.{arguments, base, ending, import_word, same as same_name}
 use Rattle.command_words.specs.Lent.{Because, words_text}
 use Rattle.command_words.specs.declared.error.WordsError.{WordsError}
 use Rattle.command_words.specs.declared.error.WordsError.TheVariants as Errors
 use Rattle.program_ends.specs.Ends.{AreLeft, FilesSeen, answered, failed, refused}
 use Rattle.program_ends.specs.Printing.{IsQuiet, PrintsBoth, PrintsTo, SinkSeen}
-use Rattle.schema_files.specs.Files.{HasFailed}
+use Rattle.shex_io.specs.Fetching.{HasFailed}
 use Rattle.tool_words.specs.Asked.{Editing, IsEditing, IsEditingFault}
 use Rattle.session_run.specs.declared.said.Said.{Said}
 use Rattle.session_run.specs.declared.stop.File.{File}
@@ -24,7 +24,8 @@ use Rattle.session_run.specs.Running.{Says}
 use Rattle.session_run.specs.Texts.{failed_line, refusal_line, session_line}
 
 module _ (words : List Text) (e : Editing) (is_asked : IsEditing words e) (files : FilesSeen) (out err : SinkSeen) (status : ℕ) where
-  pub with_answers : (replies : List Reply) (said : Said) (text notes : List ℕ) (wanted : ℕ) → AreAnswers files.told e replies → Says said replies → text ≡ said.text.items → notes ≡ said.notes.items → wanted ≡ status_by said.undecided →
+  pub with_answers : (replies : List Reply) (said : Said) (text notes : List ℕ) (wanted : ℕ) → AreAnswers files.told e replies → Says said replies →
+      text ≡ said.text.items → notes ≡ said.notes.items → wanted ≡ status_by said.undecided →
       AreLeft files → PrintsBoth out err text notes wanted status → SessionEnds words files out err status
   with_answers replies said text notes wanted are says text_is notes_are is left prints = answered text notes wanted (record {
     editing = e;

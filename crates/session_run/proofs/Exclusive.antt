@@ -9,7 +9,7 @@ use Rattle.lists.proofs.Members.{got_in, not_in_none}
 use Rattle.lists.specs.Distinct.{AreDistinct}
 use Rattle.rdf_terms.specs.declared.terms.Term.{Term}
 use Rattle.rdf_terms.specs.declared.terms.Triple.{Triple}
-use Rattle.schema_files.specs.Files.{max_file}
+use Rattle.shex_io.specs.Fetching.{max_file}
 use Rattle.schema_tree.specs.Loaded.{IsLoaded}
 use Rattle.session_run.proofs.Agreed.{Agree, runs_agree, same_itself}
 use Rattle.session_run.specs.Files.{inputs_of}
@@ -49,7 +49,8 @@ held_not_lacking (Some contents) name a h k = cc
 -- the laws on what is read and asked
 pub record Laws (told : Told) (i : Inputs) : Type 0 where
   pub held : (h k : Held) → IsTaken told i h → IsTaken told i k → h ≡ k
-  pub taken : (h : Held) (source : Source) → IsTaken told i h → source ≢ Sources.Map → ((refusal : InputRefusal) → source_of refusal ≡ source → ¬ IsInputRefused told i refusal) × (¬ IsInputAbsent told i source)
+  pub taken : (h : Held) (source : Source) → IsTaken told i h → source ≢ Sources.Map →
+      ((refusal : InputRefusal) → source_of refusal ≡ source → ¬ IsInputRefused told i refusal) × (¬ IsInputAbsent told i source)
   pub left : (refusal : InputRefusal) → IsInputRefused told i refusal → (source : Source) → ¬ IsInputAbsent told i source
   pub loaded : (h : Held) → IsTaken told i h → IsLoaded h.schema
   pub distinct : (h : Held) → IsTaken told i h → AreDistinct h.graph
@@ -66,7 +67,8 @@ loaded_distinct terms a graph b ts d (triple {mid = m} {grown = g} {ts = us} n h
 none_distinct : AreDistinct {X = Triple} []
 none_distinct = λ i j x a b. absurd (not_in_none x (got_in [] i x a))
 
-pub laws_of : InputsAreOne → TakenIsLoaded → ScriptsAreOne → ScriptsAreNotRefused → AnswersAreOfSets → ReachIsOfSets → (contents : List ℕ → Option (List ℕ)) (told : Told) → told ≡ Some contents → (i : Inputs) → Laws told i
+pub laws_of : InputsAreOne → TakenIsLoaded → ScriptsAreOne → ScriptsAreNotRefused → AnswersAreOfSets → ReachIsOfSets →
+    (contents : List ℕ → Option (List ℕ)) (told : Told) → told ≡ Some contents → (i : Inputs) → Laws told i
 laws_of law loaded scripts whole sets reach contents told e i =
     let (held, (one, (taken, (asked, left)))) = law contents i in
     subst (λ t. Laws t i) (sym e) (record {
@@ -89,11 +91,13 @@ module _ (told : Told) (contents : List ℕ → Option (List ℕ)) (e : told ≡
   one_script cs ds h k = laws.scripts k.bytes cs ds (subst (λ b. IsScript b cs) (one_bytes h.bytes k.bytes h.file.held k.file.held) h.spelled) k.spelled
 
   -- two runs of the script end alike
-  ends_agree : (h k : Held) (cs ds : List Command) (o p : Outcome) → AreHeld told x h → AreHeld told x k → HoldsScript told x cs → HoldsScript told x ds → EndsAs h x.budget cs o → EndsAs k x.budget ds p → Agree o p
+  ends_agree : (h k : Held) (cs ds : List Command) (o p : Outcome) → AreHeld told x h → AreHeld told x k → HoldsScript told x cs → HoldsScript told x ds →
+      EndsAs h x.budget cs o → EndsAs k x.budget ds p → Agree o p
   ends_agree h k cs ds o p held also script other a b =
       let same_held : k ≡ h = laws.held k h also held in
       let same_script : ds ≡ cs = one_script ds cs other script in
-      runs_agree h.schema h.strata x.budget (laws.loaded h held) laws.sets laws.reach (start_of h) (start_of h) (same_itself (start_of h) held.holding.distinct (laws.distinct h held)) [] [] refl cs o p a
+      runs_agree h.schema h.strata x.budget (laws.loaded h held) laws.sets laws.reach (start_of h) (start_of h)
+      (same_itself (start_of h) held.holding.distinct (laws.distinct h held)) [] [] refl cs o p a
       (subst (λ zs. EndsAs h x.budget zs p) same_script (subst (λ z. EndsAs z x.budget ds p) same_held b))
 
   pub answers_agree : (xs ys : List Reply) → AreAnswers told x xs → AreAnswers told x ys → status_of xs ≡ status_of ys

@@ -2,7 +2,7 @@
 use Rattle.std.proofs.Common.{◌≤◌, ◌∙◌, ap, sym, subst, ℕ, List, arith}
 use Rattle.std.specs.Prelude.{Option, Some, None, codes}
 use Rattle.clap.specs.Words.{Text, first_of}
-use Rattle.command_words.specs.Checks.{Inputs, is_base}
+use Rattle.input_names.specs.Names.{Inputs, is_base}
 use Rattle.command_words.specs.Commands.{rows}
 use Rattle.command_words.specs.Requests.{IsBudget, max_budget}
 use Rattle.tool_words.specs.Asked.{Editing, IsEditing}

@@ -54,7 +54,8 @@ cannot_more old xs ys cannot new all few =
     cannot mid before (omega (arith, shorter, few))
 
 -- a term finds no room
-pub put_fills : (old : List Term) (t : Term) (p : PutError) (e : CommandError) → (p ≡ PutErrors.Full → (¬ Contains old t) × (length old ≡ max_terms)) → e ≡ put_error p → StopsOr (FillsTable old (t ∷ [])) e
+pub put_fills : (old : List Term) (t : Term) (p : PutError) (e : CommandError) → (p ≡ PutErrors.Full → (¬ Contains old t) × (length old ≡ max_terms)) →
+    e ≡ put_error p → StopsOr (FillsTable old (t ∷ [])) e
 put_fills old t PutErrors.Full e full is apart = (is, (λ new all. first_fills max_terms old new [] t (full refl) all))
 put_fills old t PutErrors.Memory e full is apart = absurd (apart is)
 
@@ -97,11 +98,13 @@ module _ (s : Schema) (f : List ℕ) (budget : ℕ) (x : State) where
   pub removed_fills : (t : TermTriple) (e : CommandError) → StopsOr (FillsTable x.terms (terms_of t)) e → StopsOr (Stops s f budget x (Remove t)) e
   removed_fills t e h apart = let (is, cannot) = h apart in subst (λ c. Stops s f budget x (Remove t) c) (sym is) cannot
 
-  pub asked_fills : (node : Term) (target : Target) (expr : ExprId) (e : CommandError) → IsTarget s target expr → StopsOr (FillsTable x.terms (node ∷ [])) e → StopsOr (Stops s f budget x (Ask node target)) e
+  pub asked_fills : (node : Term) (target : Target) (expr : ExprId) (e : CommandError) → IsTarget s target expr → StopsOr (FillsTable x.terms (node ∷ [])) e →
+      StopsOr (Stops s f budget x (Ask node target)) e
   asked_fills node target expr e is_target h apart = let (is, cannot) = h apart in subst (λ c. Stops s f budget x (Ask node target) c) (sym is) ((expr, is_target), cannot)
 
   -- the graph has no room
-  pub no_room : (t : TermTriple) (terms : List Term) (n : Triple) (a : AddError) (e : CommandError) → AddsAll x.terms (terms_of t) terms → IsNumbered terms t n → (a ≡ AddErrors.Full → IsFullFor x.graph n) → e ≡ add_error a → StopsOr (Stops s f budget x (Add t)) e
+  pub no_room : (t : TermTriple) (terms : List Term) (n : Triple) (a : AddError) (e : CommandError) → AddsAll x.terms (terms_of t) terms →
+      IsNumbered terms t n → (a ≡ AddErrors.Full → IsFullFor x.graph n) → e ≡ add_error a → StopsOr (Stops s f budget x (Add t)) e
   no_room t terms n AddErrors.Full e takes numbered full is apart =
       subst (λ c. Stops s f budget x (Add t) c) (sym is) (inr (record { terms = terms; takes = takes; number = n; numbered = numbered; is_full = full refl }))
   no_room t terms n AddErrors.Memory e takes numbered full is apart = absurd (apart is)
@@ -112,10 +115,12 @@ module _ (s : Schema) (f : List ℕ) (budget : ℕ) (x : State) where
   undeclared node (Targets.Label label) e none h apart = let is = h apart in subst (λ c. Stops s f budget x (Ask node (Targets.Label label)) c) (sym is) (none, refl)
 
   -- too many pairs are asked for
-  pub too_many : (node : Term) (target : Target) (expr : ExprId) (terms : List Term) (n : TermId) (a : AskError) (e : CommandError) → IsTarget s target expr → Adds x.terms node terms → length terms ≤ max_terms → slice_get terms n.0 ≡ Some node →
+  pub too_many : (node : Term) (target : Target) (expr : ExprId) (terms : List Term) (n : TermId) (a : AskError) (e : CommandError) → IsTarget s target expr →
+      Adds x.terms node terms → length terms ≤ max_terms → slice_get terms n.0 ≡ Some node →
       (a ≡ AskErrors.Pairs → ReachesTooMany s x.graph n expr) → e ≡ ask_error a → StopsOr (Stops s f budget x (Ask node target)) e
   too_many node target expr terms n AskErrors.Pairs e declared takes few numbered many is apart =
-      subst (λ c. Stops s f budget x (Ask node target) c) (sym is) (record { expr = expr; declared = declared; terms = terms; takes = takes; few = few; number = n; numbered = numbered; many = many refl })
+      subst (λ c. Stops s f budget x (Ask node target) c) (sym is)
+      (record { expr = expr; declared = declared; terms = terms; takes = takes; few = few; number = n; numbered = numbered; many = many refl })
   too_many node target expr terms n AskErrors.Memory e declared takes few numbered many is apart = absurd (apart is)
 
   pub for_memory : (c : Command) (e : CommandError) → e ≡ Errors.Memory → StopsOr (Stops s f budget x c) e
@@ -133,7 +138,8 @@ module _ (first mid last : Seen) (by_terms : mid ≡ with_terms mid.terms first)
       let q : last.graph ≡ first.graph = ap (λ (z : Seen). z.graph) by_kept ∙ graph_same first mid by_terms in
       (λ i. record { terms = p i; graph = q i })
 
-  module _ (node : Term) (target : Target) (expr : ExprId) (n : TermId) (v : Verdict) (notes : List ℕ) (declared : IsTarget first.schema target expr) (takes : Adds first.terms node mid.terms) (few : length mid.terms ≤ max_terms)
+  module _ (node : Term) (target : Target) (expr : ExprId) (n : TermId) (v : Verdict) (notes : List ℕ) (declared : IsTarget first.schema target expr)
+      (takes : Adds first.terms node mid.terms) (few : length mid.terms ≤ max_terms)
       (numbered : slice_get mid.terms n.0 ≡ Some node) (not_many : ¬ ReachesTooMany mid.schema mid.graph n expr) (is : IsVerdictAt mid.schema mid.strata mid.budget (state_of mid) n expr v)
       (noted : AreNotes last.schema (state_of last) last.budget n expr v notes) where
     there : IsVerdictAt first.schema first.strata first.budget (record { terms = mid.terms; graph = first.graph }) n expr v

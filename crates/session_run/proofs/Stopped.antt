@@ -1,7 +1,7 @@
 -- Why the functions of a call stop.
 use Rattle.std.proofs.Common.{◌≡◌, ◌≢◌, Err, Ok, sym, subst, ℕ, List, inl, inr}
 use Rattle.std.specs.Prelude.{IfErr, IfOk, Result}
-use Rattle.schema_files.specs.Files.{IsFile}
+use Rattle.shex_io.specs.Fetching.{IsFile}
 use Rattle.session_script.specs.Scripts.{Explains as ScriptExplains}
 use Rattle.session_script.specs.declared.commands.Command.{Command}
 use Rattle.session_script.specs.declared.error.ScriptError.{ScriptError}
@@ -28,7 +28,8 @@ use Rattle.session_run.specs.Script.{answered, refused}
 use Rattle.session_run.specs.Stopping.{Explains, FaultsAs, FetchStops, IsCommandStop, IsRefusalOf, IsScriptStop, RunStops, stop_of}
 
 -- what holds of want of memory and of the refusal holds of the stop
-by_refusal : {E : Type 0} (memory : E) (refusal : E → Refusal) (e : E) (stop : Stop) (P : Stop → Type 0) → IsRefusalOf memory refusal e stop → P Stops.Memory → (e ≢ memory → P (Stops.Refused (refusal e))) → P stop
+by_refusal : {E : Type 0} (memory : E) (refusal : E → Refusal) (e : E) (stop : Stop) (P : Stop → Type 0) → IsRefusalOf memory refusal e stop → P Stops.Memory →
+    (e ≢ memory → P (Stops.Refused (refusal e))) → P stop
 by_refusal memory refusal e stop P (inl (is, made)) wanting to = subst P (sym made) wanting
 by_refusal memory refusal e stop P (inr (apart, made)) wanting to = subst P (sym made) (to apart)
 
@@ -56,7 +57,8 @@ module _ (told : Told) (e : Editing) (before after : ℕ) (blame : List ℕ) (ac
   fetch_faults Stops.Memory still = still
 
   -- its bytes are no script
-  pub script_explains : (h : Held) → AreHeld told e h → (bytes source : List ℕ) → IsFile told e.script bytes → source ≡ bytes → (x : ScriptError) (stop : Stop) → ScriptExplains x source → IsScriptStop x stop → Explains told e stop
+  pub script_explains : (h : Held) → AreHeld told e h → (bytes source : List ℕ) → IsFile told e.script bytes → source ≡ bytes →
+      (x : ScriptError) (stop : Stop) → ScriptExplains x source → IsScriptStop x stop → Explains told e stop
   script_explains h held bytes source file whole x stop cause is =
       by_refusal ScriptErrors.Memory (λ y. Refusals.Script y) x stop (Explains told e) is tt (λ apart. (h, held, (bytes, file, apart, subst (ScriptExplains x) whole cause)))
 
@@ -77,14 +79,16 @@ module _ (told : Told) (e : Editing) (before after : ℕ) (blame : List ℕ) (ac
   run_faults h commands (Stops.Failed file) still why = absurd why
   run_faults h commands Stops.Memory still why = still
 
-pub command_stops : (h : Held) (budget : ℕ) (commands : List Command) (x : CommandError) (stop : Stop) → (x ≢ CommandErrors.Memory → EndsAs h budget commands (refused x)) → IsCommandStop x stop → RunStops h budget commands stop
+pub command_stops : (h : Held) (budget : ℕ) (commands : List Command) (x : CommandError) (stop : Stop) →
+    (x ≢ CommandErrors.Memory → EndsAs h budget commands (refused x)) → IsCommandStop x stop → RunStops h budget commands stop
 command_stops h budget commands x stop ends is = by_refusal CommandErrors.Memory (λ y. Refusals.Command y) x stop (RunStops h budget commands) is tt (λ apart. (apart, ends apart))
 
 -- ---- a whole call
 
 module _ (told : Told) (e : Editing) (h : Held) (held : AreHeld told e h) (commands : List Command) (script : HoldsScript told e commands) where
   -- the answers are those to what the files hold
-  pub answers_of : (r : Result Said Stop) → IfOk r (λ said. (replies : List Reply) × EndsAs h e.budget commands (answered replies) × Says said replies) → IfOk r (λ said. (replies : List Reply) × AreAnswers told e replies × Says said replies)
+  pub answers_of : (r : Result Said Stop) → IfOk r (λ said. (replies : List Reply) × EndsAs h e.budget commands (answered replies) × Says said replies) →
+      IfOk r (λ said. (replies : List Reply) × AreAnswers told e replies × Says said replies)
   answers_of (Ok said) (replies, ends, says) = (replies, record { held = h; taken = held; commands = commands; script = script; ends = ends }, says)
   answers_of (Err stop) done = tt
 

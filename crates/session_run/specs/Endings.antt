@@ -1,6 +1,6 @@
 -- How a call ends, and what it has printed then.
 use Rattle.std.specs.Prelude.{ℕ, List, ◌≡◌}
-use Rattle.clap.specs.Words.{Text}
+use Rattle.input_names.specs.Names.{Text}
 use Rattle.shex_io.specs.Faults.{Rose}
 use Rattle.shex_io.specs.Files.{Told}
 use Rattle.shex_io.specs.declared.files.Act.TheVariants.{Fetch}

@@ -1,6 +1,6 @@
 -- What the files hold for a call, or why it refuses one of them.
 use Rattle.std.specs.Prelude.{ℕ, List, [], ◌≢◌}
-use Rattle.schema_files.specs.Files.{IsFile, IsTooLong}
+use Rattle.shex_io.specs.Fetching.{IsFile, IsTooLong}
 use Rattle.session_script.specs.Scripts.{Explains, IsScript}
 use Rattle.session_script.specs.declared.commands.Command.{Command}
 use Rattle.session_script.specs.declared.error.ScriptError.TheVariants as ScriptErrors
@@ -51,7 +51,8 @@ abbrev pub IsRefused : Told → Editing → Refusal → Type 0
 IsRefused told e (Refusals.Input refusal) = (source_of refusal ≢ Map) × IsInputRefused told (inputs_of e) refusal
 IsRefused told e Refusals.Size = (h : Held) × AreHeld told e h × IsTooLong told e.script
 IsRefused told e (Refusals.Script error) = (h : Held) × AreHeld told e h × ((bytes : List ℕ) × IsFile told e.script bytes × (error ≢ ScriptErrors.Memory) × Explains error bytes)
-IsRefused told e (Refusals.Command error) = (h : Held) × AreHeld told e h × ((commands : List Command) × HoldsScript told e commands × (error ≢ CommandErrors.Memory) × EndsAs h e.budget commands (refused error))
+IsRefused told e (Refusals.Command error) = (h : Held) × AreHeld told e h × ((commands : List Command) × HoldsScript told e commands ×
+    (error ≢ CommandErrors.Memory) × EndsAs h e.budget commands (refused error))
 
 -- the steps come to a file: those before it are taken
 abbrev pub Reaches : Told → Editing → File → Type 0

@@ -1,8 +1,8 @@
 -- How the functions of a call stop.
 use Rattle.std.specs.Prelude.{ℕ, List, ◌≡◌, ◌≢◌, ◌≤◌, ◌⊎◌, ⊤, true}
-use Rattle.command_words.specs.Checks.{is_base}
+use Rattle.input_names.specs.Names.{is_base}
 use Rattle.command_words.specs.Requests.{max_budget}
-use Rattle.schema_files.specs.Files.{HasFailed, IsTooLong}
+use Rattle.shex_io.specs.Fetching.{HasFailed, IsTooLong}
 use Rattle.session_script.specs.declared.commands.Command.{Command}
 use Rattle.session_script.specs.declared.error.ScriptError.{ScriptError}
 use Rattle.session_script.specs.declared.error.ScriptError.TheVariants as ScriptErrors

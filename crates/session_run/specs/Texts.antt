@@ -3,7 +3,8 @@ use Rattle.std.specs.Prelude.{ℕ, List, codes}
 use Rattle.command_words.specs.Asked.{fault_text}
 use Rattle.command_words.specs.Checks.{Fault}
 use Rattle.session_script.specs.Messages.{script_text}
-use Rattle.shex_inputs.specs.Lines.{error_line, refusal_text}
+use Rattle.program_ends.specs.Lines.{error_line}
+use Rattle.shex_inputs.specs.Lines.{refusal_text}
 use Rattle.shex_inputs.specs.Named.{source_of}
 use Rattle.tool_words.specs.Asked.{Editing}
 use Rattle.session_run.specs.declared.stop.File.{File}

@@ -8,20 +8,13 @@ ghost use Rattle.session_run.specs.Texts.{cause_text, failed_line, refusal_line,
 
 use crate::stop::{File, Refusal};
 use command_words::WordsError;
-use shex_inputs::{error_line, input_name, refusal_text};
+use program_ends::error_line;
+use shex_inputs::{input_name, refusal_text};
 use std::alloc::{AllocError, Global};
 use tool_words::Editing;
 
 /// The name of the program, with which its lines begin.
-const PROGRAM: &str = "typing_session";
-
-/// The line for words that are at fault.
-pub fn words(alloc: Global, error: WordsError<'_>) -> Result<String, AllocError>
-    ensures { IfOk result (λ s. string_bytes s ≡ session_line (codes "words") (words_text error.entry)) }
-{
-    let what = format!(in alloc; "{error}")?;
-    error_line(alloc, PROGRAM, "words", what.as_str())
-}
+pub const PROGRAM: &str = "typing_session";
 
 /// The name of a file in the words, and the empty text where they name none, as for a map.
 fn name<'a>(editing: &Editing<'a>, file: File) -> &'a str

@@ -5,7 +5,7 @@ ghost use Rattle.command_words.specs.Requests.{max_budget};
 ghost use Rattle.graph_index.specs.Laws.{IsOfTable};
 ghost use Rattle.lists.specs.Distinct.{AreDistinct};
 ghost use Rattle.proof_file.specs.declared.head.Digests.{Digests};
-ghost use Rattle.schema_files.specs.Files.{IsFile};
+ghost use Rattle.shex_io.specs.Fetching.{IsFile};
 ghost use Rattle.schema_tree.specs.Edges.{IsStratum};
 ghost use Rattle.schema_tree.specs.Loaded.{IsLoaded};
 ghost use Rattle.shex_inputs.specs.Held.{held_by};
@@ -49,7 +49,7 @@ fn fetch_script<F: Files>(alloc: Global, files: &mut F, name: &str) -> Result<Ve
     ensures faults_stay { OnOk result (F.faults files.new ≡ F.faults files.old) }
     ensures told_stays { F.told files.new ≡ F.told files.old }
 {
-    match schema_files::fetch(alloc, files, name) {
+    match shex_io::fetch(alloc, files, name) {
         Ok(bytes) => Ok(bytes),
         Err(FetchError::Failed) => Err(Stop::Failed(File::Script)),
         Err(FetchError::Long) => Err(Stop::Refused(Refusal::Size)),

@@ -1,28 +1,25 @@
 //! The top call.
 
-ghost use Rattle.std.specs.Prelude.{[], ◌≡◌, ◌≢◌, ◌<◌, ◌⊎◌, ℕ, List, Option, Some, codes, map, string_bytes};
-ghost use Rattle.clap.specs.Words.{Text};
+ghost use Rattle.std.specs.Prelude.{[], ◌≡◌, ◌≢◌, ◌<◌, ◌⊎◌, ℕ, List, Option, Some, map, string_bytes};
+ghost use Rattle.input_names.specs.Names.{Text};
 ghost use Rattle.shex_io.specs.Faults.{Rose};
 ghost use Rattle.shex_io.specs.Sinks.{Gains};
 ghost use Rattle.command_words.specs.Checks.{Fault};
-ghost use Rattle.command_words.specs.Lent.{words_text};
 ghost use Rattle.call_ends.specs.Parts.{AreQuiet};
 ghost use Rattle.call_ends.specs.Statuses.{IsAnswering, IsCutOff, IsInterrupted, IsStatus};
-ghost use Rattle.call_ends.specs.Words.{RefusesWords};
 ghost use Rattle.tool_words.specs.Asked.{Editing as Asking, IsEditing, IsEditingFault};
 ghost use Rattle.tool_words.specs.Lent.{editing_of};
 ghost use Rattle.session_run.specs.Endings.{IsAnsweredBy, IsFailedBy, IsPrintedInPart, IsRefusedBy, IsWordsLine, SessionEnds};
 ghost use Rattle.session_run.specs.Outcomes.{AreAnswers, IsAbsent, IsRefused};
 ghost use Rattle.session_run.specs.Replies.{Reply, status_of};
 ghost use Rattle.session_run.specs.Stopping.{IsFit};
-ghost use Rattle.session_run.specs.Texts.{session_line};
 ghost use Rattle.program_ends.specs.Printing.{sink_seen};
 ghost use Rattle.program_ends.specs.Ends.{files_seen};
 
 use crate::report;
 use crate::responding::respond;
 use crate::stop::{File, Refusal, Stop};
-use command_words::WordsError;
+use call_ends::refuse_words;
 use program_ends::say;
 use session_script::laws::{scripts_are_not_refused, scripts_are_one};
 use shex_inputs::{inputs_are_one, taken_is_loaded};
@@ -31,16 +28,6 @@ use std::alloc::Global;
 use tool_words::{Editing, answers_are_one, read_session};
 use typing_session::set_laws::answers_are_of_sets;
 use wide_pairs::laws::none_is_wide;
-
-/// Says what is wrong with the words, unless memory ran out, and gives the status.
-fn refuse<S: Sink>(alloc: Global, error: WordsError<'_>, sink: &mut S) -> u8
-    ensures { RefusesWords WordsError.Memory error.entry (session_line (codes "words") (words_text error.entry)) (sink_seen S.got S.faults sink.old sink.new) result }
-{
-    match error {
-        WordsError::Memory => 8,
-        error => say(report::words(alloc, error), 2, sink),
-    }
-}
 
 /// Answers what the words ask, or says why there are no answers, and gives the status.
 fn end_editing<F: Files, O: Sink, E: Sink>(
@@ -83,7 +70,7 @@ fn end<F: Files, O: Sink, E: Sink>(
 {
     match read_session(alloc, words) {
         Ok(editing) => end_editing(alloc, &editing, files, out, err),
-        Err(error) => refuse(alloc, error, err),
+        Err(error) => refuse_words(alloc, report::PROGRAM, error, err),
     }
 }
 

@@ -14,7 +14,8 @@ below_or_same a d le = grind arith
 -- what holds of each of some numbers that follow one another
 every_from : (p : ℕ → Bool) (n a d : ℕ) → list_all p (range_with_len a n) ≡ true → a ≤ d → d < a + n → p d ≡ true
 every_from p zero a d e low high = absurd (omega arith)
-every_from p (suc n) a d e low high = let both = and_parts (p a) (list_all p (range_with_len (a + 1) n)) e in by both (below_or_same a d low) (λ more. every_from p n (a + 1) d both.1 more (omega arith))
+every_from p (suc n) a d e low high = let both = and_parts (p a) (list_all p (range_with_len (a + 1) n)) e in by both (below_or_same a d low)
+    (λ more. every_from p n (a + 1) d both.1 more (omega arith))
   where
     by : (p a ≡ true) × (list_all p (range_with_len (a + 1) n) ≡ true) → (a ≡ d) ⊎ (a + 1 ≤ d) → (a + 1 ≤ d → p d ≡ true) → p d ≡ true
     by both (inl same) later = subst (λ c. p c ≡ true) same both.0

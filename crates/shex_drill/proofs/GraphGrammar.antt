@@ -118,12 +118,14 @@ item_behind base n i so_far rest le =
     let x = decimal i in
     let y = decimal (next_of n i) in
     let z = decimal (tag_of i) in
-    line_behind base x y z (all_digits i (omega arith)) (all_digits (next_of n i) (omega arith)) (all_digits (tag_of i) (omega arith)) (few_digits i (omega arith)) (few_digits (next_of n i) (omega arith))
+    line_behind base x y z (all_digits i (omega arith)) (all_digits (next_of n i) (omega arith)) (all_digits (tag_of i) (omega arith))
+    (few_digits i (omega arith)) (few_digits (next_of n i) (omega arith))
     (few_digits (tag_of i) (omega arith)) rest so_far
 
 -- the lines of k items, from item i on
 lines : (base : List ℕ) (n k i : ℕ) (so_far : List TermTriple) → i + k ≤ 100000
-    → Many (Behind true inner_depth) (graph_scope base, so_far) (graph_scope base, so_far ++ flat_map (triples_of n) (range_with_len i k)) (prepend (flat_map (tokens_of n) (range_with_len i k)) finished) finished
+    → Many (Behind true inner_depth) (graph_scope base, so_far) (graph_scope base, so_far ++ flat_map (triples_of n) (range_with_len i k))
+    (prepend (flat_map (tokens_of n) (range_with_len i k)) finished) finished
 lines base n zero i so_far le =
     subst (λ all. Many (Behind true inner_depth) (graph_scope base, so_far) (graph_scope base, all) finished finished) (sym (append-nil so_far)) none
 lines base n (suc k) i so_far le =

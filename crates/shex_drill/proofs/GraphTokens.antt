@@ -59,7 +59,8 @@ prefix_lexed rest ahead lexed =
     let dot : IsLexed Turtle (codes " .\n" ++ rest) (token (of_mark (codes ".")) ahead) = token_lexed Turtle (32 ∷ []) [] (10 ∷ rest) 46 kinds.Punct ahead refl refl refl refl lexed in
     let iri : IsLexed Turtle (codes " <http://d.example/> .\n" ++ rest) (token (record { kind = kinds.IriRef; text = codes "<http://d.example/>" }) (token (of_mark (codes ".")) ahead)) =
     token_lexed Turtle (32 ∷ []) (codes "http://d.example/>") (codes " .\n" ++ rest) 60 kinds.IriRef (token (of_mark (codes ".")) ahead) refl refl refl refl dot in
-    let name : IsLexed Turtle (codes " : <http://d.example/> .\n" ++ rest) (prepend (record { kind = kinds.PnameNs; text = codes ":" } ∷ record { kind = kinds.IriRef; text = codes "<http://d.example/>" } ∷ of_mark (codes ".") ∷ []) ahead) =
+    let name : IsLexed Turtle (codes " : <http://d.example/> .\n" ++ rest)
+    (prepend (record { kind = kinds.PnameNs; text = codes ":" } ∷ record { kind = kinds.IriRef; text = codes "<http://d.example/>" } ∷ of_mark (codes ".") ∷ []) ahead) =
     token_lexed Turtle (32 ∷ []) [] (codes " <http://d.example/> .\n" ++ rest) 58 kinds.PnameNs (token (record { kind = kinds.IriRef; text = codes "<http://d.example/>" }) (token (of_mark (codes ".")) ahead)) refl refl refl refl iri in
     token_lexed Turtle [] (codes "prefix") (codes " : <http://d.example/> .\n" ++ rest) 64 kinds.LangTag
     (prepend (record { kind = kinds.PnameNs; text = codes ":" } ∷ record { kind = kinds.IriRef; text = codes "<http://d.example/>" } ∷ of_mark (codes ".") ∷ []) ahead) refl refl refl refl name

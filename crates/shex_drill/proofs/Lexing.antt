@@ -54,7 +54,8 @@ module _ (m : Mode) (front cs : List ℕ) (e : is_plain front ≡ true) (f : is_
       → at_token k (c ∷ text) (length front + length blanks) ≡ next_of m (front ++ cs) (length front)
   unfolding next_of
   next_at blanks text rest c k is plain passed found =
-      let from : drop (length front + length blanks) (front ++ cs) ≡ c ∷ text ++ rest = drop-append-add front cs (length blanks) ∙ ap (drop (length blanks)) is ∙ drop-append_seam blanks (c ∷ text ++ rest) in
+      let from : drop (length front + length blanks) (front ++ cs) ≡ c ∷ text ++ rest = drop-append-add front cs (length blanks) ∙ ap (drop (length blanks)) is
+      ∙ drop-append_seam blanks (c ∷ text ++ rest) in
       let read : chars (drop (length front) (front ++ cs)) ≡ cs = ap chars behind ∙ chars-IsAscii cs (ascii cs f) in
       let left : chars (c ∷ text ++ rest) ≡ c ∷ text ++ rest = chars-IsAscii (c ∷ text ++ rest) (ascii (c ∷ text ++ rest) plain) in
       let taken : take (length (c ∷ text)) (c ∷ text ++ rest) ≡ c ∷ text = take-append_seam (c ∷ text) rest in

@@ -47,7 +47,8 @@ local_passed m (c ∷ cs) rest n e =
     let both = and_parts (is_local c) (list_all is_local cs) e in
     let one = and_parts (has local_char c) (is_ascii c) both.0 in
     let size = one_byte c one.1 in
-    let next : scan_from m (c ∷ cs ++ 32 ∷ rest) (Name lead.Alone name.Local) (Some (kinds.PnameLn, n)) n ≡ scan_from m (cs ++ 32 ∷ rest) (Name lead.Alone name.Local) (Some (kinds.PnameLn, n + 1)) (n + 1) = rw (one.0, size) refl in
+    let next : scan_from m (c ∷ cs ++ 32 ∷ rest) (Name lead.Alone name.Local) (Some (kinds.PnameLn, n)) n ≡ scan_from m (cs ++ 32 ∷ rest)
+    (Name lead.Alone name.Local) (Some (kinds.PnameLn, n + 1)) (n + 1) = rw (one.0, size) refl in
     next ∙ local_passed m cs rest (n + 1) both.1 ∙ ap (λ k. Some (kinds.PnameLn, k)) (counted n (length (c ∷ cs)) (length cs) refl)
 
 -- the name of an item, `:i` and its number
@@ -114,12 +115,14 @@ module _ (x y z : List ℕ) (dx : AllDigits 10 x) (dy : AllDigits 10 y) (tag : I
   tag_lexed : IsLexed Turtle (32 ∷ (z ++ (codes " .\n" ++ rest))) (token (of_number z) (token (of_mark (codes ".")) ahead))
   tag_lexed = tag (codes ".\n" ++ rest) (token (of_mark (codes ".")) ahead) dot_lexed
 
-  tagged_lexed : IsLexed Turtle (codes " ; :tag " ++ (z ++ (codes " .\n" ++ rest))) (token (of_mark (codes ";")) (token (of_name (codes ":tag")) (token (of_number z) (token (of_mark (codes ".")) ahead))))
+  tagged_lexed : IsLexed Turtle (codes " ; :tag " ++ (z ++ (codes " .\n" ++ rest)))
+      (token (of_mark (codes ";")) (token (of_name (codes ":tag")) (token (of_number z) (token (of_mark (codes ".")) ahead))))
   unfolding digit letter letter_or_digit hexadecimal name_base name_char local_start local_char label_start local_escaped text_escaped iri_char short_char long_char line_end turtle_mark brace schema_mark pattern_start pattern_char flag any_char
   tagged_lexed =
       let behind = z ++ (codes " .\n" ++ rest) in
       let tokens = token (of_number z) (token (of_mark (codes ".")) ahead) in
-      let name : IsLexed Turtle (codes " :tag " ++ behind) (token (of_name (codes ":tag")) tokens) = token_lexed Turtle (32 ∷ []) (codes "tag") (32 ∷ behind) 58 kinds.PnameLn tokens refl refl refl refl tag_lexed in
+      let name : IsLexed Turtle (codes " :tag " ++ behind) (token (of_name (codes ":tag")) tokens) = token_lexed Turtle (32 ∷ []) (codes "tag")
+      (32 ∷ behind) 58 kinds.PnameLn tokens refl refl refl refl tag_lexed in
       token_lexed Turtle (32 ∷ []) [] (codes " :tag " ++ behind) 59 kinds.Punct (token (of_name (codes ":tag")) tokens) refl refl refl refl name
 
   next_lexed : IsLexed Turtle (codes " :i" ++ (y ++ (codes " ; :tag " ++ (z ++ (codes " .\n" ++ rest)))))

@@ -8,5 +8,6 @@ pub one_more : (line : ℕ → List ℕ) (n i : ℕ) (old new whole : List ℕ) 
     → new ++ flat_map line (range_with_len (i + 1) (n - (i + 1))) ≡ whole
 one_more line n i old new whole lt e is =
     let left : n - i ≡ suc (n - (i + 1)) = omega arith in
-    let joined : new ++ flat_map line (range_with_len (i + 1) (n - (i + 1))) ≡ old ++ flat_map line (range_with_len i (suc (n - (i + 1)))) = rw is (append_assoc old (line i) (flat_map line (range_with_len (i + 1) (n - (i + 1))))) in
+    let joined : new ++ flat_map line (range_with_len (i + 1) (n - (i + 1))) ≡ old ++ flat_map line (range_with_len i (suc (n - (i + 1)))) =
+    rw is (append_assoc old (line i) (flat_map line (range_with_len (i + 1) (n - (i + 1))))) in
     joined ∙ ap (λ k. old ++ flat_map line (range_with_len i k)) (sym left) ∙ e

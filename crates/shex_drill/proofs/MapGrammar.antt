@@ -49,10 +49,14 @@ unfolding digit letter letter_or_digit hexadecimal name_base name_char local_sta
 map_lexed =
     let end : IsLexed Map (10 ∷ []) finished = end_lexed Map (10 ∷ []) refl refl in
     let shape : IsLexed Map (codes "@:Item\n") (token shape_name finished) = token_lexed Map [] (codes ":Item") (10 ∷ []) 64 kinds.AtName finished refl refl refl refl end in
-    let close : IsLexed Map (codes "}@:Item\n") (token (of_mark (codes "}")) (token shape_name finished)) = token_lexed Map [] [] (codes "@:Item\n") 125 kinds.Punct (token shape_name finished) refl refl refl refl shape in
-    let any : IsLexed Map (codes " _}@:Item\n") behind_tag = token_lexed Map (32 ∷ []) [] (codes "}@:Item\n") 95 kinds.Punct (token (of_mark (codes "}")) (token shape_name finished)) refl refl refl refl close in
-    let tag : IsLexed Map (codes " :tag _}@:Item\n") (token (of_name (codes ":tag")) behind_tag) = token_lexed Map (32 ∷ []) (codes "tag") (codes " _}@:Item\n") 58 kinds.PnameLn behind_tag refl refl refl refl any in
-    let focus : IsLexed Map (codes "FOCUS :tag _}@:Item\n") behind_brace = token_lexed Map [] (codes "OCUS") (codes " :tag _}@:Item\n") 70 kinds.Word (token (of_name (codes ":tag")) behind_tag) refl refl refl refl tag in
+    let close : IsLexed Map (codes "}@:Item\n") (token (of_mark (codes "}")) (token shape_name finished)) =
+    token_lexed Map [] [] (codes "@:Item\n") 125 kinds.Punct (token shape_name finished) refl refl refl refl shape in
+    let any : IsLexed Map (codes " _}@:Item\n") behind_tag =
+    token_lexed Map (32 ∷ []) [] (codes "}@:Item\n") 95 kinds.Punct (token (of_mark (codes "}")) (token shape_name finished)) refl refl refl refl close in
+    let tag : IsLexed Map (codes " :tag _}@:Item\n") (token (of_name (codes ":tag")) behind_tag) = token_lexed Map (32 ∷ []) (codes "tag")
+    (codes " _}@:Item\n") 58 kinds.PnameLn behind_tag refl refl refl refl any in
+    let focus : IsLexed Map (codes "FOCUS :tag _}@:Item\n") behind_brace = token_lexed Map [] (codes "OCUS")
+    (codes " :tag _}@:Item\n") 70 kinds.Word (token (of_name (codes ":tag")) behind_tag) refl refl refl refl tag in
     token_lexed Map [] [] (codes "FOCUS :tag _}@:Item\n") 123 kinds.Punct behind_brace refl refl refl refl focus
 
 map_utf8 : IsUtf8 map_text

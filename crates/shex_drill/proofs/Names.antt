@@ -65,7 +65,8 @@ pub short_enough : {A : Type 0} (k : Bool) (text : List ℕ) (x : A) → length 
 short_enough true text x le = rw (le-ltb max_text (length text) le) refl
 short_enough false text x le = refl
 
-pub iri_named : (k : Bool) (v : Scope) (local : List ℕ) → IsAtHome v → is_plain local ≡ true → text_of (of_name (58 ∷ local)) ≡ Some local → length local ≤ 100 → iri_of k v (of_name (58 ∷ local)) ≡ Ok (home ++ local)
+pub iri_named : (k : Bool) (v : Scope) (local : List ℕ) → IsAtHome v → is_plain local ≡ true → text_of (of_name (58 ∷ local)) ≡ Some local →
+    length local ≤ 100 → iri_of k v (of_name (58 ∷ local)) ≡ Ok (home ++ local)
 unfolding iri_of is_among is_symbol
 iri_named k v local known e text short =
     let same : encode_utf8_all local ≡ local = encodes-IsAscii local (ascii local e) in
@@ -153,7 +154,8 @@ pub home_iri : (k : Bool) (v : Scope) → iri_ref_of k v (record { kind = kinds.
 unfolding iri_ref_of is_symbol
 home_iri k v =
     let same : encode_utf8_all home ≡ home = encodes-IsAscii home (ascii home refl) in
-    let found : iri_ref_of k v (record { kind = kinds.IriRef; text = codes "<http://d.example/>" }) ≡ limited k (resolved_text v.base (encode_utf8_all home)) (resolved_text v.base (encode_utf8_all home)) = rw home_text refl in
+    let found : iri_ref_of k v (record { kind = kinds.IriRef; text = codes "<http://d.example/>" }) ≡ limited k (resolved_text v.base (encode_utf8_all home))
+    (resolved_text v.base (encode_utf8_all home)) = rw home_text refl in
     let put : resolved_text v.base (encode_utf8_all home) ≡ home = ap (resolved_text v.base) same ∙ home_resolved v.base in
     found ∙ ap (λ z. limited k z z) put ∙ short_enough k home home (omega arith)
 

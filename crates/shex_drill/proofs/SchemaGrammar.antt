@@ -110,7 +110,8 @@ module _ (base : List ℕ) where
   unfolding is_symbol
   next_unary =
       let made = ap (λ p. triple None 0 Free (arc false p (one_expr (refer item_label)))) (chars_are (home ++ codes "next") refl) in
-      let dotted : (m : Ahead Spelled) → Mark symbol.Dot from_item_ref m → next_is (is_among connectives) m ≡ true = λ m d. no_dot (record { kind = kinds.AtName; text = codes "@:Item" }) from_star m refl d in
+      let dotted : (m : Ahead Spelled) → Mark symbol.Dot from_item_ref m → next_is (is_among connectives) m ≡ true =
+      λ m d. no_dot (record { kind = kinds.AtName; text = codes "@:Item" }) from_star m refl d in
       inl (
         None,
         (

@@ -79,15 +79,24 @@ schema_lexed =
     let lexed_two : IsLexed Schema (codes " 2 3] }\n") from_two = token_lexed Schema (32 ∷ []) [] (codes " 3] }\n") 50 kinds.Integer from_three refl refl refl refl lexed_three in
     let lexed_one : IsLexed Schema (codes "1 2 3] }\n") from_one = token_lexed Schema [] [] (codes " 2 3] }\n") 49 kinds.Integer from_two refl refl refl refl lexed_two in
     let lexed_open_bracket : IsLexed Schema (codes " [1 2 3] }\n") from_open_bracket = token_lexed Schema (32 ∷ []) [] (codes "1 2 3] }\n") 91 kinds.Punct from_one refl refl refl refl lexed_one in
-    let lexed_tag_name : IsLexed Schema (codes " :tag [1 2 3] }\n") from_tag_name = token_lexed Schema (32 ∷ []) (codes "tag") (codes " [1 2 3] }\n") 58 kinds.PnameLn from_open_bracket refl refl refl refl lexed_open_bracket in
-    let lexed_semicolon : IsLexed Schema (codes " ; :tag [1 2 3] }\n") from_semicolon = token_lexed Schema (32 ∷ []) [] (codes " :tag [1 2 3] }\n") 59 kinds.Punct from_tag_name refl refl refl refl lexed_tag_name in
-    let lexed_star : IsLexed Schema (codes "* ; :tag [1 2 3] }\n") from_star = token_lexed Schema [] [] (codes " ; :tag [1 2 3] }\n") 42 kinds.Punct from_semicolon refl refl refl refl lexed_semicolon in
-    let lexed_item_ref : IsLexed Schema (codes " @:Item* ; :tag [1 2 3] }\n") from_item_ref = token_lexed Schema (32 ∷ []) (codes ":Item") (codes "* ; :tag [1 2 3] }\n") 64 kinds.AtName from_star refl refl refl refl lexed_star in
-    let lexed_next_name : IsLexed Schema (codes " :next @:Item* ; :tag [1 2 3] }\n") from_next_name = token_lexed Schema (32 ∷ []) (codes "next") (codes " @:Item* ; :tag [1 2 3] }\n") 58 kinds.PnameLn from_item_ref refl refl refl refl lexed_item_ref in
-    let lexed_open_brace : IsLexed Schema (codes " { :next @:Item* ; :tag [1 2 3] }\n") from_open_brace = token_lexed Schema (32 ∷ []) [] (codes " :next @:Item* ; :tag [1 2 3] }\n") 123 kinds.Punct from_next_name refl refl refl refl lexed_next_name in
-    let lexed_item_name : IsLexed Schema (codes "\n:Item { :next @:Item* ; :tag [1 2 3] }\n") from_item_name = token_lexed Schema (10 ∷ []) (codes "Item") (codes " { :next @:Item* ; :tag [1 2 3] }\n") 58 kinds.PnameLn from_open_brace refl refl refl refl lexed_open_brace in
-    let lexed_home_ref : IsLexed Schema (codes " <http://d.example/>\n:Item { :next @:Item* ; :tag [1 2 3] }\n") from_home_ref = token_lexed Schema (32 ∷ []) (codes "http://d.example/>") (codes "\n:Item { :next @:Item* ; :tag [1 2 3] }\n") 60 kinds.IriRef from_item_name refl refl refl refl lexed_item_name in
-    let lexed_colon_name : IsLexed Schema (codes " : <http://d.example/>\n:Item { :next @:Item* ; :tag [1 2 3] }\n") from_colon_name = token_lexed Schema (32 ∷ []) [] (codes " <http://d.example/>\n:Item { :next @:Item* ; :tag [1 2 3] }\n") 58 kinds.PnameNs from_home_ref refl refl refl refl lexed_home_ref in
+    let lexed_tag_name : IsLexed Schema (codes " :tag [1 2 3] }\n") from_tag_name = token_lexed Schema (32 ∷ []) (codes "tag")
+    (codes " [1 2 3] }\n") 58 kinds.PnameLn from_open_bracket refl refl refl refl lexed_open_bracket in
+    let lexed_semicolon : IsLexed Schema (codes " ; :tag [1 2 3] }\n") from_semicolon =
+    token_lexed Schema (32 ∷ []) [] (codes " :tag [1 2 3] }\n") 59 kinds.Punct from_tag_name refl refl refl refl lexed_tag_name in
+    let lexed_star : IsLexed Schema (codes "* ; :tag [1 2 3] }\n") from_star =
+    token_lexed Schema [] [] (codes " ; :tag [1 2 3] }\n") 42 kinds.Punct from_semicolon refl refl refl refl lexed_semicolon in
+    let lexed_item_ref : IsLexed Schema (codes " @:Item* ; :tag [1 2 3] }\n") from_item_ref = token_lexed Schema (32 ∷ []) (codes ":Item")
+    (codes "* ; :tag [1 2 3] }\n") 64 kinds.AtName from_star refl refl refl refl lexed_star in
+    let lexed_next_name : IsLexed Schema (codes " :next @:Item* ; :tag [1 2 3] }\n") from_next_name = token_lexed Schema (32 ∷ []) (codes "next")
+    (codes " @:Item* ; :tag [1 2 3] }\n") 58 kinds.PnameLn from_item_ref refl refl refl refl lexed_item_ref in
+    let lexed_open_brace : IsLexed Schema (codes " { :next @:Item* ; :tag [1 2 3] }\n") from_open_brace =
+    token_lexed Schema (32 ∷ []) [] (codes " :next @:Item* ; :tag [1 2 3] }\n") 123 kinds.Punct from_next_name refl refl refl refl lexed_next_name in
+    let lexed_item_name : IsLexed Schema (codes "\n:Item { :next @:Item* ; :tag [1 2 3] }\n") from_item_name = token_lexed Schema (10 ∷ []) (codes "Item")
+    (codes " { :next @:Item* ; :tag [1 2 3] }\n") 58 kinds.PnameLn from_open_brace refl refl refl refl lexed_open_brace in
+    let lexed_home_ref : IsLexed Schema (codes " <http://d.example/>\n:Item { :next @:Item* ; :tag [1 2 3] }\n") from_home_ref = token_lexed Schema (32 ∷ [])
+    (codes "http://d.example/>") (codes "\n:Item { :next @:Item* ; :tag [1 2 3] }\n") 60 kinds.IriRef from_item_name refl refl refl refl lexed_item_name in
+    let lexed_colon_name : IsLexed Schema (codes " : <http://d.example/>\n:Item { :next @:Item* ; :tag [1 2 3] }\n") from_colon_name =
+    token_lexed Schema (32 ∷ []) [] (codes " <http://d.example/>\n:Item { :next @:Item* ; :tag [1 2 3] }\n") 58 kinds.PnameNs from_home_ref refl refl refl refl lexed_home_ref in
     token_lexed Schema [] (codes "REFIX") (codes " : <http://d.example/>\n:Item { :next @:Item* ; :tag [1 2 3] }\n") 80 kinds.Word from_colon_name refl refl refl refl lexed_colon_name
 
 pub schema_utf8 : IsUtf8 schema_text

@@ -31,6 +31,7 @@ not_read error.Many items apart h = h
 not_read error.Memory items apart h = apart refl
 not_read error.Full items apart h = h
 
-pub map_stops : (nodes labels : Scope) (bytes : List ℕ) (r : Result (List Item) MapError) → IfErr r (λ e. MapExplains nodes labels e bytes) → ((items : List Item) → IsMap nodes labels bytes items → ReadsAs r items) → IfErr r (MapStops nodes labels bytes)
+pub map_stops : (nodes labels : Scope) (bytes : List ℕ) (r : Result (List Item) MapError) → IfErr r (λ e. MapExplains nodes labels e bytes) →
+    ((items : List Item) → IsMap nodes labels bytes items → ReadsAs r items) → IfErr r (MapStops nodes labels bytes)
 map_stops nodes labels bytes (Ok items) cause complete = tt
 map_stops nodes labels bytes (Err e) cause complete = λ apart. (cause, λ items is. not_read e items apart (complete items is))

@@ -4,7 +4,7 @@ use Rattle.std.specs.Prelude.{Option, Some, ⊤}
 use Rattle.shex_io.specs.Files.{Lacks, Told}
 use Rattle.rdf_terms.specs.declared.terms.Term.{Term}
 use Rattle.graph_index.specs.declared.read_error.ReadError.{ReadError}
-use Rattle.schema_files.specs.Files.{IsTooLong}
+use Rattle.shex_io.specs.Fetching.{IsTooLong}
 use Rattle.schema_files.specs.Laws.{ReadIsNotLeft, RefusedIsOne, SourcesAreOne}
 use Rattle.schema_files.specs.Named.{file_of}
 use Rattle.schema_files.specs.Refusals.{IsRefused as IsRefusedFile}
@@ -99,7 +99,8 @@ module _ (contents : List ℕ → Option (List ℕ)) (i : Inputs) (laws : AreLaw
       let names : h.names ≡ k.names = ap (λ (p : Context × List TermTriple). p.0) whole in
       let triples : x.triples ≡ y.triples = ap (λ (p : Context × List TermTriple). p.1) whole in
       let docs : documents_of x.sources ≡ documents_of y.sources = ap documents_of same in
-      let files : h.files ≡ k.files = files_one x.sources y.sources x.holds_data.bytes y.holds_data.bytes h.files k.files x.digests y.digests same (same_bytes contents i.data_file x.holds_data.bytes y.holds_data.bytes x.holds_data.file.held y.holds_data.file.held) in
+      let files : h.files ≡ k.files =
+      files_one x.sources y.sources x.holds_data.bytes y.holds_data.bytes h.files k.files x.digests y.digests same (same_bytes contents i.data_file x.holds_data.bytes y.holds_data.bytes x.holds_data.file.held y.holds_data.file.held) in
       one_holding laws.one (documents_of y.sources) y.triples h k (subst (λ ts. IsHolding (documents_of y.sources) ts h) triples (subst (λ ds. IsHolding ds x.triples h) docs x.holding)) y.holding labels names files
 
   one_items : (v : Held) (a b : List Item) → HoldsMap told i v a → HoldsMap told i v b → a ≡ b
@@ -170,13 +171,15 @@ module _ (contents : List ℕ → Option (List ℕ)) (i : Inputs) (laws : AreLaw
   schema_is_stratified : (first : List Term) (s : Schema) (f : List ℕ) (v : Scope) → Takes told i first s f v → (cycle : List ShapeId) → HasNegation told i cycle → ⊥
   schema_is_stratified first s f v x cycle u =
       let sources : u.sources ≡ x.sources = one_schema u.sources x.sources u.are_sources x.are_sources in
-      let same : u.schema ≡ s = one_standing laws.one (documents_of x.sources) u.first first u.schema s (subst (λ ss. AddsAll [] (predicates_in (documents_of ss)) u.first) sources u.predicates) x.is_schema.predicates (subst (λ ss. StandsFor (documents_of ss) u.first u.schema) sources u.stands) x.is_schema.stands in
+      let same : u.schema ≡ s =
+      one_standing laws.one (documents_of x.sources) u.first first u.schema s (subst (λ ss. AddsAll [] (predicates_in (documents_of ss)) u.first) sources u.predicates) x.is_schema.predicates (subst (λ ss. StandsFor (documents_of ss) u.first u.schema) sources u.stands) x.is_schema.stands in
       laws.no_cycle s f (laws.stratified s f x.is_schema.strata) ((laws.cycles s).1 (cycle, subst (λ z. IsNegatedCycle z cycle) same u.is_cycle))
 
   asks_for_few : (q : Question) → IsAskedOf told i q → AsksForMany told i → ⊥
   asks_for_few q x u =
       let held : u.held ≡ q.held = held_one u.held q.held u.taken x.taken in
-      let same = stands_one u.held q.held u.taken x.taken u.items x.items (selected u.associations u.terms) (selected q.associations q.terms) (record { holds_map = u.holds_map; ends = u.ends }) (asked_stands q x) in
+      let same = stands_one u.held q.held u.taken x.taken u.items x.items (selected u.associations u.terms) (selected q.associations q.terms)
+      (record { holds_map = u.holds_map; ends = u.ends }) (asked_stands q x) in
       let associations : u.associations ≡ q.associations = ap associations_in same in
       let few : ¬ AreTooMany q.held.schema q.held.graph (map root_of q.associations) = not_many q.held.schema q.terms q.held.graph (map root_of q.associations) (Ok q.pairs) x.asked x.few in
       few

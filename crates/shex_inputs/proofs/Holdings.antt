@@ -37,12 +37,14 @@ levels_one law docs a b s t f h x y =
     let same : s ≡ t = stands_one law docs a b s t x.predicates y.predicates x.stands y.stands in
     strata_one t f h (subst (λ v. IsStratum v f) same x.strata) y.strata
 
-pub one_holding : OneSchema → (docs : List Document) (triples : List TermTriple) (a b : Held) → IsHolding docs triples a → IsHolding docs triples b → a.labels ≡ b.labels → a.names ≡ b.names → a.files ≡ b.files → a ≡ b
+pub one_holding : OneSchema → (docs : List Document) (triples : List TermTriple) (a b : Held) → IsHolding docs triples a → IsHolding docs triples b →
+    a.labels ≡ b.labels → a.names ≡ b.names → a.files ≡ b.files → a ≡ b
 one_holding law docs triples a b h k labels names files =
     let x = h.is_schema in
     let y = k.is_schema in
     let firsts : h.first ≡ k.first = first_one docs h.first k.first x.predicates y.predicates in
     let schema : a.schema ≡ b.schema = stands_one law docs h.first k.first a.schema b.schema x.predicates y.predicates x.stands y.stands in
     let strata : a.strata ≡ b.strata = levels_one law docs h.first k.first a.schema b.schema a.strata b.strata x y in
-    let (terms, graph) = loads_one k.first a.terms b.terms [] a.graph b.graph triples (first_distinct docs k.first y.predicates) (subst (λ z. Loads z [] triples a.terms a.graph) firsts h.graph) k.graph in
+    let (terms, graph) = loads_one k.first a.terms b.terms [] a.graph b.graph triples (first_distinct docs k.first y.predicates)
+    (subst (λ z. Loads z [] triples a.terms a.graph) firsts h.graph) k.graph in
     λ i. record { schema = schema i; strata = strata i; labels = labels i; terms = terms i; graph = graph i; names = names i; files = files i }

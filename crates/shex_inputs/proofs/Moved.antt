@@ -1,10 +1,10 @@
 -- What is read of files is read of others that hold the same bytes.
 use Rattle.std.proofs.Common.{◌≡◌, ◌∙◌, sym, ℕ, List, map}
 use Rattle.std.specs.Prelude.{Contains, Option, Some}
-use Rattle.command_words.specs.Checks.{Import as Word}
+use Rattle.input_names.specs.Names.{Import as Word}
 use Rattle.lists.proofs.Members.{is_first, is_later}
 use Rattle.schema_files.specs.declared.error.SchemaFile.TheVariants.{Root}
-use Rattle.schema_files.specs.Files.{IsFile}
+use Rattle.shex_io.specs.Fetching.{IsFile}
 use Rattle.schema_files.specs.Named.{Asked, name_of}
 use Rattle.schema_files.specs.Sources.{AreRead, HoldsSource, Source, next, root}
 use Rattle.schema_files.proofs.Few.{all_names, word_named}

@@ -19,7 +19,7 @@ use Rattle.shex_inputs.specs.declared.error.Source.{Source}
 use Rattle.shex_inputs.specs.declared.error.Source.TheVariants as Sources
 use Rattle.data_reader.specs.Formats.{format_of}
 use Rattle.schema_documents.specs.Tree.{Document, document_of}
-use Rattle.schema_files.specs.Files.{IsFile}
+use Rattle.shex_io.specs.Fetching.{IsFile}
 use Rattle.schema_files.specs.Refusals.{Explains as FilesExplain, FaultsAs as FilesFaultAs}
 use Rattle.schema_files.specs.Sources.{AreHeld, AreSources, Source as SchemaSource, digest_list, documents_of, source_digests}
 use Rattle.schema_files.specs.declared.error.FilesError.{FilesError}
@@ -42,7 +42,7 @@ use Rattle.term_tokens.specs.Scopes.{Scope, scope_of}
 use Rattle.std.proofs.lemmas.Bool.{and_parts}
 use Rattle.std.specs.Prelude.{IsSome, Some}
 use Rattle.iri_resolve.specs.Reference.{scheme_of}
-use Rattle.command_words.specs.Checks.{is_base}
+use Rattle.input_names.specs.Names.{is_base}
 use Rattle.shex_inputs.specs.Asked.{EndsAs, HoldsMap, node_names, root_of}
 use Rattle.shex_inputs.specs.Held.{Held, IsHolding, IsSchemaOf, IsTaken, predicates_in}
 use Rattle.shex_inputs.specs.Named.{Inputs, asked_of, source_name, source_of}
@@ -67,7 +67,8 @@ use Rattle.shex_inputs.proofs.Asking.{unless_memory}
 module _ (format : Format) (base : List ℕ) (first : List Term) (old : List Triple) (bytes : List ℕ) (nothing_held : old ≡ []) where
   -- only want of memory refuses what the bytes are
   abbrev IsComplete : ReadError → Type 0
-  IsComplete e = (last : Context) (triples : List TermTriple) (a : List Term) (b : List Triple) → IsData format base (last, triples) bytes → Loads first old triples a b → IsWithin a b → e ≡ Errors.Memory
+  IsComplete e = (last : Context) (triples : List TermTriple) (a : List Term) (b : List Triple) → IsData format base (last, triples) bytes →
+      Loads first old triples a b → IsWithin a b → e ≡ Errors.Memory
 
   unread : (e : ReadError) → IsComplete e → e ≢ Errors.Memory → AreUnreadable format base first bytes
   unread e complete apart last triples spelled a b loads within = apart (complete last triples a b spelled (subst (λ g. Loads first g triples a b) (sym nothing_held) loads) within)
@@ -79,22 +80,26 @@ module _ (format : Format) (base : List ℕ) (first : List Term) (old : List Tri
   reading_stops e h complete = λ apart. (caused e h, unread e complete apart)
 
 -- what holds of want of memory and of the refusal holds of the stop
-pub by_refusal : {E : Type 0} (memory : E) (refusal : E → Refusal) (e : E) (stop : InputError) (P : InputError → Type 0) → IsRefusalOf memory refusal e stop → P Memory → (e ≢ memory → P (Refused (refusal e))) → P stop
+pub by_refusal : {E : Type 0} (memory : E) (refusal : E → Refusal) (e : E) (stop : InputError) (P : InputError → Type 0) → IsRefusalOf memory refusal e stop →
+    P Memory → (e ≢ memory → P (Refused (refusal e))) → P stop
 by_refusal memory refusal e stop P (inl (is, made)) wanting to = subst P (sym made) wanting
 by_refusal memory refusal e stop P (inr (apart, made)) wanting to = subst P (sym made) (to apart)
 
 -- a fetch that stops
-pub fetch_explains : (told : Told) (i : Inputs) (source : Source) (before after : ℕ) (blame : List ℕ) (act : Act) (e : InputError) → Reaches told i source → FetchStops told (source_name i source) source before after blame act e → Explains told i e
+pub fetch_explains : (told : Told) (i : Inputs) (source : Source) (before after : ℕ) (blame : List ℕ) (act : Act) (e : InputError) → Reaches told i source →
+    FetchStops told (source_name i source) source before after blame act e → Explains told i e
 fetch_explains told i source before after blame act (Refused refusal) reached (size, long, stay) = subst (λ r. IsRefused told i r) (sym size) (reached, long)
 fetch_explains told i source before after blame act (Failed other) reached (same, faults) = subst (λ s. Reaches told i s) (sym same) reached
 fetch_explains told i source before after blame act Memory reached stay = tt
 
-pub fetch_faults : (told : Told) (i : Inputs) (source : Source) (before after : ℕ) (blame : List ℕ) (act : Act) (e : InputError) → FetchStops told (source_name i source) source before after blame act e → FaultsAs i before after blame act e
+pub fetch_faults : (told : Told) (i : Inputs) (source : Source) (before after : ℕ) (blame : List ℕ) (act : Act) (e : InputError) →
+    FetchStops told (source_name i source) source before after blame act e → FaultsAs i before after blame act e
 fetch_faults told i source before after blame act (Refused refusal) (size, long, stay) = stay
 fetch_faults told i source before after blame act (Failed other) (same, faults) = subst (λ s. FaultsAs i before after blame act (Failed s)) (sym same) faults
 fetch_faults told i source before after blame act Memory stay = stay
 
-pub fetch_before_map : (told : Told) (name : List ℕ) (source : Source) (before after : ℕ) (blame : List ℕ) (act : Act) (e : InputError) → source ≢ Sources.Map → FetchStops told name source before after blame act e → IsBeforeMap e
+pub fetch_before_map : (told : Told) (name : List ℕ) (source : Source) (before after : ℕ) (blame : List ℕ) (act : Act) (e : InputError) → source ≢ Sources.Map →
+    FetchStops told name source before after blame act e → IsBeforeMap e
 fetch_before_map told name source before after blame act (Refused refusal) other (size, long, stay) = λ is. other (ap source_of (sym size) ∙ is)
 fetch_before_map told name source before after blame act (Failed failed) other (same, faults) = λ is. other (sym same ∙ is)
 fetch_before_map told name source before after blame act Memory other stay = tt
@@ -107,7 +112,8 @@ files_explain told i (FilesErrors.Refused (FilesRefusals.Import file iri)) stop 
 files_explain told i (FilesErrors.Failed file) stop why made = subst (Explains told i) (sym made) why
 files_explain told i FilesErrors.Memory stop why made = subst (Explains told i) (sym made) tt
 
-pub files_faults : (i : Inputs) (before after : ℕ) (blame : List ℕ) (act : Act) (e : FilesError) (stop : InputError) → FilesFaultAs (asked_of i) before after blame act e → stop ≡ files_stop e → FaultsAs i before after blame act stop
+pub files_faults : (i : Inputs) (before after : ℕ) (blame : List ℕ) (act : Act) (e : FilesError) (stop : InputError) →
+    FilesFaultAs (asked_of i) before after blame act e → stop ≡ files_stop e → FaultsAs i before after blame act stop
 files_faults i before after blame act (FilesErrors.Refused refusal) stop faults made = subst (FaultsAs i before after blame act) (sym made) faults
 files_faults i before after blame act (FilesErrors.Failed file) stop faults made = subst (FaultsAs i before after blame act) (sym made) faults
 files_faults i before after blame act FilesErrors.Memory stop faults made = subst (FaultsAs i before after blame act) (sym made) faults
@@ -196,7 +202,8 @@ strata_stops docs old first s (StrataErrors.NegatedCycle cycle) stop none adds s
 strata_stops docs old first s StrataErrors.Memory stop none adds stands explains made = subst (λ z. LoadStops docs z) (sym made) tt
 
 -- what is loaded is the schema of the documents
-pub is_schema : (docs : List Document) (old first : List Term) (s : Schema) (f : List ℕ) → old ≡ [] → AddsAll old (predicates_in docs) first → length first ≤ max_terms → Stands docs first s → IsStratum s f → IsSchemaOf docs first s f
+pub is_schema : (docs : List Document) (old first : List Term) (s : Schema) (f : List ℕ) → old ≡ [] → AddsAll old (predicates_in docs) first →
+    length first ≤ max_terms → Stands docs first s → IsStratum s f → IsSchemaOf docs first s f
 is_schema docs old first s f none adds few stands strata = record {
   predicates = subst (λ ts. AddsAll ts (predicates_in docs) first) none adds;
   few = few;
@@ -205,7 +212,8 @@ is_schema docs old first s f none adds few stands strata = record {
 }
 
 -- what is loaded of the documents of the schema's files is taken, and what is not is explained
-pub loaded_taken : (told : Told) (i : Inputs) (d : Documents) (ss : List SchemaSource) (r : Result Loaded InputError) → AreSources told (asked_of i) ss → AreHeld d ss → IfOk r (λ l. IsSchemaOf (map document_of d.docs.items) l.terms l.schema l.strata) → IfOk r (λ l. l.labels ≡ d.names) → IfOk r (λ l. l.digests ≡ d.digests)
+pub loaded_taken : (told : Told) (i : Inputs) (d : Documents) (ss : List SchemaSource) (r : Result Loaded InputError) → AreSources told (asked_of i) ss →
+    AreHeld d ss → IfOk r (λ l. IsSchemaOf (map document_of d.docs.items) l.terms l.schema l.strata) → IfOk r (λ l. l.labels ≡ d.names) → IfOk r (λ l. l.digests ≡ d.digests)
     → IfOk r (λ l. (taken : Takes told i l.terms l.schema l.strata (scope_of l.labels)) × (digest_list l.digests ≡ source_digests taken.sources))
 loaded_taken told i d ss (Ok l) are held h labels digests = (
   record {
@@ -218,11 +226,13 @@ loaded_taken told i d ss (Ok l) are held h labels digests = (
 )
 loaded_taken told i d ss (Err e) are held h labels digests = h
 
-pub unloaded_explains : (told : Told) (i : Inputs) (d : Documents) (ss : List SchemaSource) (r : Result Loaded InputError) → AreSources told (asked_of i) ss → AreHeld d ss → IfErr r (LoadStops (map document_of d.docs.items)) → IfErr r (Explains told i)
+pub unloaded_explains : (told : Told) (i : Inputs) (d : Documents) (ss : List SchemaSource) (r : Result Loaded InputError) → AreSources told (asked_of i) ss →
+    AreHeld d ss → IfErr r (LoadStops (map document_of d.docs.items)) → IfErr r (Explains told i)
 unloaded_explains told i d ss (Ok l) are held h = h
 unloaded_explains told i d ss (Err e) are held h = load_explains told i ss e are (subst (λ docs. LoadStops docs e) held.documents h)
 
-pub unloaded_faults : (i : Inputs) (docs : List Document) (before after : ℕ) (blame : List ℕ) (act : Act) (r : Result Loaded InputError) → IfErr r (LoadStops docs) → after ≡ before → IfErr r (FaultsAs i before after blame act)
+pub unloaded_faults : (i : Inputs) (docs : List Document) (before after : ℕ) (blame : List ℕ) (act : Act) (r : Result Loaded InputError) →
+    IfErr r (LoadStops docs) → after ≡ before → IfErr r (FaultsAs i before after blame act)
 unloaded_faults i docs before after blame act (Ok l) h stay = tt
 unloaded_faults i docs before after blame act (Err e) h stay = load_faults i docs before after blame act e h stay
 
@@ -235,14 +245,16 @@ unloaded_of_schema docs (Ok l) h = tt
 unloaded_of_schema docs (Err e) h = load_of_schema docs e h
 
 -- a stop that is no fault of the files
-pub refused_faults : {E : Type 0} (memory : E) (refusal : E → Refusal) (e : E) (stop : InputError) (i : Inputs) (before after : ℕ) (blame : List ℕ) (act : Act) → IsRefusalOf memory refusal e stop → after ≡ before → FaultsAs i before after blame act stop
+pub refused_faults : {E : Type 0} (memory : E) (refusal : E →
+    Refusal) (e : E) (stop : InputError) (i : Inputs) (before after : ℕ) (blame : List ℕ) (act : Act) → IsRefusalOf memory refusal e stop → after ≡ before → FaultsAs i before after blame act stop
 refused_faults memory refusal e stop i before after blame act made stay = by_refusal memory refusal e stop (λ z. FaultsAs i before after blame act z) made stay (λ apart. stay)
 
 pub refused_before_map : {E : Type 0} (memory : E) (refusal : E → Refusal) (e : E) (stop : InputError) → IsRefusalOf memory refusal e stop → source_of (refusal e) ≢ Sources.Map → IsBeforeMap stop
 refused_before_map memory refusal e stop made other = by_refusal memory refusal e stop IsBeforeMap made tt (λ apart. other)
 
 -- data that are not read into the table of the predicates are not read
-explained : (told : Told) (i : Inputs) (first : List Term) (s : Schema) (f : List ℕ) (v : Scope) (bytes text : List ℕ) (e : ReadError) → Takes told i first s f v → IsFile told i.data_file bytes → text ≡ bytes → ReadingStops (format_of i.data_file) i.data_base first text e → e ≢ Errors.Memory → AreUnread told i e
+explained : (told : Told) (i : Inputs) (first : List Term) (s : Schema) (f : List ℕ) (v : Scope) (bytes text : List ℕ) (e : ReadError) →
+    Takes told i first s f v → IsFile told i.data_file bytes → text ≡ bytes → ReadingStops (format_of i.data_file) i.data_base first text e → e ≢ Errors.Memory → AreUnread told i e
 explained told i first s f v bytes text e taken file same stops apart = record {
   first = first;
   schema = s;
@@ -258,14 +270,16 @@ explained told i first s f v bytes text e taken file same stops apart = record {
       (subst (λ ts. Loads ts [] triples h.terms h.graph) (first_one (documents_of taken.sources) is.first first is.is_schema.predicates taken.is_schema.predicates) is.graph) is.within;
 }
 
-pub data_explains : (told : Told) (i : Inputs) (format : Format) (first : List Term) (s : Schema) (f : List ℕ) (v : Scope) (bytes text : List ℕ) (e : ReadError) (stop : InputError) → Takes told i first s f v → IsFile told i.data_file bytes → format ≡ format_of i.data_file → text ≡ bytes → ReadingStops format i.data_base first text e →
+pub data_explains : (told : Told) (i : Inputs) (format : Format) (first : List Term) (s : Schema) (f : List ℕ) (v : Scope) (bytes text : List ℕ) (e : ReadError) (stop : InputError) →
+    Takes told i first s f v → IsFile told i.data_file bytes → format ≡ format_of i.data_file → text ≡ bytes → ReadingStops format i.data_base first text e →
     IsRefusalOf Errors.Memory (λ x. Refusals.Data x) e stop → Explains told i stop
 data_explains told i format first s f v bytes text e stop taken file is same stops made =
     by_refusal Errors.Memory (λ x. Refusals.Data x) e stop (λ z. Explains told i z) made tt
     (explained told i first s f v bytes text e taken file same (subst (λ m. ReadingStops m i.data_base first text e) is stops))
 
 -- a map that is not read
-pub map_explains : (told : Told) (i : Inputs) (h : Held) (bytes text : List ℕ) (e : MapError) (stop : InputError) → IsTaken told i h → IsFile told i.map_file bytes → text ≡ bytes → MapStops (node_names h.names) h.labels text e →
+pub map_explains : (told : Told) (i : Inputs) (h : Held) (bytes text : List ℕ) (e : MapError) (stop : InputError) → IsTaken told i h →
+    IsFile told i.map_file bytes → text ≡ bytes → MapStops (node_names h.names) h.labels text e →
     IsRefusalOf MapErrors.Memory (λ x. Refusals.Map x) e stop → Explains told i stop
 map_explains told i h bytes text e stop taken file same stops made =
     by_refusal MapErrors.Memory (λ x. Refusals.Map x) e stop (λ z. Explains told i z) made tt (λ apart. inl (record {
@@ -279,14 +293,16 @@ map_explains told i h bytes text e stop taken file same stops made =
     }))
 
 -- a map whose associations are refused
-pub asking_explains : (told : Told) (i : Inputs) (h : Held) (items : List Item) (e : MapError) (stop : InputError) → IsTaken told i h → HoldsMap told i h items → UnlessMemory e (EndsAs h items (refused e)) →
+pub asking_explains : (told : Told) (i : Inputs) (h : Held) (items : List Item) (e : MapError) (stop : InputError) → IsTaken told i h →
+    HoldsMap told i h items → UnlessMemory e (EndsAs h items (refused e)) →
     IsRefusalOf MapErrors.Memory (λ x. Refusals.Map x) e stop → Explains told i stop
 asking_explains told i h items e stop taken holds ends made =
     by_refusal MapErrors.Memory (λ x. Refusals.Map x) e stop (λ z. Explains told i z) made tt
     (λ apart. inr (record { held = h; taken = taken; items = items; holds_map = holds; ends = unless_memory e (EndsAs h items (refused e)) apart ends }))
 
 -- a map that asks for too much
-pub demand_explains : (told : Told) (i : Inputs) (h : Held) (items : List Item) (associations : List Association) (terms : List Term) (e : DemandError) (stop : InputError) → IsTaken told i h → HoldsMap told i h items → EndsAs h items (selected associations terms) →
+pub demand_explains : (told : Told) (i : Inputs) (h : Held) (items : List Item) (associations : List Association) (terms : List Term) (e : DemandError) (stop : InputError) → IsTaken told i h →
+    HoldsMap told i h items → EndsAs h items (selected associations terms) →
     (e ≢ DemandErrors.Memory → AreTooMany h.schema h.graph (map root_of associations)) → stop ≡ demand_stop e → Explains told i stop
 demand_explains told i h items associations terms DemandErrors.Pairs stop taken holds ends many made =
     subst (λ z. Explains told i z) (sym made) (record { held = h; taken = taken; items = items; holds_map = holds; associations = associations; terms = terms; ends = ends; many = many (λ e. cc) })
@@ -307,8 +323,10 @@ unfolding is_base
 base_scheme text h = (and_parts _ _ h).0
 
 -- what is read is taken
-pub are_taken : (told : Told) (i : Inputs) (h : Held) (format : Format) (first : List Term) (s : Schema) (f : List ℕ) (v : Scope) (bytes text : List ℕ) (triples : List TermTriple) (taken : Takes told i first s f v) → h.labels ≡ v → IsFile told i.data_file bytes → format ≡ format_of i.data_file → text ≡ bytes
-    → IsData format i.data_base (h.names, triples) text → IsHolding (documents_of taken.sources) triples h → (digests : FileDigests) → digest_list digests ≡ source_digests taken.sources → h.files.schema ∷ h.files.imports ≡ digest_list digests → h.files.graph.0 ≡ sha256 text → IsTaken told i h
+pub are_taken : (told : Told) (i : Inputs) (h : Held) (format : Format) (first : List Term) (s : Schema) (f : List ℕ) (v : Scope) (bytes text : List ℕ) (triples : List TermTriple)
+    (taken : Takes told i first s f v) → h.labels ≡ v → IsFile told i.data_file bytes → format ≡ format_of i.data_file → text ≡ bytes
+    → IsData format i.data_base (h.names, triples) text → IsHolding (documents_of taken.sources) triples h → (digests : FileDigests) → digest_list digests ≡
+    source_digests taken.sources → h.files.schema ∷ h.files.imports ≡ digest_list digests → h.files.graph.0 ≡ sha256 text → IsTaken told i h
 are_taken told i h format first s f v bytes text triples taken labels file is same spelled holding digests listed schemas graph = record {
   sources = taken.sources;
   are_sources = taken.are_sources;

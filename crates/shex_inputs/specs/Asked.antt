@@ -7,7 +7,7 @@ use Rattle.demand.specs.Demand.{AreAsked}
 use Rattle.demand.specs.Orders.{max_pairs}
 use Rattle.demand.specs.declared.reach.Root.{Root}
 use Rattle.schema_tree.specs.declared.schema.Pair.{Pair}
-use Rattle.schema_files.specs.Files.{IsFile}
+use Rattle.shex_io.specs.Fetching.{IsFile}
 use Rattle.shape_map.specs.declared.items.Item.{Item}
 use Rattle.shape_map.specs.declared.resolve.Association.{Association}
 use Rattle.shape_map.specs.Maps.{IsMap}

@@ -13,7 +13,7 @@ use Rattle.data_reader.specs.Formats.{format_of}
 use Rattle.proof_file.specs.declared.head.Digests.{Digests}
 use Rattle.schema_documents.specs.Tree.{Document}
 use Rattle.schema_files.specs.declared.reading.FileDigests.{FileDigests}
-use Rattle.schema_files.specs.Files.{IsFile}
+use Rattle.shex_io.specs.Fetching.{IsFile}
 use Rattle.schema_files.specs.Sources.{AreSources, Source, documents_of, root_names, source_digests}
 use Rattle.schema_load.specs.Parts.{predicates_of}
 use Rattle.schema_load.specs.Reading.{parts_of}

@@ -1,6 +1,6 @@
 -- What files that are told hold is one thing. Each law is claimed by a function of `src/laws.rt`.
 use Rattle.std.specs.Prelude.{ℕ, List, ◌∷◌, ◌≡◌, ◌≢◌, Contains, Option, Some, map}
-use Rattle.clap.specs.Words.{Text}
+use Rattle.input_names.specs.Names.{Text}
 use Rattle.rdf_lex.specs.Prefixes.{AreOneLine}
 use Rattle.rdf_terms.specs.OneLine.{IsOneLine}
 use Rattle.shex_io.specs.Files.{Told}
@@ -56,7 +56,7 @@ file_names i = i.data_file ∷ i.schema ∷ map (λ w. w.file) i.imports
 abbrev pub HoldSame : (contents other : List ℕ → Option (List ℕ)) → Inputs → Type 0
 HoldSame contents other i = (name : List ℕ) → Contains (file_names i) name → contents name ≡ other name
 
--- the same inputs, with a map of this name
+-- the inputs, with a map of this name
 abbrev pub with_map : Inputs → Text → Inputs
 with_map i name = record {
   schema = i.schema;

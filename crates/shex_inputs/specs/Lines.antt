@@ -1,4 +1,4 @@
--- The lines that programs print to their errors.
+-- What programs print of a file that is refused.
 use Rattle.std.specs.Prelude.{ℕ, List, [], ◌∷◌, ◌++◌, codes, encode_utf8_all}
 use Rattle.std.specs.Fmt.{decimal}
 use Rattle.std.specs.List.{flat_map}
@@ -9,10 +9,6 @@ use Rattle.schema_tree.specs.declared.schema.ShapeId.{ShapeId}
 use Rattle.shape_map.specs.Messages.{map_text}
 use Rattle.shex_inputs.specs.declared.error.Refusal.{Refusal}
 use Rattle.shex_inputs.specs.declared.error.Refusal.TheVariants as Refusals
-
--- `PROGRAM: PLACE: WHAT` with a line feed
-abbrev pub error_line : List ℕ → List ℕ → List ℕ → List ℕ
-error_line program place what = program ++ (codes ": " ++ (place ++ (codes ": " ++ (what ++ codes "\n"))))
 
 -- the Shapes of a cycle by their numbers, with a comma between two
 abbrev pub cycle_text : List ShapeId → List ℕ

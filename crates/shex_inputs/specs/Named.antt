@@ -1,9 +1,8 @@
 -- The files of the inputs, by their names.
 use Rattle.std.specs.Prelude.{ℕ, List, map}
-use Rattle.clap.specs.Words.{Text}
-use Rattle.command_words.specs.Checks.{Import}
-use Rattle.command_words.specs.Lent.{import_of}
-use Rattle.command_words.specs.declared.command.Inputs.{Inputs as LentInputs}
+use Rattle.input_names.specs.Names.{Import, Text}
+use Rattle.input_names.specs.Lent.{import_of}
+use Rattle.input_names.specs.declared.inputs.Inputs.{Inputs as LentInputs}
 use Rattle.schema_files.specs.Named.{Asked, name_of}
 use Rattle.schema_files.specs.declared.error.SchemaFile.TheVariants.{Root}
 use Rattle.shex_inputs.specs.declared.error.Refusal.{Refusal}
@@ -20,7 +19,7 @@ pub record Inputs : Type 0 where
   pub data_base : Text
   pub imports : List Import
 
--- the inputs that words name, and a map of this name
+-- these inputs, and a map of this name
 abbrev pub inputs_with : LentInputs → Text → Inputs
 inputs_with lent map_name = record {
   schema = lent.schema.now;

@@ -2,7 +2,7 @@
 use Rattle.std.specs.Prelude.{ℕ, List, ◌≡◌, ◌≢◌, ◌⊎◌, ⊤}
 use Rattle.shex_io.specs.Files.{Lacks, Told}
 use Rattle.shex_io.specs.declared.files.Act.{Act}
-use Rattle.schema_files.specs.Files.{HasFailed}
+use Rattle.shex_io.specs.Fetching.{HasFailed}
 use Rattle.schema_files.specs.declared.error.SchemaFile.{SchemaFile}
 use Rattle.shex_inputs.specs.declared.error.InputError.{InputError}
 use Rattle.shex_inputs.specs.declared.error.InputError.TheVariants.{Refused, Failed, Memory}

@@ -2,7 +2,7 @@
 use Rattle.std.specs.Prelude.{ℕ, List, [], ◌≡◌, ◌≢◌, ◌⊎◌, Some, map}
 use Rattle.shex_io.specs.Files.{Told}
 use Rattle.rdf_terms.specs.declared.terms.Term.{Term}
-use Rattle.schema_files.specs.Files.{IsFile, IsTooLong}
+use Rattle.shex_io.specs.Fetching.{IsFile, IsTooLong}
 use Rattle.schema_files.specs.Refusals.{IsRefused as IsRefusedFile, Reaches as ReachesFile}
 use Rattle.schema_files.specs.Sources.{AreSources, Source as SchemaSource, documents_of, root_names}
 use Rattle.schema_files.specs.declared.error.FilesRefusal.TheVariants as FilesRefusals

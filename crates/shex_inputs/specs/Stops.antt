@@ -5,7 +5,7 @@ use Rattle.shex_io.specs.declared.files.Act.{Act}
 use Rattle.rdf_terms.specs.declared.terms.Term.{Term}
 use Rattle.rdf_terms.specs.declared.terms.Triple.{Triple}
 use Rattle.schema_documents.specs.Tree.{Document}
-use Rattle.schema_files.specs.Files.{HasFailed, IsTooLong}
+use Rattle.shex_io.specs.Fetching.{HasFailed, IsTooLong}
 use Rattle.schema_files.specs.declared.error.FilesError.{FilesError}
 use Rattle.schema_files.specs.declared.error.FilesError.TheVariants as FilesErrors
 use Rattle.schema_files.specs.declared.error.FilesRefusal.{FilesRefusal}

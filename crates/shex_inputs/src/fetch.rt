@@ -1,7 +1,7 @@
 //! The bytes of the data file and the map file.
 
 ghost use Rattle.std.specs.Prelude.{◌≡◌, IfErr, IfOk, OnOk};
-ghost use Rattle.schema_files.specs.Files.{IsFile};
+ghost use Rattle.shex_io.specs.Fetching.{IsFile};
 ghost use Rattle.shex_inputs.specs.Stops.{FetchStops};
 
 use crate::error::{InputError, Refusal, Source};
@@ -20,7 +20,7 @@ pub fn fetch<F: Files>(
     ensures faults_stay { OnOk result (F.faults files.new ≡ F.faults files.old) }
     ensures told_stays { F.told files.new ≡ F.told files.old }
 {
-    match schema_files::fetch(alloc, files, name) {
+    match shex_io::fetch(alloc, files, name) {
         Ok(bytes) => Ok(bytes),
         Err(FetchError::Failed) => Err(InputError::Failed(source)),
         Err(FetchError::Long) => Err(InputError::Refused(Refusal::Size(source))),

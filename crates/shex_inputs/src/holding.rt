@@ -1,7 +1,7 @@
 //! What the files of the schema and the data file hold.
 
 ghost use Rattle.std.specs.Prelude.{◌≡◌, ◌<◌, All, IfErr, IfOk, IsSome, List, OnOk, is_some, length, map, true};
-ghost use Rattle.clap.specs.Words.{Text};
+ghost use Rattle.input_names.specs.Names.{Text, is_base};
 ghost use Rattle.iri_resolve.specs.Reference.{scheme_of};
 ghost use Rattle.rdf_lex.specs.Prefixes.{base_of};
 ghost use Rattle.graph_index.specs.Laws.{IsOfTable};
@@ -10,7 +10,6 @@ ghost use Rattle.schema_documents.specs.Tree.{document_of};
 ghost use Rattle.schema_files.specs.Sources.{AreHeld, AreSources, Source as SchemaSource, digest_list, source_digests};
 ghost use Rattle.schema_load.specs.Parts.{AreOrdered};
 ghost use Rattle.schema_load.specs.Reading.{parts_of};
-ghost use Rattle.command_words.specs.Checks.{is_base};
 ghost use Rattle.schema_tree.specs.Edges.{IsStratum};
 ghost use Rattle.schema_tree.specs.Loaded.{IsLoaded};
 ghost use Rattle.term_tokens.specs.Scopes.{scope_of};
@@ -24,9 +23,9 @@ use crate::error::{InputError, Source, data_error, files_error};
 use crate::fetch::fetch;
 use crate::schema::{Loaded, load_schema};
 use crate::wanted::Wanted;
-use command_words::Inputs;
 use data_reader::Format;
 use graph_index::graph::Graph;
+use input_names::Inputs;
 use proof_file::head::Digests;
 use rdf_lex::Prefixes;
 use rdf_terms::table::TermTable;

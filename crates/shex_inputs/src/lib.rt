@@ -16,7 +16,7 @@ pub use holding::{Holding, Taken, read_holding, read_schema};
 pub use laws::{
     inputs_are_one, labels_have_lines, schemas_are_not_left, taken_by_bytes, taken_is_loaded,
 };
-pub use lines::{error_line, input_name, refusal_text};
+pub use lines::{input_name, refusal_text};
 pub use map::{Asked, read_map};
 pub use schema::Loaded;
 pub use wanted::Wanted;

@@ -1,30 +1,17 @@
-//! The lines that programs print to their errors.
+//! The names of files that are refused, and why, as programs print them.
 
 ghost use Rattle.std.specs.Prelude.{[], ◌≡◌, ◌++◌, IfOk, OnOk, codes, string_bytes};
 ghost use Rattle.std.specs.Fmt.{decimal};
 ghost use Rattle.std.specs.List.{flat_map};
 ghost use Rattle.schema_files.specs.Named.{name_of};
-ghost use Rattle.shex_inputs.specs.Lines.{cycle_text, error_line, refusal_text};
+ghost use Rattle.shex_inputs.specs.Lines.{cycle_text, refusal_text};
 ghost use Rattle.shex_inputs.specs.Named.{asked_of, inputs_with, source_name};
 
 use crate::error::{Refusal, Source};
-use command_words::Inputs;
+use input_names::Inputs;
 use schema_files::{SchemaFile, file_name};
 use schema_tree::schema::ShapeId;
 use std::alloc::{AllocError, Global};
-
-/// The line `PROGRAM: PLACE: WHAT` with a line feed, which says what is wrong at a place: in a file of this name, or in the
-/// words.
-pub fn error_line(
-    alloc: Global,
-    program: &str,
-    place: &str,
-    what: &str,
-) -> Result<String, AllocError>
-    ensures { IfOk result (λ s. string_bytes s ≡ error_line program.now place.now what.now) }
-{
-    format!(in alloc; "{program}: {place}: {what}\n")
-}
 
 /// The name of a file of the schema among the inputs, and the empty text where no word names it.
 fn schema_name<'a>(inputs: &Inputs<'a>, file: SchemaFile) -> &'a str

@@ -2,6 +2,7 @@ pub mod Bytes
 pub mod Calls
 pub mod Contents
 pub mod Faults
+pub mod Fetching
 pub mod Files
 pub mod Host
 pub mod Memory

@@ -4,12 +4,14 @@
 mod calls;
 mod contents;
 mod faults;
+mod fetching;
 pub mod files;
 pub mod host;
 pub mod memory;
 pub mod sinks;
 pub mod sure;
 
+pub use fetching::{MAX_FILE, fetch};
 pub use files::{Act, FetchError, Files, StoreError};
 pub use host::{DiskFiles, StdSink};
 pub use memory::{MemFiles, MemSink};

@@ -44,7 +44,8 @@ module _ (s : Schema) (g : List Triple) (n : TermId) (none : IsNoEnd g n) where
   needs_none : (p q : Pair) → p.node ≡ n → Needs s g p q → ⊥
   needs_none p q at needs =
       not_near needs.occ.inverse needs.triple needs.held
-      (subst (λ (m : TermId). same_id (near_end needs.occ.inverse needs.triple) m ≡ true) at (second (same_id needs.occ.predicate needs.triple.p) (same_id (near_end needs.occ.inverse needs.triple) p.node) needs.fit))
+      (subst (λ (m : TermId). same_id (near_end needs.occ.inverse needs.triple) m ≡
+      true) at (second (same_id needs.occ.predicate needs.triple.p) (same_id (near_end needs.occ.inverse needs.triple) p.node) needs.fit))
 
   leads_itself : (p q : Pair) → p.node ≡ n → Leads s g p q → q.node ≡ n
   leads_itself p q at here = at

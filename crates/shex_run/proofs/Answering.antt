@@ -1,7 +1,7 @@
 -- What answers a command, and what stops it.
 use Rattle.std.proofs.Common.{◌≡◌, ◌≢◌, ◌∙◌, ap, sym, subst, refl, List, ℕ, inl, inr, []}
 use Rattle.std.specs.Prelude.{Option, Some, None, unwrap_or}
-use Rattle.clap.specs.Words.{Text}
+use Rattle.input_names.specs.Names.{Text}
 use Rattle.shex_io.specs.Files.{Holds, HoldsPart, KeepsOthers, Told}
 use Rattle.shex_io.specs.declared.files.Act.{Act}
 use Rattle.shex_io.specs.declared.files.Act.TheVariants as Acts
@@ -71,7 +71,8 @@ base_of_task t (Errors.Refused refusal) before = no_map_of t (source_of refusal)
 base_of_task t (Errors.Failed source) before = no_map_of t source before
 base_of_task t Errors.Memory before = tt
 
-pub input_stopped : (told after : Told) (c : Command) (before later : ℕ) (blame : List ℕ) (act : Act) (e : InputError) → IsOfTask c.task e → ExplainsInput told (inputs_of c) e → FaultsAsInput (inputs_of c) before later blame act e → after ≡ told →
+pub input_stopped : (told after : Told) (c : Command) (before later : ℕ) (blame : List ℕ) (act : Act) (e : InputError) → IsOfTask c.task e →
+    ExplainsInput told (inputs_of c) e → FaultsAsInput (inputs_of c) before later blame act e → after ≡ told →
     Stopped told after c before later blame act (stop_of e)
 input_stopped told after c before later blame act (Errors.Refused refusal) of cause still same = record { cause = (of, cause); faults = still; stored = same }
 input_stopped told after c before later blame act (Errors.Failed source) of cause rose same = record { cause = (of, cause); faults = rose; stored = same }
@@ -89,7 +90,8 @@ pub record IsDue (told : Told) (c : Command) (map_name : Text) (proof_name : Opt
   pub are_wide : AreWide q.held.schema q.terms q.held.graph budget q.pairs wide
   pub notes_are : notes ≡ notes_of q budget answers wide
 
-module _ (told : Told) (c : Command) (map_name : Text) (proof_name : Option Text) (budget : ℕ) (q : Question) (answers : List Answer) (status : ℕ) (text notes : List ℕ) (due : IsDue told c map_name proof_name budget q answers status text notes) where
+module _ (told : Told) (c : Command) (map_name : Text) (proof_name : Option Text) (budget : ℕ) (q : Question) (answers : List Answer) (status : ℕ)
+    (text notes : List ℕ) (due : IsDue told c map_name proof_name budget q answers status text notes) where
   -- what is due is the response once the proof is stored
   responds : (after : Told) → Stores told after proof_name (IsStoredProofOf q budget answers) → IsResponse told after c status text notes
   responds after stored = inl (record {
@@ -135,7 +137,8 @@ module _ (told : Told) (c : Command) (map_name : Text) (proof_name : Option Text
         subst (λ f. Reaches told c f) (sym e)
         (subst (λ t. ReachesProof told c t) (sym due.task) (name, (bytes, due_proof)))
 
-    pub store_stopped : (after : Told) (before later : ℕ) (blame : List ℕ) (act : Act) (stop : Stop) → ProofStops Files.Proof name Acts.Store before later blame act stop → HoldsPart told after name bytes → KeepsOthers told after name → Stopped told after c before later blame act stop
+    pub store_stopped : (after : Told) (before later : ℕ) (blame : List ℕ) (act : Act) (stop : Stop) →
+        ProofStops Files.Proof name Acts.Store before later blame act stop → HoldsPart told after name bytes → KeepsOthers told after name → Stopped told after c before later blame act stop
     store_stopped after before later blame act (Stops.Refused refusal) h part others = absurd h
     store_stopped after before later blame act (Stops.Failed file) (e, (rose, up, blamed, acted)) part others = record {
       cause = reached file e;
@@ -153,7 +156,8 @@ module _ (told : Told) (c : Command) (map_name : Text) (proof_name : Option Text
 -- ---- `check` and `upgrade`
 
 module _ (told : Told) (c : Command) (b : Held) (taken : IsTaken told (inputs_of c) b) (name : List ℕ) (is : IsToCheck c name) where
-  pub fetch_stopped : (after : Told) → after ≡ told → (before later : ℕ) (blame : List ℕ) (act : Act) (stop : Stop) → ProofStops Files.Proof name Acts.Fetch before later blame act stop → Stopped told after c before later blame act stop
+  pub fetch_stopped : (after : Told) → after ≡ told → (before later : ℕ) (blame : List ℕ) (act : Act) (stop : Stop) →
+      ProofStops Files.Proof name Acts.Fetch before later blame act stop → Stopped told after c before later blame act stop
   fetch_stopped after same before later blame act (Stops.Refused refusal) h = absurd h
   fetch_stopped after same before later blame act (Stops.Failed file) (e, (rose, up, blamed, acted)) = record {
     cause = subst (λ f. Reaches told c f) (sym e) (reaches told c c.task name is b taken);
@@ -183,7 +187,8 @@ module _ (told : Told) (c : Command) (b : Held) (taken : IsTaken told (inputs_of
       notes_are = refl;
     })
 
-    pub confirm_stopped : (after : Told) → after ≡ told → (before later : ℕ) (blame : List ℕ) (act : Act) → later ≡ before → (stop : Stop) → ConfirmStops b bytes stop → Stopped told after c before later blame act stop
+    pub confirm_stopped : (after : Told) → after ≡ told → (before later : ℕ) (blame : List ℕ) (act : Act) → later ≡ before → (stop : Stop) →
+        ConfirmStops b bytes stop → Stopped told after c before later blame act stop
     confirm_stopped after same before later blame act still (Stops.Refused (Refusals.Input refusal)) h = absurd h
     confirm_stopped after same before later blame act still (Stops.Refused (Refusals.Proof CheckErrors.Full)) h = record { cause = (b, bytes, given, h); faults = still; stored = same }
     confirm_stopped after same before later blame act still (Stops.Refused (Refusals.Proof CheckErrors.Memory)) h = absurd h
@@ -216,7 +221,8 @@ module _ (told : Told) (c : Command) (b : Held) (taken : IsTaken told (inputs_of
         others = subst (λ t. KeepsOthers t after to) same others;
       }
 
-      pub upgrade_stopped : (before later : ℕ) (blame : List ℕ) (act : Act) (stop : Stop) → ProofStops Files.Upgraded to Acts.Store before later blame act stop → HoldsPart mid after to new → KeepsOthers mid after to → Stopped told after c before later blame act stop
+      pub upgrade_stopped : (before later : ℕ) (blame : List ℕ) (act : Act) (stop : Stop) →
+          ProofStops Files.Upgraded to Acts.Store before later blame act stop → HoldsPart mid after to new → KeepsOthers mid after to → Stopped told after c before later blame act stop
       upgrade_stopped before later blame act (Stops.Refused refusal) h part others = absurd h
       upgrade_stopped before later blame act (Stops.Failed file) (e, (rose, up, blamed, acted)) part others = record {
         cause = subst (λ f. Reaches told c f) (sym e) (to, (new, due_upgrade));

@@ -34,7 +34,7 @@ use Rattle.shape_map.specs.declared.resolve.Association.{Association}
 use Rattle.shape_map.specs.Selection.{at_focus, max_associations, written}
 use Rattle.data_reader.specs.Documents.{DataHaveLines}
 use Rattle.shape_map.specs.Maps.{MapHasLines}
-use Rattle.command_words.specs.Laws.{BasesAreLines}
+use Rattle.input_names.specs.Laws.{BasesAreLines}
 use Rattle.rdf_lex.specs.Prefixes.{AreOneLine}
 use Rattle.rdf_terms.specs.Graphs.{same_id}
 use Rattle.rdf_terms.specs.OneLine.{HasOneLine}
@@ -94,7 +94,8 @@ answer_of L G on (b ∷ asked) (y ∷ xs) (given first rest) a h = elim (in_rest
     further (inr (x, there, same)) = inr (x, is_later y xs x there, same)
 
 -- the nodes of the answers are of the table
-pub answers_within : (s : Schema) (terms : List Term) (view : Verdicts) (asked : List Association) (xs : List Answer) → AreSureAnswers s terms view asked xs → All (IsAsked s terms) asked → (x : Answer) → Contains xs x → x.node.0 < length terms
+pub answers_within : (s : Schema) (terms : List Term) (view : Verdicts) (asked : List Association) (xs : List Answer) → AreSureAnswers s terms view asked xs →
+    All (IsAsked s terms) asked → (x : Answer) → Contains xs x → x.node.0 < length terms
 answers_within s terms view asked xs are all x h =
     let (a, there, same) = association_of (IsUnsure s terms view) (IsSureAnswer s terms view) (λ b y sure. sure.node) asked xs are x h in
     let is : IsAsked s terms a = All-contains (IsAsked s terms) asked a all there in
@@ -187,7 +188,8 @@ module _ (told : Told) (c : Command) (q : Question) (is : IsAskedOf told (inputs
 
   -- ---- the proof of the answers
 
-  module _ (of_held : All (IsOfTable q.held.terms) g) (budget : ℕ) (some : 1 ≤ budget) (law : DecidedByFormIsDecided) (verdicts : Verdicts) (answers : List Answer) (are : AreReplies s q.terms verdicts g budget q.associations answers) where
+  module _ (of_held : All (IsOfTable q.held.terms) g) (budget : ℕ) (some : 1 ≤ budget) (law : DecidedByFormIsDecided) (verdicts : Verdicts)
+      (answers : List Answer) (are : AreReplies s q.terms verdicts g budget q.associations answers) where
     -- a node beyond the terms that are held is at the end of no triple
     no_end : (n : TermId) → length q.held.terms ≤ n.0 → IsNoEnd g n
     no_end n beyond t held = (apart t.s of.subject, apart t.o of.object)
@@ -200,16 +202,19 @@ module _ (told : Told) (c : Command) (q : Question) (is : IsAskedOf told (inputs
 
     -- a node that is written has an answer, or is one of the terms that are held
     held_or_answered : (t : Term) → Gives s g q.terms q.associations t → Contains q.held.terms t ⊎ ((x : Answer) × Contains answers x × (slice_get q.terms x.node.0 ≡ Some t))
-    held_or_answered t k = go (cases_lt k.association.node.0 (length q.held.terms)) (answer_of (IsLeftOut s q.terms verdicts g budget) (IsTrueAnswer s q.terms verdicts g budget) (λ a x true_one. true_one.answer.node) q.associations answers are k.association k.listed)
+    held_or_answered t k = go (cases_lt k.association.node.0 (length q.held.terms))
+        (answer_of (IsLeftOut s q.terms verdicts g budget) (IsTrueAnswer s q.terms verdicts g budget) (λ a x true_one. true_one.answer.node) q.associations answers are k.association k.listed)
       where
         n : TermId
         n = k.association.node
 
-        go : (n.0 < length q.held.terms) ⊎ (length q.held.terms ≤ n.0) → IsLeftOut s q.terms verdicts g budget k.association ⊎ ((x : Answer) × Contains answers x × (x.node ≡ n)) → Contains q.held.terms t ⊎ ((x : Answer) × Contains answers x × (slice_get q.terms x.node.0 ≡ Some t))
+        go : (n.0 < length q.held.terms) ⊎ (length q.held.terms ≤ n.0) → IsLeftOut s q.terms verdicts g budget k.association ⊎
+            ((x : Answer) × Contains answers x × (x.node ≡ n)) → Contains q.held.terms t ⊎ ((x : Answer) × Contains answers x × (slice_get q.terms x.node.0 ≡ Some t))
         go at (inr (x, there, same)) = inr (x, there, ap (λ (m : TermId). slice_get q.terms m.0) same ∙ k.node)
         go (inl within) (inl out) =
             let own : slice_get q.held.terms n.0 ≡ Some (get_or q.held.terms n.0 t) = slice_get-get_or q.held.terms n.0 t within in
-            let kept : slice_get q.terms n.0 ≡ Some (get_or q.held.terms n.0 t) = kept_at q.held.terms q.terms n.0 (get_or q.held.terms n.0 t) (all_grow q.held.terms q.terms is.ends.takes.nodes is.ends.takes.taken) own in
+            let kept : slice_get q.terms n.0 ≡ Some (get_or q.held.terms n.0 t) = kept_at q.held.terms q.terms n.0 (get_or q.held.terms n.0 t)
+            (all_grow q.held.terms q.terms is.ends.takes.nodes is.ends.takes.taken) own in
             let one : get_or q.held.terms n.0 t ≡ t = one_term (get_or q.held.terms n.0 t) t (sym kept ∙ k.node) in
             inl (got_in q.held.terms n.0 t (own ∙ ap (λ z. Some z) one))
         go (inr beyond) (inl out) = absurd (not_decided s q.terms g budget n k.association.expr out.wide (decided_alone s g n (no_end n beyond) q.terms budget some law k.association.expr))

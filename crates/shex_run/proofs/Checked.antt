@@ -1,7 +1,7 @@
 -- What a task that checks a proof does with its files.
 use Rattle.std.proofs.Common.{◌≡◌, ◌≢◌, ap, sym, refl, ℕ, [], ◌⊎◌}
 use Rattle.std.specs.Prelude.{Option, Some, None, unwrap_or}
-use Rattle.clap.specs.Words.{Text}
+use Rattle.input_names.specs.Names.{Text}
 use Rattle.shex_io.specs.Files.{Told}
 use Rattle.shex_io.specs.declared.files.Act.TheVariants as Acts
 use Rattle.command_words.specs.Asked.{Command}

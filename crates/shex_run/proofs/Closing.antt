@@ -2,7 +2,7 @@
 use Rattle.std.proofs.Common.{◌≡◌, ◌∙◌, ap, sym, subst, refl, List, ℕ, [], ◌++◌, ◌⊎◌, inl, inr, ◌<◌, arith, append-nil, length, map, Bool, true, false}
 use Rattle.std.specs.Prelude.{Option, Some, None, if◌then◌else◌, nat_lt}
 use Rattle.std.proofs.lemmas.List.{length-map}
-use Rattle.clap.specs.Words.{Text}
+use Rattle.input_names.specs.Names.{Text}
 use Rattle.lists.specs.Distinct.{AreDistinct}
 use Rattle.rdf_terms.specs.declared.terms.Term.{Term}
 use Rattle.schema_tree.specs.declared.schema.Answer.{Answer}
@@ -94,10 +94,13 @@ module _ (words : List Text) (c : Command) (is_asked : IsAsked words c) (law : A
     pub taken_ends : AreTaken files.told c → Ends words files out err status → Concludes c.task status ⊎ IsInterrupted status
     taken_ends taken (faulty line by left quiet prints) = absurd (not_faulty line by)
     taken_ends taken (answered text notes wanted low r same prints) = elim (responded files.told files.told_after wanted text notes r) [
-      | inl a ↦ or_interrupted (Concludes c.task status) wanted status (λ h. subst (λ t. Concludes t status) (sym a.task) (answering status wanted low h)) (wanted_both out err text notes wanted status prints)
-      | inr k ↦ or_interrupted (Concludes c.task status) wanted status (λ h. concludes c.task k.checked.given.name k.checked.given.task status (inl (h ∙ k.status_is))) (wanted_both out err text notes wanted status prints)
+      | inl a ↦ or_interrupted (Concludes c.task status) wanted status (λ h. subst (λ t. Concludes t status) (sym a.task) (answering status wanted low h))
+          (wanted_both out err text notes wanted status prints)
+      | inr k ↦ or_interrupted (Concludes c.task status) wanted status (λ h. concludes c.task k.checked.given.name k.checked.given.task status (inl (h
+          ∙ k.status_is))) (wanted_both out err text notes wanted status prints)
     ]
-    taken_ends taken (refused line by left quiet prints) = or_interrupted (Concludes c.task status) 3 status (λ h. go (refusal_of files.told line by) c.task refl taken h) (wanted_or err line 3 status prints)
+    taken_ends taken (refused line by left quiet prints) =
+        or_interrupted (Concludes c.task status) 3 status (λ h. go (refusal_of files.told line by) c.task refl taken h) (wanted_or err line 3 status prints)
       where
         go : IsLeft files.told → (t : Task) → c.task ≡ t → TakesFor files.told c t → status ≡ 3 → Concludes c.task status
         go (inl (refusal, cause)) (validation m p n) is (q, asked) h = absurd (asked_not_refused files.told contents told c one q asked refusal cause)
@@ -118,7 +121,8 @@ module _ (words : List Text) (c : Command) (is_asked : IsAsked words c) (law : A
       whole : (text notes : List ℕ) (wanted : ℕ) → IsResponse files.told files.told_after c wanted text notes → IsWhollyStored files.told files.told_after c name
       whole text notes wanted (inl a) = go a.proof_name (same_proof a.map_name a.proof_name a.budget (sym a.task ∙ to)) a.task a.stored
         where
-          go : (p : Option Text) → p ≡ Some name → IsToValidate c a.map_name p a.budget → Stores files.told files.told_after p (IsStoredProofOf a.question a.budget a.answers) → IsWhollyStored files.told files.told_after c name
+          go : (p : Option Text) → p ≡ Some name → IsToValidate c a.map_name p a.budget →
+              Stores files.told files.told_after p (IsStoredProofOf a.question a.budget a.answers) → IsWhollyStored files.told files.told_after c name
           go None e task stored = absurd cc
           go (Some other) e task (x, proof, held, others) =
               let same : other ≡ name = cc in (
@@ -202,14 +206,16 @@ module _ (words : List Text) (c : Command) (is_asked : IsAsked words c) (law : A
       module _ (name : Text) (to : IsToStore c name) where
         whole_upgrade : (text notes : List ℕ) (wanted : ℕ) → IsConfirmed files.told files.told_after c wanted text notes → IsWhollyUpgraded files.told files.told_after c name
         whole_upgrade text notes wanted k =
-            let (new, upgrade, held, others) = subst (λ o. Stores files.told files.told_after o (IsUpgradeOf k.checked.held k.checked.confirmed.accepted.found.found.proof k.checked.bytes)) to k.stored in (
+            let (new, upgrade, held, others) =
+            subst (λ o. Stores files.told files.told_after o (IsUpgradeOf k.checked.held k.checked.confirmed.accepted.found.found.proof k.checked.bytes)) to k.stored in (
               new,
               record { task = to; held = k.checked.held; old = k.checked.bytes; given = k.checked.given; text = text; upgrades = record { confirmed = k.checked.confirmed; upgrade = upgrade } },
               held,
               others,
             )
 
-        pub upgraded_ends : (terms : List Term) (answers : List Answer) → Accepted b bytes terms answers → Ends words files out err status → status ≡ 7 → ¬ Rose files.faults files.faults_after → IsWhollyUpgraded files.told files.told_after c name
+        pub upgraded_ends : (terms : List Term) (answers : List Answer) → Accepted b bytes terms answers → Ends words files out err status → status ≡ 7 →
+            ¬ Rose files.faults files.faults_after → IsWhollyUpgraded files.told files.told_after c name
         upgraded_ends terms answers a (faulty line by left quiet prints) at still = absurd (not_faulty line by)
         upgraded_ends terms answers a (answered text notes wanted low r same prints) at still = elim (responded files.told files.told_after wanted text notes r) [
           | inl x ↦ absurd (no_wish text notes wanted x)
@@ -322,7 +328,8 @@ partly_printed words files out err status (answered text notes wanted low r same
     let under = low_wanted wanted low in
     inl (both_in_part text notes wanted r same (omega (arith, under)) prints)
   where
-    both_in_part : (text notes : List ℕ) (wanted : ℕ) → IsRespondedTo files.told files.told_after words wanted text notes → files.faults_after ≡ files.faults → wanted < 7 → PrintsBoth out err text notes wanted status → IsPrintedInPart words files out err
+    both_in_part : (text notes : List ℕ) (wanted : ℕ) → IsRespondedTo files.told files.told_after words wanted text notes → files.faults_after ≡ files.faults →
+        wanted < 7 → PrintsBoth out err text notes wanted status → IsPrintedInPart words files out err
     both_in_part text notes wanted r same under (inl h) = notes_in_part text notes wanted r same h.0 (prefix_of err notes wanted status under h.2 at)
     both_in_part text notes wanted r same under (inr (cut, quiet)) = answer_in_part text notes wanted r same (prefix_of_cut out text status cut) quiet
 partly_printed words files out err status (refused line by left quiet prints) at = inl (line_in_part line (inl (inr (inl by), left)) quiet (prefix_of err line 3 status (omega arith) prints at))
@@ -386,12 +393,14 @@ seven_of sink text wanted status low (inl h) at = let e : status ≡ wanted = h.
 seven_of sink text wanted status low (inr (inl h)) at = h.2
 seven_of sink text wanted status low (inr (inr h)) at = let e : status ≡ 8 = h.0 in absurd (omega (arith, e, at))
 
-seven_both : (out err : SinkSeen) (text notes : List ℕ) (wanted status : ℕ) → wanted < 7 → PrintsBoth out err text notes wanted status → status ≡ 7 → Rose out.faults out.faults_after ⊎ Rose err.faults err.faults_after
+seven_both : (out err : SinkSeen) (text notes : List ℕ) (wanted status : ℕ) → wanted < 7 → PrintsBoth out err text notes wanted status → status ≡ 7 →
+    Rose out.faults out.faults_after ⊎ Rose err.faults err.faults_after
 seven_both out err text notes wanted status low (inl h) at = inr (seven_of err notes wanted status low h.2 at)
 seven_both out err text notes wanted status low (inr (inl cut, quiet)) at = inl cut.2
 seven_both out err text notes wanted status low (inr (inr cut, quiet)) at = let e : status ≡ 8 = cut.0 in absurd (omega (arith, e, at))
 
-pub seven_rose : (words : List Text) (files : FilesSeen) (out err : SinkSeen) (status : ℕ) → Ends words files out err status → status ≡ 7 → Rose out.faults out.faults_after ⊎ Rose err.faults err.faults_after
+pub seven_rose : (words : List Text) (files : FilesSeen) (out err : SinkSeen) (status : ℕ) → Ends words files out err status → status ≡ 7 →
+    Rose out.faults out.faults_after ⊎ Rose err.faults err.faults_after
 seven_rose words files out err status (faulty line by left quiet prints) at = inr (seven_of err line 2 status (omega arith) prints at)
 seven_rose words files out err status (answered text notes wanted low r same prints) at =
     let under = low_wanted wanted low in
@@ -411,7 +420,8 @@ held_part (Some old) None name bytes held others = others
 held_part (Some old) (Some new) name bytes held others = inr (bytes, ([], sym (append-nil bytes)), held)
 
 module _ (told after : Told) (words : List Text) where
-  stored_partly : (status : ℕ) (text notes : List ℕ) (c : Command) → IsAsked words c → (a : IsAnswered told after c status text notes) → (name : Option Text) → a.proof_name ≡ name → Stores told after name (IsStoredProofOf a.question a.budget a.answers) → IsPartlyStored told after words
+  stored_partly : (status : ℕ) (text notes : List ℕ) (c : Command) → IsAsked words c → (a : IsAnswered told after c status text notes) → (name : Option Text) →
+      a.proof_name ≡ name → Stores told after name (IsStoredProofOf a.question a.budget a.answers) → IsPartlyStored told after words
   stored_partly status text notes c is_asked a None is same = inl same
   stored_partly status text notes c is_asked a (Some name) is (bytes, proof, held, others) = inr (inl (
     c,
@@ -448,7 +458,8 @@ module _ (told after : Told) (words : List Text) where
     },
   ))
 
-  drilled_partly : (d : Drill) → IsDrill words d → (q : Question) (answers : List Answer) → AreDrillAnswers d.items q answers → (name : Option Text) → d.proof ≡ name → Stores told after name (IsStoredProofOf q default_budget answers) → IsPartlyStored told after words
+  drilled_partly : (d : Drill) → IsDrill words d → (q : Question) (answers : List Answer) → AreDrillAnswers d.items q answers → (name : Option Text) →
+      d.proof ≡ name → Stores told after name (IsStoredProofOf q default_budget answers) → IsPartlyStored told after words
   drilled_partly d is_drill q answers are None is same = inl same
   drilled_partly d is_drill q answers are (Some name) is (bytes, proof, held, others) = inr (inr (
     d,
@@ -501,7 +512,8 @@ two_or sink text status (inr (inl h)) = inr (inl h.0)
 two_or sink text status (inr (inr h)) = inr (inr h.0)
 
 -- where the words are at fault, they are refused
-pub faulty_ends : (words : List Text) (files : FilesSeen) (out err : SinkSeen) (status : ℕ) → AnswersAreOne → (f : Fault) → IsFault words f → Ends words files out err status → (status ≡ 2) ⊎ ((status ≡ 7) ⊎ (status ≡ 8))
+pub faulty_ends : (words : List Text) (files : FilesSeen) (out err : SinkSeen) (status : ℕ) → AnswersAreOne → (f : Fault) → IsFault words f →
+    Ends words files out err status → (status ≡ 2) ⊎ ((status ≡ 7) ⊎ (status ≡ 8))
 faulty_ends words files out err status law f is (faulty line by left quiet prints) = two_or err line status prints
 faulty_ends words files out err status law f is (answered text notes wanted low (inl r) same prints) = absurd (law.apart words r.command f r.is_asked is.first)
 faulty_ends words files out err status law f is (answered text notes wanted low (inr (d, is_drill, x)) same prints) = absurd (is.no_drill d is_drill)
@@ -527,9 +539,11 @@ module _ (words : List Text) (d : Drill) (is_drill : IsDrill words d) (law : Ans
   drill_ends (failed line by have quiet prints) = inr (five_interrupts status (wanted_or err line 5 status prints))
   drill_ends (wanting stored same quiet also h) = inr (inr (inr h))
 
-  drill_whole : (name : Text) → d.proof ≡ Some name → (e : Drill) → e ≡ d → (text notes : List ℕ) (wanted : ℕ) → IsDrilled files.told files.told_after e wanted text notes → IsDrillWhollyStored files.told files.told_after d name
+  drill_whole : (name : Text) → d.proof ≡ Some name → (e : Drill) → e ≡ d → (text notes : List ℕ) (wanted : ℕ) →
+      IsDrilled files.told files.told_after e wanted text notes → IsDrillWhollyStored files.told files.told_after d name
   drill_whole name named e same text notes wanted x =
-      let (bytes, proof, held, others) = subst (λ o. Stores files.told files.told_after o (IsStoredProofOf x.question default_budget x.answers)) (ap (λ (z : Drill). z.proof) same ∙ named) x.stored in (
+      let (bytes, proof, held, others) = subst (λ o. Stores files.told files.told_after o (IsStoredProofOf x.question default_budget x.answers))
+      (ap (λ (z : Drill). z.proof) same ∙ named) x.stored in (
         bytes,
         record {
           question = x.question;
@@ -542,7 +556,8 @@ module _ (words : List Text) (d : Drill) (is_drill : IsDrill words d) (law : Ans
       )
 
   -- and where a sink alone failed, its proof is stored whole
-  pub drill_stored : (name : Text) → d.proof ≡ Some name → Ends words files out err status → status ≡ 7 → ¬ Rose files.faults files.faults_after → IsDrillWhollyStored files.told files.told_after d name
+  pub drill_stored : (name : Text) → d.proof ≡ Some name → Ends words files out err status → status ≡ 7 → ¬ Rose files.faults files.faults_after →
+      IsDrillWhollyStored files.told files.told_after d name
   drill_stored name named (faulty line (f, is, e) left quiet prints) at still = absurd (is.no_drill d is_drill)
   drill_stored name named (answered text notes wanted low (inl r) same prints) at still = absurd (law.drill_apart words r.command d r.is_asked is_drill)
   drill_stored name named (answered text notes wanted low (inr (e, is, x)) same prints) at still = drill_whole name named e (law.drills words e d is is_drill) text notes wanted x

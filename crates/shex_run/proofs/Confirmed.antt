@@ -21,7 +21,8 @@ use Rattle.shex_run.proofs.Settled.{reading_one}
 use Rattle.schema_tree.proofs.Strata.{stratum_stratified}
 
 -- what a check says of the proof that the bytes are the text of is so of the one that is accepted
-pub is_true : (h : Held) → IsLoaded h.schema → IsStratum h.schema h.strata → AreDistinct h.terms → TypingExists → (bytes : List ℕ) (terms : List Term) (answers : List Answer) → IsTrueAs h.schema h.terms terms h.graph bytes answers →
+pub is_true : (h : Held) → IsLoaded h.schema → IsStratum h.schema h.strata → AreDistinct h.terms → TypingExists →
+    (bytes : List ℕ) (terms : List Term) (answers : List Answer) → IsTrueAs h.schema h.terms terms h.graph bytes answers →
     (a : Accepted h bytes terms answers) → IsTrueOf h terms a.found.found.nodes a.found.found.proof
 is_true h loaded strata distinct exists bytes terms answers sound a = record {
   exists = λ U. (

@@ -3,7 +3,7 @@ use Rattle.std.proofs.Common.{◌≡◌, ◌∙◌, ◌≤◌, ap, sym, subst, r
 use Rattle.std.specs.Prelude.{Contains, IsSome, None, Option, Some}
 use Rattle.lists.proofs.Members.{is_first, is_later}
 use Rattle.std.specs.Str.{chars}
-use Rattle.clap.specs.Words.{Text}
+use Rattle.input_names.specs.Names.{Text, is_base}
 use Rattle.rdf_lex.specs.Characters.{iri_char}
 use Rattle.shex_io.specs.Faults.{Rose}
 use Rattle.shex_io.specs.Files.{HoldsPart, KeepsOthers, Told}
@@ -13,7 +13,6 @@ use Rattle.schema_tree.specs.declared.schema.Answer.{Answer}
 use Rattle.shape_map.specs.declared.resolve.Association.{Association}
 use Rattle.typing_answers.specs.Replies.{AreGiven, given, left, none}
 use Rattle.proof_checker.specs.declared.checking.CheckError.TheVariants as CheckErrors
-use Rattle.command_words.specs.Checks.{is_base}
 use Rattle.command_words.specs.Drills.{Drill, IsDrill, max_items}
 use Rattle.command_words.specs.Lent.{command_of}
 use Rattle.command_words.specs.Requests.{Task, checking, default_base, default_budget, max_budget, upgrading, validation}
@@ -74,7 +73,8 @@ module _ (v : Validation) (asked : command_of (Lent.Validate v) ≡ drill_comman
   pub bases_pass : (is_base v.inputs.schema_base.now ≡ true) × (is_base v.inputs.data_base.now ≡ true)
   bases_pass = (ap (λ k. is_base k.schema_base) asked ∙ base_passes, ap (λ k. is_base k.data_base) asked ∙ base_passes)
 
-  pub replied : (told : Told) (with_proof : Bool) (d : Decided) → with_proof ≡ true → IsReply told (command_of (Lent.Validate v)) v.budget with_proof d → IsReply told drill_command default_budget true d
+  pub replied : (told : Told) (with_proof : Bool) (d : Decided) → with_proof ≡ true → IsReply told (command_of (Lent.Validate v)) v.budget with_proof d →
+      IsReply told drill_command default_budget true d
   replied told with_proof d wanted reply =
       subst (λ b. IsReply told drill_command default_budget b d) wanted
       (subst (λ n. IsReply told drill_command n with_proof d) (ap (λ k. budget_of k.task) asked)
@@ -82,13 +82,15 @@ module _ (v : Validation) (asked : command_of (Lent.Validate v) ≡ drill_comman
 
 -- ---- the answers
 
-all_given : (L : Association → Type 0) (G : Association → Answer → Type 0) (asked : List Association) (answers : List Answer) → AreGiven L G asked answers → ((a : Association) → Contains asked a → L a → ⊥) → length answers ≡ length asked
+all_given : (L : Association → Type 0) (G : Association → Answer → Type 0) (asked : List Association) (answers : List Answer) → AreGiven L G asked answers →
+    ((a : Association) → Contains asked a → L a → ⊥) → length answers ≡ length asked
 all_given L G [] [] none decided = refl
 all_given L G [] (x ∷ answers) given_none decided = elim given_none [ ]
 all_given L G (a ∷ asked) answers (left l more) decided = absurd (decided a (is_first a asked) l)
 all_given L G (a ∷ asked) (x ∷ answers) (given g more) decided = ap suc (all_given L G asked answers more (λ b c. decided b (is_later a asked b c)))
 
-module _ (n : ℕ) (low : 1 ≤ n) (high : n ≤ max_items) (law : DrillIsDecided) (told : Told) (is_told : told ≡ drill_told n) (d : Decided) (reply : IsReply told drill_command default_budget true d) where
+module _ (n : ℕ) (low : 1 ≤ n) (high : n ≤ max_items) (law : DrillIsDecided) (told : Told) (is_told : told ≡ drill_told n) (d : Decided)
+    (reply : IsReply told drill_command default_budget true d) where
   pub drill_answers : AreDrillAnswers n reply.question reply.answers
   drill_answers =
       let are = subst (λ t. AreAnswers t drill_command reply.question default_budget reply.answers) is_told reply.are_answers in
@@ -109,7 +111,8 @@ module _ (law : DrillIsTaken) (contents : List ℕ → Option (List ℕ)) (texts
       let (n, low, high, same) = texts in
       law n low high refusal (subst (λ f. IsInputRefused (Some f) (inputs_of drill_command) refusal) same refused)
 
-  held_or_want : (e : InputError) → ExplainsInput (Some contents) (inputs_of drill_command) e → (blame : List ℕ) (act : Act) → FaultsAsInput (inputs_of drill_command) 0 0 blame act e → (e ≡ InputErrors.Memory → ⊥) → ⊥
+  held_or_want : (e : InputError) → ExplainsInput (Some contents) (inputs_of drill_command) e → (blame : List ℕ) (act : Act) →
+      FaultsAsInput (inputs_of drill_command) 0 0 blame act e → (e ≡ InputErrors.Memory → ⊥) → ⊥
   held_or_want (InputErrors.Refused refusal) cause blame act faults other = not_refused refusal cause
   held_or_want (InputErrors.Failed source) cause blame act (rose, later, named, acted) other = none_rose rose
   held_or_want InputErrors.Memory cause blame act faults other = other refl
@@ -127,20 +130,24 @@ module _ (law : DrillIsTaken) (contents : List ℕ → Option (List ℕ)) (texts
 
   module _ (v : Validation) (asked : command_of (Lent.Validate v) ≡ drill_command) where
     -- the texts are held, unless memory runs out
-    pub are_held : (e : InputError) → ExplainsInput (Some contents) (inputs_with v.inputs v.map.now) e → (blame : List ℕ) (act : Act) → FaultsAsInput (inputs_with v.inputs v.map.now) 0 0 blame act e → (e ≡ InputErrors.Memory → ⊥) → ⊥
+    pub are_held : (e : InputError) → ExplainsInput (Some contents) (inputs_with v.inputs v.map.now) e → (blame : List ℕ) (act : Act) →
+        FaultsAsInput (inputs_with v.inputs v.map.now) 0 0 blame act e → (e ≡ InputErrors.Memory → ⊥) → ⊥
     are_held e cause blame act faults other =
         held_or_want e (subst (λ k. ExplainsInput (Some contents) (inputs_of k) e) asked cause) blame act (subst (λ k. FaultsAsInput (inputs_of k) 0 0 blame act e) asked faults) other
 
     -- and their map is answered
-    pub are_decided : (s : Stop) → Explains (Some contents) (command_of (Lent.Validate v)) s → (blame : List ℕ) (act : Act) → FaultsAs (command_of (Lent.Validate v)) 0 0 blame act s → (s ≡ Stops.Memory → ⊥) → ⊥
+    pub are_decided : (s : Stop) → Explains (Some contents) (command_of (Lent.Validate v)) s → (blame : List ℕ) (act : Act) →
+        FaultsAs (command_of (Lent.Validate v)) 0 0 blame act s → (s ≡ Stops.Memory → ⊥) → ⊥
     are_decided s cause blame act faults other =
         decided_or_want s (subst (λ k. Explains (Some contents) k s) asked cause) blame act (subst (λ k. FaultsAs k 0 0 blame act s) asked faults) other
 
 -- ---- the check
 
 -- the proof of the answers is confirmed, unless memory runs out
-module _ (contents : List ℕ → Option (List ℕ)) (h : Held) (taken : IsTaken (Some contents) (inputs_of drill_command) h) (one : (k : Held) → IsTaken (Some contents) (inputs_of drill_command) k → k ≡ h) where
-  pub is_confirmed : (q : Question) (answers : List Answer) (bytes : List ℕ) → IsAskedOf (Some contents) (inputs_of drill_command) q → IsStoredProofOf q default_budget answers bytes → (stop : Stop) → (stop ≡ Stops.Memory → ⊥) →
+module _ (contents : List ℕ → Option (List ℕ)) (h : Held) (taken : IsTaken (Some contents) (inputs_of drill_command) h)
+    (one : (k : Held) → IsTaken (Some contents) (inputs_of drill_command) k → k ≡ h) where
+  pub is_confirmed : (q : Question) (answers : List Answer) (bytes : List ℕ) → IsAskedOf (Some contents) (inputs_of drill_command) q →
+      IsStoredProofOf q default_budget answers bytes → (stop : Stop) → (stop ≡ Stops.Memory → ⊥) →
       ConfirmStops h bytes stop → ⊥
   is_confirmed q answers bytes asked proof stop other stops = go stop other stops
     where
@@ -160,11 +167,13 @@ module _ (contents : List ℕ → Option (List ℕ)) (h : Held) (taken : IsTaken
 
 -- ---- the store
 
-module _ (told after : Told) (d : Drill) (name bytes : List ℕ) (named : d.proof ≡ Some name) (due : IsDrillProof d.items bytes) (part : HoldsPart told after name bytes) (others : KeepsOthers told after name) where
+module _ (told after : Told) (d : Drill) (name bytes : List ℕ) (named : d.proof ≡ Some name) (due : IsDrillProof d.items bytes)
+    (part : HoldsPart told after name bytes) (others : KeepsOthers told after name) where
   cut : IsCutDrill told after d
   cut = record { name = name; named = named; bytes = bytes; due = due; part = part; others = others }
 
-  pub drill_unstored : (before later : ℕ) (blame : List ℕ) (act : Act) (stop : Stop) → ProofStops Files.Proof name Acts.Store before later blame act stop → DrillStops told after d before later blame act stop
+  pub drill_unstored : (before later : ℕ) (blame : List ℕ) (act : Act) (stop : Stop) → ProofStops Files.Proof name Acts.Store before later blame act stop →
+      DrillStops told after d before later blame act stop
   drill_unstored before later blame act (Stops.Refused refusal) h = h
   drill_unstored before later blame act (Stops.Failed file) (e, (rose, up, blamed, acted)) = (rose, up, named ∙ ap (λ z. Some z) (sym blamed), acted, cut)
   drill_unstored before later blame act Stops.Memory h = (h, inr cut)
@@ -178,14 +187,16 @@ may_stop told after d before later blame act (Stops.Failed file) (rose, up, name
 may_stop told after d before later blame act Stops.Memory stops = tt
 
 module _ (words : List Text) (d : Drill) (is_drill : IsDrill words d) (files : FilesSeen) (out err : SinkSeen) (status : ℕ) where
-  pub with_line : (text notes : List ℕ) (wanted : ℕ) → IsDrilled files.told files.told_after d wanted text notes → files.faults_after ≡ files.faults → PrintsBoth out err text notes wanted status → Ends words files out err status
+  pub with_line : (text notes : List ℕ) (wanted : ℕ) → IsDrilled files.told files.told_after d wanted text notes → files.faults_after ≡ files.faults →
+      PrintsBoth out err text notes wanted status → Ends words files out err status
   with_line text notes wanted drilled still prints = answered text notes wanted (inl drilled.status_is) (inr (d, is_drill, drilled)) still prints
 
   no_fetch : {act : Act} → act ≡ Acts.Store → act ≡ Acts.Fetch → ⊥
   no_fetch stored fetched = cc
 
   -- it ends as it was stopped
-  pub with_stop : (stop : Stop) → DrillStops files.told files.told_after d files.faults files.faults_after files.blame files.act stop → IsQuiet out → SaysDrillStop d stop err status → Ends words files out err status
+  pub with_stop : (stop : Stop) → DrillStops files.told files.told_after d files.faults files.faults_after files.blame files.act stop → IsQuiet out →
+      SaysDrillStop d stop err status → Ends words files out err status
   with_stop (Stops.Refused refusal) stops quiet says = elim stops [ ]
   with_stop (Stops.Failed file) (rose, up, named, acted, cut_store) quiet says =
       failed (failed_line files.blame) (record {

@@ -1,7 +1,7 @@
 -- How a call ends, from what it found.
 use Rattle.std.proofs.Common.{◌≡◌, ◌∙◌, ap, sym, refl, List, ℕ, inl, inr}
 use Rattle.std.specs.Prelude.{IfOk, Option, Result}
-use Rattle.clap.specs.Words.{Text}
+use Rattle.input_names.specs.Names.{Text}
 use Rattle.shex_io.specs.declared.files.Act.{Act}
 use Rattle.shex_io.specs.declared.files.Act.TheVariants as Acts
 use Rattle.command_words.specs.Asked.{Command, IsAsked}
@@ -42,19 +42,24 @@ module _ (words : List Text) (c : Command) (is_asked : IsAsked words c) (files :
   failed_unfetched Acts.Fetch e still = still
   failed_unfetched Acts.Store e may = absurd cc
 
-  pub with_response : (text notes : List ℕ) (wanted : ℕ) → IsAnswering wanted → IsResponse files.told files.told_after c wanted text notes → files.faults_after ≡ files.faults → PrintsBoth out err text notes wanted status → Ends words files out err status
+  pub with_response : (text notes : List ℕ) (wanted : ℕ) → IsAnswering wanted → IsResponse files.told files.told_after c wanted text notes →
+      files.faults_after ≡ files.faults → PrintsBoth out err text notes wanted status → Ends words files out err status
   with_response text notes wanted low response still prints = answered text notes wanted low (inl (record { command = c; is_asked = is_asked; response = response })) still prints
 
-  with_rejection : (e : CheckError) → IsRejected files.told c e → files.faults_after ≡ files.faults → files.told_after ≡ files.told → IsQuiet out → PrintsTo err (refusal_line c (Refusals.Proof e)) 6 status → Ends words files out err status
+  with_rejection : (e : CheckError) → IsRejected files.told c e → files.faults_after ≡ files.faults → files.told_after ≡ files.told → IsQuiet out →
+      PrintsTo err (refusal_line c (Refusals.Proof e)) 6 status → Ends words files out err status
   with_rejection e cause still left quiet prints =
-      rejected (refusal_line c (Refusals.Proof e)) (record { command = c; is_asked = is_asked; rejection = e; rejected = cause; line_is = refl }) (record { told_same = left; faults_same = still }) quiet prints
+      rejected (refusal_line c (Refusals.Proof e)) (record { command = c; is_asked = is_asked; rejection = e; rejected = cause; line_is = refl })
+      (record { told_same = left; faults_same = still }) quiet prints
 
   pub with_stop : (stop : Stop) → Explains files.told c stop → FaultsAs c files.faults files.faults_after files.blame files.act stop → LeavesStored files.told files.told_after c stop → IsQuiet out →
       SaysStop c stop err status → Ends words files out err status
   with_stop (Stops.Refused (Refusals.Input refusal)) cause still left quiet prints =
-      refused (refusal_line c (Refusals.Input refusal)) (record { command = c; is_asked = is_asked; refused = inl (refusal, cause, refl) }) (record { told_same = left; faults_same = still }) quiet prints
+      refused (refusal_line c (Refusals.Input refusal)) (record { command = c; is_asked = is_asked; refused = inl (refusal, cause, refl) })
+      (record { told_same = left; faults_same = still }) quiet prints
   with_stop (Stops.Refused (Refusals.Proof CheckErrors.Full)) cause still left quiet prints =
-      refused (refusal_line c (Refusals.Proof CheckErrors.Full)) (record { command = c; is_asked = is_asked; refused = inr (cause, refl) }) (record { told_same = left; faults_same = still }) quiet prints
+      refused (refusal_line c (Refusals.Proof CheckErrors.Full)) (record { command = c; is_asked = is_asked; refused = inr (cause, refl) })
+      (record { told_same = left; faults_same = still }) quiet prints
   with_stop (Stops.Refused (Refusals.Proof CheckErrors.Memory)) (h, bytes, given, none) still left quiet prints = absurd none
   with_stop (Stops.Refused (Refusals.Proof (CheckErrors.Syntax at))) cause still left quiet prints = with_rejection (CheckErrors.Syntax at) cause still left quiet prints
   with_stop (Stops.Refused (Refusals.Proof (CheckErrors.Stale part))) cause still left quiet prints = with_rejection (CheckErrors.Stale part) cause still left quiet prints
@@ -68,7 +73,8 @@ module _ (words : List Text) (c : Command) (is_asked : IsAsked words c) (files :
   with_stop Stops.Memory cause still left quiet (silent, at) = wanting (partly left) still quiet silent at
 
 -- the line of the words' fault is printed, unless memory ran out
-pub printed : {X Y : Type 0} (bytes : X → List ℕ) (made : Result X Y) (e : WordsError) → (e ≡ Errors.Memory → ⊥) → IfOk made (λ s. Because (λ f. bytes s ≡ words_line f) e) → (before after : Option (List ℕ)) (faults faults_after status : ℕ) →
+pub printed : {X Y : Type 0} (bytes : X → List ℕ) (made : Result X Y) (e : WordsError) → (e ≡ Errors.Memory → ⊥) →
+    IfOk made (λ s. Because (λ f. bytes s ≡ words_line f) e) → (before after : Option (List ℕ)) (faults faults_after status : ℕ) →
     ((line : List ℕ) → IfOk made (λ s. bytes s ≡ line) → Prints before after faults faults_after line 2 status) → RefusesWords e before after faults faults_after status
 printed bytes made Errors.Arguments other line before after faults faults_after status prints = prints (words_line arguments) line
 printed bytes made (Errors.Ending name) other line before after faults faults_after status prints = prints (words_line (ending name.now)) line

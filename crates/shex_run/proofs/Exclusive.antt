@@ -1,7 +1,7 @@
 -- Where contents are told, what words and files hold is one thing.
 use Rattle.std.proofs.Common.{◌≡◌, ◌≢◌, ◌∙◌, ap, sym, subst, refl, List, ℕ, []}
 use Rattle.std.specs.Prelude.{Option, Some, None, unwrap_or}
-use Rattle.clap.specs.Words.{Text}
+use Rattle.input_names.specs.Names.{Text}
 use Rattle.shex_io.specs.Files.{Holds, Lacks, Told}
 use Rattle.command_words.specs.Asked.{Command}
 use Rattle.command_words.specs.Requests.{Task, checking, upgrading, validation}
@@ -37,7 +37,8 @@ held_not_lacking (Some contents) name a h k = cc
 
 pub record AreOne (told : Told) (c : Command) : Type 0 where
   pub held : (h k : Held) → IsTaken told (inputs_of c) h → IsTaken told (inputs_of c) k → h ≡ k
-  pub taken : (h : Held) (source : Source) → IsTaken told (inputs_of c) h → source ≢ Sources.Map → ((refusal : Refusal) → source_of refusal ≡ source → ¬ IsInputRefused told (inputs_of c) refusal) × (¬ IsInputAbsent told (inputs_of c) source)
+  pub taken : (h : Held) (source : Source) → IsTaken told (inputs_of c) h → source ≢ Sources.Map →
+      ((refusal : Refusal) → source_of refusal ≡ source → ¬ IsInputRefused told (inputs_of c) refusal) × (¬ IsInputAbsent told (inputs_of c) source)
   pub asked : (q : Question) → IsAskedOf told (inputs_of c) q → ((refusal : Refusal) → ¬ IsInputRefused told (inputs_of c) refusal) × ((source : Source) → ¬ IsInputAbsent told (inputs_of c) source)
   pub left : (refusal : Refusal) → IsInputRefused told (inputs_of c) refusal → (source : Source) → ¬ IsInputAbsent told (inputs_of c) source
 

@@ -3,7 +3,7 @@ use Rattle.std.proofs.Common.{◌≡◌, ◌≤◌, ◌∙◌, ap, sym, subst, �
 use Rattle.std.specs.Prelude.{Option, Some, None, codes}
 use Rattle.clap.specs.Words.{Row, Text, first_of}
 use Rattle.command_words.specs.Asked.{Command, IsAsked}
-use Rattle.command_words.specs.Checks.{is_base}
+use Rattle.input_names.specs.Names.{is_base}
 use Rattle.command_words.specs.Commands.{rows}
 use Rattle.command_words.specs.Requests.{IsBudget, IsTask, Task, checking, command_for, max_budget, upgrading, validation}
 use Rattle.shex_run.specs.Stopping.{IsFit}

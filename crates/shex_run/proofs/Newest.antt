@@ -45,14 +45,16 @@ newest_own head own q bytes text is p other =
     subst (λ o. IsNewest head p bytes o bytes) (sym at) refl
 
 -- and one without has that of the same proof with a head
-pub newest_made : (head : Head) (q : Proof) (bytes new : List ℕ) → ProofText q bytes → q.head ≡ None → ProofText (with_head head q) new → (p : Proof) → ProofText p bytes → IsNewest head p bytes p.head new
+pub newest_made : (head : Head) (q : Proof) (bytes new : List ℕ) → ProofText q bytes → q.head ≡ None → ProofText (with_head head q) new → (p : Proof) →
+    ProofText p bytes → IsNewest head p bytes p.head new
 newest_made head q bytes new text is made p other =
     let same : p ≡ q = proofs_same p q bytes other text in
     let at : p.head ≡ None = ap (λ (z : Proof). z.head) same ∙ is in
     subst (λ o. IsNewest head p bytes o new) (sym at) (subst (λ z. ProofText (with_head head z) new) (sym same) made)
 
 -- what is confirmed is upgraded by a text that is its newest one
-pub upgrades : (h : Held) (head : Head) (old text new : List ℕ) → IsStratum h.schema h.strata → head ≡ head_of h → (k : Confirms h old text) → ((p : Proof) → ProofText p old → IsNewest head p old p.head new) → Upgrades h old text new
+pub upgrades : (h : Held) (head : Head) (old text new : List ℕ) → IsStratum h.schema h.strata → head ≡ head_of h → (k : Confirms h old text) →
+    ((p : Proof) → ProofText p old → IsNewest head p old p.head new) → Upgrades h old text new
 upgrades h head old text new least is k newest = record {
   confirmed = k;
   upgrade = record {
@@ -64,7 +66,8 @@ upgrades h head old text new least is k newest = record {
 }
 
 -- what is written with the head is so of any call that writes
-pub made_with : {V E : Type 0} (items : V → List ℕ) (head : Head) (p : Proof) (r : Result V E) → IfOk r (λ v. HasNoFeeds (with_head head p) → ProofText (with_head head p) (items v)) → IfOk r (λ v. HasNoFeeds p → ProofText (with_head head p) (items v))
+pub made_with : {V E : Type 0} (items : V → List ℕ) (head : Head) (p : Proof) (r : Result V E) →
+    IfOk r (λ v. HasNoFeeds (with_head head p) → ProofText (with_head head p) (items v)) → IfOk r (λ v. HasNoFeeds p → ProofText (with_head head p) (items v))
 made_with items head p (Ok v) made = λ clean. made (clean_with head p clean)
 made_with items head p (Err e) made = tt
 

@@ -3,7 +3,7 @@ use Rattle.std.proofs.Common.{◌≡◌, ◌≢◌, ◌∙◌, ap, sym, refl, Li
 use Rattle.std.specs.Prelude.{Contains, if◌then◌else◌, nat_lt}
 use Rattle.std.proofs.lemmas.Bool.{ltb-true}
 use Rattle.std.proofs.lemmas.List.{length-map}
-use Rattle.clap.specs.Words.{Text}
+use Rattle.input_names.specs.Names.{Text}
 use Rattle.lists.proofs.Members.{in_map, is_first, is_later}
 use Rattle.rdf_terms.specs.declared.terms.Term.{Term}
 use Rattle.schema_tree.specs.declared.schema.Answer.{Answer}
@@ -21,7 +21,8 @@ use Rattle.shex_run.specs.Texts.{notes_by}
 use Rattle.shex_run.proofs.Fitting.{fit}
 
 -- where there are fewer answers than associations, one is left out
-left_out : {Left : Association → Type 0} {Given : Association → Answer → Type 0} (asked : List Association) (answers : List Answer) → AreGiven Left Given asked answers → length answers < length asked →
+left_out : {Left : Association → Type 0} {Given : Association → Answer → Type 0} (asked : List Association) (answers : List Answer) →
+    AreGiven Left Given asked answers → length answers < length asked →
     (a : Association) × Contains asked a × Left a
 left_out _ _ none less = absurd (omega (arith, less))
 left_out _ _ (left {a = a} {asked = asked} out others) less = (a, is_first a asked, out)
@@ -38,7 +39,8 @@ fewer wants answers is = by (nat_lt (length answers) (length wants)) (are_wanted
     by false true e = absurd (omega (arith, e))
     by false false e = absurd (omega (arith, e))
 
-lines_due : (terms : List Term) (asked budget : ℕ) (answers : List Answer) (wide : List WidePair) → nat_lt (length answers) asked ≡ true → notes_by terms asked budget answers wide ≡ wide_lines terms budget wide
+lines_due : (terms : List Term) (asked budget : ℕ) (answers : List Answer) (wide : List WidePair) → nat_lt (length answers) asked ≡ true →
+    notes_by terms asked budget answers wide ≡ wide_lines terms budget wide
 unfolding notes_by
 lines_due terms asked budget answers wide some = ap (λ b. if b then wide_lines terms budget wide else []) some
 

@@ -26,7 +26,7 @@ use Rattle.shape_map.specs.Results.{result_text}
 use Rattle.shape_map.specs.Selection.{max_associations}
 use Rattle.data_reader.specs.Documents.{DataHaveLines}
 use Rattle.shape_map.specs.Maps.{MapHasLines}
-use Rattle.command_words.specs.Laws.{BasesAreLines}
+use Rattle.input_names.specs.Laws.{BasesAreLines}
 use Rattle.command_words.specs.Asked.{Command}
 use Rattle.shex_inputs.specs.declared.holding.Holding.{Holding}
 use Rattle.shex_inputs.specs.Asked.{IsAskedOf, Question, root_of}
@@ -54,7 +54,8 @@ pub record IsHeld (b : Holding) (xs : List Association) (ps : List Pair) (q : Qu
   pub pairs : ps ≡ q.pairs
 
 -- what is so of the question is so of what the code holds, and the other way round
-module _ (b : Holding) (xs : List Association) (pairs : List Pair) (q : Question) (is : IsHeld b xs pairs q) (P : Schema → List ℕ → List Term → List Triple → List Association → List Pair → Type 0) where
+module _ (b : Holding) (xs : List Association) (pairs : List Pair) (q : Question) (is : IsHeld b xs pairs q)
+    (P : Schema → List ℕ → List Term → List Triple → List Association → List Pair → Type 0) where
   pub to_code : P q.held.schema q.held.strata q.terms q.held.graph q.associations q.pairs → P b.schema b.strata b.terms b.graph.triples xs pairs
   to_code h =
       subst (λ s. P s b.strata b.terms b.graph.triples xs pairs) (sym is.schema)
@@ -74,14 +75,16 @@ module _ (b : Holding) (xs : List Association) (pairs : List Pair) (q : Question
       (subst (λ s. P s b.strata b.terms b.graph.triples xs pairs) is.schema h)))))
 
 module _ (told : Told) (c : Command) (q : Question) (of : IsAskedOf told (inputs_of c) q) (b : Holding) (xs : List Association) (pairs : List Pair) (is : IsHeld b xs pairs q) (fit : IsFit c) where
-  code : (P : Schema → List ℕ → List Term → List Triple → List Association → List Pair → Type 0) → P q.held.schema q.held.strata q.terms q.held.graph q.associations q.pairs → P b.schema b.strata b.terms b.graph.triples xs pairs
+  code : (P : Schema → List ℕ → List Term → List Triple → List Association → List Pair → Type 0) →
+      P q.held.schema q.held.strata q.terms q.held.graph q.associations q.pairs → P b.schema b.strata b.terms b.graph.triples xs pairs
   code P h = to_code b xs pairs q is P h
 
   of_question : All (IsOfTable b.terms) b.graph.triples → All (IsOfTable q.terms) q.held.graph
   of_question all = to_question b xs pairs q is (λ s f ts g ys ps. All (IsOfTable ts) g) all
 
   -- the question can be answered over what the code holds
-  pub ready : (map_name : List ℕ) (proof_name : Option (List ℕ)) (budget : ℕ) (head : Option Head) → AllByRecursion IsLine (head_lines head) → IsToValidate c map_name proof_name budget → IsLoaded b.schema → IsSealedWith b.terms b.graph → All (IsOfTable b.terms) b.graph.triples → HoldNeeds b.schema b.graph.triples pairs →
+  pub ready : (map_name : List ℕ) (proof_name : Option (List ℕ)) (budget : ℕ) (head : Option Head) → AllByRecursion IsLine (head_lines head) →
+      IsToValidate c map_name proof_name budget → IsLoaded b.schema → IsSealedWith b.terms b.graph → All (IsOfTable b.terms) b.graph.triples → HoldNeeds b.schema b.graph.triples pairs →
       IsUtf8 c.schema_base → IsUtf8 c.data_base → DataHaveLines → MapHasLines → BasesAreLines → LabelsHaveLines → IsReady b xs pairs budget head
   ready map_name proof_name budget head headed task loaded sealed all needs one other data_law map_law base_law label_law = record {
     within = (fit.budget map_name proof_name budget task).1;
@@ -99,14 +102,17 @@ module _ (told : Told) (c : Command) (q : Question) (of : IsAskedOf told (inputs
     ends = code (λ s f ts g ys ps. AreOnLines ts g) (ends told c q of fit one other data_law map_law base_law label_law);
   }
 
-  module _ (map_name : List ℕ) (proof_name : Option (List ℕ)) (budget : ℕ) (task : IsToValidate c map_name proof_name budget) (with_proof : Bool) (head : Option Head) (of_head : head ≡ head_if with_proof q.held) (d : Decided) (decided : IsDecided b xs pairs budget head d) where
-    question : (P : Schema → List ℕ → List Term → List Triple → List Association → List Pair → Type 0) → P b.schema b.strata b.terms b.graph.triples xs pairs → P q.held.schema q.held.strata q.terms q.held.graph q.associations q.pairs
+  module _ (map_name : List ℕ) (proof_name : Option (List ℕ)) (budget : ℕ) (task : IsToValidate c map_name proof_name budget) (with_proof : Bool)
+      (head : Option Head) (of_head : head ≡ head_if with_proof q.held) (d : Decided) (decided : IsDecided b xs pairs budget head d) where
+    question : (P : Schema → List ℕ → List Term → List Triple → List Association → List Pair → Type 0) → P b.schema b.strata b.terms b.graph.triples xs pairs →
+        P q.held.schema q.held.strata q.terms q.held.graph q.associations q.pairs
     question P h = to_question b xs pairs q is P h
 
     replies : AreReplies q.held.schema q.terms decided.verdicts q.held.graph budget q.associations decided.answers
     replies = question (λ s f ts g ys ps. AreReplies s ts decided.verdicts g budget ys decided.answers) decided.replies
 
-    reply_proof : length b.terms ≤ max_terms → All (IsOfTable q.held.terms) q.held.graph → DecidedByFormIsDecided → (p : Proof) → Proves b.strata b.schema b.terms b.graph.triples pairs budget decided.answers p → p.head ≡ Some (head_of q.held) → IsReplyProof q budget decided.answers p
+    reply_proof : length b.terms ≤ max_terms → All (IsOfTable q.held.terms) q.held.graph → DecidedByFormIsDecided → (p : Proof) →
+        Proves b.strata b.schema b.terms b.graph.triples pairs budget decided.answers p → p.head ≡ Some (head_of q.held) → IsReplyProof q budget decided.answers p
     reply_proof within of_held law p proves headed = record {
       keeps = proves.keeps;
       no_feeds = proves.no_feeds;
@@ -119,7 +125,8 @@ module _ (told : Told) (c : Command) (q : Question) (of : IsAskedOf told (inputs
     given_head : (p : Proof) → true ≡ is_some head → p.head ≡ head → p.head ≡ Some (head_of q.held)
     given_head p there headed = headed ∙ of_head ∙ head_given with_proof q.held (there ∙ ap is_some of_head)
 
-    reply_proofs : length b.terms ≤ max_terms → All (IsOfTable q.held.terms) q.held.graph → DecidedByFormIsDecided → (o : Option Proof) → is_some o ≡ is_some head → IfSome o (Proves b.strata b.schema b.terms b.graph.triples pairs budget decided.answers) →
+    reply_proofs : length b.terms ≤ max_terms → All (IsOfTable q.held.terms) q.held.graph → DecidedByFormIsDecided → (o : Option Proof) →
+        is_some o ≡ is_some head → IfSome o (Proves b.strata b.schema b.terms b.graph.triples pairs budget decided.answers) →
         IfSome o (λ p. p.head ≡ head) → IfSome o (IsReplyProof q budget decided.answers)
     reply_proofs within of_held law None there proves headed = proves
     reply_proofs within of_held law (Some p) there proves headed = reply_proof within of_held law p proves (given_head p there headed)
@@ -140,7 +147,8 @@ module _ (told : Told) (c : Command) (q : Question) (of : IsAskedOf told (inputs
       text_is = decided.text_is ∙ ap (λ ts. result_text ts decided.answers) is.terms;
       wide = decided.wide;
       are_wide = question (λ s f ts g ys ps. AreWide s ts g budget ps decided.wide) decided.are_wide;
-      notes_are = decided.notes_are ∙ ap (λ ts. notes_by ts (length xs) budget decided.answers decided.wide) is.terms ∙ ap (λ ys. notes_by q.terms (length ys) budget decided.answers decided.wide) is.associations;
+      notes_are = decided.notes_are ∙ ap (λ ts. notes_by ts (length xs) budget decided.answers decided.wide) is.terms
+          ∙ ap (λ ys. notes_by q.terms (length ys) budget decided.answers decided.wide) is.associations;
       proof = reply_proofs within of_held law d.proof decided.wanted decided.proof decided.headed;
       wanted = decided.wanted ∙ ap is_some of_head ∙ as_wanted with_proof q.held;
     }

@@ -63,7 +63,8 @@ all_from old (x ∷ xs) new (more {mid = mid} adds later) t h = elim (all_from m
   | inr after ↦ inr (is_later x xs t after)
 ]
 
-pub taken_up : (old xs new ys : List Term) → AddsAll old xs new → IsStrictlySortedBy order xs → Rises IsTermBefore ys → ((t : Term) → Contains xs t → Contains ys t ⊎ Contains old t) → ((t : Term) → Contains ys t → Contains new t) → TakesUp old ys new
+pub taken_up : (old xs new ys : List Term) → AddsAll old xs new → IsStrictlySortedBy order xs → Rises IsTermBefore ys →
+    ((t : Term) → Contains xs t → Contains ys t ⊎ Contains old t) → ((t : Term) → Contains ys t → Contains new t) → TakesUp old ys new
 taken_up old [] new [] none sorted rises among there = refl
 taken_up old [] new (y ∷ ys) none sorted rises among there =
     (old, inl (there y (is_first y ys), refl), taken_up old [] new ys none sorted (rest_rises y ys rises) (λ t h. absurd (not_in_none t h)) (λ t h. there t (is_later y ys t h)))

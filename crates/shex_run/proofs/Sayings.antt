@@ -1,6 +1,6 @@
 -- What is printed and stored with each status.
 use Rattle.std.proofs.Common.{◌≡◌, sym, subst, refl, List, ℕ, ◌⊎◌, inl, inr, ◌<◌, arith}
-use Rattle.clap.specs.Words.{Text}
+use Rattle.input_names.specs.Names.{Text}
 use Rattle.shex_io.specs.Sinks.{Gains}
 use Rattle.program_ends.specs.Ends.{FilesSeen}
 use Rattle.program_ends.specs.Printing.{IsCut, IsQuiet, PrintsBoth, PrintsTo, SinkSeen}
@@ -15,7 +15,8 @@ whole_line : (sink : SinkSeen) (text : List ℕ) (wanted status : ℕ) → statu
 whole_line sink text wanted status low (inl h) = (h.0, h.1)
 whole_line sink text wanted status low (inr cut) = absurd (other_cut sink text status status low cut refl)
 
-whole_both : (out err : SinkSeen) (text notes : List ℕ) (wanted status : ℕ) → status < 7 → PrintsBoth out err text notes wanted status → (status ≡ wanted) × Gains out.got out.got_after text × Gains err.got err.got_after notes
+whole_both : (out err : SinkSeen) (text notes : List ℕ) (wanted status : ℕ) → status < 7 → PrintsBoth out err text notes wanted status → (status ≡ wanted) ×
+    Gains out.got out.got_after text × Gains err.got err.got_after notes
 whole_both out err text notes wanted status low (inl h) = let (is, gains) = whole_line err notes wanted status low h.2 in (is, h.0, gains)
 whole_both out err text notes wanted status low (inr h) = absurd (other_cut out text status status low h.0 refl)
 
@@ -77,7 +78,8 @@ module _ (words : List Text) (files : FilesSeen) (out err : SinkSeen) (status : 
   is_status (wanting stored same quiet also e) = inr (inr (inr (inr (inr (inr e)))))
 
   -- with the status of an answer its text and its notes are printed
-  pub answers : IsAnswering status → Ends words files out err status → (text notes : List ℕ) × IsRespondedTo files.told files.told_after words status text notes × Gains out.got out.got_after text × Gains err.got err.got_after notes
+  pub answers : IsAnswering status → Ends words files out err status → (text notes : List ℕ) ×
+      IsRespondedTo files.told files.told_after words status text notes × Gains out.got out.got_after text × Gains err.got err.got_after notes
   answers at (faulty line by left quiet prints) = absurd (no_line err line 2 status (inl refl) at prints)
   answers at (answered text notes wanted low r same prints) =
       let few : status < 5 = low_wanted status at in

@@ -82,7 +82,8 @@ module _ (s : Schema) (graph : List Triple) where
   gives_more : (terms : List Term) (xs ys : List Association) (t : Term) → ((a : Association) → Contains xs a → Contains ys a) → Gives terms xs t → Gives terms ys t
   gives_more terms xs ys t among g = record { association = g.association; listed = among g.association g.listed; node = g.node }
 
-  goes : (terms : List Term) (so : List Association) (items : List Item) (o : Outcome) (xs : List Association) (new : List Term) → o ≡ selected xs new → Ends s graph terms so items o → Known terms so items xs
+  goes : (terms : List Term) (so : List Association) (items : List Item) (o : Outcome) (xs : List Association) (new : List Term) → o ≡ selected xs new →
+      Ends s graph terms so items o → Known terms so items xs
   goes terms so items o xs new e all =
       let associations : so ≡ xs = same_associations so xs terms new e in
       record {
@@ -104,7 +105,8 @@ module _ (s : Schema) (graph : List Triple) where
           | inr later ↦ inr (later_from terms i is a later)
         ];
         gives = λ j h t held. elim (in_rest i is j h) [
-          | inl same ↦ gives_more terms ys xs t (λ a own. k.before a (Contains-append_right so ys a own)) (selects_gives terms i ys selects t (subst (λ z. Contains (written z.selector) t) (sym same) held))
+          | inl same ↦ gives_more terms ys xs t (λ a own. k.before a (Contains-append_right so ys a own))
+              (selects_gives terms i ys selects t (subst (λ z. Contains (written z.selector) t) (sym same) held))
           | inr later ↦ k.gives j later t held
         ];
         few = λ h. k.few few;

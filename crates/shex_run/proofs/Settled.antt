@@ -81,7 +81,8 @@ answered_at nodes c a (Some m) h =
     let e : answer_with c m ≡ a = cc in
     ap (λ x. Some x) (ap (λ x. x.node) e)
 
-pub answers_there : (terms lines : List Term) (nodes : List TermId) (claims : List Claim) (answers : List Answer) → AreNumbers terms lines nodes → AreClaimed nodes claims answers → (a : Answer) → Contains answers a → a.node.0 < length terms
+pub answers_there : (terms lines : List Term) (nodes : List TermId) (claims : List Claim) (answers : List Answer) → AreNumbers terms lines nodes →
+    AreClaimed nodes claims answers → (a : Answer) → Contains answers a → a.node.0 < length terms
 answers_there terms lines nodes claims answers numbers are a h =
     let there : Contains (map (λ c. option_map (answer_with c) (slice_get nodes c.node)) claims) (Some a) = subst (λ xs. Contains xs (Some a)) (sym are) (in_map (λ x. Some x) answers a h) in
     let (c, held, at) = from_map (λ c. option_map (answer_with c) (slice_get nodes c.node)) claims (Some a) there in
@@ -95,14 +96,16 @@ pub record SameReading (terms terms' : List Term) (p q : Proof) (nodes nodes' : 
   pub table : terms ≡ terms'
   pub numbers : nodes ≡ nodes'
 
-pub reading_one : (old terms terms' : List Term) (bytes : List ℕ) (p q : Proof) (nodes nodes' : List TermId) → AreDistinct old → IsReadAs old terms bytes p nodes → IsReadAs old terms' bytes q nodes' → SameReading terms terms' p q nodes nodes'
+pub reading_one : (old terms terms' : List Term) (bytes : List ℕ) (p q : Proof) (nodes nodes' : List TermId) → AreDistinct old →
+    IsReadAs old terms bytes p nodes → IsReadAs old terms' bytes q nodes' → SameReading terms terms' p q nodes nodes'
 reading_one old terms terms' bytes p q nodes nodes' d h k =
     let same : p ≡ q = proofs_same p q bytes h.text k.text in
     let table : terms ≡ terms' = taken_one q.nodes old terms terms' (subst (λ x. TakesUp old x.nodes terms) same h.table) k.table in
     record {
       proof = same;
       table = table;
-      numbers = numbers_one terms' q.nodes nodes nodes' (taken_distinct q.nodes old terms' d k.table) (subst (λ ts. AreNumbers ts q.nodes nodes) table (subst (λ x. AreNumbers terms x.nodes nodes) same h.numbers)) k.numbers;
+      numbers = numbers_one terms' q.nodes nodes nodes' (taken_distinct q.nodes old terms' d k.table)
+          (subst (λ ts. AreNumbers ts q.nodes nodes) table (subst (λ x. AreNumbers terms x.nodes nodes) same h.numbers)) k.numbers;
     }
 
 -- ---- heads

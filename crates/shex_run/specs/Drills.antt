@@ -2,7 +2,7 @@
 use Rattle.std.specs.Prelude.{ℕ, Bool, true, false, List, [], ◌≡◌, ◌++◌, Some, None, codes, count_by, length}
 use Rattle.std.specs.Bool.{beq}
 use Rattle.std.specs.Fmt.{decimal}
-use Rattle.clap.specs.Words.{Text}
+use Rattle.input_names.specs.Names.{Text}
 use Rattle.command_words.specs.Asked.{Command}
 use Rattle.command_words.specs.Drills.{Drill}
 use Rattle.command_words.specs.Requests.{default_base, default_budget, validation}

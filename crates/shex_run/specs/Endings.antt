@@ -1,6 +1,6 @@
 -- How a call ends, and what it has printed and stored then.
 use Rattle.std.specs.Prelude.{ℕ, List, [], ◌≡◌, ◌≤◌, ◌⊎◌, Option, Some}
-use Rattle.clap.specs.Words.{Text}
+use Rattle.input_names.specs.Names.{Text}
 use Rattle.shex_io.specs.Faults.{Rose}
 use Rattle.shex_io.specs.Files.{Told, KeepsOthers}
 use Rattle.shex_io.specs.Sinks.{Gains, GainsPrefix}
@@ -140,7 +140,8 @@ pub record HaveFailed (files : FilesSeen) (words : List Text) : Type 0 where
 -- call on a file failed; or memory ran out before anything was printed
 pub data Ends (words : List Text) (files : FilesSeen) (out err : SinkSeen) (status : ℕ) : Type 0 where
   faulty : (line : List ℕ) → IsWordsLine words line → AreLeft files → IsQuiet out → PrintsTo err line 2 status → Ends words files out err status
-  answered : (text notes : List ℕ) (wanted : ℕ) → IsAnswering wanted → IsRespondedTo files.told files.told_after words wanted text notes → files.faults_after ≡ files.faults → PrintsBoth out err text notes wanted status → Ends words files out err status
+  answered : (text notes : List ℕ) (wanted : ℕ) → IsAnswering wanted → IsRespondedTo files.told files.told_after words wanted text notes →
+      files.faults_after ≡ files.faults → PrintsBoth out err text notes wanted status → Ends words files out err status
   refused : (line : List ℕ) → IsRefusedBy files.told words line → AreLeft files → IsQuiet out → PrintsTo err line 3 status → Ends words files out err status
   rejected : (line : List ℕ) → IsRejectedBy files.told words line → AreLeft files → IsQuiet out → PrintsTo err line 6 status → Ends words files out err status
   failed : (line : List ℕ) → IsFailedBy files words line → HaveFailed files words → IsQuiet out → PrintsTo err line 5 status → Ends words files out err status
@@ -157,8 +158,10 @@ IsDue files words line =
 -- and the error stream a prefix of the notes; and the proof is stored whole if one is asked for. Or the error stream got a prefix of the
 -- line that is due to it, and the output nothing
 pub data IsPrintedInPart (words : List Text) (files : FilesSeen) (out err : SinkSeen) : Type 0 where
-  answer_in_part : (text notes : List ℕ) (status : ℕ) → IsRespondedTo files.told files.told_after words status text notes → files.faults_after ≡ files.faults → GainsPrefix out.got out.got_after text → IsQuiet err → IsPrintedInPart words files out err
-  notes_in_part : (text notes : List ℕ) (status : ℕ) → IsRespondedTo files.told files.told_after words status text notes → files.faults_after ≡ files.faults → Gains out.got out.got_after text → GainsPrefix err.got err.got_after notes → IsPrintedInPart words files out err
+  answer_in_part : (text notes : List ℕ) (status : ℕ) → IsRespondedTo files.told files.told_after words status text notes → files.faults_after ≡ files.faults →
+      GainsPrefix out.got out.got_after text → IsQuiet err → IsPrintedInPart words files out err
+  notes_in_part : (text notes : List ℕ) (status : ℕ) → IsRespondedTo files.told files.told_after words status text notes → files.faults_after ≡ files.faults →
+      Gains out.got out.got_after text → GainsPrefix err.got err.got_after notes → IsPrintedInPart words files out err
   line_in_part : (line : List ℕ) → IsDue files words line → IsQuiet out → GainsPrefix err.got err.got_after line → IsPrintedInPart words files out err
 
 -- nothing was printed, and the proof is stored in part at most; no fault came
@@ -176,10 +179,10 @@ MayPrintInPart words files out err = IsPrintedInPart words files out err ⊎ IsU
 abbrev pub IsWhollyStored : Told → Told → Command → Text → Type 0
 IsWhollyStored told after c name = Stores told after (Some name) (IsDueProof told c name)
 
--- the same of the proof that is checked and stored in format 2
+-- the proof that was checked is stored whole in format 2, as far as is told, and no other name changed
 abbrev pub IsWhollyUpgraded : Told → Told → Command → Text → Type 0
 IsWhollyUpgraded told after c name = Stores told after (Some name) (IsDueUpgrade told c name)
 
--- the same of the proof of a drill
+-- the proof of a drill is stored whole, as far as is told, and no other name changed
 abbrev pub IsDrillWhollyStored : Told → Told → Drill → Text → Type 0
 IsDrillWhollyStored told after d name = Stores told after (Some name) (IsDrillProof d.items)

@@ -1,6 +1,6 @@
 -- What the files hold for a command, or where its steps stop.
 use Rattle.std.specs.Prelude.{ℕ, List}
-use Rattle.clap.specs.Words.{Text}
+use Rattle.input_names.specs.Names.{Text}
 use Rattle.shex_io.specs.Files.{Told, Lacks}
 use Rattle.command_words.specs.Asked.{Command}
 use Rattle.command_words.specs.Requests.{Task, checking, upgrading, validation}

@@ -1,6 +1,6 @@
 -- The answers that are due, their proof, and how it is stored.
 use Rattle.std.specs.Prelude.{ℕ, List, ◌≡◌, ◌≤◌, Option, Some, None, length}
-use Rattle.clap.specs.Words.{Text}
+use Rattle.input_names.specs.Names.{Text}
 use Rattle.shex_io.specs.Files.{Told, Holds, KeepsOthers}
 use Rattle.rdf_terms.specs.Tables.{max_terms}
 use Rattle.rdf_terms.specs.declared.terms.Term.{Term}

@@ -56,7 +56,7 @@ AreOnLines terms graph = (t : Triple) → Contains graph t → IsOnLine terms t.
 abbrev pub head_of : Held → Head
 head_of h = record { files = h.files; strata = h.strata }
 
--- the same, if it is wanted
+-- the head of a proof over what is held, if one is wanted
 abbrev pub head_if : Bool → Held → Option Head
 head_if wanted h = if wanted then Some (head_of h) else None
 

@@ -1,6 +1,6 @@
 -- How the functions of a call stop.
 use Rattle.std.specs.Prelude.{ℕ, List, Option, ◌≡◌, ◌≤◌, ◌⊎◌, Some, true, ⊤}
-use Rattle.clap.specs.Words.{Text}
+use Rattle.input_names.specs.Names.{Text, is_base}
 use Rattle.command_words.specs.Requests.{max_budget}
 use Rattle.shex_io.specs.Faults.{Rose}
 use Rattle.shex_io.specs.Files.{Told}
@@ -9,7 +9,6 @@ use Rattle.shex_io.specs.declared.files.Act.TheVariants as Acts
 use Rattle.proof_checker.specs.declared.checking.CheckError.{CheckError}
 use Rattle.proof_checker.specs.declared.checking.CheckError.TheVariants as CheckErrors
 use Rattle.command_words.specs.Asked.{Command}
-use Rattle.command_words.specs.Checks.{is_base}
 use Rattle.command_words.specs.Drills.{Drill}
 use Rattle.shex_inputs.specs.declared.error.InputError.{InputError}
 use Rattle.shex_inputs.specs.declared.error.InputError.TheVariants as Errors

@@ -1,6 +1,6 @@
 -- What is to be stored, by whatever command, and what may be stored of it.
 use Rattle.std.specs.Prelude.{ℕ, List, ◌≡◌, ◌⊎◌, Option, Some, None}
-use Rattle.clap.specs.Words.{Text}
+use Rattle.input_names.specs.Names.{Text}
 use Rattle.shex_io.specs.Files.{Told, HoldsPart, KeepsOthers}
 use Rattle.schema_tree.specs.Edges.{IsStratum}
 use Rattle.proof_file.specs.declared.Proof.{Proof}

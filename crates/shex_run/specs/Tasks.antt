@@ -1,6 +1,6 @@
 -- The tasks of a command, and the files that its words name for them.
 use Rattle.std.specs.Prelude.{ℕ, List, [], ◌≡◌, Option, Some, None, codes, unwrap_or, ⊤}
-use Rattle.clap.specs.Words.{Text}
+use Rattle.input_names.specs.Names.{Text}
 use Rattle.shex_io.specs.declared.files.Act.{Act}
 use Rattle.shex_io.specs.declared.files.Act.TheVariants as Acts
 use Rattle.command_words.specs.Asked.{Command}

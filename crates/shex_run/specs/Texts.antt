@@ -7,7 +7,8 @@ use Rattle.typing_refiner.specs.declared.building.WidePair.{WidePair}
 use Rattle.proof_checker.specs.Messages.{check_text}
 use Rattle.command_words.specs.Asked.{Command, fault_text}
 use Rattle.command_words.specs.Checks.{Fault}
-use Rattle.shex_inputs.specs.Lines.{error_line, refusal_text}
+use Rattle.program_ends.specs.Lines.{error_line}
+use Rattle.shex_inputs.specs.Lines.{refusal_text}
 use Rattle.shex_inputs.specs.Named.{source_name, source_of}
 use Rattle.wide_pairs.specs.Lines.{wide_lines}
 use Rattle.shex_run.specs.declared.stop.File.TheVariants as Files
@@ -41,7 +42,7 @@ refusal_line c refusal = shex_line (refused_name c refusal) (cause_text refusal)
 unfoldable pub notes_by : List Term → ℕ → ℕ → List Answer → List WidePair → List ℕ
 notes_by terms asked budget answers wide = if nat_lt (length answers) asked then wide_lines terms budget wide else []
 
--- the same of a question
+-- what is due beside answers to the associations of a question
 abbrev pub notes_of : Question → ℕ → List Answer → List WidePair → List ℕ
 notes_of q budget answers wide = notes_by q.terms (length q.associations) budget answers wide
 

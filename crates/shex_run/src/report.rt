@@ -9,7 +9,8 @@ ghost use Rattle.shex_run.specs.declared.stop.File.TheVariants as Files;
 
 use crate::stop::{File, Refusal};
 use command_words::{Command, Drilling, WordsError};
-use shex_inputs::{Source, error_line, input_name, refusal_text};
+use program_ends::error_line;
+use shex_inputs::{Source, input_name, refusal_text};
 use std::alloc::{AllocError, Global};
 
 /// The name of the program, with which its lines begin.

@@ -3,7 +3,7 @@
 ghost use Rattle.std.specs.Prelude.{[], ◌≡◌, ◌≢◌, ◌<◌, ◌≤◌, ◌⊎◌, ℕ, List, Option, Some, map, string_bytes};
 ghost use Rattle.rdf_terms.specs.declared.terms.Term.{Term};
 ghost use Rattle.schema_tree.specs.declared.schema.Answer.{Answer};
-ghost use Rattle.clap.specs.Words.{Text};
+ghost use Rattle.input_names.specs.Names.{Text};
 ghost use Rattle.shex_io.specs.Faults.{Rose};
 ghost use Rattle.shex_io.specs.declared.files.Act.TheVariants as Acts;
 ghost use Rattle.shex_io.specs.Sinks.{Gains};

@@ -1,6 +1,8 @@
 use Rattle.std.proofs.Common.{◌≡◌, refl, subst, true}
-use Rattle.command_words.specs.Checks.{Inputs, IsApart, is_among, names_with_proof, other_names, same_name, same_to}
-use Rattle.command_words.specs.Lent.{inputs_of, request_of, task_of}
+use Rattle.input_names.specs.Names.{Inputs, is_among}
+use Rattle.input_names.specs.Lent.{inputs_of}
+use Rattle.command_words.specs.Checks.{IsApart, names_with_proof, other_names, same_name, same_to}
+use Rattle.command_words.specs.Lent.{request_of, task_of}
 use Rattle.command_words.specs.Requests.{proof_of}
 use Rattle.command_words.proofs.Exact.{given_failed}
 use Rattle.command_words.proofs.checks.checked.Goals as goal

@@ -1,6 +1,7 @@
 use Rattle.std.proofs.Common.{◌∙◌, ap, map, sym}
+use Rattle.input_names.specs.Lent.{import_of}
 use Rattle.command_words.specs.Checks.{data_base, data_ending, schema_base, schema_ending}
-use Rattle.command_words.specs.Lent.{given_of, import_of}
+use Rattle.command_words.specs.Lent.{given_of}
 use Rattle.command_words.proofs.Exact.{imports_failed, with_imports}
 use Rattle.command_words.proofs.checks.checked_inputs.Goals as goal
 

@@ -1,7 +1,8 @@
 use Rattle.std.proofs.Common.{◌∙◌, ap, sym}
 use Rattle.std.specs.List.{list_any}
 use Rattle.std.specs.Str.{bytes_eq}
-use Rattle.command_words.specs.Lent.{import_of, task_of}
+use Rattle.input_names.specs.Lent.{import_of}
+use Rattle.command_words.specs.Lent.{task_of}
 use Rattle.command_words.specs.Requests.{map_names}
 use Rattle.command_words.proofs.Named.{named_by}
 use Rattle.command_words.proofs.checks.is_named.Goals as goal

@@ -1,6 +1,6 @@
 use Rattle.std.proofs.Common.{◌∙◌, List, [], ℕ, Bor, refl, sym}
+use Rattle.input_names.specs.Lent.{import_of}
 use Rattle.command_words.specs.Checks.{again, file, form}
-use Rattle.command_words.specs.Lent.{import_of}
 use Rattle.command_words.proofs.Going.{fault_here, goes_first, goes_last, goes_next, iris, was_known, was_new}
 use Rattle.command_words.proofs.imports.read_imports.Goals as goal
 

@@ -1,5 +1,5 @@
 use Rattle.std.proofs.Common.{◌∙◌, ap, map, sym, []}
-use Rattle.command_words.specs.Lent.{import_of}
+use Rattle.input_names.specs.Lent.{import_of}
 use Rattle.schema_files.specs.Named.{file_named}
 use Rattle.schema_files.proofs.Words.{seen_twice}
 use Rattle.schema_files.proofs.asked.file_name.Goals as goal

@@ -7,4 +7,5 @@ pub returns-clause-followed : goal.returns-clause-followed
 returns-clause-followed g c =
     let a = asked_of c.args.asked.now in
     passed_here a c.args.held.now.items c.loop-number.held.items c.args.at c.loop-number.number c.import_count-count.result c.requires.inside c.loop-number.invariant.grown
-    (subst (λ hs. length (imports_at (sources_of a hs) c.args.at) ≡ c.import_count-count.result) c.as_slice.ensures.value (c.import_count-count.ensures a)) c.loop-number-test.false c.loop-number.auto.number-end c.loop-number.invariant.followed
+    (subst (λ hs. length (imports_at (sources_of a hs) c.args.at) ≡
+    c.import_count-count.result) c.as_slice.ensures.value (c.import_count-count.ensures a)) c.loop-number-test.false c.loop-number.auto.number-end c.loop-number.invariant.followed

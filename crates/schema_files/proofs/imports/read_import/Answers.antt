@@ -9,7 +9,8 @@ use Rattle.schema_files.proofs.imports.read_import.Goals as goal
 pub returns-in-None-clause-cause : goal.returns-in-None-clause-cause
 returns-in-None-clause-cause g c =
     let a = asked_of c.args.asked.now in
-    lacking_stops (g.F.Files.told c.args.files.now) a (sources_of a c.args.held.now) (record { by = c.args.by; iri = encode_utf8_all c.args.iri.now }) c.requires.read c.requires.next c.args.by c.args.iri.now c.lacks_word.result refl
+    lacking_stops (g.F.Files.told c.args.files.now) a (sources_of a c.args.held.now)
+    (record { by = c.args.by; iri = encode_utf8_all c.args.iri.now }) c.requires.read c.requires.next c.args.by c.args.iri.now c.lacks_word.result refl
     (sym c.file_for.ensures ∙ c.in-None.is) c.lacks_word.ensures
 
 pub read_file-requires : goal.read_file-requires
@@ -19,7 +20,8 @@ read_file-requires g c =
 pub returns-then-is_read-clause-followed : goal.returns-then-is_read-clause-followed
 returns-then-is_read-clause-followed g c =
     let a = asked_of c.args.asked.now in
-    seen (g.F.Files.told c.args.files.now) a (sources_of a c.args.held.now) (record { by = c.args.by; iri = encode_utf8_all c.args.iri.now }) c.requires.read c.requires.next c.in-Some.file (sym c.file_for.ensures ∙ c.in-Some.is)
+    seen (g.F.Files.told c.args.files.now) a (sources_of a c.args.held.now)
+    (record { by = c.args.by; iri = encode_utf8_all c.args.iri.now }) c.requires.read c.requires.next c.in-Some.file (sym c.file_for.ensures ∙ c.in-Some.is)
     (sym c.is_read.ensures ∙ c.if-is_read.true)
 
 pub returns-in_err-next-clause-cause : goal.returns-in_err-next-clause-cause
@@ -33,7 +35,8 @@ returns-clause-read g c =
     let a = asked_of c.args.asked.now in
     let told = g.F.Files.told c.args.files.now in
     subst (λ ss. AreRead told a ss) (sym (with_last a c.args.held.now c.in_ok-next.next))
-    (read_on told a (sources_of a c.args.held.now) (record { by = c.args.by; iri = encode_utf8_all c.args.iri.now }) c.requires.read c.requires.next c.in-Some.file (sym c.file_for.ensures ∙ c.in-Some.is)
+    (read_on told a (sources_of a c.args.held.now) (record { by = c.args.by; iri = encode_utf8_all c.args.iri.now }) c.requires.read c.requires.next c.in-Some.file (sym c.file_for.ensures
+    ∙ c.in-Some.is)
     (source_of a c.in_ok-next.next) c.in_ok-next.ensures.file refl c.in_ok-next.ensures.held (sym c.is_read.ensures ∙ c.if-is_read.false))
 
 pub returns-clause-followed : goal.returns-clause-followed

@@ -16,7 +16,8 @@ returns-in_err-first-clause-cause g c =
 pub follow_all-requires : goal.follow_all-requires
 follow_all-requires g c =
     record {
-      read = first_read (g.F.Files.told c.args.files.now) (g.F.Files.told c.read_file.new.files) (record { root = c.args.root; base = c.args.base; words = c.args.words }) c.in_ok-first.first c.in_ok-held.held.items
+      read = first_read (g.F.Files.told c.args.files.now) (g.F.Files.told c.read_file.new.files)
+          (record { root = c.args.root; base = c.args.base; words = c.args.words }) c.in_ok-first.first c.in_ok-held.held.items
           c.in_ok-first.ensures.file c.in_ok-first.ensures.held c.in_ok-held.ensures.items c.in_ok-first.ensures.told_stays;
     }
 

@@ -25,7 +25,9 @@ returns-in_err-add-clause-stops c =
     (λ e. full_first x c.number_all.new.session c.in_ok-numbers.numbers c.number_all.ensures.alone (c.in_err-add.ensures.full.0 (ap (λ z. Err z) e))) refl)
 
 pub returns-in_err-add-clause-keeps : goal.returns-in_err-add-clause-keeps
-returns-in_err-add-clause-keeps c = keeps_on c.args.session.now c.number_all.new.session c.add.new.self (terms_keep c.args.session.now c.number_all.new.session c.number_all.ensures.alone) (graph_keeps c.number_all.new.session c.add.new.self c.add.ensures.alone)
+returns-in_err-add-clause-keeps c =
+    keeps_on c.args.session.now c.number_all.new.session c.add.new.self (terms_keep c.args.session.now c.number_all.new.session c.number_all.ensures.alone)
+    (graph_keeps c.number_all.new.session c.add.new.self c.add.ensures.alone)
 
 pub returns-clause-edits : goal.returns-clause-edits
 returns-clause-edits c =
@@ -33,4 +35,6 @@ returns-clause-edits c =
     c.requires.distinct c.in_ok-add.ensures.added (λ full. (let wrong = c.in_ok-add.ensures.full.1 full in cc))
 
 pub returns-clause-keeps : goal.returns-clause-keeps
-returns-clause-keeps c = keeps_on c.args.session.now c.number_all.new.session c.add.new.self (terms_keep c.args.session.now c.number_all.new.session c.number_all.ensures.alone) (graph_keeps c.number_all.new.session c.add.new.self c.add.ensures.alone)
+returns-clause-keeps c =
+    keeps_on c.args.session.now c.number_all.new.session c.add.new.self (terms_keep c.args.session.now c.number_all.new.session c.number_all.ensures.alone)
+    (graph_keeps c.number_all.new.session c.add.new.self c.add.ensures.alone)

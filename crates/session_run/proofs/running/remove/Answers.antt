@@ -14,7 +14,9 @@ pub returns-in_err-numbers-clause-keeps : goal.returns-in_err-numbers-clause-kee
 returns-in_err-numbers-clause-keeps c = terms_keep c.args.session.now c.number_all.new.session c.number_all.ensures.alone
 
 pub returns-in_err-remove-clause-keeps : goal.returns-in_err-remove-clause-keeps
-returns-in_err-remove-clause-keeps c = keeps_on c.args.session.now c.number_all.new.session c.remove.new.self (terms_keep c.args.session.now c.number_all.new.session c.number_all.ensures.alone) (graph_keeps c.number_all.new.session c.remove.new.self c.remove.ensures.alone)
+returns-in_err-remove-clause-keeps c =
+    keeps_on c.args.session.now c.number_all.new.session c.remove.new.self (terms_keep c.args.session.now c.number_all.new.session c.number_all.ensures.alone)
+    (graph_keeps c.number_all.new.session c.remove.new.self c.remove.ensures.alone)
 
 pub returns-clause-edits : goal.returns-clause-edits
 returns-clause-edits c =
@@ -22,4 +24,6 @@ returns-clause-edits c =
     c.requires.distinct c.in_ok-remove.field-0 c.in_ok-remove.ensures.held c.in_ok-remove.ensures.removed c.in_ok-remove.ensures.absent
 
 pub returns-clause-keeps : goal.returns-clause-keeps
-returns-clause-keeps c = keeps_on c.args.session.now c.number_all.new.session c.remove.new.self (terms_keep c.args.session.now c.number_all.new.session c.number_all.ensures.alone) (graph_keeps c.number_all.new.session c.remove.new.self c.remove.ensures.alone)
+returns-clause-keeps c =
+    keeps_on c.args.session.now c.number_all.new.session c.remove.new.self (terms_keep c.args.session.now c.number_all.new.session c.number_all.ensures.alone)
+    (graph_keeps c.number_all.new.session c.remove.new.self c.remove.ensures.alone)

@@ -5,7 +5,7 @@ use Rattle.shex_inputs.specs.declared.error.Refusal.TheVariants as Refusals
 use Rattle.shex_inputs.specs.declared.error.Source.TheVariants.{Data}
 use Rattle.proof_file.specs.declared.head.Digests.{Digests}
 use Rattle.shex_inputs.specs.Held.{digests_with, held_by}
-use Rattle.schema_files.specs.Files.{IsFile}
+use Rattle.shex_io.specs.Fetching.{IsFile}
 use Rattle.schema_files.specs.Sources.{documents_of}
 use Rattle.term_tokens.specs.Scopes.{scope_of}
 use Rattle.shex_inputs.specs.Named.{inputs_with}
@@ -86,4 +86,5 @@ returns-clause-cause g c = λ map_name.
 
 pub returns-clause-faults : goal.returns-clause-faults
 returns-clause-faults g c = λ map_name.
-    refused_faults ReadErrors.Memory (λ e. Refusals.Data e) c.in-Err.error c.data_error.result (inputs_with c.args.inputs.now map_name) _ _ _ _ c.data_error.ensures (c.in_ok-bytes.ensures.faults_stay ∙ c.in_ok-loaded.ensures.faults_stay)
+    refused_faults ReadErrors.Memory (λ e. Refusals.Data e) c.in-Err.error c.data_error.result (inputs_with c.args.inputs.now map_name) _ _ _ _ c.data_error.ensures (c.in_ok-bytes.ensures.faults_stay
+    ∙ c.in_ok-loaded.ensures.faults_stay)

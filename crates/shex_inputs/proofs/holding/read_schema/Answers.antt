@@ -18,7 +18,8 @@ returns-in_err-documents-clause-faults g c = λ map_name.
 pub returns-clause-taken : goal.returns-clause-taken
 returns-clause-taken g c = λ map_name.
     let (ss, are, held) = c.in_ok-documents.ensures.taken map_name in
-    loaded_taken (g.F.Files.told c.args.files.now) (inputs_with c.args.inputs.now map_name) c.in_ok-documents.documents ss c.load_schema.result are held c.load_schema.ensures.schema c.load_schema.ensures.labels c.load_schema.ensures.digests
+    loaded_taken (g.F.Files.told c.args.files.now)
+    (inputs_with c.args.inputs.now map_name) c.in_ok-documents.documents ss c.load_schema.result are held c.load_schema.ensures.schema c.load_schema.ensures.labels c.load_schema.ensures.digests
 
 pub returns-clause-of_schema : goal.returns-clause-of_schema
 returns-clause-of_schema g c = unloaded_of_schema (map document_of c.in_ok-documents.documents.docs.items) c.load_schema.result c.load_schema.ensures.stops
@@ -32,4 +33,5 @@ returns-clause-cause g c = λ map_name.
     unloaded_explains (g.F.Files.told c.args.files.now) (inputs_with c.args.inputs.now map_name) c.in_ok-documents.documents ss c.load_schema.result are held c.load_schema.ensures.stops
 
 pub returns-clause-faults : goal.returns-clause-faults
-returns-clause-faults g c = λ map_name. unloaded_faults (inputs_with c.args.inputs.now map_name) (map document_of c.in_ok-documents.documents.docs.items) _ _ _ _ c.load_schema.result c.load_schema.ensures.stops c.in_ok-documents.ensures.faults_stay
+returns-clause-faults g c = λ map_name. unloaded_faults (inputs_with c.args.inputs.now map_name)
+    (map document_of c.in_ok-documents.documents.docs.items) _ _ _ _ c.load_schema.result c.load_schema.ensures.stops c.in_ok-documents.ensures.faults_stay

@@ -1,8 +1,8 @@
 use Rattle.std.proofs.Common.{List, map, subst}
 use Rattle.std.proofs.lemmas.List.Elements.{recursion_from_All}
-use Rattle.command_words.specs.Lent.{import_of}
-use Rattle.command_words.specs.declared.command.Import.{Import}
-use Rattle.command_words.specs.declared.command.Inputs.{Inputs}
+use Rattle.input_names.specs.Lent.{import_of}
+use Rattle.input_names.specs.declared.inputs.Import.{Import}
+use Rattle.input_names.specs.declared.inputs.Inputs.{Inputs}
 use Rattle.schema_documents.specs.Ordered.{IsOrderedDocument}
 use Rattle.schema_documents.specs.Tree.{document_of}
 use Rattle.schema_files.specs.Named.{Asked}

@@ -14,7 +14,8 @@ returns-in-Err-clause-cause g c =
     (λ apart. too_many c.read_associations.new.holding.schema c.args.holding.now.schema c.read_associations.new.holding.graph.triples c.args.holding.now.graph.triples c.as_slice.result.now r.associations.items c.in_ok-resolved.ensures.schema c.in_ok-resolved.ensures.graph c.as_slice.ensures.value (c.in-Err.ensures.many apart)) c.demand_error.ensures
 
 pub returns-in-Err-clause-faults : goal.returns-in-Err-clause-faults
-returns-in-Err-clause-faults g c = demand_faults (inputs_with c.args.inputs.now c.args.name.now) _ _ _ _ c.in-Err.error c.demand_error.result c.demand_error.ensures c.in_ok-resolved.ensures.faults_stay
+returns-in-Err-clause-faults g c =
+    demand_faults (inputs_with c.args.inputs.now c.args.name.now) _ _ _ _ c.in-Err.error c.demand_error.result c.demand_error.ensures c.in_ok-resolved.ensures.faults_stay
 
 pub returns-in-Ok-clause-asked : goal.returns-in-Ok-clause-asked
 returns-in-Ok-clause-asked g c = λ digests taken.

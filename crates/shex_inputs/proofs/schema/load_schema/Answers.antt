@@ -5,7 +5,8 @@ use Rattle.shex_inputs.proofs.Reading.{is_schema, load_stops, strata_stops}
 use Rattle.shex_inputs.proofs.schema.load_schema.Goals as goal
 
 pub returns-in-Err-clause-stops : goal.returns-in-Err-clause-stops
-returns-in-Err-clause-stops c = load_stops (map document_of c.args.documents.docs.items) c.new-terms.result c.in-Err.error c.load_error.result c.new-terms.ensures c.in-Err.ensures.refused c.load_error.ensures
+returns-in-Err-clause-stops c =
+    load_stops (map document_of c.args.documents.docs.items) c.new-terms.result c.in-Err.error c.load_error.result c.new-terms.ensures c.in-Err.ensures.refused c.load_error.ensures
 
 pub returns-in-Err-strata-clause-stops : goal.returns-in-Err-strata-clause-stops
 returns-in-Err-strata-clause-stops c =

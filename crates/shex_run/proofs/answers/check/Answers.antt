@@ -13,7 +13,8 @@ returns-in_err-bytes-clause-cause g c =
     rw (p.1, p.2)
     ((fetch_stopped (g.F.Files.told c.args.files.now) (command_of (Lent.Check c.args.checking.now))
     (held_by c.args.holding.now c.args.digests.now) c.requires.taken c.args.checking.now.proof.now refl
-    (g.F.Files.told new) c.fetch_proof.ensures.told_stays (g.F.Files.faults c.args.files.now) (g.F.Files.faults new) (g.F.Files.blame new) (g.F.Files.act new) c.in_err-bytes.field-0.0 c.in_err-bytes.ensures.stops).cause)
+    (g.F.Files.told new) c.fetch_proof.ensures.told_stays (g.F.Files.faults c.args.files.now) (g.F.Files.faults new) (g.F.Files.blame new)
+    (g.F.Files.act new) c.in_err-bytes.field-0.0 c.in_err-bytes.ensures.stops).cause)
 
 pub returns-in_err-bytes-clause-faults : goal.returns-in_err-bytes-clause-faults
 returns-in_err-bytes-clause-faults g c =
@@ -22,4 +23,5 @@ returns-in_err-bytes-clause-faults g c =
     rw (p.1, p.2)
     ((fetch_stopped (g.F.Files.told c.args.files.now) (command_of (Lent.Check c.args.checking.now))
     (held_by c.args.holding.now c.args.digests.now) c.requires.taken c.args.checking.now.proof.now refl
-    (g.F.Files.told new) c.fetch_proof.ensures.told_stays (g.F.Files.faults c.args.files.now) (g.F.Files.faults new) (g.F.Files.blame new) (g.F.Files.act new) c.in_err-bytes.field-0.0 c.in_err-bytes.ensures.stops).faults)
+    (g.F.Files.told new) c.fetch_proof.ensures.told_stays (g.F.Files.faults c.args.files.now) (g.F.Files.faults new) (g.F.Files.blame new)
+    (g.F.Files.act new) c.in_err-bytes.field-0.0 c.in_err-bytes.ensures.stops).faults)

@@ -1,5 +1,5 @@
 use Rattle.std.proofs.Common.{◌∙◌, ap, subst, sym}
-use Rattle.command_words.specs.Checks.{is_base}
+use Rattle.input_names.specs.Names.{is_base}
 use Rattle.command_words.specs.Lent.{command_of}
 use Rattle.shex_inputs.specs.Held.{HasTaken}
 use Rattle.shex_inputs.specs.Outcomes.{Explains as ExplainsInput, FaultsAs as FaultsAsInput}
@@ -9,7 +9,11 @@ use Rattle.shex_run.proofs.Answering.{base_of_task, input_stopped}
 use Rattle.shex_run.proofs.answers.hold.Goals as goal
 
 pub read_holding-requires : goal.read_holding-requires
-read_holding-requires g c = let (task, same) = c.inputs.ensures in record { schema_base = ap (λ k. is_base k.schema_base) (sym same) ∙ c.requires.schema; data_base = ap (λ k. is_base k.data_base) (sym same) ∙ c.requires.data_file }
+read_holding-requires g c = let (task, same) = c.inputs.ensures in record {
+  schema_base = ap (λ k. is_base k.schema_base) (sym same)
+      ∙ c.requires.schema;
+  data_base = ap (λ k. is_base k.data_base) (sym same) ∙ c.requires.data_file;
+}
 
 pub returns-in-Ok-clause-taken : goal.returns-in-Ok-clause-taken
 returns-in-Ok-clause-taken g c = let (task, same) = c.inputs.ensures in subst (λ k. HasTaken (g.F.Files.told c.args.files.now) (inputs_of k) c.in-Ok.taken)

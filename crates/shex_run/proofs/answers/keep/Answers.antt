@@ -48,29 +48,37 @@ pub returns-clause-response : goal.returns-clause-response
 returns-clause-response g c =
     let told = g.F.Files.told c.args.files.now in
     let v = c.args.validation.now in
-    let own : IsReplyProof c.requires.question v.budget c.requires.answers c.in-Some-proof.proof = subst (λ o. IfSome o (IsReplyProof c.requires.question v.budget c.requires.answers)) c.in-Some-proof.is c.requires.proof in
+    let own : IsReplyProof c.requires.question v.budget c.requires.answers c.in-Some-proof.proof =
+    subst (λ o. IfSome o (IsReplyProof c.requires.question v.budget c.requires.answers)) c.in-Some-proof.is c.requires.proof in
     stored told (command_of (Lent.Validate v)) v.map.now (option_map (λ s. s.now) v.proof) v.budget c.requires.question c.requires.answers c.args.decided.status c.args.decided.text.items c.args.decided.notes.items (due told v c.args.decided c.requires)
     c.in-Some.name.now c.as_slice.result.now (ap (option_map (λ s. s.now)) c.in-Some.is)
-    (own.proves c.as_slice.result.now (subst (λ bytes. ProofText c.in-Some-proof.proof bytes) (sym c.as_slice.ensures.value) (c.in-Ok.ensures own.no_feeds))) (g.F.Files.told c.store.new.files) c.in_ok-store.ensures.holds c.store.ensures.others
+    (own.proves c.as_slice.result.now (subst (λ bytes. ProofText c.in-Some-proof.proof bytes) (sym c.as_slice.ensures.value) (c.in-Ok.ensures own.no_feeds)))
+    (g.F.Files.told c.store.new.files) c.in_ok-store.ensures.holds c.store.ensures.others
 
 pub returns-in_err-store-clause-cause : goal.returns-in_err-store-clause-cause
 returns-in_err-store-clause-cause g c =
     let p = err_from_is_err_and c.from_residual.result c.from_residual.ensures.1 in
     let told = g.F.Files.told c.args.files.now in
     let v = c.args.validation.now in
-    let own : IsReplyProof c.requires.question v.budget c.requires.answers c.in-Some-proof.proof = subst (λ o. IfSome o (IsReplyProof c.requires.question v.budget c.requires.answers)) c.in-Some-proof.is c.requires.proof in
+    let own : IsReplyProof c.requires.question v.budget c.requires.answers c.in-Some-proof.proof =
+    subst (λ o. IfSome o (IsReplyProof c.requires.question v.budget c.requires.answers)) c.in-Some-proof.is c.requires.proof in
     rw (p.1, p.2)
     ((store_stopped told (command_of (Lent.Validate v)) v.map.now (option_map (λ s. s.now) v.proof) v.budget c.requires.question c.requires.answers c.args.decided.status c.args.decided.text.items c.args.decided.notes.items (due told v c.args.decided c.requires)
     c.in-Some.name.now c.as_slice.result.now (ap (option_map (λ s. s.now)) c.in-Some.is)
-    (own.proves c.as_slice.result.now (subst (λ bytes. ProofText c.in-Some-proof.proof bytes) (sym c.as_slice.ensures.value) (c.in-Ok.ensures own.no_feeds))) (g.F.Files.told c.store.new.files) (g.F.Files.faults c.args.files.now) (g.F.Files.faults c.store.new.files) (g.F.Files.blame c.store.new.files) (g.F.Files.act c.store.new.files) c.in_err-store.field-0.0 c.in_err-store.ensures.stops c.in_err-store.ensures.part c.store.ensures.others).cause)
+    (own.proves c.as_slice.result.now (subst (λ bytes. ProofText c.in-Some-proof.proof bytes) (sym c.as_slice.ensures.value) (c.in-Ok.ensures own.no_feeds)))
+    (g.F.Files.told c.store.new.files) (g.F.Files.faults c.args.files.now) (g.F.Files.faults c.store.new.files) (g.F.Files.blame c.store.new.files)
+    (g.F.Files.act c.store.new.files) c.in_err-store.field-0.0 c.in_err-store.ensures.stops c.in_err-store.ensures.part c.store.ensures.others).cause)
 
 pub returns-in_err-store-clause-stored : goal.returns-in_err-store-clause-stored
 returns-in_err-store-clause-stored g c =
     let p = err_from_is_err_and c.from_residual.result c.from_residual.ensures.1 in
     let told = g.F.Files.told c.args.files.now in
     let v = c.args.validation.now in
-    let own : IsReplyProof c.requires.question v.budget c.requires.answers c.in-Some-proof.proof = subst (λ o. IfSome o (IsReplyProof c.requires.question v.budget c.requires.answers)) c.in-Some-proof.is c.requires.proof in
+    let own : IsReplyProof c.requires.question v.budget c.requires.answers c.in-Some-proof.proof =
+    subst (λ o. IfSome o (IsReplyProof c.requires.question v.budget c.requires.answers)) c.in-Some-proof.is c.requires.proof in
     rw (p.1, p.2)
     ((store_stopped told (command_of (Lent.Validate v)) v.map.now (option_map (λ s. s.now) v.proof) v.budget c.requires.question c.requires.answers c.args.decided.status c.args.decided.text.items c.args.decided.notes.items (due told v c.args.decided c.requires)
     c.in-Some.name.now c.as_slice.result.now (ap (option_map (λ s. s.now)) c.in-Some.is)
-    (own.proves c.as_slice.result.now (subst (λ bytes. ProofText c.in-Some-proof.proof bytes) (sym c.as_slice.ensures.value) (c.in-Ok.ensures own.no_feeds))) (g.F.Files.told c.store.new.files) (g.F.Files.faults c.args.files.now) (g.F.Files.faults c.store.new.files) (g.F.Files.blame c.store.new.files) (g.F.Files.act c.store.new.files) c.in_err-store.field-0.0 c.in_err-store.ensures.stops c.in_err-store.ensures.part c.store.ensures.others).stored)
+    (own.proves c.as_slice.result.now (subst (λ bytes. ProofText c.in-Some-proof.proof bytes) (sym c.as_slice.ensures.value) (c.in-Ok.ensures own.no_feeds)))
+    (g.F.Files.told c.store.new.files) (g.F.Files.faults c.args.files.now) (g.F.Files.faults c.store.new.files) (g.F.Files.blame c.store.new.files)
+    (g.F.Files.act c.store.new.files) c.in_err-store.field-0.0 c.in_err-store.ensures.stops c.in_err-store.ensures.part c.store.ensures.others).stored)

@@ -26,7 +26,8 @@ returns-clause-response g c =
     let bytes = c.in_ok-bytes.bytes.items in
     subst (λ notes. IsResponse told after k 0 text notes) (sym c.new.ensures.items)
     (upgraded told k held c.requires.taken v.proof.now refl bytes c.in_ok-bytes.ensures.bytes v.to.now refl text c.as_slice.result.now
-    (subst (λ new. Upgrades held bytes text new) (sym c.as_slice.ensures.value) c.in_ok-text.ensures.upgrades) (g.F.Files.told c.fetch_proof.new.files) after c.fetch_proof.ensures.told_stays c.in_ok-store.ensures.holds c.store.ensures.others)
+    (subst (λ new. Upgrades held bytes text new) (sym c.as_slice.ensures.value) c.in_ok-text.ensures.upgrades)
+    (g.F.Files.told c.fetch_proof.new.files) after c.fetch_proof.ensures.told_stays c.in_ok-store.ensures.holds c.store.ensures.others)
 
 pub returns-in_err-store-clause-cause : goal.returns-in_err-store-clause-cause
 returns-in_err-store-clause-cause g c =
@@ -41,7 +42,8 @@ returns-in_err-store-clause-cause g c =
     rw (p.1, p.2)
     ((upgrade_stopped told k held c.requires.taken v.proof.now refl bytes c.in_ok-bytes.ensures.bytes v.to.now refl text c.as_slice.result.now
     (subst (λ new. Upgrades held bytes text new) (sym c.as_slice.ensures.value) c.in_ok-text.ensures.upgrades) (g.F.Files.told mid) (g.F.Files.told c.store.new.files) c.fetch_proof.ensures.told_stays
-    (g.F.Files.faults mid) (g.F.Files.faults c.store.new.files) (g.F.Files.blame c.store.new.files) (g.F.Files.act c.store.new.files) c.in_err-store.field-0.0 c.in_err-store.ensures.stops c.in_err-store.ensures.part c.store.ensures.others).cause)
+    (g.F.Files.faults mid) (g.F.Files.faults c.store.new.files) (g.F.Files.blame c.store.new.files)
+    (g.F.Files.act c.store.new.files) c.in_err-store.field-0.0 c.in_err-store.ensures.stops c.in_err-store.ensures.part c.store.ensures.others).cause)
 
 pub returns-in_err-store-clause-stored : goal.returns-in_err-store-clause-stored
 returns-in_err-store-clause-stored g c =
@@ -56,7 +58,8 @@ returns-in_err-store-clause-stored g c =
     rw (p.1, p.2)
     ((upgrade_stopped told k held c.requires.taken v.proof.now refl bytes c.in_ok-bytes.ensures.bytes v.to.now refl text c.as_slice.result.now
     (subst (λ new. Upgrades held bytes text new) (sym c.as_slice.ensures.value) c.in_ok-text.ensures.upgrades) (g.F.Files.told mid) (g.F.Files.told c.store.new.files) c.fetch_proof.ensures.told_stays
-    (g.F.Files.faults mid) (g.F.Files.faults c.store.new.files) (g.F.Files.blame c.store.new.files) (g.F.Files.act c.store.new.files) c.in_err-store.field-0.0 c.in_err-store.ensures.stops c.in_err-store.ensures.part c.store.ensures.others).stored)
+    (g.F.Files.faults mid) (g.F.Files.faults c.store.new.files) (g.F.Files.blame c.store.new.files)
+    (g.F.Files.act c.store.new.files) c.in_err-store.field-0.0 c.in_err-store.ensures.stops c.in_err-store.ensures.part c.store.ensures.others).stored)
 
 pub returns-in_err-bytes-clause-cause : goal.returns-in_err-bytes-clause-cause
 returns-in_err-bytes-clause-cause g c =
@@ -65,7 +68,8 @@ returns-in_err-bytes-clause-cause g c =
     rw (p.1, p.2)
     ((fetch_stopped (g.F.Files.told c.args.files.now) (command_of (Lent.Upgrade c.args.upgrading.now))
     (held_by c.args.holding.now c.args.digests.now) c.requires.taken c.args.upgrading.now.proof.now refl
-    (g.F.Files.told new) c.fetch_proof.ensures.told_stays (g.F.Files.faults c.args.files.now) (g.F.Files.faults new) (g.F.Files.blame new) (g.F.Files.act new) c.in_err-bytes.field-0.0 c.in_err-bytes.ensures.stops).cause)
+    (g.F.Files.told new) c.fetch_proof.ensures.told_stays (g.F.Files.faults c.args.files.now) (g.F.Files.faults new) (g.F.Files.blame new)
+    (g.F.Files.act new) c.in_err-bytes.field-0.0 c.in_err-bytes.ensures.stops).cause)
 
 pub returns-in_err-bytes-clause-faults : goal.returns-in_err-bytes-clause-faults
 returns-in_err-bytes-clause-faults g c =
@@ -74,4 +78,5 @@ returns-in_err-bytes-clause-faults g c =
     rw (p.1, p.2)
     ((fetch_stopped (g.F.Files.told c.args.files.now) (command_of (Lent.Upgrade c.args.upgrading.now))
     (held_by c.args.holding.now c.args.digests.now) c.requires.taken c.args.upgrading.now.proof.now refl
-    (g.F.Files.told new) c.fetch_proof.ensures.told_stays (g.F.Files.faults c.args.files.now) (g.F.Files.faults new) (g.F.Files.blame new) (g.F.Files.act new) c.in_err-bytes.field-0.0 c.in_err-bytes.ensures.stops).faults)
+    (g.F.Files.told new) c.fetch_proof.ensures.told_stays (g.F.Files.faults c.args.files.now) (g.F.Files.faults new) (g.F.Files.blame new)
+    (g.F.Files.act new) c.in_err-bytes.field-0.0 c.in_err-bytes.ensures.stops).faults)

@@ -34,7 +34,8 @@ returns-in-Ok-write_result-clause-confirmed c =
       found = subst (λ ts. IsAcceptedFor held.schema held.files held.terms terms ts c.args.proof.now c.in-Ok.claims) c.seal.ensures.same c.in-Ok.ensures.accepted;
       few = subst (λ k. k ≤ max_terms) c.len-count.ensures.count c.len-count.ensures.few;
     } in
-    let sound : IsTrueAs held.schema held.terms terms held.graph c.args.proof.now c.in-Ok.claims = subst (λ ts. IsTrueAs held.schema held.terms terms ts c.args.proof.now c.in-Ok.claims) c.seal.ensures.same c.in-Ok.ensures.sound in
+    let sound : IsTrueAs held.schema held.terms terms held.graph c.args.proof.now c.in-Ok.claims =
+    subst (λ ts. IsTrueAs held.schema held.terms terms ts c.args.proof.now c.in-Ok.claims) c.seal.ensures.same c.in-Ok.ensures.sound in
     record {
       terms = terms;
       answers = c.in-Ok.claims;
@@ -47,7 +48,8 @@ pub returns-in-Err-clause-stops : goal.returns-in-Err-clause-stops
 returns-in-Err-clause-stops c =
     let terms = c.check-checked.new.terms in
     let held : Held = held_by c.args.holding.now c.args.digests.now in
-    let fails : FailsAs held.schema held.files held.terms terms held.graph c.args.proof.now c.in-Err.error = subst (λ ts. FailsAs held.schema held.files held.terms terms ts c.args.proof.now c.in-Err.error) c.seal.ensures.same c.in-Err.ensures.fails in
+    let fails : FailsAs held.schema held.files held.terms terms held.graph c.args.proof.now c.in-Err.error =
+    subst (λ ts. FailsAs held.schema held.files held.terms terms ts c.args.proof.now c.in-Err.error) c.seal.ensures.same c.in-Err.ensures.fails in
     subst (λ s. ConfirmStops held c.args.proof.now s) (sym c.check_stop.ensures)
     (stops held terms c.args.proof.now c.in-Err.error (subst (λ k. k ≤ max_terms) c.len-count.ensures.count c.len-count.ensures.few) fails)
 

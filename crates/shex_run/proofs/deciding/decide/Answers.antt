@@ -28,7 +28,8 @@ proof_if-requires-clause-range c = λ on.
     subst (λ xs. AreSureAnswers h.schema h.terms (known_by_it r) c.args.asked.associations.items xs) (sym c.as_slice-answers.ensures.value) c.in_ok-given.ensures in
     in_range h.schema h.terms h.graph.triples h.strata c.args.asked.pairs c.args.budget (known_by_it r) r.nodes r.sections c.as_slice-answers.result.now
     (shown h c.args.asked.associations.items c.args.asked.pairs c.args.budget c.args.head c.requires (known_by_it r) r.nodes r.sections c.as_slice-answers.result.now
-    (c.in_ok-refined.ensures.records (c.wanted-wanted.ensures.records (c.is_some.ensures ∙ on))) (c.in_ok-refined.ensures.fine (c.wanted-wanted.ensures.records (c.is_some.ensures ∙ on))) (c.in_ok-refined.ensures.accepted (c.wanted-wanted.ensures.records (c.is_some.ensures ∙ on))) sure)
+    (c.in_ok-refined.ensures.records (c.wanted-wanted.ensures.records (c.is_some.ensures ∙ on)))
+    (c.in_ok-refined.ensures.fine (c.wanted-wanted.ensures.records (c.is_some.ensures ∙ on))) (c.in_ok-refined.ensures.accepted (c.wanted-wanted.ensures.records (c.is_some.ensures ∙ on))) sure)
 
 pub returns : goal.returns
 returns c =
@@ -48,7 +49,8 @@ returns c =
       replies = answered h xs c.args.asked.pairs c.args.budget c.args.head c.requires c.sure_answers_are_true.ensures (known_by_it r) known refined same answers sure;
       proof = c.in_ok-proof.ensures.proof h.schema h.graph.triples h.strata c.args.asked.pairs c.args.budget (known_by_it r) (λ on. (
           shown h xs c.args.asked.pairs c.args.budget c.args.head c.requires (known_by_it r) r.nodes r.sections answers
-          (c.in_ok-refined.ensures.records (c.wanted-wanted.ensures.records (c.is_some.ensures ∙ on))) (c.in_ok-refined.ensures.fine (c.wanted-wanted.ensures.records (c.is_some.ensures ∙ on))) (c.in_ok-refined.ensures.accepted (c.wanted-wanted.ensures.records (c.is_some.ensures ∙ on))) sure
+          (c.in_ok-refined.ensures.records (c.wanted-wanted.ensures.records (c.is_some.ensures ∙ on)))
+          (c.in_ok-refined.ensures.fine (c.wanted-wanted.ensures.records (c.is_some.ensures ∙ on))) (c.in_ok-refined.ensures.accepted (c.wanted-wanted.ensures.records (c.is_some.ensures ∙ on))) sure
           ));
       headed = c.in_ok-proof.ensures.headed;
       wanted = c.in_ok-proof.ensures.wanted;
@@ -59,5 +61,6 @@ returns c =
       text_is = c.in_ok-text.ensures;
       wide = c.wide-wide.result.now;
       are_wide = λ width are. c.wide-wide.ensures ∙ c.in_ok-refined.ensures.wide width are;
-      notes_are = c.in_ok-notes.ensures ∙ ap (λ n. notes_by h.terms n c.args.budget answers c.wide-wide.result.now) (c.len.ensures ∙ size ∙ ap length c.in_ok-wants.ensures ∙ length-map c.as_slice.result.now (λ (a : Association). a.want) ∙ ap length c.as_slice.ensures.value);
+      notes_are = c.in_ok-notes.ensures ∙ ap (λ n. notes_by h.terms n c.args.budget answers c.wide-wide.result.now)
+          (c.len.ensures ∙ size ∙ ap length c.in_ok-wants.ensures ∙ length-map c.as_slice.result.now (λ (a : Association). a.want) ∙ ap length c.as_slice.ensures.value);
     }

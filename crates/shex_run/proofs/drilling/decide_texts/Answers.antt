@@ -10,5 +10,6 @@ decide_map-decided-requires-clause-fit c = subst IsFit (sym c.requires.asked) dr
 
 pub unreachable-requires : goal.unreachable-requires
 unreachable-requires c =
-    are_decided c.drill_is_taken.ensures (contents_of c.hold.new.files) (subst AreTexts (sym c.hold.ensures.texts_stay) c.requires.texts) c.args.validation.now c.requires.asked c.in-Err.stop c.in-Err.ensures.cause _ _
+    are_decided c.drill_is_taken.ensures (contents_of c.hold.new.files)
+    (subst AreTexts (sym c.hold.ensures.texts_stay) c.requires.texts) c.args.validation.now c.requires.asked c.in-Err.stop c.in-Err.ensures.cause _ _
     c.in-Err.ensures.faults c.in_default.not-Memory

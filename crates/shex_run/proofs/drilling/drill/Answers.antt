@@ -21,4 +21,5 @@ returns-in_err-store-clause-stops g c =
     } in
     rw (p.1, p.2)
     (drill_unstored (g.F.Files.told c.args.files.now) (g.F.Files.told c.store.new.files) d c.in-Some.name.now c.as_slice.result.now (ap (option_map (λ s. s.now)) c.in-Some.is) due c.in_err-store.ensures.part c.store.ensures.others
-    (g.F.Files.faults c.args.files.now) (g.F.Files.faults c.store.new.files) (g.F.Files.blame c.store.new.files) (g.F.Files.act c.store.new.files) c.in_err-store.field-0.0 c.in_err-store.ensures.stops)
+    (g.F.Files.faults c.args.files.now) (g.F.Files.faults c.store.new.files) (g.F.Files.blame c.store.new.files)
+    (g.F.Files.act c.store.new.files) c.in_err-store.field-0.0 c.in_err-store.ensures.stops)

@@ -72,23 +72,28 @@ pub returns-clause-unasked : goal.returns-clause-unasked
 returns-clause-unasked g c = λ f is. faulty_ends _ _ _ _ _ c.answers_are_one.ensures f is (returns-clause-ends g c)
 
 pub returns-clause-takes : goal.returns-clause-takes
-returns-clause-takes g c = λ contents k told is_asked taken. taken_ends _ k is_asked c.answers_are_one.ensures _ _ _ _ contents told (are_one c.inputs_are_one.ensures contents _ told k) taken (returns-clause-ends g c)
+returns-clause-takes g c =
+    λ contents k told is_asked taken. taken_ends _ k is_asked c.answers_are_one.ensures _ _ _ _ contents told (are_one c.inputs_are_one.ensures contents _ told k) taken (returns-clause-ends g c)
 
 pub returns-clause-accepts : goal.returns-clause-accepts
 returns-clause-accepts g c = λ contents k h bytes terms answers told is_asked given accepted.
     accepted_ends _ k is_asked c.answers_are_one.ensures _ _ _ _ contents told (are_one c.inputs_are_one.ensures contents _ told k) h bytes given terms answers accepted (returns-clause-ends g c)
 
 pub returns-clause-rejects : goal.returns-clause-rejects
-returns-clause-rejects g c = λ contents k rejection told is_asked cause. rejected_ends _ k is_asked c.answers_are_one.ensures _ _ _ _ contents told (are_one c.inputs_are_one.ensures contents _ told k) rejection cause (returns-clause-ends g c)
+returns-clause-rejects g c =
+    λ contents k rejection told is_asked cause. rejected_ends _ k is_asked c.answers_are_one.ensures _ _ _ _ contents told (are_one c.inputs_are_one.ensures contents _ told k) rejection cause (returns-clause-ends g c)
 
 pub returns-clause-refuses : goal.returns-clause-refuses
-returns-clause-refuses g c = λ contents k refusal told is_asked cause. refused_ends _ k is_asked c.answers_are_one.ensures _ _ _ _ contents told (are_one c.inputs_are_one.ensures contents _ told k) refusal cause (returns-clause-ends g c)
+returns-clause-refuses g c =
+    λ contents k refusal told is_asked cause. refused_ends _ k is_asked c.answers_are_one.ensures _ _ _ _ contents told (are_one c.inputs_are_one.ensures contents _ told k) refusal cause (returns-clause-ends g c)
 
 pub returns-clause-fills : goal.returns-clause-fills
-returns-clause-fills g c = λ contents k told is_asked full. filled_ends _ k is_asked c.answers_are_one.ensures _ _ _ _ contents told (are_one c.inputs_are_one.ensures contents _ told k) full (returns-clause-ends g c)
+returns-clause-fills g c =
+    λ contents k told is_asked full. filled_ends _ k is_asked c.answers_are_one.ensures _ _ _ _ contents told (are_one c.inputs_are_one.ensures contents _ told k) full (returns-clause-ends g c)
 
 pub returns-clause-misses : goal.returns-clause-misses
-returns-clause-misses g c = λ contents k file told is_asked absent. absent_ends _ k is_asked c.answers_are_one.ensures _ _ _ _ contents told (are_one c.inputs_are_one.ensures contents _ told k) file absent (returns-clause-ends g c)
+returns-clause-misses g c =
+    λ contents k file told is_asked absent. absent_ends _ k is_asked c.answers_are_one.ensures _ _ _ _ contents told (are_one c.inputs_are_one.ensures contents _ told k) file absent (returns-clause-ends g c)
 
 pub returns-clause-completes : goal.returns-clause-completes
 returns-clause-completes g c = λ contents k told is_asked taken files out err.

@@ -1,5 +1,5 @@
 use Rattle.std.proofs.Common.{◌∙◌, ap, sym, []}
-use Rattle.command_words.specs.Lent.{import_of}
+use Rattle.input_names.specs.Lent.{import_of}
 use Rattle.schema_files.specs.Held.{asked_of}
 use Rattle.schema_files.specs.Named.{base_for}
 use Rattle.schema_files.proofs.Words.{seen_twice}

@@ -8,7 +8,7 @@ use Rattle.shex_io.specs.declared.files.Act.{Act}
 use Rattle.shex_io.specs.declared.files.Act.TheVariants.{Fetch}
 use Rattle.shex_io.specs.declared.files.FetchError.{FetchError}
 use Rattle.shex_io.specs.declared.files.FetchError.TheVariants as errors
-use Rattle.schema_files.specs.Files.{FetchStops, IsTooLong, max_file}
+use Rattle.shex_io.specs.Fetching.{FetchStops, IsTooLong, max_file}
 
 nought : ℕ
 nought = 0

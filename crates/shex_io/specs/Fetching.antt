@@ -1,4 +1,4 @@
--- The bytes of files, and how fetching them stops.
+-- The bytes of files that have a limit, and how fetching them stops.
 use Rattle.std.specs.Prelude.{ℕ, List, ◌≡◌, ◌≤◌, ◌<◌, length, Some}
 use Rattle.shex_io.specs.Faults.{Rose}
 use Rattle.shex_io.specs.Files.{Holds, Told}

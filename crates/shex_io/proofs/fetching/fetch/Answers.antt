@@ -1,5 +1,5 @@
-use Rattle.schema_files.proofs.Fetched.{fetch_stops}
-use Rattle.schema_files.proofs.file_bytes.fetch.Goals as goal
+use Rattle.shex_io.proofs.Fetched.{fetch_stops}
+use Rattle.shex_io.proofs.fetching.fetch.Goals as goal
 
 pub returns-clause-stops : goal.returns-clause-stops
 returns-clause-stops g c =

@@ -5,8 +5,8 @@ use Rattle.std.specs.Str.{chars}
 use Rattle.iri_resolve.specs.Reference.{scheme_of}
 use Rattle.rdf_terms.proofs.OneLine.{both, lacks_feed, plain_bytes, plain_passing}
 use Rattle.rdf_lex.specs.Characters.{has, iri_char}
-use Rattle.command_words.specs.Checks.{is_base}
-use Rattle.command_words.specs.Laws.{BasesAreLines}
+use Rattle.input_names.specs.Names.{is_base}
+use Rattle.input_names.specs.Laws.{BasesAreLines}
 
 pub base_plain : BasesAreLines
 unfolding is_base iri_char

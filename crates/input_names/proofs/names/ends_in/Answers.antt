@@ -1,5 +1,5 @@
 use Rattle.std.proofs.lemmas.Str.Pattern.{ends_text}
-use Rattle.command_words.proofs.checks.ends_in.Goals as goal
+use Rattle.input_names.proofs.names.ends_in.Goals as goal
 
 pub returns : goal.returns
 returns c = ends_text c.ends_with.result c.args.ending.now c.args.name.now c.ends_with.ensures.cases
