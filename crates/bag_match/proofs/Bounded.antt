@@ -137,7 +137,8 @@ module _ (hold fail : TermId → Option ExprId → Type 0) (terms : List Term) (
   rel_of j t c =
       let whole : Contains ordered t = subst (λ zs. Contains zs t) (take-append-drop j ordered) (Contains-append_left (take j ordered) (drop j ordered) t c) in
       let (held, passes) = in_filter (is_relevant sh.occs n) (neighbourhood terms g n) t whole in
-      filter_has (is_relevant sh.occs n) (neigh g n) t (Contains-permutation (neighbourhood terms g n) (neigh g n) t (IsPermutation-sym (neigh g n) (neighbourhood terms g n) (ordered_same terms g n)) held) passes
+      filter_has (is_relevant sh.occs n)
+      (neigh g n) t (Contains-permutation (neighbourhood terms g n) (neigh g n) t (IsPermutation-sym (neigh g n) (neighbourhood terms g n) (ordered_same terms g n)) held) passes
 
   -- triples are divided into classes, each of which has places, and allowed places are among those of the class
   pub record IsDivision (same : Triple → Triple → Bool) (places : Triple → List Place) : Type 0 where
@@ -224,6 +225,7 @@ module _ (hold fail : TermId → Option ExprId → Type 0) (terms : List Term) (
       let b = products_same (λ r. ways (count_by (same_class n r) rel) (length (form_places sh n r))) (λ r. ways (count_by (same_class n r) rel) (places_for sh n r)) (firsts (same_class n) rel)
       (λ r i. ways (count_by (same_class n r) rel) (form_many sh n r i)) in
       let c = division_bound (same_fine_class plain sh n) (fine_places plain sh n) (by_open plain holds fails) j cs apart each in
-      let d = products_same (λ r. ways (count_by (same_fine_class plain sh n r) rel) (length (fine_places plain sh n r))) (λ r. ways (count_by (same_fine_class plain sh n r) rel) (max 1 (open_places_for plain sh n r))) (firsts (same_fine_class plain sh n) rel)
+      let d = products_same (λ r. ways (count_by (same_fine_class plain sh n r) rel) (length (fine_places plain sh n r)))
+      (λ r. ways (count_by (same_fine_class plain sh n r) rel) (max 1 (open_places_for plain sh n r))) (firsts (same_fine_class plain sh n) rel)
       (λ r i. ways (count_by (same_fine_class plain sh n r) rel) (fine_many plain sh n r i)) in
       omega (arith, a, b, c, d)

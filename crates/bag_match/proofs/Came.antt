@@ -43,7 +43,8 @@ keys_apart (k ∷ ks) h = (other, keys_apart ks h.1)
         true≢false (sym ((bytes_decides k.items y.items).1 (sym e)) ∙ sym (is_eq-slice_cmp k.items y.items) ∙ ap is_eq less)
 
 module _ (hold fail : TermId → Option ExprId → Type 0) (sh : Shape) (n : TermId) where
-  allowed_push : (us : List Triple) (ps : List Place) (t : Triple) (p : Place) → AreAllowed hold fail sh n us ps → IsAllowed hold fail sh n t p → AreAllowed hold fail sh n (us ++ t ∷ []) (ps ++ p ∷ [])
+  allowed_push : (us : List Triple) (ps : List Place) (t : Triple) (p : Place) → AreAllowed hold fail sh n us ps → IsAllowed hold fail sh n t p →
+      AreAllowed hold fail sh n (us ++ t ∷ []) (ps ++ p ∷ [])
   allowed_push [] [] t p h k = (k, tt)
   allowed_push [] (q ∷ ps) t p h k = absurd h
   allowed_push (u ∷ us) [] t p h k = absurd h

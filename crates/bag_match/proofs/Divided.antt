@@ -93,7 +93,8 @@ module _ (plain : Known) (sh : Shape) (n : TermId) (same : Triple → Triple →
   some_key t c =
       let (v, e) = have t (there t c) in
       let one : 1 ≤ count_by (test v.items) ts = count_some (test v.items) ts t (there t c) (is_test v.items t (sym e)) in
-      let (i, k, within, at, passes) = Any-from_list_any (is_at (compare_lists v)) (keys m) (sym (is_some-lookup (is_at (compare_lists v)) m.entries) ∙ ap is_some (counted v) ∙ any_some (count_by (test v.items) ts) one) in
+      let (i, k, within, at, passes) = Any-from_list_any (is_at (compare_lists v)) (keys m)
+      (sym (is_some-lookup (is_at (compare_lists v)) m.entries) ∙ ap is_some (counted v) ∙ any_some (count_by (test v.items) ts) one) in
       (k.items, in_map (λ z. z.items) (keys m) k (i, within, at), is_test k.items t (sym e ∙ (bytes_decides v.items k.items).0 (sym (is_eq-slice_cmp v.items k.items) ∙ passes)))
     where
       any_some : (k : ℕ) → 1 ≤ k → is_some (if_any k) ≡ true

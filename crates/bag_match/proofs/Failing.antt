@@ -51,8 +51,10 @@ got_set_other (y ∷ xs) (suc i) zero x other = refl
 got_set_other (y ∷ xs) (suc i) (suc k) x other = got_set_other xs i k x (λ e. other (ap suc e))
 
 -- counts are put into one of the sets
-pub failed_put : (old now : List (BTreeSet (Vec ℕ))) (left : ℕ) (s new : BTreeSet (Vec ℕ)) (counts : List ℕ) → ((k : ℕ) (c : List ℕ) → HasFailed now k c → HasFailed old k c) → slice_get now left ≡ Some s →
-    ((c : List ℕ) → Contains (lists_of new) c ↔ (Contains (lists_of s) c ⊎ (counts ≡ c))) → (k : ℕ) (c : List ℕ) → HasFailed (slice_set now left new) k c → HasFailed old k c ⊎ ((k ≡ left) × (counts ≡ c))
+pub failed_put : (old now : List (BTreeSet (Vec ℕ))) (left : ℕ) (s new : BTreeSet (Vec ℕ)) (counts : List ℕ) →
+    ((k : ℕ) (c : List ℕ) → HasFailed now k c → HasFailed old k c) → slice_get now left ≡ Some s →
+    ((c : List ℕ) → Contains (lists_of new) c ↔ (Contains (lists_of s) c ⊎ (counts ≡ c))) → (k : ℕ) (c : List ℕ) → HasFailed (slice_set now left new) k c →
+    HasFailed old k c ⊎ ((k ≡ left) × (counts ≡ c))
 failed_put old now left s new counts before at put k c (x, got, held) = elim (cases_eq k left) [
   | inl same ↦
       let here : slice_get (slice_set now left new) left ≡ Some x = subst (λ i. slice_get (slice_set now left new) i ≡ Some x) same got in
@@ -83,7 +85,8 @@ module _ (body : Option Plan) (more : List ℕ) (failed : List (BTreeSet (Vec �
   pub lost_all : (at : ℕ) → length places ≤ at → LostTo at → AreLost body more failed left counts (take from places) places
   lost_all at past before p c = before p (subst (λ zs. Contains zs p) (sym (take_all at places past)) c)
 
-  pub open_from : (at : ℕ) (d : Place) → at < length places → LostTo at → (now : List ℕ) → now ≡ counts → ¬ IsHopeless body (raised now (get_or places at d)) more → IsOpenFrom body more failed left counts places from at
+  pub open_from : (at : ℕ) (d : Place) → at < length places → LostTo at → (now : List ℕ) → now ≡ counts →
+      ¬ IsHopeless body (raised now (get_or places at d)) more → IsOpenFrom body more failed left counts places from at
   open_from at d within before now same hopes =
       (get_or places at d, slice_get-get_or places at d within, subst (λ z. ¬ IsHopeless body (raised z (get_or places at d)) more) same hopes, before)
 
@@ -92,5 +95,6 @@ module _ (body : Option Plan) (more lent : List ℕ) (failed lent_failed : List 
   pub lost_same : (first places : List Place) → lent ≡ more → lent_failed ≡ failed → AreLost body lent lent_failed left counts first places → AreLost body more failed left counts first places
   lost_same first places same alike h = subst (λ z. AreLost body z failed left counts first places) same (subst (λ z. AreLost body lent z left counts first places) alike h)
 
-  pub open_same : (places : List Place) (from at : ℕ) → lent ≡ more → lent_failed ≡ failed → IsOpenFrom body lent lent_failed left counts places from at → IsOpenFrom body more failed left counts places from at
+  pub open_same : (places : List Place) (from at : ℕ) → lent ≡ more → lent_failed ≡ failed → IsOpenFrom body lent lent_failed left counts places from at →
+      IsOpenFrom body more failed left counts places from at
   open_same places from at same alike h = subst (λ z. IsOpenFrom body z failed left counts places from at) same (subst (λ z. IsOpenFrom body lent z left counts places from at) alike h)

@@ -43,7 +43,8 @@ module _ (terms : List Term) (g : List Triple) (n : TermId) (occs : List Occurre
       filter_none (is_relevant occs n) (filter (λ t. not (is_loop t)) (sorted_by (by_subject terms) (ins g n)))
       (λ t held.
       let (sorted, no_loop) = in_filter (λ t. not (is_loop t)) (sorted_by (by_subject terms) (ins g n)) t held in
-      let there = Contains-permutation (sorted_by (by_subject terms) (ins g n)) (ins g n) t (IsPermutation-sym (ins g n) (sorted_by (by_subject terms) (ins g n)) (sorted_same (by_subject terms) (ins g n))) sorted in
+      let there = Contains-permutation (sorted_by (by_subject terms) (ins g n))
+      (ins g n) t (IsPermutation-sym (ins g n) (sorted_by (by_subject terms) (ins g n)) (sorted_same (by_subject terms) (ins g n))) sorted in
       none_fits n t (not_out n t no_loop (in_filter (λ t. same_id t.o n) g t there).1) occs forward)
 
   -- where all are forward, the arcs out are enough

@@ -66,7 +66,8 @@ module _ (hold fail : TermId → Option ExprId → Type 0) (sh : Shape) (n : Ter
   all_small few i = let b = for_few hold fail sh n ts lists all_for i in omega (arith, b, few)
 
   -- from counts that are hopeless nothing finishes
-  pub hopeless_ends : (j : ℕ) (counts more : List ℕ) → AreOffers (length sh.occs) (drop j lists) more → IsHopeless sh.body counts more → (ps : List Place) → ¬ Finishes hold fail sh n ts (state_of j counts) ps
+  pub hopeless_ends : (j : ℕ) (counts more : List ℕ) → AreOffers (length sh.occs) (drop j lists) more → IsHopeless sh.body counts more → (ps : List Place) →
+      ¬ Finishes hold fail sh n ts (state_of j counts) ps
   hopeless_ends j counts more held dead ps (allowed, spelled) = go sh.body dead spelled
     where
       most : (i : ℕ) → times ps i ≤ slice_index more i

@@ -43,7 +43,8 @@ extra_in t (x ∷ xs) e = go (same_id x t.p) refl (λ h. extra_in t xs h) e
 -- an arc out that a forward occurrence fits may not stay where its predicate is not in extra
 pub not_in_extra : (plain : TermId → Option ExprId → Verdict) (sh : Shape) (n : TermId) (t : Triple) → IsNear n t → same_id t.s n ≡ true →
     list_any (is_forward n t) sh.occs ≡ true → (Contains sh.extra t.p → ⊥) → false ≡ is_open_rest plain sh n t
-not_in_extra plain sh n t near out fits none = go (same_id t.s n) out (same_id t.o n) (is_loop t) (end_is n t near) (list_any (λ p. same_id p t.p) sh.extra) refl (list_any (is_forward n t) sh.occs) fits
+not_in_extra plain sh n t near out fits none = go (same_id t.s n) out (same_id t.o n) (is_loop t) (end_is n t near)
+    (list_any (λ p. same_id p t.p) sh.extra) refl (list_any (is_forward n t) sh.occs) fits
   where
     taken : Bool
     taken = list_any (is_taken_by plain n t) sh.occs

@@ -118,7 +118,8 @@ open_missing s g p none sh at = absurd (let bad : ⊥ = cc in bad)
 pub open_shut : (s : Schema) (g : List Triple) (p : Pair) (sh : Shape) → shape_at s p.shape ≡ Some sh → IsShut g sh p.node → IsOpenShape s g p None
 open_shut s g p sh is shut other at = subst (λ z. IsShut g z p.node) (let same : sh ≡ other = cc in same) shut
 
-pub few_relevant : (terms : List Term) (g : List Triple) (sh : Shape) (n : TermId) (ts : List Triple) (held : ℕ) → ts ≡ relevant_in_order terms g sh n → held ≡ length g → held ≤ max_triples → length ts < 2 ^ 31
+pub few_relevant : (terms : List Term) (g : List Triple) (sh : Shape) (n : TermId) (ts : List Triple) (held : ℕ) → ts ≡ relevant_in_order terms g sh n →
+    held ≡ length g → held ≤ max_triples → length ts < 2 ^ 31
 few_relevant terms g sh n ts held is count few =
     let a = relevant_few terms g sh n in
     let b : length ts ≡ length (relevant_in_order terms g sh n) = ap (λ z. length z) is in

@@ -42,7 +42,8 @@ raised_at counts p there i = let e = count_raised counts p there [] i in let z :
 pub came_of : (counts : List ℕ) (p : Place) → IsPlaceOf (length counts) p → ((i : ℕ) → add_place i p 0 ≤ slice_index counts i) →
     (before : List ℕ) × IsPlaceOf (length before) p × (counts ≡ raised before p)
 came_of counts Rest there some = (counts, tt, refl)
-came_of counts (At j) there some = (before, (let l = length-set counts j (slice_index counts j - 1) in subst (λ k. j < k) (sym l) there), sym (same_number_lists (raised before (At j)) counts long each))
+came_of counts (At j) there some =
+    (before, (let l = length-set counts j (slice_index counts j - 1) in subst (λ k. j < k) (sym l) there), sym (same_number_lists (raised before (At j)) counts long each))
   where
     before : List ℕ
     before = set counts j (slice_index counts j - 1)
@@ -97,7 +98,8 @@ module _ (old : List ℕ) (places : List Place) where
       none i [] = refl
       none i (p ∷ ps) = refl
 
-  pub added_next : (j : ℕ) (d : Place) (counts new : List ℕ) → j < length places → IsPlaceOf (length counts) (get_or places j d) → AreAdded j counts → new ≡ raised counts (get_or places j d) → AreAdded (j + 1) new
+  pub added_next : (j : ℕ) (d : Place) (counts new : List ℕ) → j < length places → IsPlaceOf (length counts) (get_or places j d) → AreAdded j counts →
+      new ≡ raised counts (get_or places j d) → AreAdded (j + 1) new
   added_next j d counts new within there h is = subst (λ z. AreAdded (j + 1) z) (sym is) (record {
     len = raised_long counts (get_or places j d) ∙ h.len;
     added = λ i.
@@ -264,7 +266,8 @@ module _ (hold fail : TermId → Option ExprId → Type 0) (sh : Shape) (n : Ter
 
 -- ---- the lists, one after the other
 
-module _ (n : ℕ) (lists : List (List Place)) (there : ArePlacesOfEach n lists) (j : ℕ) (d own : List Place) (within : j < length lists) (read : own ≡ get_or lists j d) (counts : List ℕ) (h : AreOffers n (take j lists) counts) where
+module _ (n : ℕ) (lists : List (List Place)) (there : ArePlacesOfEach n lists) (j : ℕ) (d own : List Place) (within : j < length lists)
+    (read : own ≡ get_or lists j d) (counts : List ℕ) (h : AreOffers n (take j lists) counts) where
   pub each_there : ArePlacesOf (length counts) own
   each_there =
       subst (λ z. ArePlacesOf (length counts) z) (sym read)

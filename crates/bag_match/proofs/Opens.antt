@@ -155,7 +155,8 @@ module _ (plain : TermId → Option ExprId → Verdict) (sh : Shape) (n : TermId
     none_takes [] all = refl
     none_takes (o ∷ os) all = go (is_forward n t o) (λ h. none_takes os h) all
       where
-        go : (b : Bool) → (AllByRecursion (λ x. fail t.o x.value) (filter (is_forward n t) os) → list_any (is_taken_by plain n t) os ≡ false) → AllByRecursion (λ x. fail t.o x.value) (cond b (o ∷ filter (is_forward n t) os) (filter (is_forward n t) os)) →
+        go : (b : Bool) → (AllByRecursion (λ x. fail t.o x.value) (filter (is_forward n t) os) → list_any (is_taken_by plain n t) os ≡ false) →
+            AllByRecursion (λ x. fail t.o x.value) (cond b (o ∷ filter (is_forward n t) os) (filter (is_forward n t) os)) →
             ((b && is_certain (plain t.o o.value)) || list_any (is_taken_by plain n t) os) ≡ false
         go true deeper h = (λ i. fails t.o o.value h.0 i || list_any (is_taken_by plain n t) os) ∙ deeper h.1
         go false deeper h = deeper h

@@ -94,7 +94,8 @@ module _ (hold fail : TermId → Option ExprId → Type 0) (sh : Shape) (n : Ter
   way_most j c (p ∷ ps) [] end h most i = absurd h
   way_most j c (p ∷ ps) (k ∷ ks) end h most i = let e = way_most (suc j) (raised c p) ps ks end h.1 (raised_most c p j most) i in omega (arith, e)
 
-  pub way_push : (j : ℕ) (c : List ℕ) (ps : List Place) (ks end : List ℕ) (p : Place) (k d : ℕ) → d ≡ j + length ps → Way j c ps ks end → Taken d end p k → Way j c (ps ++ p ∷ []) (ks ++ k ∷ []) (raised end p)
+  pub way_push : (j : ℕ) (c : List ℕ) (ps : List Place) (ks end : List ℕ) (p : Place) (k d : ℕ) → d ≡ j + length ps → Way j c ps ks end → Taken d end p k →
+      Way j c (ps ++ p ∷ []) (ks ++ k ∷ []) (raised end p)
   way_push j c [] [] end p k d e h taken =
       let at : d ≡ j = omega (arith, e) in
       (subst (λ z. Taken j z p k) (sym h) (subst (λ i. Taken i end p k) at taken), ap (λ z. raised z p) h)
@@ -127,7 +128,8 @@ module _ (hold fail : TermId → Option ExprId → Type 0) (sh : Shape) (n : Ter
         subst (λ m. ArePlacesOf m own) (sym is) (places_there hold fail sh n ts (get_or ts j d) own are)
 
     -- the counts at the end of a way are those of its places
-    way_came : (j : ℕ) (c : List ℕ) (ps : List Place) (ks end : List ℕ) (d : ℕ) → d ≡ j + length ps → AreCountsOf hold fail sh n (take j ts) c → Way j c ps ks end → AreCountsOf hold fail sh n (take d ts) end
+    way_came : (j : ℕ) (c : List ℕ) (ps : List Place) (ks end : List ℕ) (d : ℕ) → d ≡ j + length ps → AreCountsOf hold fail sh n (take j ts) c →
+        Way j c ps ks end → AreCountsOf hold fail sh n (take d ts) end
     way_came j c [] [] end d e came h =
         let at : j ≡ d = omega (arith, e) in
         subst (λ z. AreCountsOf hold fail sh n (take d ts) z) h (subst (λ i. AreCountsOf hold fail sh n (take i ts) c) at came)
@@ -233,7 +235,8 @@ module _ (hold fail : TermId → Option ExprId → Type 0) (sh : Shape) (n : Ter
     zeros_are : (counts : List ℕ) → counts ≡ replicate (length sh.occs) 0 → no_counts sh.occs ≡ counts
     zeros_are counts zeros = ap (λ x. x.counts) (opening_is sh counts zeros)
 
-    pub search_starts : (places : List Place) (tried counts more : List ℕ) (failed : List (BTreeSet (Vec ℕ))) → places ≡ [] → tried ≡ [] → counts ≡ replicate (length sh.occs) 0 → AreOffers (length sh.occs) lists more → failed ≡ [] →
+    pub search_starts : (places : List Place) (tried counts more : List ℕ) (failed : List (BTreeSet (Vec ℕ))) → places ≡ [] → tried ≡ [] →
+        counts ≡ replicate (length sh.occs) 0 → AreOffers (length sh.occs) lists more → failed ≡ [] →
         ¬ IsHopeless sh.body counts more → Search places tried counts more failed 0
     search_starts places tried counts more failed none untried zeros left clean alive =
         subst (λ z. Search z tried counts more failed 0) (sym none)
@@ -305,7 +308,8 @@ module _ (hold fail : TermId → Option ExprId → Type 0) (sh : Shape) (n : Ter
         search_stops lost = never_before (length places) counts own search_long at_own (tried_now own lost)
 
     -- one more of the counts has failed
-    pub failed_more : (old new : List (BTreeSet (Vec ℕ))) (j left : ℕ) (counts lent : List ℕ) → AreFailed hold fail sh n ts old → j + left ≡ length ts → Never j counts → AreCountsOf hold fail sh n (take j ts) counts → lent ≡ counts →
+    pub failed_more : (old new : List (BTreeSet (Vec ℕ))) (j left : ℕ) (counts lent : List ℕ) → AreFailed hold fail sh n ts old → j + left ≡ length ts →
+        Never j counts → AreCountsOf hold fail sh n (take j ts) counts → lent ≡ counts →
         ((k : ℕ) (c : List ℕ) → HasFailed new k c → HasFailed old k c ⊎ ((k ≡ left) × (lent ≡ c))) → AreFailed hold fail sh n ts new
     failed_more old new j left counts lent are count never came same put done k c e has = elim (put k c has) [
       | inl before ↦ are done k c e before
@@ -365,8 +369,10 @@ module _ (hold fail : TermId → Option ExprId → Type 0) (sh : Shape) (n : Ter
             let e : length o ≡ length own = ap (λ z. length z) (same_some o own (sym o_at ∙ at)) in
             omega (arith, lt, e)
 
-        pub search_leaves : (own : List Place) → slice_get lists (length ps) ≡ Some own → (c more again : List ℕ) (failed : List (BTreeSet (Vec ℕ))) → ((before : List ℕ) → counts ≡ raised before p → c ≡ before) →
-            AreOffers (length sh.occs) (drop (length places) lists) more → length again ≡ length more → ((i : ℕ) → slice_index again i ≡ slice_index more i + times own i) → AreFailed hold fail sh n ts failed →
+        pub search_leaves : (own : List Place) → slice_get lists (length ps) ≡ Some own → (c more again : List ℕ) (failed : List (BTreeSet (Vec ℕ))) →
+            ((before : List ℕ) → counts ≡ raised before p → c ≡ before) →
+            AreOffers (length sh.occs) (drop (length places) lists) more → length again ≡ length more →
+            ((i : ℕ) → slice_index again i ≡ slice_index more i + times own i) → AreFailed hold fail sh n ts failed →
             Search ps ks c again failed (suc k)
         search_leaves own at c more again failed lowered left same added failed_are =
             let (before, w, (o, o_at, here, passed), is) = came in
@@ -380,12 +386,14 @@ module _ (hold fail : TermId → Option ExprId → Type 0) (sh : Shape) (n : Ter
               alive = λ past. absurd (let l = long in omega (arith, l, within, past));
             }
           where
-            next_never : (before : List ℕ) (o : List Place) → slice_get lists (length ps) ≡ Some o → slice_get o k ≡ Some p → AreTried hold fail sh n ts (length ps) before (take k o) → raised before p ≡ counts →
+            next_never : (before : List ℕ) (o : List Place) → slice_get lists (length ps) ≡ Some o → slice_get o k ≡ Some p →
+                AreTried hold fail sh n ts (length ps) before (take k o) → raised before p ≡ counts →
                 (some : List Place) → slice_get lists (length ps) ≡ Some some → (q : Place) → Contains (take (suc k) some) q → Never (suc (length ps)) (raised before q)
             next_never before o o_at here passed is some some_at q held =
                 let same_list : some ≡ o = same_some some o (sym some_at ∙ o_at) in
                 let in_own : Contains (take k o ++ get_or o k p ∷ []) q =
-                subst (λ zs. Contains zs q) (take_more o k p (slice_get_within o k p here)) (subst (λ i. Contains (take i o) q) (sym (add-one k)) (subst (λ z. Contains (take (suc k) z) q) same_list held)) in
+                subst (λ zs. Contains zs q) (take_more o k p (slice_get_within o k p here))
+                (subst (λ i. Contains (take i o) q) (sym (add-one k)) (subst (λ z. Contains (take (suc k) z) q) same_list held)) in
                 elim (in_push (take k o) (get_or o k p) q in_own) [
                   | inl sooner ↦ passed q sooner
                   | inr last ↦

@@ -124,7 +124,8 @@ module _ (sh : Shape) (n : TermId) (outs ins : List Triple) (done left at to : �
       go None e = refl
       go (Some o) e = same_fits o (got_in sh.occs i o e)
 
-  body_same : (counts : ℕ → ℕ) (body : Option Plan) → IsDeadBody sh n (drop at outs ++ nl (drop to ins)) counts body ≡ IsDeadBody sh n (drop done (filter (is_relevant sh.occs n) (outs ++ nl ins))) counts body
+  body_same : (counts : ℕ → ℕ) (body : Option Plan) →
+      IsDeadBody sh n (drop at outs ++ nl (drop to ins)) counts body ≡ IsDeadBody sh n (drop done (filter (is_relevant sh.occs n) (outs ++ nl ins))) counts body
   body_same counts None = refl
   body_same counts (Some c) = ap (λ (f : ℕ → ℕ). ¬ HasSpan (span c counts f) 1) (λ k i. counts i + same_fitting i k)
 

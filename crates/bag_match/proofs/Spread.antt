@@ -328,7 +328,8 @@ module _ {X : Type 0} (Near : X → Type 0) (same : X → X → Bool) (places : 
   few_spreads ts (r ∷ rs) us some fewer =
       let whole = length_products (spreads (count_by (same r) us) (places r)) (all_spreads same places rs (filter (λ u. not (same r u)) us)) in
       let own = length_spreads (count_by (same r) us) (places r) in
-      let rest = few_spreads ts rs (filter (λ u. not (same r u)) us) (λ x c. some x (is_later r rs x c)) (λ q. let a = count_left q (λ u. not (same r u)) us in let b = fewer q in omega (arith, a, b)) in
+      let rest = few_spreads ts rs (filter (λ u. not (same r u)) us) (λ x c. some x (is_later r rs x c))
+      (λ q. let a = count_left q (λ u. not (same r u)) us in let b = fewer q in omega (arith, a, b)) in
       let more = ways_at_most (count_by (same r) us) (count_by (same r) ts) (length (places r)) (some r (is_first r rs)) (fewer (same r)) in
       let less : length (spreads (count_by (same r) us) (places r)) ≤ ways (count_by (same r) ts) (length (places r)) = omega (arith, own, more) in
       let both = mul-le-mul (length (spreads (count_by (same r) us) (places r))) (ways (count_by (same r) ts) (length (places r)))

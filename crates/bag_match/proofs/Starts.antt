@@ -27,7 +27,8 @@ starts_within end [] (suc i) h = omega arith
 starts_within end (s ∷ starts) (suc i) h = starts_within end starts i h.1
 
 pub list_at : (places : List Place) (starts : List ℕ) (i : ℕ) → i < length starts →
-    slice_get (lists_from places starts) i ≡ Some (take (first_of (length places) (drop (suc i) starts) - first_of (length places) (drop i starts)) (drop (first_of (length places) (drop i starts)) places))
+    slice_get (lists_from places starts) i ≡
+    Some (take (first_of (length places) (drop (suc i) starts) - first_of (length places) (drop i starts)) (drop (first_of (length places) (drop i starts)) places))
 list_at places [] i lt = absurd (omega (arith, lt))
 list_at places (s ∷ starts) zero lt = refl
 list_at places (s ∷ starts) (suc i) lt = list_at places starts i (omega (arith, lt))
@@ -104,7 +105,8 @@ module _ (places list : List Place) (starts new : List ℕ) (now : List Place) (
   pub starts_more : now ≡ places ++ list → AreStarts (length now) new
   starts_more is =
       let long = length-append places list in
-      subst (λ z. AreStarts (length z) new) (sym is) (subst (λ z. AreStarts (length (places ++ list)) z) (sym new_is) (starts_push (length places) (length (places ++ list)) starts (omega (arith, long)) h))
+      subst (λ z. AreStarts (length z) new) (sym is)
+      (subst (λ z. AreStarts (length (places ++ list)) z) (sym new_is) (starts_push (length places) (length (places ++ list)) starts (omega (arith, long)) h))
 
   pub lists_more : (whole : List (List Place)) → lists_from places starts ≡ whole → now ≡ places ++ list → lists_from now new ≡ whole ++ list ∷ []
   lists_more whole held is =

@@ -53,11 +53,13 @@ module _ (hold fail : TermId → Option ExprId → Type 0) (sh : Shape) (n : Ter
       ap (λ x. x ∷ ps) (only 0 t p q refl refl here) ∙ ap (λ xs. q ∷ xs) (only_each ts ps qs (omega (arith, count)) (λ j u x y at stands may. only (suc j) u x y at stands may) behind)
 
   -- where each triple has one place alone, these are the only ones that are allowed
-  pub sole_only : (ts : List Triple) (ps : List Place) (lists : List (List Place)) → AreOffered hold fail sh n ts (length ts) lists → map sole ps ≡ lists → (qs : List Place) → AreAllowed hold fail sh n ts qs →
+  pub sole_only : (ts : List Triple) (ps : List Place) (lists : List (List Place)) → AreOffered hold fail sh n ts (length ts) lists → map sole ps ≡ lists →
+      (qs : List Place) → AreAllowed hold fail sh n ts qs →
       ps ≡ qs
   sole_only ts ps lists offered is qs allowed =
       only_each ts ps qs (sym (length-map ps sole) ∙ ap length is ∙ offered.count_is)
-      (λ j t p q at here may. in_one p q (((offered.each j t (sole p) at (subst (λ xs. slice_get xs j ≡ Some (sole p)) is (slice_get-map sole ps j ∙ ap (option_map sole) here))).same q).1 may)) allowed
+      (λ j t p q at here may. in_one p q (((offered.each j t (sole p) at (subst (λ xs. slice_get xs j ≡ Some (sole p)) is (slice_get-map sole ps j
+      ∙ ap (option_map sole) here))).same q).1 may)) allowed
 
   pub least_sole : (ts : List Triple) (ps : List Place) (lists : List (List Place)) → AreOffered hold fail sh n ts (length ts) lists → map sole ps ≡ lists → HaveCounts sh.body (times ps) →
       AreLeast hold fail sh n ts ps

@@ -1,5 +1,5 @@
 -- What a scheme in front of an IRI tells: the IRI is no blank label, and none of the words that type the objects of value sets.
-use Rattle.std.proofs.Common.{◌≡◌, ℕ, ◌<◌, Bool, true, false, true≢false, List, [], ◌∷◌, ◌++◌, codes, Option, Some, None, IsSome, IfSome, IsTrue, encode_utf8_all, refl, sym, ap, subst, ◌∙◌, arith, nat_eq}
+use Rattle.std.proofs.Common.{◌≡◌, ℕ, Bool, true, false, true≢false, List, [], ◌∷◌, ◌++◌, codes, Option, Some, None, encode_utf8_all, refl, sym, ap, subst, ◌∙◌, arith, nat_eq}
 use Rattle.std.specs.Prelude.{◌||◌, if◌then◌else◌}
 use Rattle.std.specs.Char.{is_ascii_alphabetic}
 use Rattle.std.specs.List.{list_all, list_any, starts_with}
@@ -12,48 +12,19 @@ use Rattle.std.proofs.lemmas.List.Elements.{All-weaker}
 use Rattle.std.proofs.lemmas.List.Sums.{AllPass-from_list_all}
 use Rattle.std.proofs.lemmas.Str.{encodes-append, encodes-IsAscii, IsAscii-append}
 use Rattle.std.proofs.lemmas.Str.Ascii.{IsAscii-nil, IsAscii-cons, IsAscii-from_all}
-use Rattle.iri_resolve.specs.Reference.{components_of, is_scheme, is_scheme_byte, scheme_of}
-use Rattle.iri_resolve.specs.Resolution.{with_mark_after, with_mark_before}
-use Rattle.iri_resolve.proofs.Decomposed.{decomposition}
+use Rattle.iri_resolve.specs.Reference.{is_scheme, is_scheme_byte}
 use Rattle.iri_resolve.proofs.Unique.{both}
 use Rattle.rdf_terms.proofs.Characters.{front_chars, ascii_codes, starts_not}
 use Rattle.rdf_terms.specs.Vocabulary.{xsd_string, xsd_integer, xsd_decimal, xsd_double, xsd_boolean}
 use Rattle.schema_documents.specs.declared.label.Label.TheVariants as Labels
 use Rattle.serde_json.specs.Data.{string}
+use Rattle.shexc_reader.proofs.Schemes.{IsLed, scheme_low}
 use Rattle.shexj_reader.specs.Keys.{word}
 use Rattle.shexj_reader.specs.Values.{IsOfLiteral, range_type, stem_type}
 use Rattle.shexj_writer.specs.Expressible.{IsLabel}
 use Rattle.shexj_writer.specs.Values.{datatype_data}
 
--- a text that begins with a scheme and `:`
-pub record IsLed (text : List ℕ) : Type 0 where
-  pub name : List ℕ
-  pub rest : List ℕ
-  pub named : is_scheme name ≡ true
-  pub whole : text ≡ name ++ codes ":" ++ rest
-
-pub led : (text : List ℕ) → IsSome (scheme_of text) → IsLed text
-led text some = by (scheme_of text) refl some (decomposition text).scheme
-  where
-    by : (o : Option (List ℕ)) → scheme_of text ≡ o → IsSome o → IfSome o (λ name. IsTrue (is_scheme name)) → IsLed text
-    by None e h s = absurd (false≢true h)
-    by (Some name) e h s =
-        let c = components_of text in
-        let a : List ℕ = with_mark_before (codes "//") c.authority in
-        let q : List ℕ = with_mark_before (codes "?") c.query in
-        let f : List ℕ = with_mark_before (codes "#") c.fragment in
-        record {
-          name = name;
-          rest = a ++ c.path ++ q ++ f;
-          named = s;
-          whole = (decomposition text).whole
-              ∙ ap (λ (o : Option (List ℕ)). with_mark_after (codes ":") o ++ a ++ c.path ++ q ++ f) e
-              ∙ ap (λ (t : List ℕ). t ++ q ++ f) (append_assoc (name ++ codes ":") a c.path)
-              ∙ ap (λ (t : List ℕ). t ++ f) (append_assoc (name ++ codes ":") (a ++ c.path) q)
-              ∙ append_assoc (name ++ codes ":") (a ++ c.path ++ q) f;
-        }
-
--- with more behind it too
+-- a text that begins with a scheme and `:` does so with more behind it
 pub led_on : (text more : List ℕ) → IsLed text → IsLed (text ++ more)
 led_on text more l = record {
   name = l.name;
@@ -63,19 +34,6 @@ led_on text more l = record {
 }
 
 -- a scheme is ASCII, so the characters of the text begin with it
-letter_low : (b : ℕ) → is_ascii_alphabetic b ≡ true → b < 128
-letter_low b e = grind (arith, nat_tests)
-
-byte_low : (b : ℕ) → is_scheme_byte b ≡ true → b < 128
-byte_low b e = grind (arith, nat_tests)
-
-scheme_low : (name : List ℕ) → is_scheme name ≡ true → IsAscii name
-scheme_low [] e = IsAscii-nil
-scheme_low (b ∷ bs) e =
-    let w = both (is_ascii_alphabetic b) (list_all is_scheme_byte bs) e in
-    IsAscii-cons b bs (letter_low b w.0)
-    (IsAscii-from_all bs (All-weaker (λ (x : ℕ). is_scheme_byte x ≡ true) (λ (x : ℕ). x < 128) byte_low bs (AllPass-from_list_all is_scheme_byte bs w.1)))
-
 front_low : (name : List ℕ) → is_scheme name ≡ true → IsAscii (name ++ codes ":")
 front_low name e = IsAscii-append name (codes ":") (scheme_low name e) (ascii_codes (codes ":") refl)
 

@@ -90,7 +90,8 @@ under_none f (g ∷ gs) h =
 one_at_most : (f : Facet) (fs : List Facet) → fs ≡ [] → length (fs ++ f ∷ []) ≤ 1
 one_at_most f fs e = subst (λ (l : List Facet). length (l ++ f ∷ []) ≤ 1) (sym e) (omega arith)
 
-once_at : (b : Bool) (key : List ℕ) (f : Facet) (fs : List Facet) → bytes_eq (facet_key f) key ≡ b → length (all_under key fs) ≤ 1 → is_given_at (place f) fs ≡ false → length (all_under key fs ++ cond b (f ∷ []) []) ≤ 1
+once_at : (b : Bool) (key : List ℕ) (f : Facet) (fs : List Facet) → bytes_eq (facet_key f) key ≡ b → length (all_under key fs) ≤ 1 →
+    is_given_at (place f) fs ≡ false → length (all_under key fs ++ cond b (f ∷ []) []) ≤ 1
 once_at true key f fs e h fresh =
     one_at_most f (all_under key fs) (ap (λ (k : List ℕ). all_under k fs) (sym ((bytes_eq-Decides (facet_key f) key).0 e)) ∙ under_none f fs fresh)
 once_at false key f fs e h fresh = subst (λ (l : List Facet). length l ≤ 1) (sym (append-nil (all_under key fs))) h
@@ -263,5 +264,6 @@ facets_fine datatype fs gs ts r h p = many_keep (AreFine datatype) (low.AnyFacet
 are_once : (datatype : Option (List ℕ)) (fs : List Facet) → AreFine datatype fs → AreOnce fs
 are_once datatype fs p = all_of (λ (key : List ℕ). length (all_under key fs) ≤ 1) facet_keys (λ key c. p.once key)
 
-pub constraint_form : (kind : Option Kind4) (datatype : Option (List ℕ)) (fs : List Facet) (vs : Option (List Value)) → AreFine datatype fs → AreExpressibleValues vs → IsExpressibleConstraint (constraint kind datatype fs vs)
+pub constraint_form : (kind : Option Kind4) (datatype : Option (List ℕ)) (fs : List Facet) (vs : Option (List Value)) → AreFine datatype fs →
+    AreExpressibleValues vs → IsExpressibleConstraint (constraint kind datatype fs vs)
 constraint_form kind datatype fs vs p h = record { sound = p.sound; once = are_once datatype fs p; values = h }

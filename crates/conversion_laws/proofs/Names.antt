@@ -24,7 +24,8 @@ use Rattle.shexc_constraints.specs.Grammar as low
 use Rattle.shexc_constraints.specs.Meanings.{iri_of, iri_ref_of, at_name_of, typed_of, tagged_of, shorthand_of}
 use Rattle.shexc_reader.proofs.Schemes.{raised_ok}
 use Rattle.shexj_writer.specs.Expressible.{IsExpressibleTerm, IsLabel}
-use Rattle.conversion_laws.proofs.Absolute.{IsLed, led, led_on, label_led, IsWritten, datatype_led, string_written, integer_written, decimal_written, double_written, boolean_written, without_type}
+use Rattle.conversion_laws.proofs.Absolute.{led_on, label_led, IsWritten, datatype_led, string_written, integer_written, decimal_written, double_written, boolean_written, without_type}
+use Rattle.shexc_reader.proofs.Schemes.{IsLed, led}
 
 -- the base and the IRI of each prefix have schemes
 pub record AreAbsolute (v : Scope) : Type 0 where

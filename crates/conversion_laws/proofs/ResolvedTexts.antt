@@ -190,7 +190,8 @@ utf8_path_of : (segments : List (List ℕ)) → AreAllUtf8 segments → IsUtf8 (
 utf8_path_of [] h = IsUtf8-nil
 utf8_path_of (first ∷ segments) h =
     let left = left_of (with_end segments) in
-    IsUtf8-append (cond (eqb left.taken_back 0) first []) (flat_map (λ segment. slash ∷ segment) left.segments) (by (eqb left.taken_back 0)) (utf8_slashed left.segments (utf8_left (with_end segments) (utf8_with_end segments h.1)))
+    IsUtf8-append (cond (eqb left.taken_back 0) first []) (flat_map (λ segment. slash ∷ segment) left.segments) (by (eqb left.taken_back 0))
+    (utf8_slashed left.segments (utf8_left (with_end segments) (utf8_with_end segments h.1)))
   where
     by : (b : Bool) → IsUtf8 (cond b first [])
     by true = h.0
@@ -254,7 +255,8 @@ utf8_target base reference h k =
     (chosen_components (is_absolute reference.path) _ _ (with_parts base.authority (without_dot_segments reference.path) reference.query h.authority (utf8_without_dots reference.path k.path) k.query)
     (with_parts base.authority (without_dot_segments (merged_path base reference.path)) reference.query h.authority (utf8_without_dots (merged_path base reference.path) (utf8_merged base reference.path h.path k.path)) k.query))))
   where
-    with_parts : (authority : Option (List ℕ)) (path : List ℕ) (query : Option (List ℕ)) → IsUtf8Part authority → IsUtf8 path → IsUtf8Part query → AreUtf8Components (target_with base reference authority path query)
+    with_parts : (authority : Option (List ℕ)) (path : List ℕ) (query : Option (List ℕ)) → IsUtf8Part authority → IsUtf8 path → IsUtf8Part query →
+        AreUtf8Components (target_with base reference authority path query)
     with_parts authority path query a p q = record { scheme = h.scheme; authority = a; path = p; query = q; fragment = k.fragment }
 
 -- a reference that is resolved

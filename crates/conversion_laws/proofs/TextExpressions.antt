@@ -42,7 +42,8 @@ decl_more [] x h l k = ((l, k), tt)
 decl_more (y ∷ ys) x (h, hs) l k = (h, decl_more ys x hs l k)
 
 -- members with a mark between them
-marked : {X : Type 0} (a : Symbol) (One : X → Phrase Spelled) (Good : List X → Type 0) → ((xs ys : List X) (ts r : Ahead Spelled) → low.Adds One xs ys ts r → Good xs → AreTextTokens ts → Good ys × AreTextTokens r)
+marked : {X : Type 0} (a : Symbol) (One : X → Phrase Spelled) (Good : List X → Type 0) →
+    ((xs ys : List X) (ts r : Ahead Spelled) → low.Adds One xs ys ts r → Good xs → AreTextTokens ts → Good ys × AreTextTokens r)
     → Good [] → (ys : List X) (ts r : Ahead Spelled) → g.Separated a One ys ts r → AreTextTokens ts → Good ys × AreTextTokens r
 marked a One Good added start ys ts r (xs, (m, h, others)) u =
     let w = added [] xs ts m h start u in
@@ -120,7 +121,8 @@ body_again (include target) name l low high c named few h = h
 bare_held : (l : Option Label) (c : Cardinality) (t : TripleExpr) → IsLabelIfAny l → IsSmall c → IsHeldTriple t → IsHeldTriple (with l c (body_in t))
 bare_held l c (triple name least most b) named few h = body_again b name l least most c named few h
 
-labelled_by : (b : Bool) (l : Option Label) (c : Cardinality) (t : TripleExpr) → IsLabelIfAny l → IsSmall c → IsHeldTriple t → IsHeldTriple (cond b (with l c (body_in t)) (with l c (each (triples (t ∷ [])))))
+labelled_by : (b : Bool) (l : Option Label) (c : Cardinality) (t : TripleExpr) → IsLabelIfAny l → IsSmall c → IsHeldTriple t →
+    IsHeldTriple (cond b (with l c (body_in t)) (with l c (each (triples (t ∷ [])))))
 labelled_by true l c t named few h = bare_held l c t named few h
 labelled_by false l c t named few h = (named, (few.0, (few.1, (h, tt))))
 

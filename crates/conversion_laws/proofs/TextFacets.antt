@@ -66,7 +66,8 @@ number_small t m e =
     let c = chosen (is_symbol symbol.Integer t) fault.Syntax (whole_number (is_minus t.text) (count_of (unsigned t.text))) m e in
     whole_small (is_minus t.text) (count_of (unsigned t.text)) m (λ n f. count_small (unsigned t.text) n f) c.1
 
-counted_whole : (n : ℕ) (a b c d : Bool) → n < 2 ^ 32 → IsWhole (cond a (facets.Length n) (cond b (facets.MinLength n) (cond c (facets.MaxLength n) (cond d (facets.TotalDigits n) (facets.FractionDigits n)))))
+counted_whole : (n : ℕ) (a b c d : Bool) → n < 2 ^ 32 →
+    IsWhole (cond a (facets.Length n) (cond b (facets.MinLength n) (cond c (facets.MaxLength n) (cond d (facets.TotalDigits n) (facets.FractionDigits n)))))
 counted_whole n true b c d h = (h, tt)
 counted_whole n false true c d h = (h, tt)
 counted_whole n false false true d h = (h, tt)
@@ -81,7 +82,8 @@ ranged_whole x false false false = (tt, tt)
 
 counted_made : (s : Symbol) (c : Result ℕ Fault) (f : Facet) → ((n : ℕ) → c ≡ Ok n → n < 2 ^ 32) → made_by (counted_facet s) c ≡ Ok f → IsWhole f
 counted_made s (Ok n) f h e =
-    subst IsWhole (ok_same (counted_facet s n) f e) (counted_whole n (same_symbol s symbol.Length) (same_symbol s symbol.MinLength) (same_symbol s symbol.MaxLength) (same_symbol s symbol.TotalDigits) (h n refl))
+    subst IsWhole (ok_same (counted_facet s n) f e)
+    (counted_whole n (same_symbol s symbol.Length) (same_symbol s symbol.MinLength) (same_symbol s symbol.MaxLength) (same_symbol s symbol.TotalDigits) (h n refl))
 counted_made s (Err g) f h e = absurd (err_is_not_ok g f e)
 
 ranged_made : (s : Symbol) (c : Result (List ℕ) Fault) (f : Facet) → made_by (range_facet s) c ≡ Ok f → IsWhole f
@@ -169,7 +171,8 @@ module _ (datatype : Option (List ℕ)) where
 
 -- ---- constraints
 
-pub constraint_held : (kind : Option Kind4) (datatype : Option (List ℕ)) (fs : List Facet) (vs : Option (List Value)) → IsTextIfAny datatype → AreWhole fs → AreHeldValuesIfAny vs → IsHeldConstraint (constraint kind datatype fs vs)
+pub constraint_held : (kind : Option Kind4) (datatype : Option (List ℕ)) (fs : List Facet) (vs : Option (List Value)) → IsTextIfAny datatype → AreWhole fs →
+    AreHeldValuesIfAny vs → IsHeldConstraint (constraint kind datatype fs vs)
 constraint_held kind datatype fs vs text h k = record {
   datatype = text;
   facets = held_under fs h facet_keys;

@@ -25,10 +25,12 @@ Texts P = (text : List ℕ) (ts r : Ahead Spelled) → P text ts r → AreTextTo
 abbrev pub Every : {X : Type 0} → (X → Phrase Spelled) → (X → Type 0) → Type 0
 Every {X = X} One P = (x : X) (ts r : Ahead Spelled) → One x ts r → AreTextTokens ts → P x × AreTextTokens r
 
-added_held : {X : Type 0} (P : X → Type 0) (One : X → Phrase Spelled) → Every One P → (xs ys : List X) (ts r : Ahead Spelled) → low.Adds One xs ys ts r → AllByRecursion P xs → AreTextTokens ts → AllByRecursion P ys × AreTextTokens r
+added_held : {X : Type 0} (P : X → Type 0) (One : X → Phrase Spelled) → Every One P → (xs ys : List X) (ts r : Ahead Spelled) → low.Adds One xs ys ts r →
+    AllByRecursion P xs → AreTextTokens ts → AllByRecursion P ys × AreTextTokens r
 added_held P One every xs ys ts r (x, is, k) p u = let w = every x ts r k u in (subst (AllByRecursion P) is (all_append P xs (x ∷ []) p (w.0, tt)), w.1)
 
-pub all_held : {X : Type 0} (P : X → Type 0) (One : X → Phrase Spelled) → Every One P → (xs ys : List X) (ts r : Ahead Spelled) → Many (low.Adds One) xs ys ts r → AllByRecursion P xs → AreTextTokens ts → AllByRecursion P ys × AreTextTokens r
+pub all_held : {X : Type 0} (P : X → Type 0) (One : X → Phrase Spelled) → Every One P → (xs ys : List X) (ts r : Ahead Spelled) →
+    Many (low.Adds One) xs ys ts r → AllByRecursion P xs → AreTextTokens ts → AllByRecursion P ys × AreTextTokens r
 all_held P One every xs ys ts r h p u = many_texts (low.Adds One) (AllByRecursion P) (added_held P One every) xs ys ts r h p u
 
 module _ (v : Scope) (p : AreTextNames v) where
@@ -54,11 +56,13 @@ module _ (v : Scope) (p : AreTextNames v) where
   exclusion_held : (P : List ℕ → Phrase Spelled) → Texts P → Every (low.Exclusion v P) IsHeldExcept
   exclusion_held P own x ts r (m, c, k) u = excluded_held P own x m r k (mark_behind symbol.Minus ts m c u)
 
-  exclusions_held : (P : List ℕ → Phrase Spelled) → Texts P → (xs ys : List Except) (ts r : Ahead Spelled) → Many (low.Adds (low.Exclusion v P)) xs ys ts r → AllByRecursion IsHeldExcept xs → AreTextTokens ts
+  exclusions_held : (P : List ℕ → Phrase Spelled) → Texts P → (xs ys : List Except) (ts r : Ahead Spelled) → Many (low.Adds (low.Exclusion v P)) xs ys ts r →
+      AllByRecursion IsHeldExcept xs → AreTextTokens ts
       → AllByRecursion IsHeldExcept ys × AreTextTokens r
   exclusions_held P own xs ys ts r h q u = all_held IsHeldExcept (low.Exclusion v P) (exclusion_held P own) xs ys ts r h q u
 
-  some_held : (P : List ℕ → Phrase Spelled) → Texts P → (xs : List Except) (ts r : Ahead Spelled) → low.Some_of (low.Exclusion v P) xs ts r → AreTextTokens ts → AllByRecursion IsHeldExcept xs × AreTextTokens r
+  some_held : (P : List ℕ → Phrase Spelled) → Texts P → (xs : List Except) (ts r : Ahead Spelled) → low.Some_of (low.Exclusion v P) xs ts r → AreTextTokens ts →
+      AllByRecursion IsHeldExcept xs × AreTextTokens r
   some_held P own xs ts r (ys, (m, k, h)) u =
       let w = added_held IsHeldExcept (low.Exclusion v P) (exclusion_held P own) [] ys ts m k tt u in
       exclusions_held P own ys xs m r h w.0 w.1

@@ -51,12 +51,14 @@ member_more xs x h k = (one_more xs x, expr_more xs x h k)
 part_more : (xs : List TripleExpr) (x : TripleExpr) → AreExpressibleTriples (triples xs) → IsExpressibleTriple x → AreParts (xs ++ x ∷ [])
 part_more xs x h k = (one_more xs x, triple_more xs x h k)
 
-pub exprs_separated : (a : Symbol) (One : ShapeExpr → Phrase Spelled) → ((x : ShapeExpr) (ts r : Ahead Spelled) → One x ts r → IsExpressible x) → (es : List ShapeExpr) (ts r : Ahead Spelled) → g.Separated a One es ts r → AreMembers es
+pub exprs_separated : (a : Symbol) (One : ShapeExpr → Phrase Spelled) → ((x : ShapeExpr) (ts r : Ahead Spelled) → One x ts r → IsExpressible x) →
+    (es : List ShapeExpr) (ts r : Ahead Spelled) → g.Separated a One es ts r → AreMembers es
 exprs_separated a One every es ts r (xs, (m, (x, e, h), others)) =
     many_keep AreMembers _ (λ s y k l o p. subst AreMembers o.2.1 (member_more s o.2.0 p.1 (every o.2.0 o.0 l o.2.2))) xs es m r others
     (subst AreMembers e (member_more [] x tt (every x ts m h)))
 
-pub triples_separated : (a : Symbol) (One : TripleExpr → Phrase Spelled) → ((x : TripleExpr) (ts r : Ahead Spelled) → One x ts r → IsExpressibleTriple x) → (es : List TripleExpr) (ts r : Ahead Spelled) → g.Separated a One es ts r → AreParts es
+pub triples_separated : (a : Symbol) (One : TripleExpr → Phrase Spelled) → ((x : TripleExpr) (ts r : Ahead Spelled) → One x ts r → IsExpressibleTriple x) →
+    (es : List TripleExpr) (ts r : Ahead Spelled) → g.Separated a One es ts r → AreParts es
 triples_separated a One every es ts r (xs, (m, (x, e, h), others)) =
     many_keep AreParts _ (λ s y k l o p. subst AreParts o.2.1 (part_more s o.2.0 p.1 (every o.2.0 o.0 l o.2.2))) xs es m r others
     (subst AreParts e (part_more [] x tt (every x ts m h)))
@@ -104,7 +106,8 @@ bare_form l c (triple (Some name) least most b) bare named ordered h = absurd (f
 bare_form l c (triple None least most b) bare named ordered h =
     (named, (ordered, body_again b None l least c.0 most c.1 (no_inclusion (is_inclusion b) (is_once least most) bare) h.1.1))
 
-labelled_by : (b : Bool) (l : Option Label) (c : Cardinality) (t : TripleExpr) → is_bare t ≡ b → IsLabelIfAny l → IsOrdered c.0 c.1 → IsExpressibleTriple t → IsExpressibleTriple (cond b (with l c (body_in t)) (with l c (each (triples (t ∷ [])))))
+labelled_by : (b : Bool) (l : Option Label) (c : Cardinality) (t : TripleExpr) → is_bare t ≡ b → IsLabelIfAny l → IsOrdered c.0 c.1 → IsExpressibleTriple t →
+    IsExpressibleTriple (cond b (with l c (body_in t)) (with l c (each (triples (t ∷ [])))))
 labelled_by true l c t bare named ordered h = bare_form l c t bare named ordered h
 labelled_by false l c t bare named ordered h = (named, (ordered, (some_triples t no_triples, (h, tt))))
 

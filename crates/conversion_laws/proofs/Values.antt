@@ -41,10 +41,12 @@ exclusion_form : (v : Scope) (x : Except) (ts r : Ahead Spelled) → low.Exclusi
 exclusion_form v x ts r (m, c, k) = excluded_form v x m r k
 
 -- lists that grow by what is so
-all_more : {X : Type 0} (P : X → Type 0) (One : X → Phrase Spelled) → ((x : X) (ts r : Ahead Spelled) → One x ts r → P x) → (xs ys : List X) (ts r : Ahead Spelled) → low.Adds One xs ys ts r → AllByRecursion P xs → AllByRecursion P ys
+all_more : {X : Type 0} (P : X → Type 0) (One : X → Phrase Spelled) → ((x : X) (ts r : Ahead Spelled) → One x ts r → P x) →
+    (xs ys : List X) (ts r : Ahead Spelled) → low.Adds One xs ys ts r → AllByRecursion P xs → AllByRecursion P ys
 all_more P One every xs ys ts r (x, is, k) p = subst (AllByRecursion P) is (all_append P xs (x ∷ []) p (every x ts r k, tt))
 
-all_many : {X : Type 0} (P : X → Type 0) (One : X → Phrase Spelled) → ((x : X) (ts r : Ahead Spelled) → One x ts r → P x) → (xs ys : List X) (ts r : Ahead Spelled) → Many (low.Adds One) xs ys ts r → AllByRecursion P xs → AllByRecursion P ys
+all_many : {X : Type 0} (P : X → Type 0) (One : X → Phrase Spelled) → ((x : X) (ts r : Ahead Spelled) → One x ts r → P x) →
+    (xs ys : List X) (ts r : Ahead Spelled) → Many (low.Adds One) xs ys ts r → AllByRecursion P xs → AllByRecursion P ys
 all_many P One every xs ys ts r h p = many_keep (AllByRecursion P) (low.Adds One) (λ a b m n k q. all_more P One every a b m n k q) xs ys ts r h p
 
 exclusions_form : (v : Scope) (xs ys : List Except) (ts r : Ahead Spelled) → Many (low.Adds (low.Exclusion v (low.Tag v))) xs ys ts r → AllByRecursion IsExceptTag xs → AllByRecursion IsExceptTag ys

@@ -19,7 +19,7 @@ use Rattle.shexj_writer.specs.Whole.{is_whole_document}
 abbrev pub CompactAreExpressible : Type 0
 CompactAreExpressible = (base source : List ℕ) (x : State) → IsSome (scheme_of base) → IsDocument base source x → IsExpressibleDocument (document_in x)
 
--- so has each document that bytes are in one of both formats
+-- each document that bytes spell in either format, under a base that has a scheme, has a form in ShExJ
 abbrev pub SchemasAreExpressible : Type 0
 SchemasAreExpressible = (format : Format) (base bytes : List ℕ) (r : Read) → IsSome (scheme_of base) → IsSchema format base r bytes → IsExpressibleDocument r.document
 

@@ -16,7 +16,8 @@ use Rattle.data_reader.specs.Endings.{ReadsTo}
 same_context : (p : Prefixes) (v : DocumentScope) → turtle.AreLast p v → context_in v ≡ context_of p
 same_context p v last = λ i. record { base = sym last.base i; prefixes = sym last.prefixes i }
 
-pub turtle_reads : (result : Result Prefixes ReadError) (v : DocumentScope) (last : Context) (wanted terms : List Term) (wanted_graph graph : List Triple) → context_in v ≡ last → turtle.ReadsTo result v wanted wanted_graph terms graph → ReadsTo result last wanted wanted_graph terms graph
+pub turtle_reads : (result : Result Prefixes ReadError) (v : DocumentScope) (last : Context) (wanted terms : List Term) (wanted_graph graph : List Triple) →
+    context_in v ≡ last → turtle.ReadsTo result v wanted wanted_graph terms graph → ReadsTo result last wanted wanted_graph terms graph
 turtle_reads (Ok p) v last wanted terms wanted_graph graph is (are, t, g) = (sym (same_context p v are) ∙ is, t, g)
 turtle_reads (Err error.Memory) v last wanted terms wanted_graph graph is h = refl
 turtle_reads (Err error.NotUtf8) v last wanted terms wanted_graph graph is h = absurd h

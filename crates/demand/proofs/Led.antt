@@ -45,7 +45,7 @@ within_or_wide law s terms g bound p =
     let (w, has) = (law s terms g p).0 in
     elim (cases_lt bound w) [ inl lt ↦ inr (w, has, lt) | inr le ↦ inl (w, has, le) ]
 
--- and not both
+-- a Width that is above a bound is not at most the bound
 not_within : (s : Schema) (terms : List Term) (g : List Triple) (bound : ℕ) (p : Pair) → IsWide s terms g bound p → ¬ IsWithinWidth s terms g bound p
 not_within s terms g bound p (v, wide, above) (w, narrow, most) = let same : v ≡ w = one_width s terms g p v w wide narrow in omega (arith, same, above, most)
 
@@ -77,7 +77,7 @@ module _ (s : Schema) (loaded : IsLoaded s) (g : List Triple) where
   decide_by : (p q : Pair) (o : Occurrence) (t : Triple) → Decided (NeedsBy p q o t)
   decide_by p q o t = decide_both (decide_true (fits o p.node t)) (decide_both (same_terms q.node (other_end o.inverse t)) (decide_value q.shape o.value))
 
-  decide_needs : (p q : Pair) → Decided (Needs s g p q)
+  pub decide_needs : (p q : Pair) → Decided (Needs s g p q)
   decide_needs p q = go (shape_at s p.shape) refl
     where
       go : (x : Option Shape) → shape_at s p.shape ≡ x → Decided (Needs s g p q)

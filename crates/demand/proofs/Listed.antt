@@ -48,9 +48,10 @@ one_more old new x q h = (
 pub map_next : {X Y : Type 0} (f : X → Y) (xs : List X) (i : ℕ) (d : X) → i < length xs → map f (take (i + 1) xs) ≡ map f (take i xs) ++ f (get_or xs i d) ∷ []
 map_next f xs i d inside = ap (map f) (take_more xs i d inside) ∙ map-append f (take i xs) (get_or xs i d ∷ [])
 
-pub zip_next : {A B : Type 0} (R : A → B → Type 0) (xs : List A) (ys : List B) (i : ℕ) (d : A) (y : B) → i < length xs → AllZip R (take i xs) ys → R (get_or xs i d) y → AllZip R (take (i + 1) xs) (ys ++ y ∷ [])
+pub zip_next : {A B : Type 0} (R : A → B → Type 0) (xs : List A) (ys : List B) (i : ℕ) (d : A) (y : B) → i < length xs → AllZip R (take i xs) ys →
+    R (get_or xs i d) y → AllZip R (take (i + 1) xs) (ys ++ y ∷ [])
 zip_next R xs ys i d y inside h r = subst (λ zs. AllZip R zs (ys ++ y ∷ [])) (sym (take_more xs i d inside)) (zip_push R (take i xs) ys (get_or xs i d) y h r)
 
--- the same of what is in other lists that are the same
+-- a list that has the items of two others has those of lists that are equal to them
 pub has_same : {X : Type 0} (before xs ys now : List X) → xs ≡ ys → Has before xs now → Has before ys now
 has_same before xs ys now e h = subst (λ zs. Has before zs now) e h

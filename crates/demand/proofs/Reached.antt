@@ -60,7 +60,7 @@ too_many_roots s g roots old none Errors.Memory h is = absurd (cc)
 pub passed_on : {A E : Type 0} (r : Result A E) (y x z : E) → r ≡ Err y → y ≡ x → r ≡ Err z → x ≡ z
 passed_on r y x z a same b = cc
 
--- the same pairs in order
+-- pairs that hold what they need do so in any order
 pub closed_in_order : (s : Schema) (g : List Triple) (seen list : List Pair) → HoldNeeds s g seen → ((q : Pair) → Contains list q ↔ Contains seen q) → HoldNeeds s g list
 closed_in_order s g seen list closed same p q c need = (same q).1 (closed p q ((same p).0 c) need)
 

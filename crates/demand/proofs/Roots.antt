@@ -33,7 +33,8 @@ many_of P Q on Errors.Pairs h = record { pairs = h.pairs; distinct = h.distinct;
 many_of P Q on Errors.Memory h = tt
 
 -- the next root is r, in whose expression these Shapes stand
-module _ (s : Schema) (roots : List Root) (i : ℕ) (d r : Root) (inside : i < length roots) (is : get_or roots i d ≡ r) (shapes : List ShapeId) (are : AreShapesIn s r.expr shapes) (old mid : List Pair) (h : AddsStarts s (take i roots) old mid) where
+module _ (s : Schema) (roots : List Root) (i : ℕ) (d r : Root) (inside : i < length roots) (is : get_or roots i d ≡ r) (shapes : List ShapeId)
+    (are : AreShapesIn s r.expr shapes) (old mid : List Pair) (h : AddsStarts s (take i roots) old mid) where
   pub start_more : (new : List Pair) → Grows mid (map (pair_of r.node) shapes) new → AddsStarts s (take (i + 1) roots) old new
   start_more new grows q = (
     (λ c. elim ((grows.same q).0 c) [
@@ -56,7 +57,8 @@ module _ (s : Schema) (roots : List Root) (i : ℕ) (d r : Root) (inside : i < l
   ]) e stops
 
 -- each of the nodes at the next expression
-module _ (s : Schema) (nodes : List TermId) (exprs : List ExprId) (i : ℕ) (d : ExprId) (inside : i < length exprs) (old mid : List Pair) (h : AddsStarts s (roots_of nodes (take i exprs)) old mid) where
+module _ (s : Schema) (nodes : List TermId) (exprs : List ExprId) (i : ℕ) (d : ExprId) (inside : i < length exprs) (old mid : List Pair)
+    (h : AddsStarts s (roots_of nodes (take i exprs)) old mid) where
   abbrev pub at : ExprId → List Root
   at e = map (root e) nodes
 
@@ -94,7 +96,8 @@ module _ (s : Schema) (nodes : List TermId) (exprs : List ExprId) (i : ℕ) (d :
   ]) e stops
 
 -- each of the nodes at one expression
-module _ (s : Schema) (e : ExprId) (nodes : List TermId) (i : ℕ) (d : TermId) (inside : i < length nodes) (shapes : List ShapeId) (are : AreShapesIn s e shapes) (old mid : List Pair) (h : AddsStarts s (take i (map (root e) nodes)) old mid) where
+module _ (s : Schema) (e : ExprId) (nodes : List TermId) (i : ℕ) (d : TermId) (inside : i < length nodes) (shapes : List ShapeId) (are : AreShapesIn s e shapes)
+    (old mid : List Pair) (h : AddsStarts s (take i (map (root e) nodes)) old mid) where
   within : i < length (map (root e) nodes)
   within = subst (λ k. i < k) (sym (length-map nodes (root e))) inside
 
@@ -104,7 +107,8 @@ module _ (s : Schema) (e : ExprId) (nodes : List TermId) (i : ℕ) (d : TermId) 
   pub nodes_stops : (error : DemandError) → StopsOver mid (map (pair_of (get_or nodes i d)) shapes) error → StopsAtStart s (map (root e) nodes) old error
   nodes_stops error stops = start_stops s (map (root e) nodes) i (root e d) (root e (get_or nodes i d)) within (get_or-map (root e) nodes i d (root e d) inside) shapes are old mid h error stops
 
-pub nodes_done : (s : Schema) (e : ExprId) (nodes : List TermId) (i : ℕ) (old new : List Pair) → length nodes ≤ i → AddsStarts s (take i (map (root e) nodes)) old new → AddsStarts s (map (root e) nodes) old new
+pub nodes_done : (s : Schema) (e : ExprId) (nodes : List TermId) (i : ℕ) (old new : List Pair) → length nodes ≤ i →
+    AddsStarts s (take i (map (root e) nodes)) old new → AddsStarts s (map (root e) nodes) old new
 nodes_done s e nodes i old new past h = subst (λ rs. AddsStarts s rs old new) (take_all i (map (root e) nodes) (subst (λ k. k ≤ i) (sym (length-map nodes (root e))) past)) h
 
 pub roots_done : (s : Schema) (roots : List Root) (i : ℕ) (old new : List Pair) → length roots ≤ i → AddsStarts s (take i roots) old new → AddsStarts s roots old new

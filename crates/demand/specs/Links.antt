@@ -41,7 +41,7 @@ StandsInSome s todo i = (d : ExprId) × Contains todo d.0 × StandsAny s i d
 abbrev pub AreShapesIn : Schema → ExprId → List ShapeId → Type 0
 AreShapesIn s e shapes = (i : ShapeId) → Contains shapes i ↔ StandsAny s i e
 
--- the same of a value that need not be there
+-- the Shapes are those that stand in the value, and none where there is no value
 abbrev pub AreShapesOf : Schema → Option ExprId → List ShapeId → Type 0
 AreShapesOf s value shapes = (i : ShapeId) → Contains shapes i ↔ ((sign : Bool) × StandsInValue s i value sign)
 

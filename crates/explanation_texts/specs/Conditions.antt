@@ -105,7 +105,7 @@ part_text c term Parts.Datatype = datatype_text c.datatype term
 part_text c term (Parts.Facet i) = facet_text (slice_get c.facets i) term
 part_text c term Parts.Values = codes " is not in the value set"
 
--- the same where the expression is a node constraint and the term is there
+-- why the part does not hold, where the expression is a node constraint and the term is there, and else nothing
 abbrev pub failed_part : Option Expr → Option Term → ConstraintPart → List ℕ
 failed_part (Some (Exprs.Node c)) (Some term) part = part_text c term part
 failed_part x term part = []

@@ -67,7 +67,7 @@ separator i = if i == 0 then [] else codes ", "
 abbrev pub count_text : List Term → List Occurrence → ℕ → ℕ → Option ℕ → List ℕ
 count_text terms occs i low high = separator i ++ (constraint_text terms occs i ++ (codes " " ++ range_text low high))
 
--- the same for each triple constraint from number i on
+-- how many triples each triple constraint from number i on takes
 abbrev pub counts_text : List Term → List Occurrence → List ℕ → ℕ → List ℕ → List ℕ
 counts_text terms occs high i [] = []
 counts_text terms occs high i (low ∷ more) = count_text terms occs i low (slice_get high i) ++ counts_text terms occs high (suc i) more
@@ -122,7 +122,7 @@ abbrev pub member_line : Setting → TermId → ExprId → Option Why → List �
 member_line s n e None = []
 member_line s n e (Some why) = inner_margin ++ (why_text s n e why ++ codes "\n")
 
--- the same of these members, of which the first has the number i
+-- why a node does not satisfy each of these members, of which the first has the number i
 abbrev pub member_lines : Setting → TermId → List Why → ℕ → List ExprId → List ℕ
 member_lines s n whys i [] = []
 member_lines s n whys i (e ∷ es) = member_line s n e (slice_get whys i) ++ member_lines s n whys (suc i) es

@@ -22,7 +22,7 @@ use Rattle.explanations.specs.Mentions.{blocks_of}
 abbrev pub NoneCanMatch : Schema → List Term → List Triple → Known → Type 0
 NoneCanMatch s terms g view = (p : Pair) → PairIs view p No → ¬ PairCanMatch s terms g view Possible p
 
--- so it is of what refinement comes to
+-- no pair that refinement knows not to be satisfied can match by what it comes to
 abbrev pub RefinedCannotMatch : Type 0
 RefinedCannotMatch =
     (s : Schema) (terms : List Term) (g : List Triple) (f : List ℕ) (pairs : List Pair) (budget : ℕ) (known verdicts : Known) →

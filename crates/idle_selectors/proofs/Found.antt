@@ -28,13 +28,15 @@ abbrev Passes : List Triple → (Triple → Bool) → Type 0
 Passes g p = (t : Triple) × Contains g t × (p t ≡ true)
 
 -- the triples that pass a test, in another order
-passing : (order : Triple → Triple → Ordering) (p : Triple → Bool) (g ts : List Triple) → ts ≡ sorted_by order (filter p g) → (b : Bool) → IsTrue b ↔ ((t : Triple) × Contains ts t) → IsTrue b ↔ Passes g p
+passing : (order : Triple → Triple → Ordering) (p : Triple → Bool) (g ts : List Triple) → ts ≡ sorted_by order (filter p g) → (b : Bool) →
+    IsTrue b ↔ ((t : Triple) × Contains ts t) → IsTrue b ↔ Passes g p
 passing order p g ts e b some = (there, back)
   where
     there : IsTrue b → Passes g p
     there h =
         let (t, held) = some.0 h in
-        let i = Contains-permutation (sorted_by order (filter p g)) (filter p g) t (IsPermutation-sym (filter p g) (sorted_by order (filter p g)) (sorted_same order (filter p g))) (subst (λ (v : List Triple). Contains v t) e held) in
+        let i = Contains-permutation (sorted_by order (filter p g))
+        (filter p g) t (IsPermutation-sym (filter p g) (sorted_by order (filter p g)) (sorted_same order (filter p g))) (subst (λ (v : List Triple). Contains v t) e held) in
         let (j, a) = in_filter p g t i in
         (t, j, a)
 
@@ -55,12 +57,14 @@ IsSubject g n = (t : Triple) × Contains g t × (t.s ≡ n)
 abbrev pub IsObject : List Triple → TermId → Type 0
 IsObject g n = (t : Triple) × Contains g t × (t.o ≡ n)
 
-pub subject_by : (order : Triple → Triple → Ordering) (n : TermId) (g ts : List Triple) → ts ≡ sorted_by order (filter (λ t. same_id t.s n) g) → (b : Bool) → IsTrue b ↔ ((t : Triple) × Contains ts t) → IsTrue b ↔ IsSubject g n
+pub subject_by : (order : Triple → Triple → Ordering) (n : TermId) (g ts : List Triple) → ts ≡ sorted_by order (filter (λ t. same_id t.s n) g) → (b : Bool) →
+    IsTrue b ↔ ((t : Triple) × Contains ts t) → IsTrue b ↔ IsSubject g n
 subject_by order n g ts e b some =
     let by = passing order (λ t. same_id t.s n) g ts e b some in
     (λ h. let (t, held, a) = by.0 h in (t, held, same_node t.s n a), λ w. by.1 (w.0, w.1, node_same w.0.s n w.2))
 
-pub object_by : (order : Triple → Triple → Ordering) (n : TermId) (g ts : List Triple) → ts ≡ sorted_by order (filter (λ t. same_id t.o n) g) → (b : Bool) → IsTrue b ↔ ((t : Triple) × Contains ts t) → IsTrue b ↔ IsObject g n
+pub object_by : (order : Triple → Triple → Ordering) (n : TermId) (g ts : List Triple) → ts ≡ sorted_by order (filter (λ t. same_id t.o n) g) → (b : Bool) →
+    IsTrue b ↔ ((t : Triple) × Contains ts t) → IsTrue b ↔ IsObject g n
 object_by order n g ts e b some =
     let by = passing order (λ t. same_id t.o n) g ts e b some in
     (λ h. let (t, held, a) = by.0 h in (t, held, same_node t.o n a), λ w. by.1 (w.0, w.1, node_same w.0.o n w.2))
@@ -77,7 +81,8 @@ end_else g n a b off first other = (λ h. let (t, held, e) = other.0 h in (t, he
     by t held (inr e) = other.1 (t, held, e)
 
 -- what is used in the triples of a graph is used in the graph
-pub used_in : (ts g : List Triple) (p : TermId) (b : Bool) → ts ≡ g → IsTrue b ↔ ((t : Triple) × Contains ts t × (same_id t.p p ≡ true)) → IsTrue b ↔ ((t : Triple) × Contains g t × (same_id t.p p ≡ true))
+pub used_in : (ts g : List Triple) (p : TermId) (b : Bool) → ts ≡ g → IsTrue b ↔ ((t : Triple) × Contains ts t × (same_id t.p p ≡ true)) →
+    IsTrue b ↔ ((t : Triple) × Contains g t × (same_id t.p p ≡ true))
 used_in ts g p b e by = subst (λ (v : List Triple). IsTrue b ↔ ((t : Triple) × Contains v t × (same_id t.p p ≡ true))) e by
 
 module _ (terms : List Term) (g : List Triple) where

@@ -53,7 +53,8 @@ module _ (terms : List Term) (g : List Triple) where
   noted is i old new a (inl (own, adds)) = record {
     selectors = a.selectors ++ i.selector ∷ [];
     are_idle = idle_more is a.selectors i a.are_idle own;
-    lines_are = subst (λ (ls : List (List ℕ)). AddsAll [] ls new) (sym (map-append selector_line a.selectors (i.selector ∷ []))) (one_more [] old new (map selector_line a.selectors) (selector_line i.selector) a.lines_are adds);
+    lines_are = subst (λ (ls : List (List ℕ)). AddsAll [] ls new) (sym (map-append selector_line a.selectors (i.selector ∷ [])))
+        (one_more [] old new (map selector_line a.selectors) (selector_line i.selector) a.lines_are adds);
   }
   noted is i old new a (inr (found, same)) = record {
     selectors = a.selectors;
@@ -64,7 +65,8 @@ module _ (terms : List Term) (g : List Triple) where
   pub none_noted : (items : List Item) (lines : List (List ℕ)) → lines ≡ [] → AreIdleLines terms g (take 0 items) lines
   none_noted items lines e = record { selectors = []; are_idle = empty; lines_are = subst (λ (ls : List (List ℕ)). AddsAll [] [] ls) (sym e) none }
 
-  pub noted_on : (items : List Item) (k : ℕ) (i : Item) (old new : List (List ℕ)) → k < length items → i ≡ get_or items k i → AreIdleLines terms g (take k items) old → Notes terms g i.selector old new →
+  pub noted_on : (items : List Item) (k : ℕ) (i : Item) (old new : List (List ℕ)) → k < length items → i ≡ get_or items k i →
+      AreIdleLines terms g (take k items) old → Notes terms g i.selector old new →
       AreIdleLines terms g (take (k + 1) items) new
   noted_on items k i old new lt is a n =
       let next : take (k + 1) items ≡ take k items ++ i ∷ [] = take_more items k i lt ∙ ap (λ (z : Item). take k items ++ z ∷ []) (sym is) in
@@ -102,7 +104,8 @@ module _ (terms : List Term) (g : List Triple) where
   exact items lines a = (have, of)
     where
       have : HaveLines terms g items lines
-      have i held own = all_held [] lines (map selector_line a.selectors) (selector_line i.selector) a.lines_are (in_map selector_line a.selectors i.selector (idle_in items a.selectors a.are_idle i held own))
+      have i held own = all_held [] lines (map selector_line a.selectors)
+          (selector_line i.selector) a.lines_are (in_map selector_line a.selectors i.selector (idle_in items a.selectors a.are_idle i held own))
 
       of : AreOfIdle terms g items lines
       of l held = elim (all_from [] lines (map selector_line a.selectors) l a.lines_are held) [

@@ -14,7 +14,7 @@ HaveLines terms graph items lines = (i : Item) → Contains items i → IsIdle t
 abbrev pub AreOfIdle : List Term → List Triple → List Item → List (List ℕ) → Type 0
 AreOfIdle terms graph items lines = (l : List ℕ) → Contains lines l → (i : Item) × Contains items i × IsIdle terms graph i.selector × (selector_line i.selector ≡ l)
 
--- so it is of the lines for the idle selectors of a map
+-- each line that is told for a map is that of a selector of the map that is idle
 abbrev pub LinesAreExact : Type 0
 LinesAreExact =
     (terms : List Term) (graph : List Triple) (items : List Item) (lines : List (List ℕ)) → AreIdleLines terms graph items lines →

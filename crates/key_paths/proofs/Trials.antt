@@ -94,7 +94,8 @@ responsible true error document path step outer inner found there refused mended
 responsible false error document path step outer inner found there refused mended = tt
 
 -- a path that is made of the steps
-pub leads : (o : Option (List Step)) (steps : List Step) (error : SchemaError) (bytes : List ℕ) (d : Data) → (steps ≡ [] → ⊥) → MatchOption o (steps ≡ []) (λ p. p ≡ steps) → read bytes ≡ Some d → IsRefused error d
+pub leads : (o : Option (List Step)) (steps : List Step) (error : SchemaError) (bytes : List ℕ) (d : Data) → (steps ≡ [] → ⊥) →
+    MatchOption o (steps ≡ []) (λ p. p ≡ steps) → read bytes ≡ Some d → IsRefused error d
     → (steps ≡ []) ⊎ EndsAtCause error d steps → IfSome o (LeadsToCause error bytes)
 leads None steps error bytes d some is json refused ends = tt
 leads (Some p) steps error bytes d some is json refused (inl e) = absurd (some e)

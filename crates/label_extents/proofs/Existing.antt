@@ -115,7 +115,8 @@ module _ (terms : List Term) where
       let (both, rises, second) = with_one t.o one up in
       (both, record { sorted = rises; exactly = λ n. (there t g nodes one both are first second n, back t g nodes one both are first second n) })
     where
-      there : (t : Triple) (g : List Triple) (nodes one both : List TermId) → AreInOrder terms (IsNode g) nodes → HasOneMore t.s nodes one → HasOneMore t.o one both → (n : TermId) → Contains both n → IsNode (t ∷ g) n
+      there : (t : Triple) (g : List Triple) (nodes one both : List TermId) → AreInOrder terms (IsNode g) nodes → HasOneMore t.s nodes one →
+          HasOneMore t.o one both → (n : TermId) → Contains both n → IsNode (t ∷ g) n
       there t g nodes one both are first second n c = elim ((second n).0 c) [
         | inl is ↦ (t, is_first t g, inr is)
         | inr held ↦ elim ((first n).0 held) [
@@ -124,7 +125,8 @@ module _ (terms : List Term) where
         ]
       ]
 
-      back : (t : Triple) (g : List Triple) (nodes one both : List TermId) → AreInOrder terms (IsNode g) nodes → HasOneMore t.s nodes one → HasOneMore t.o one both → (n : TermId) → IsNode (t ∷ g) n → Contains both n
+      back : (t : Triple) (g : List Triple) (nodes one both : List TermId) → AreInOrder terms (IsNode g) nodes → HasOneMore t.s nodes one →
+          HasOneMore t.o one both → (n : TermId) → IsNode (t ∷ g) n → Contains both n
       back t g nodes one both are first second n (u, held, end) = by (in_rest t g u held) end
         where
           of_first : IsEnd t n → Contains both n
@@ -148,7 +150,8 @@ pub record AreLaws : Type 0 where
   pub decided : SatIsDecided
   pub stratified : StrataAreStratified
 
-module _ (laws : AreLaws) (s : Schema) (terms : List Term) (g : List Triple) (f : List ℕ) (loaded : IsLoaded s) (strata : IsStratum s f) (nodes : List TermId) (are : AreInOrder terms (IsNode g) nodes) (T : List Pair) (typing : IsTheTyping s terms g f nodes T) where
+module _ (laws : AreLaws) (s : Schema) (terms : List Term) (g : List Triple) (f : List ℕ) (loaded : IsLoaded s) (strata : IsStratum s f) (nodes : List TermId)
+    (are : AreInOrder terms (IsNode g) nodes) (T : List Pair) (typing : IsTheTyping s terms g f nodes T) where
   stratified : IsStratified s f
   stratified = laws.stratified s f strata
 
@@ -193,7 +196,11 @@ module _ (laws : AreLaws) (s : Schema) (terms : List Term) (g : List Triple) (f 
   }
 
   pub extents : (xs : List Answer) × AreExtents s terms g xs
-  extents = (flat_map (λ (d : Label × ExprId). map (member d.0) (filter (holds_at d.1) nodes)) s.labels, listed terms (IsMember s terms g) (λ d. filter (holds_at d.1) nodes) s.labels (λ d c. in_order d.1))
+  extents = (
+    flat_map (λ (d : Label ×
+        ExprId). map (member d.0) (filter (holds_at d.1) nodes)) s.labels,
+    listed terms (IsMember s terms g) (λ d. filter (holds_at d.1) nodes) s.labels (λ d c. in_order d.1),
+  )
 
 pub extents_exist : AreLaws → ExtentsExist
 extents_exist laws s terms g f loaded strata =

@@ -84,7 +84,8 @@ pub all_met : (g : List Triple) (i : ℕ) (nodes : List TermId) → length g ≤
 all_met g i nodes le are = subst (λ v. AreMet v nodes) (take_all i g le) are
 
 -- the nodes that are held, in order
-pub in_order : (terms : List Term) (g triples : List Triple) (met list nodes : List TermId) → triples ≡ g → AreMet triples met → list ≡ met → IsStrictlySortedBy (compare_at terms) nodes → ((n : TermId) → Contains nodes n ↔ Contains list n) → AreInOrder terms (IsNode g) nodes
+pub in_order : (terms : List Term) (g triples : List Triple) (met list nodes : List TermId) → triples ≡ g → AreMet triples met → list ≡ met →
+    IsStrictlySortedBy (compare_at terms) nodes → ((n : TermId) → Contains nodes n ↔ Contains list n) → AreInOrder terms (IsNode g) nodes
 in_order terms g triples met list nodes of are same sorted put = record {
   sorted = sorted;
   exactly = λ n. (

@@ -24,7 +24,8 @@ use Rattle.typing_answers.specs.Laws.{SureAnswersAreTrue}
 use Rattle.typing_answers.specs.Replies.{AreReplies, AreSureAnswers, IsLeftOut, IsTrueAnswer, given, left, none}
 
 -- an expression that is satisfied at a node is not one that is not
-pub one_truth : (s : Schema) (terms : List Term) (g : List Triple) (U : List TermId) (n : TermId) (e : ExprId) → HoldsEnds U g → Contains U n → IsTruth s terms g n e true → ¬ IsTruth s terms g n e false
+pub one_truth : (s : Schema) (terms : List Term) (g : List Triple) (U : List TermId) (n : TermId) (e : ExprId) → HoldsEnds U g → Contains U n →
+    IsTruth s terms g n e true → ¬ IsTruth s terms g n e false
 one_truth s terms g U n e ends in_u holds fails =
     let (f, T, typing) = holds.exists U in
     true≢false (sym ((fails.exact f U T ends in_u typing).1 ((holds.exact f U T ends in_u typing).0 refl)))
@@ -37,7 +38,8 @@ pub record AreVerdicts (s : Schema) (terms : List Term) (g : List Triple) (f : L
   pub refined : IsRefined s terms g f pairs budget verdicts
   pub alike : (p : Pair) (v : Verdict) → PairIs view p v ↔ PairIs verdicts p v
 
-module _ (s : Schema) (terms : List Term) (g : List Triple) (f : List ℕ) (pairs : List Pair) (budget : ℕ) (verdicts view : Known) (law : SureAnswersAreTrue) (are : AreVerdicts s terms g f pairs budget verdicts view) where
+module _ (s : Schema) (terms : List Term) (g : List Triple) (f : List ℕ) (pairs : List Pair) (budget : ℕ) (verdicts view : Known) (law : SureAnswersAreTrue)
+    (are : AreVerdicts s terms g f pairs budget verdicts view) where
   module _ (n : TermId) (e : ExprId) (roots : HoldRoots s pairs n e) where
     -- what is asked of the node, under any target
     abbrev asked : Association

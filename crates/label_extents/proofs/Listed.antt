@@ -16,7 +16,8 @@ use Rattle.label_extents.specs.Extents.{AreInOrder, AreListed, member}
 
 module _ (terms : List Term) where
   -- the nodes in order with each label are a list of members
-  pub listed : (P : ExprId → TermId → Type 0) (nodes : Label × ExprId → List TermId) (labels : List (Label × ExprId)) → ((d : Label × ExprId) → Contains labels d → AreInOrder terms (P d.1) (nodes d)) →
+  pub listed : (P : ExprId → TermId → Type 0) (nodes : Label × ExprId → List TermId) (labels : List (Label × ExprId)) →
+      ((d : Label × ExprId) → Contains labels d → AreInOrder terms (P d.1) (nodes d)) →
       AreListed terms P labels (flat_map (λ d. map (member d.0) (nodes d)) labels)
   listed P nodes [] are = refl
   listed P nodes (d ∷ labels) are = (
@@ -52,17 +53,22 @@ module _ (terms : List Term) where
   ]
 
   -- each such answer is listed
-  pub in_listed : (P : ExprId → TermId → Type 0) (labels : List (Label × ExprId)) (members : List Answer) → AreListed terms P labels members → (d : Label × ExprId) (n : TermId) → Contains labels d → P d.1 n → Contains members (member d.0 n)
+  pub in_listed : (P : ExprId → TermId → Type 0) (labels : List (Label × ExprId)) (members : List Answer) → AreListed terms P labels members →
+      (d : Label × ExprId) (n : TermId) → Contains labels d → P d.1 n → Contains members (member d.0 n)
   in_listed P [] members e d n c holds = absurd (not_in_none d c)
-  in_listed P (x ∷ labels) members (nodes, more, own, rest, e) d n c holds = subst (λ v. Contains v (member d.0 n)) (sym e) (by (in_rest x labels d c) (λ later. in_listed P labels more rest d n later holds))
+  in_listed P (x ∷ labels) members (nodes, more, own, rest, e) d n c holds = subst (λ v. Contains v (member d.0 n)) (sym e)
+      (by (in_rest x labels d c) (λ later. in_listed P labels more rest d n later holds))
     where
       by : (x ≡ d) ⊎ Contains labels d → (Contains labels d → Contains more (member d.0 n)) → Contains (map (member x.0) nodes ++ more) (member d.0 n)
-      by (inl is) behind = Contains-append_left (map (member x.0) nodes) more (member d.0 n) (subst (λ (z : Label × ExprId). Contains (map (member x.0) nodes) (member z.0 n)) is (in_map (member x.0) nodes n ((own.exactly n).1 (subst (λ (z : Label × ExprId). P z.1 n) (sym is) holds))))
+      by (inl is) behind = Contains-append_left (map (member x.0) nodes) more (member d.0 n)
+          (subst (λ (z : Label ×
+          ExprId). Contains (map (member x.0) nodes) (member z.0 n)) is (in_map (member x.0) nodes n ((own.exactly n).1 (subst (λ (z : Label × ExprId). P z.1 n) (sym is) holds))))
       by (inr later) behind = Contains-append_right (map (member x.0) nodes) more (member d.0 n) (behind later)
 
   -- there is one such list
   pub listed_one : (P : ExprId → TermId → Type 0) (labels : List (Label × ExprId)) (xs ys : List Answer) → AreListed terms P labels xs → AreListed terms P labels ys → xs ≡ ys
   listed_one P [] xs ys e f = e ∙ sym f
   listed_one P (d ∷ labels) xs ys (nodes, more, own, rest, e) (others, behind, same, last, f) =
-      let is : nodes ≡ others = sorted_one (compare_at terms) (id_total terms) nodes others own.sorted same.sorted (λ n c. (same.exactly n).1 ((own.exactly n).0 c)) (λ n c. (own.exactly n).1 ((same.exactly n).0 c)) in
+      let is : nodes ≡ others = sorted_one (compare_at terms)
+      (id_total terms) nodes others own.sorted same.sorted (λ n c. (same.exactly n).1 ((own.exactly n).0 c)) (λ n c. (own.exactly n).1 ((same.exactly n).0 c)) in
       e ∙ ap (λ ns. map (member d.0) ns ++ more) is ∙ ap (λ v. map (member d.0) others ++ v) (listed_one P labels more behind rest last) ∙ sym f

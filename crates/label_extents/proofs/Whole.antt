@@ -61,7 +61,9 @@ some_passing p (x ∷ xs) h = by (p x) refl h (some_passing p xs)
     by false e all later = let (y, held, passes) = later all in (y, is_later x xs y held, passes)
 
 -- what the verdicts rest on, the nodes in order, the pairs, and the laws of verdicts
-module _ (s : Schema) (terms : List Term) (g : List Triple) (f : List ℕ) (pairs : List Pair) (budget : ℕ) (verdicts view : Known) (nodes : List TermId) (law : SureAnswersAreTrue) (some : SomeVerdict) (one : OneVerdict) (are : AreVerdicts s terms g f pairs budget verdicts view) (ordered : AreInOrder terms (IsNode g) nodes) (demanded : AreDemanded s terms g pairs) where
+module _ (s : Schema) (terms : List Term) (g : List Triple) (f : List ℕ) (pairs : List Pair) (budget : ℕ) (verdicts view : Known) (nodes : List TermId)
+    (law : SureAnswersAreTrue) (some : SomeVerdict) (one : OneVerdict) (are : AreVerdicts s terms g f pairs budget verdicts view)
+    (ordered : AreInOrder terms (IsNode g) nodes) (demanded : AreDemanded s terms g pairs) where
   -- the verdict on a node with an expression
   abbrev pub verdict : TermId → ExprId → Verdict
   verdict n e = (some s terms view n e).0
@@ -73,7 +75,8 @@ module _ (s : Schema) (terms : List Term) (g : List Triple) (f : List ℕ) (pair
   gives n e v h = one s terms view n e v (verdict n e) h (sure n e)
 
   roots_held : (l : Label) (e : ExprId) (n : TermId) → Contains s.labels (l, e) → IsNode g n → HoldRoots s pairs n e
-  roots_held l e n declared is_node i sign stands = (demanded.exactly (pair_of n i)).1 (record { label = l; expr = e; node = n; declared = declared; is_node = is_node; reaches = (i, sign, stands, here) })
+  roots_held l e n declared is_node i sign stands =
+      (demanded.exactly (pair_of n i)).1 (record { label = l; expr = e; node = n; declared = declared; is_node = is_node; reaches = (i, sign, stands, here) })
 
   ends : HoldsEnds nodes g
   ends t c = ((ordered.exactly t.s).1 (t, c, inl refl), (ordered.exactly t.o).1 (t, c, inr refl))
@@ -126,7 +129,8 @@ module _ (s : Schema) (terms : List Term) (g : List Triple) (f : List ℕ) (pair
   }
 
   pub known_extents : (members : List Answer) → members ≡ flat_map (members_with verdict nodes) s.labels → AreKnownExtents s terms g verdicts members
-  known_extents members is = subst (AreKnownExtents s terms g verdicts) (sym is) (listed terms (IsKnownMember s terms g verdicts) (λ d. filter (λ n. is_certain (verdict n d.1)) nodes) s.labels in_order)
+  known_extents members is = subst (AreKnownExtents s terms g verdicts) (sym is)
+      (listed terms (IsKnownMember s terms g verdicts) (λ d. filter (λ n. is_certain (verdict n d.1)) nodes) s.labels in_order)
 
   pub told_undecided : (told : Bool) → told ≡ list_any (has_unknown verdict nodes) s.labels → IsTrue told ↔ IsUndecided s terms g verdicts
   told_undecided told is = (there, back)
@@ -143,7 +147,8 @@ module _ (s : Schema) (terms : List Term) (g : List Triple) (f : List ℕ) (pair
           is ∙ any_true (has_unknown verdict nodes) s.labels (u.label, u.expr) u.declared
           (any_true (λ m. is_unknown (verdict m u.expr)) nodes u.node ((ordered.exactly u.node).1 u.is_node) (unknown_there u.label u.expr u.node u.declared u.is_node u.unknown))
 
-  pub found : (x : Extents) → x.members ≡ flat_map (members_with verdict nodes) s.labels → x.undecided ≡ list_any (has_unknown verdict nodes) s.labels → AreWide s terms g budget pairs x.wide → AreFound s terms g f budget x
+  pub found : (x : Extents) → x.members ≡ flat_map (members_with verdict nodes) s.labels → x.undecided ≡ list_any (has_unknown verdict nodes) s.labels →
+      AreWide s terms g budget pairs x.wide → AreFound s terms g f budget x
   found x members told wide = record {
     pairs = pairs;
     demanded = demanded;
@@ -161,11 +166,19 @@ module _ (s : Schema) (terms : List Term) (g : List Triple) (f : List ℕ) (budg
   are_members a c = let (l, e, n, declared, known, is) = from_listed terms (IsKnownMember s terms g are.verdicts) s.labels x.members are.members a c in (l, e, n, declared, known.0, is)
 
   pub hold_decided : HoldDecided s terms g budget x.members
-  hold_decided l e n declared m decided = in_listed terms (IsKnownMember s terms g are.verdicts) s.labels x.members are.members (l, e) n declared (m, λ unknown. not_decided s terms g budget n e (are.only_wide l e n declared m.node unknown) decided)
+  hold_decided l e n declared m decided =
+      in_listed terms (IsKnownMember s terms g are.verdicts) s.labels x.members are.members (l, e) n declared (m, λ unknown. not_decided s terms g budget n e (are.only_wide l e n declared m.node unknown) decided)
 
   pub are_whole : x.undecided ≡ false → AreExtents s terms g x.members
   are_whole none = listed_alike terms (IsKnownMember s terms g are.verdicts) (IsMember s terms g) s.labels x.members
-      (λ d n declared. (λ known. known.0, λ m. (m, λ unknown. true≢false (sym (are.undecided.1 (record { label = d.0; expr = d.1; node = n; declared = declared; is_node = m.node; unknown = unknown })) ∙ none))))
+      (λ d n declared. (
+        λ known. known.0,
+        λ m. (
+          m,
+          λ unknown. true≢false (sym (are.undecided.1 (record { label = d.0; expr = d.1; node = n; declared = declared; is_node = m.node; unknown = unknown }))
+              ∙ none),
+        ),
+      ))
       are.members
 
   end_held : (n : TermId) → All (IsOfTable terms) g → IsNode g n → n.0 < length terms

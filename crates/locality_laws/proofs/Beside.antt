@@ -161,7 +161,7 @@ module _ (s : Schema) (terms : List Term) (g : List Triple) (budget : ℕ) (pair
     not_both q e y n = kept_stays s terms g f budget pairs l.lower a l.gone l.kept l.refined q ((l.yes_on q).1 (y, e)) ((l.no_on q).1 (n, e))
 
   -- x is what refinement by f comes to, and y by h; of the pairs that a pair on the stratum a by f and b by h needs, those on
-  -- the same two strata come with it, and all others have a lower sum of the two
+  -- those on both strata come with the pair, and all others have a lower sum of the two
   module _ (f h : List ℕ) (by_f : IsStratified s f) (by_h : IsStratified s h) (x y : Known) (apart_x : (q : Pair) → Contains x.yes q → ¬ Contains x.no q)
       (apart_y : (q : Pair) → Contains y.yes q → ¬ Contains y.no q) (a b : ℕ) (l : IsLevel f x a) (m : IsLevel h y b)
       (same_yes : (q : Pair) → level f q.shape + level h q.shape < a + b → Contains x.yes q ↔ Contains y.yes q) where

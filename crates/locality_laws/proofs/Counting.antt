@@ -3,13 +3,16 @@ use Rattle.std.proofs.Common.{◌≡◌, ◌∙◌, ℕ, zero, suc, ◌+◌, inl
 use Rattle.std.specs.Prelude.{◌↔◌, Contains, Some, slice_get}
 use Rattle.lists.specs.Distinct.{AreDistinct}
 use Rattle.lists.proofs.Among.{few_among}
+use Rattle.lists.proofs.Decided.{Decided}
 use Rattle.lists.proofs.Members.{got_in, in_rest, is_first, is_later, not_in_none, place_of}
 use Rattle.rdf_terms.specs.declared.terms.Triple.{Triple}
 use Rattle.schema_tree.specs.declared.schema.Pair.{Pair}
 use Rattle.schema_tree.specs.declared.schema.Schema.{Schema}
+use Rattle.schema_tree.specs.Loaded.{IsLoaded}
 use Rattle.schema_tree.specs.Needs.{Needs}
 use Rattle.removal_laws.specs.Costs.{bit, needs_count, total}
-use Rattle.locality_laws.specs.Bounds.{AreNeedTests, NeedsAreCounted, NeedsSoMany}
+use Rattle.demand.proofs.Led.{decide_needs}
+use Rattle.locality_laws.specs.Bounds.{AreNeedTests, NeedsAreCounted, NeedsHaveCounts, NeedsSoMany}
 
 -- the first item of distinct ones is none of the others, and these are distinct
 behind_distinct : (x : Pair) (xs : List Pair) → AreDistinct (x ∷ xs) → AreDistinct xs
@@ -115,3 +118,60 @@ module _ (s : Schema) (g : List Triple) (pairs : List Pair) (need : ℕ → ℕ 
 
 pub needs_counted : NeedsAreCounted
 needs_counted s g pairs need cost distinct tests i p here k = counted s g pairs need cost distinct tests i p here k
+
+-- ---- how many pairs a pair needs
+
+module _ (s : Schema) (loaded : IsLoaded s) (g : List Triple) (p : Pair) where
+  abbrev HasCount : List Pair → Type 0
+  HasCount ps = (k : ℕ) × NeedsSoMany s g ps p k
+
+  none_needed : HasCount []
+  none_needed = (0, record { needed = []; distinct = none_distinct; exactly = λ q. ((λ c. absurd (not_in_none q c)), (λ h. h.0)); count = refl })
+    where
+      none_distinct : AreDistinct {X = Pair} []
+      none_distinct i j x a b = absurd (not_in_none x (got_in [] i x a))
+
+  one_more : (x : Pair) (xs : List Pair) → ¬ Contains xs x → Needs s g p x → HasCount xs → HasCount (x ∷ xs)
+  one_more x xs apart need (k, h) = (
+    suc k,
+    record {
+      needed = x ∷ h.needed;
+      distinct = with_first x h.needed (λ c. apart ((h.exactly x).0 c).0) h.distinct;
+      exactly = λ q. (to q, from q);
+      count = ap suc h.count;
+    },
+  )
+    where
+      to : (q : Pair) → Contains (x ∷ h.needed) q → Contains (x ∷ xs) q × Needs s g p q
+      to q c = elim (in_rest x h.needed q c) [
+        | inl e ↦ (subst (λ z. Contains (x ∷ xs) z) e (is_first x xs), subst (λ z. Needs s g p z) e need)
+        | inr l ↦ (is_later x xs q ((h.exactly q).0 l).0, ((h.exactly q).0 l).1)
+      ]
+
+      from : (q : Pair) → Contains (x ∷ xs) q × Needs s g p q → Contains (x ∷ h.needed) q
+      from q (c, n) = elim (in_rest x xs q c) [
+        | inl e ↦ subst (λ z. Contains (x ∷ h.needed) z) e (is_first x h.needed)
+        | inr l ↦ is_later x h.needed q ((h.exactly q).1 (l, n))
+      ]
+
+  no_more : (x : Pair) (xs : List Pair) → ¬ Needs s g p x → HasCount xs → HasCount (x ∷ xs)
+  no_more x xs none (k, h) = (k, record { needed = h.needed; distinct = h.distinct; exactly = λ q. (to q, from q); count = h.count })
+    where
+      to : (q : Pair) → Contains h.needed q → Contains (x ∷ xs) q × Needs s g p q
+      to q c = (is_later x xs q ((h.exactly q).0 c).0, ((h.exactly q).0 c).1)
+
+      from : (q : Pair) → Contains (x ∷ xs) q × Needs s g p q → Contains h.needed q
+      from q (c, n) = elim (in_rest x xs q c) [
+        | inl e ↦ absurd (none (subst (λ z. Needs s g p z) (sym e) n))
+        | inr l ↦ (h.exactly q).1 (l, n)
+      ]
+
+  count_of : (ps : List Pair) → AreDistinct ps → HasCount ps
+  count_of [] d = none_needed
+  count_of (x ∷ xs) d = elim (decide_needs s loaded g p x) [
+    | inl need ↦ one_more x xs (first_once x xs d) need (count_of xs (behind_distinct x xs d))
+    | inr none ↦ no_more x xs none (count_of xs (behind_distinct x xs d))
+  ]
+
+pub needs_have_counts : NeedsHaveCounts
+needs_have_counts s loaded g pairs d = ((λ p. (count_of s loaded g p pairs d).0), (λ p. (count_of s loaded g p pairs d).1))

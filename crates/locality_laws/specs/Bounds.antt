@@ -4,6 +4,7 @@ use Rattle.lists.specs.Distinct.{AreDistinct}
 use Rattle.rdf_terms.specs.declared.terms.Triple.{Triple}
 use Rattle.schema_tree.specs.declared.schema.Pair.{Pair}
 use Rattle.schema_tree.specs.declared.schema.Schema.{Schema}
+use Rattle.schema_tree.specs.Loaded.{IsLoaded}
 use Rattle.schema_tree.specs.Needs.{Needs}
 use Rattle.removal_laws.specs.Costs.{needs_count, phase_cost, total, whole_cost}
 
@@ -41,3 +42,8 @@ abbrev pub NeedsAreCounted : Type 0
 NeedsAreCounted =
     (s : Schema) (g : List Triple) (pairs : List Pair) (need : ℕ → ℕ → Bool) (cost : ℕ → ℕ) → AreDistinct pairs → AreNeedTests s g pairs need →
     (i : ℕ) (p : Pair) → slice_get pairs i ≡ Some p → (k : ℕ) → NeedsSoMany s g pairs p k ↔ (k ≡ needs_count cost need (length pairs) i)
+
+-- under a schema that keeps the rules of loaded ones there is a number for each pair: so many pairs of distinct ones it needs
+abbrev pub NeedsHaveCounts : Type 0
+NeedsHaveCounts =
+    (s : Schema) → IsLoaded s → (g : List Triple) (pairs : List Pair) → AreDistinct pairs → (count : Pair → ℕ) × ((p : Pair) → NeedsSoMany s g pairs p (count p))

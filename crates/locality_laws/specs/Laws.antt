@@ -32,7 +32,7 @@ RefinementOverOthersIsLocal =
     AreRefinedOn s terms g f pairs budget first (suc (top_of f)) known →
     (p : Pair) (v : Verdict) → Contains pairs p → PairIs known p v → IsVerdict s terms g f budget p v
 
--- the same where the others are those of what is kept that are not among the pairs
+-- refinement over what is kept gives each pair its verdict, where the others are those kept that are not among the pairs
 abbrev pub RefinementOverKeptIsLocal : Type 0
 RefinementOverKeptIsLocal =
     (s : Schema) (terms : List Term) (g : List Triple) (f : List ℕ) (budget : ℕ) (pairs : List Pair) (kept known : Known) →

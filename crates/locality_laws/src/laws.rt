@@ -1,6 +1,6 @@
 //! The laws. Each function claims some of them by its contract, and does nothing when called.
 
-ghost use Rattle.locality_laws.specs.Bounds.{NeedsAreCounted, StrataAreBounded};
+ghost use Rattle.locality_laws.specs.Bounds.{NeedsAreCounted, NeedsHaveCounts, StrataAreBounded};
 ghost use Rattle.locality_laws.specs.Laws.{RefinementIsIndependent, VerdictIsIndependent};
 ghost use Rattle.locality_laws.specs.Laws.{RefinementIsLocal, RefinementOverKeptIsLocal, RefinementOverOthersIsLocal};
 ghost use Rattle.locality_laws.specs.Laws.{UnknownIsWide, VerdictIsOne, VerdictIsTrue};
@@ -39,8 +39,9 @@ pub fn strata_are_independent()
 }
 
 /// Claims that what the phases of refinement on all strata may cost comes to no more than 2 × k + 3 looks at each narrow
-/// pair, where k is the number of pairs that it needs, and that tests of needs count these.
+/// pair, where k is the number of pairs that it needs, that tests of needs count these, and that there is such a number for each pair.
 pub fn strata_are_bounded()
     ensures strata { StrataAreBounded }
     ensures needs { NeedsAreCounted }
+    ensures counts { NeedsHaveCounts }
 {}

@@ -123,6 +123,7 @@ decide_nodes c term =
     go (decide_both (decide_kind c.kind term) (decide_both (decide_datatype c.datatype term)
     (decide_both (decide_facets c.facets (text_of term) (decimal_of term)) (decide_values c.values term))))
   where
-    go : Decided (IsOfKindIfAny c.kind term × (IsOfDatatypeIfAny c.datatype term × (AllByRecursion (λ facet. SatFacet facet (text_of term) (decimal_of term)) c.facets × HasValueIfAny c.values term))) → Decided (SatNode c term)
+    go : Decided (IsOfKindIfAny c.kind term × (IsOfDatatypeIfAny c.datatype term ×
+        (AllByRecursion (λ facet. SatFacet facet (text_of term) (decimal_of term)) c.facets × HasValueIfAny c.values term))) → Decided (SatNode c term)
     go (inl p) = inl (record { kind = p.0; datatype = p.1.0; facets = p.1.1.0; values = p.1.1.1 })
     go (inr none) = inr (λ h. none (h.kind, (h.datatype, (h.facets, h.values))))

@@ -68,7 +68,8 @@ module _ (text : List ℕ) (decimal : Option (List ℕ)) where
     subst (λ ts. ∥ AreReadFrom (ts ++ patterns_in facets) ps ∥₁) (none_in facet plain) sealed,
   )
 
-  pub plain_fails : (facet : Facet) {b : Bool} → ((pattern flags : List ℕ) → facet ≡ Facets.Pattern pattern flags → ⊥) → b ≡ false → IsTrue b ↔ SatPlain facet text decimal → ¬ SatFacet facet text decimal
+  pub plain_fails : (facet : Facet) {b : Bool} → ((pattern flags : List ℕ) → facet ≡ Facets.Pattern pattern flags → ⊥) → b ≡ false →
+      IsTrue b ↔ SatPlain facet text decimal → ¬ SatFacet facet text decimal
   plain_fails facet {b} plain no_match told h = true≢false (sym ((plain_told facet b plain told).1 h) ∙ no_match)
 
   -- of a facet that is a pattern
@@ -108,7 +109,8 @@ module _ (P : Facet → Type 0) (facets : List Facet) where
       unread = here.1;
     }
 
-    pub ends_tried : {R : Type 0} (Q : R → Type 0) (ps : List Pattern) (rest : Option R) → AreTried P facets place ps → rest ≡ None → MatchOption rest (¬ P facet) Q → IsFirstWithout P facets (Some place)
+    pub ends_tried : {R : Type 0} (Q : R → Type 0) (ps : List Pattern) (rest : Option R) → AreTried P facets place ps → rest ≡ None →
+        MatchOption rest (¬ P facet) Q → IsFirstWithout P facets (Some place)
     ends_tried Q ps rest tried none told = (
       tried.before,
       (facet, slice_get_read facets (length facets) place facet refl within is, subst (λ o. MatchOption o (¬ P facet) Q) none told),

@@ -68,7 +68,8 @@ module _ (text : List ℕ) (decimal : Option (List ℕ)) where
     λ d. absurd (none d),
   )
 
-  pub all_joined : (facets : List Facet) (ps : List Pattern) (b : Bool) → ∥ AreReadFrom (patterns_in facets) ps ∥₁ → ArePlain facets → IsTrue b ↔ AllByRecursion (IsFoundIn text) ps → IsTrue b ↔ AreSat facets
+  pub all_joined : (facets : List Facet) (ps : List Pattern) (b : Bool) → ∥ AreReadFrom (patterns_in facets) ps ∥₁ → ArePlain facets →
+      IsTrue b ↔ AllByRecursion (IsFoundIn text) ps → IsTrue b ↔ AreSat facets
   all_joined facets ps b sealed plain found =
       unsealed b (decide_facets facets text decimal) (∥∥₁_map sealed (λ read.
       let both = joined facets ps read in
@@ -126,7 +127,7 @@ all_of c term b fits all = (
 pub none_of : (c : Constraint) (term : Term) → (¬ Fits c term) → IsTrue false ↔ SatNode c term
 none_of c term none = (λ h. absurd (true≢false (sym h)), λ s. absurd (none (s.kind, (s.datatype, s.values))))
 
--- the same as results, of facets that are those of the constraint
+-- a result says whether all of a constraint holds, where the facets are those of the constraint
 pub held : (c : Constraint) (fs : List Facet) (term : Term) (r : Result Bool AllocError) → fs ≡ c.facets → Fits c term →
     IfOk r (λ b. IsTrue b ↔ AllByRecursion (λ facet. SatFacet facet (text_of term) (decimal_of term)) fs) → IfOk r (λ b. IsTrue b ↔ SatNode c term)
 held c fs term (Ok b) same fits all =

@@ -46,7 +46,8 @@ no_letter letter text at =
     none false rest e = refl
 
 -- the parts around the letter
-pub parts_told : (letter : ℕ) (text m e : List ℕ) (r : Bool) → r ≡ (is_decimal m && is_integer e) → m ≡ before_first (λ c. c == letter) text → e ≡ after_first (λ c. c == letter) text → r ≡ is_scientific letter text
+pub parts_told : (letter : ℕ) (text m e : List ℕ) (r : Bool) → r ≡ (is_decimal m && is_integer e) → m ≡ before_first (λ c. c == letter) text →
+    e ≡ after_first (λ c. c == letter) text → r ≡ is_scientific letter text
 parts_told letter text m e r told is_m is_e =
     told ∙ ap (λ z. is_decimal z && is_integer e) is_m ∙ ap (λ z. is_decimal (before_first (λ c. c == letter) text) && is_integer z) is_e
 

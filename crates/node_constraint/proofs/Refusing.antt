@@ -181,7 +181,7 @@ floats b datatype facets is = (
   any_along (IsFloatFacet datatype) (IsOnFloats b) (λ f h. elim h [ inl v ↦ inl v | inr p ↦ inr (is.1 p.0, p.1) ]) facets,
 )
 
--- the same of a datatype and facets that are seen otherwise
+-- a cause of a refusal is one of an equal datatype and equal facets
 pub cause_seen : (d datatype : Option (List ℕ)) (fs facets : List Facet) (e : MakeError) → d ≡ datatype → fs ≡ facets → Causes d fs e → Causes datatype facets e
 cause_seen d datatype fs facets e is_datatype are_facets h =
     subst (λ z. Causes z facets e) is_datatype (subst (λ z. Causes d z e) are_facets h)

@@ -75,12 +75,15 @@ module _ (k : Bool) where
   behind_read before xs ts rest e = rw e refl
 
   -- one turn of the loop
-  turn : (before more : List TermTriple) (ts rest : Ahead Spelled) → next_is is_any ts ≡ true → r.line_behind k before ts ≡ Ok (more, rest) → loop is_any (r.line_behind k) before ts ≡ loop is_any (r.line_behind k) more rest
-  turn before more ts rest n e = loop_more is_any (r.line_behind k) (consumes_line_behind k) before ts n ∙ ap (λ (a : Answer Spelled Fault (List TermTriple)). and_then a (loop is_any (r.line_behind k))) e
+  turn : (before more : List TermTriple) (ts rest : Ahead Spelled) → next_is is_any ts ≡ true → r.line_behind k before ts ≡ Ok (more, rest) →
+      loop is_any (r.line_behind k) before ts ≡ loop is_any (r.line_behind k) more rest
+  turn before more ts rest n e = loop_more is_any (r.line_behind k) (consumes_line_behind k) before ts n
+      ∙ ap (λ (a : Answer Spelled Fault (List TermTriple)). and_then a (loop is_any (r.line_behind k))) e
 
   lines_read : (xs before : List TermTriple) (ts rest : Ahead Spelled) → rest ≡ finished → Lines k xs ts rest → loop is_any (r.line_behind k) before ts ≡ Ok (before ++ xs, finished)
   lines_read xs before ts rest e no_lines =
-      loop_stop is_any (r.line_behind k) (consumes_line_behind k) before ts (ap (next_is is_any) e) ∙ ap (λ (v : Ahead Spelled). Ok (before, v)) e ∙ ap (λ (v : List TermTriple). Ok (v, finished)) (sym (append-nil before))
+      loop_stop is_any (r.line_behind k) (consumes_line_behind k) before ts (ap (next_is is_any) e) ∙ ap (λ (v : Ahead Spelled). Ok (before, v)) e
+      ∙ ap (λ (v : List TermTriple). Ok (v, finished)) (sym (append-nil before))
   lines_read xs before ts rest e (blank_line {mid = mid} (w, h) more) =
       turn before (before ++ []) ts mid (any_next (symbol.Line ∷ []) ts (first symbol.Line w ts mid h)) (behind_read before [] ts mid (blank_read ts mid (w, h)))
       ∙ lines_read xs (before ++ []) mid rest e more ∙ ap (λ (v : List TermTriple). Ok (v ++ xs, finished)) (append-nil before)

@@ -57,7 +57,8 @@ end_front ts rest (inr (f, g)) = ([], f ∙ sym g)
 
 line_front : (x : TermTriple) (ts rest : Ahead Spelled) → (Statement true x ⨾ LineEnd) ts rest → Front ts rest
 line_front x ts rest (mid, (m, a, (n, (i, e, (p, f, b)), (l, c, (w, (t, g, d))))), h) =
-    both_fronts ts m rest (subject_front x.subject ts m a) (both_fronts m n rest (p ∷ [], f) (both_fronts n l rest (object_front x.object n l c) (both_fronts l mid rest (t ∷ [], g) (end_front mid rest h))))
+    both_fronts ts m rest (subject_front x.subject ts m a)
+    (both_fronts m n rest (p ∷ [], f) (both_fronts n l rest (object_front x.object n l c) (both_fronts l mid rest (t ∷ [], g) (end_front mid rest h))))
 
 lines_front : (xs : List TermTriple) (ts rest : Ahead Spelled) → Lines true xs ts rest → Front ts rest
 lines_front xs ts rest no_lines = ([], refl)
@@ -166,7 +167,8 @@ module _ (source : List ℕ) (u : IsUtf8 source) where
         no_room = f.no_room;
       }
 
-  pub explains : (e : Refusal) (at : ℕ) (rest : Ahead Spelled) (terms new_terms : List Term) (graph new_graph : List Triple) → Ends (Err e) ahead rest terms graph new_terms new_graph → Stands NTriples source rest at
+  pub explains : (e : Refusal) (at : ℕ) (rest : Ahead Spelled) (terms new_terms : List Term) (graph new_graph : List Triple) →
+      Ends (Err e) ahead rest terms graph new_terms new_graph → Stands NTriples source rest at
       → Explains (error_of e at) source terms graph
   explains refusal.Memory at rest terms new_terms graph new_graph h s = tt
   explains refusal.Full at rest terms new_terms graph new_graph h s = overfull terms graph rest h
@@ -191,7 +193,8 @@ module _ (source : List ℕ) (u : IsUtf8 source) where
   pub one_short_document : (xs ys : List TermTriple) → IsDocument source xs → IsDocument source ys → xs ≡ ys
   one_short_document xs ys h k = same_read true xs ys (document_is_read xs h) (document_is_read ys k)
 
-  not_full : (terms tt_terms : List Term) (graph tt_graph : List Triple) (rest : Ahead Spelled) (xs : List TermTriple) → AreDistinct terms → IsDocument source xs → Loads terms graph xs tt_terms tt_graph → IsWithin tt_terms tt_graph
+  not_full : (terms tt_terms : List Term) (graph tt_graph : List Triple) (rest : Ahead Spelled) (xs : List TermTriple) → AreDistinct terms →
+      IsDocument source xs → Loads terms graph xs tt_terms tt_graph → IsWithin tt_terms tt_graph
       → Fills ahead terms graph rest → ⊥
   not_full terms tt_terms graph tt_graph rest xs dis doc loads within f =
       let l = loop_of xs ahead (document_is_read xs doc) in
@@ -199,7 +202,8 @@ module _ (source : List ℕ) (u : IsUtf8 source) where
       let same : xs ≡ f.before ++ f.last ∷ b.0 = sym l.2 ∙ b.1 ∙ append_assoc f.before (f.last ∷ []) b.0 in
       no_room_behind terms f.mid_terms tt_terms graph f.mid_graph tt_graph f.before b.0 f.last dis f.loaded f.no_room (subst (λ (v : List TermTriple). Loads terms graph v tt_terms tt_graph) same loads) within
 
-  pub reads_ok : (terms new_terms tt_terms : List Term) (graph new_graph tt_graph : List Triple) (rest : Ahead Spelled) (xs : List TermTriple) → AreDistinct terms → IsDocument source xs → Loads terms graph xs tt_terms tt_graph
+  pub reads_ok : (terms new_terms tt_terms : List Term) (graph new_graph tt_graph : List Triple) (rest : Ahead Spelled) (xs : List TermTriple) →
+      AreDistinct terms → IsDocument source xs → Loads terms graph xs tt_terms tt_graph
       → Ends (Ok tt) ahead rest terms graph new_terms new_graph → (new_terms ≡ tt_terms) × (new_graph ≡ tt_graph)
   reads_ok terms new_terms tt_terms graph new_graph tt_graph rest xs dis doc loads (ys, lines, own) =
       let same = same_read true ys xs (read_short ys ahead lines) (document_is_read xs doc) in
@@ -208,10 +212,13 @@ module _ (source : List ℕ) (u : IsUtf8 source) where
   no_fault : (xs : List TermTriple) (f : Fault) (rest : Ahead Spelled) → IsDocument source xs → r.document true ahead ≡ Err (f, rest) → ⊥
   no_fault xs f rest doc e = apart (xs, finished) (f, rest) (sym (document_is_read xs doc) ∙ e)
 
-  pub reads_err : (e : Refusal) (at : ℕ) (terms new_terms tt_terms left_terms : List Term) (graph new_graph tt_graph left_graph : List Triple) (rest : Ahead Spelled) (xs : List TermTriple) → AreDistinct terms → IsDocument source xs
-      → Loads terms graph xs tt_terms tt_graph → IsWithin tt_terms tt_graph → Ends (Err e) ahead rest terms graph new_terms new_graph → ReadsTo (Err (error_of e at)) tt_terms tt_graph left_terms left_graph
+  pub reads_err : (e : Refusal) (at : ℕ) (terms new_terms tt_terms left_terms : List Term) (graph new_graph tt_graph left_graph : List Triple) (rest : Ahead Spelled) (xs : List TermTriple) →
+      AreDistinct terms → IsDocument source xs
+      → Loads terms graph xs tt_terms tt_graph → IsWithin tt_terms tt_graph → Ends (Err e) ahead rest terms graph new_terms new_graph →
+      ReadsTo (Err (error_of e at)) tt_terms tt_graph left_terms left_graph
   reads_err refusal.Memory at terms new_terms tt_terms left_terms graph new_graph tt_graph left_graph rest xs dis doc loads within h = tt
-  reads_err refusal.Full at terms new_terms tt_terms left_terms graph new_graph tt_graph left_graph rest xs dis doc loads within h = not_full terms tt_terms graph tt_graph rest xs dis doc loads within h
+  reads_err refusal.Full at terms new_terms tt_terms left_terms graph new_graph tt_graph left_graph rest xs dis doc loads within h =
+      not_full terms tt_terms graph tt_graph rest xs dis doc loads within h
   reads_err (refusal.Fault faults.Syntax) at terms new_terms tt_terms left_terms graph new_graph tt_graph left_graph rest xs dis doc loads within h = no_fault xs faults.Syntax rest doc h
   reads_err (refusal.Fault faults.Prefix) at terms new_terms tt_terms left_terms graph new_graph tt_graph left_graph rest xs dis doc loads within h = no_fault xs faults.Prefix rest doc h
   reads_err (refusal.Fault faults.Deep) at terms new_terms tt_terms left_terms graph new_graph tt_graph left_graph rest xs dis doc loads within h = no_fault xs faults.Deep rest doc h
@@ -224,18 +231,22 @@ module _ (source : List ℕ) (u : IsUtf8 source) (first : Ahead Spelled) (begins
       → (xs : List TermTriple) × IsDocument source xs × Loads terms graph xs new_terms new_graph
   found_from rest terms new_terms graph new_graph (xs, lines, loads) = (xs, found_document source u xs (subst (λ (v : Ahead Spelled). Lines true xs v finished) begins lines), loads)
 
-  pub ok_from : (rest : Ahead Spelled) (terms new_terms tt_terms : List Term) (graph new_graph tt_graph : List Triple) (xs : List TermTriple) → AreDistinct terms → IsDocument source xs → Loads terms graph xs tt_terms tt_graph
+  pub ok_from : (rest : Ahead Spelled) (terms new_terms tt_terms : List Term) (graph new_graph tt_graph : List Triple) (xs : List TermTriple) →
+      AreDistinct terms → IsDocument source xs → Loads terms graph xs tt_terms tt_graph
       → Ends (Ok tt) first rest terms graph new_terms new_graph → (new_terms ≡ tt_terms) × (new_graph ≡ tt_graph)
   ok_from rest terms new_terms tt_terms graph new_graph tt_graph xs dis doc loads h =
       reads_ok source u terms new_terms tt_terms graph new_graph tt_graph rest xs dis doc loads (subst (λ (v : Ahead Spelled). Ends (Ok tt) v rest terms graph new_terms new_graph) begins h)
 
-  pub err_from : (e : Refusal) (r : ReadError) (at : ℕ) (rest : Ahead Spelled) (terms new_terms tt_terms left_terms : List Term) (graph new_graph tt_graph left_graph : List Triple) (xs : List TermTriple) → AreDistinct terms → IsDocument source xs
-      → Loads terms graph xs tt_terms tt_graph → IsWithin tt_terms tt_graph → Ends (Err e) first rest terms graph new_terms new_graph → r ≡ error_of e at → ReadsTo (Err r) tt_terms tt_graph left_terms left_graph
+  pub err_from : (e : Refusal) (r : ReadError) (at : ℕ) (rest : Ahead Spelled) (terms new_terms tt_terms left_terms : List Term) (graph new_graph tt_graph left_graph : List Triple)
+      (xs : List TermTriple) → AreDistinct terms → IsDocument source xs
+      → Loads terms graph xs tt_terms tt_graph → IsWithin tt_terms tt_graph → Ends (Err e) first rest terms graph new_terms new_graph → r ≡ error_of e at →
+      ReadsTo (Err r) tt_terms tt_graph left_terms left_graph
   err_from e r at rest terms new_terms tt_terms left_terms graph new_graph tt_graph left_graph xs dis doc loads within h is =
       subst (λ (v : ReadError). ReadsTo (Err v) tt_terms tt_graph left_terms left_graph) (sym is)
       (reads_err source u e at terms new_terms tt_terms left_terms graph new_graph tt_graph left_graph rest xs dis doc loads within (subst (λ (v : Ahead Spelled). Ends (Err e) v rest terms graph new_terms new_graph) begins h))
 
-  pub cause_from : (e : Refusal) (r : ReadError) (at : ℕ) (rest : Ahead Spelled) (text : Source) (terms new_terms : List Term) (graph new_graph : List Triple) → Ends (Err e) first rest terms graph new_terms new_graph
+  pub cause_from : (e : Refusal) (r : ReadError) (at : ℕ) (rest : Ahead Spelled) (text : Source) (terms new_terms : List Term) (graph new_graph : List Triple) →
+      Ends (Err e) first rest terms graph new_terms new_graph
       → text ≡ record { mode = NTriples; text = source } → Stands text.mode text.text rest at → r ≡ error_of e at → Explains r source terms graph
   cause_from e r at rest text terms new_terms graph new_graph h same s is =
       subst (λ (v : ReadError). Explains v source terms graph) (sym is)

@@ -112,7 +112,8 @@ same_predicate = bind _ _ _ _ same_iri (λ i. given _)
 
 same_literal : Same (literal true) (literal false)
 unfolding literal
-same_literal = bind _ _ _ _ (taken _ _ short_string_agrees) (λ lex. choice _ _ _ _ _ (taken _ _ (tagged_agrees Common LongNext refl lex)) (choice _ _ _ _ _ (bind _ _ _ _ (agrees_mark Common LongNext refl symbol.Carets) (λ _. taken _ _ (typed_agrees lex))) (given _)))
+same_literal = bind _ _ _ _ (taken _ _ short_string_agrees)
+    (λ lex. choice _ _ _ _ _ (taken _ _ (tagged_agrees Common LongNext refl lex)) (choice _ _ _ _ _ (bind _ _ _ _ (agrees_mark Common LongNext refl symbol.Carets) (λ _. taken _ _ (typed_agrees lex))) (given _)))
 
 same_object : Same (object true) (object false)
 unfolding object
@@ -136,4 +137,5 @@ same_line_behind before = bind _ _ _ _ same_line (λ xs. given _)
 
 pub same_document : Same (document true) (document false)
 unfolding document
-same_document = bind _ _ _ _ (agrees_loop Common LongNext is_any (line_behind true) (line_behind false) (consumes_line_behind true) (consumes_line_behind false) same_line_behind _) (λ xs. agrees_finish Common LongNext Syntax xs refl)
+same_document = bind _ _ _ _ (agrees_loop Common LongNext is_any (line_behind true) (line_behind false) (consumes_line_behind true) (consumes_line_behind false) same_line_behind _)
+    (λ xs. agrees_finish Common LongNext Syntax xs refl)

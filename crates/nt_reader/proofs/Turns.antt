@@ -41,7 +41,8 @@ unfolding line_behind
 step_err before ts f e = rw e refl
 
 module _ (ahead : Ahead Spelled) (terms : List Term) (graph : List Triple) where
-  goes_on : (rest mid : Ahead Spelled) (now_terms : List Term) (now_graph : List Triple) (c : Comes ahead terms graph rest now_terms now_graph) (xs : List TermTriple) → next_is is_any rest ≡ true → line true rest ≡ Ok (xs, mid)
+  goes_on : (rest mid : Ahead Spelled) (now_terms : List Term) (now_graph : List Triple) (c : Comes ahead terms graph rest now_terms now_graph) (xs : List TermTriple) → next_is is_any rest ≡ true →
+      line true rest ≡ Ok (xs, mid)
       → loop is_any (line_behind true) (c.so_far ++ xs) mid ≡ loop is_any (line_behind true) [] ahead
   goes_on rest mid now_terms now_graph c xs n e =
       loop_goes is_any (line_behind true) (consumes_line_behind true) c.so_far rest (c.so_far ++ xs) mid (loop is_any (line_behind true) [] ahead) n (step_ok c.so_far xs rest mid e) c.goes
@@ -59,7 +60,8 @@ module _ (ahead : Ahead Spelled) (terms : List Term) (graph : List Triple) where
   unfolding document
   fault_ends f e = rw e refl
 
-  pub stops : (rest mid : Ahead Spelled) (now_terms new_terms : List Term) (now_graph new_graph : List Triple) (e : Refusal) → Comes ahead terms graph rest now_terms now_graph → next_is is_any rest ≡ true
+  pub stops : (rest mid : Ahead Spelled) (now_terms new_terms : List Term) (now_graph new_graph : List Triple) (e : Refusal) →
+      Comes ahead terms graph rest now_terms now_graph → next_is is_any rest ≡ true
       → Steps (Err e) rest mid now_terms now_graph new_terms new_graph → Ends (Err e) ahead mid terms graph new_terms new_graph
   stops rest mid now_terms new_terms now_graph new_graph refusal.Memory c n s = tt
   stops rest mid now_terms new_terms now_graph new_graph refusal.Full c n (x, e, room) = record {
@@ -80,7 +82,8 @@ module _ (ahead : Ahead Spelled) (terms : List Term) (graph : List Triple) where
   ends_well rest mid x new_terms new_graph c e =
       let f = finish_sound Syntax tt rest (x, mid) e in (c.so_far, subst (Lines true c.so_far ahead) f.1 c.lines, c.loaded)
 
-  finish_same : (xs : List TermTriple) (rest : Ahead Spelled) (f : Fault × Ahead Spelled) → Path (Answer Spelled Fault (Unit {0})) (finish Syntax tt rest) (Err f) → Path (Answer Spelled Fault (List TermTriple)) (finish Syntax xs rest) (Err f)
+  finish_same : (xs : List TermTriple) (rest : Ahead Spelled) (f : Fault × Ahead Spelled) →
+      Path (Answer Spelled Fault (Unit {0})) (finish Syntax tt rest) (Err f) → Path (Answer Spelled Fault (List TermTriple)) (finish Syntax xs rest) (Err f)
   finish_same xs finished f e = absurd cc
   finish_same xs broken f e = ap Err (err_is (Syntax, broken) f e)
     where
@@ -91,11 +94,13 @@ module _ (ahead : Ahead Spelled) (terms : List Term) (graph : List Triple) where
       err_is : (a b : Fault × Ahead Spelled) → Path (Answer Spelled Fault (Unit {0})) (Err a) (Err b) → a ≡ b
       err_is a b e = cc
 
-  end_fault : (xs : List TermTriple) (rest : Ahead Spelled) (f : Fault × Ahead Spelled) → loop is_any (line_behind true) [] ahead ≡ Ok (xs, rest) → finish Syntax xs rest ≡ Err f → document true ahead ≡ Err f
+  end_fault : (xs : List TermTriple) (rest : Ahead Spelled) (f : Fault × Ahead Spelled) → loop is_any (line_behind true) [] ahead ≡ Ok (xs, rest) →
+      finish Syntax xs rest ≡ Err f → document true ahead ≡ Err f
   unfolding document
   end_fault xs rest f e g = rw e g
 
-  pub ends_badly : (rest : Ahead Spelled) (e : Stop) (r : Refusal) (new_terms : List Term) (new_graph : List Triple) → Comes ahead terms graph rest new_terms new_graph → next_is is_any rest ≡ false → StopsAs {Y = Unit {0}} e rest (finish Syntax tt rest) → r ≡ from_stop e
+  pub ends_badly : (rest : Ahead Spelled) (e : Stop) (r : Refusal) (new_terms : List Term) (new_graph : List Triple) →
+      Comes ahead terms graph rest new_terms new_graph → next_is is_any rest ≡ false → StopsAs {Y = Unit {0}} e rest (finish Syntax tt rest) → r ≡ from_stop e
       → Ends (Err r) ahead rest terms graph new_terms new_graph
   ends_badly rest stop.Memory r new_terms new_graph c n s is = let u : Unit {0} = tt in subst (λ (v : Refusal). Ends (Err v) ahead rest terms graph new_terms new_graph) (sym is) u
   ends_badly rest (stop.Fault f) r new_terms new_graph c n s is = subst (λ (v : Refusal). Ends (Err v) ahead rest terms graph new_terms new_graph) (sym is)
@@ -105,14 +110,17 @@ module _ (ahead : Ahead Spelled) (terms : List Term) (graph : List Triple) where
 pub line_is : (ahead rest : Ahead Spelled) (o p : Option TermTriple) → line true ahead ≡ Ok (option_to_list o, rest) → o ≡ p → line true ahead ≡ Ok (option_to_list p, rest)
 line_is ahead rest o p e is = e ∙ ap (λ (v : Option TermTriple). Ok (option_to_list v, rest)) is
 
-pub blank_steps : (ahead rest : Ahead Spelled) (terms : List Term) (graph : List Triple) (o : Option TermTriple) → line true ahead ≡ Ok (option_to_list o, rest) → o ≡ None → Steps (Ok tt) ahead rest terms graph terms graph
+pub blank_steps : (ahead rest : Ahead Spelled) (terms : List Term) (graph : List Triple) (o : Option TermTriple) →
+    line true ahead ≡ Ok (option_to_list o, rest) → o ≡ None → Steps (Ok tt) ahead rest terms graph terms graph
 blank_steps ahead rest terms graph o e is = ([], line_is ahead rest o None e is, nothing)
 
-pub triple_steps : (ahead rest : Ahead Spelled) (terms new_terms : List Term) (graph new_graph : List Triple) (o : Option TermTriple) (x : TermTriple) → line true ahead ≡ Ok (option_to_list o, rest) → o ≡ Some x
+pub triple_steps : (ahead rest : Ahead Spelled) (terms new_terms : List Term) (graph new_graph : List Triple) (o : Option TermTriple) (x : TermTriple) →
+    line true ahead ≡ Ok (option_to_list o, rest) → o ≡ Some x
     → Loads terms graph (x ∷ []) new_terms new_graph → Steps (Ok tt) ahead rest terms graph new_terms new_graph
 triple_steps ahead rest terms new_terms graph new_graph o x e is l = (x ∷ [], line_is ahead rest o (Some x) e is, l)
 
-pub line_stops : (ahead rest : Ahead Spelled) (e : Stop) (r : Refusal) (terms : List Term) (graph : List Triple) → StopsAs e rest (line true ahead) → r ≡ from_stop e → Steps (Err r) ahead rest terms graph terms graph
+pub line_stops : (ahead rest : Ahead Spelled) (e : Stop) (r : Refusal) (terms : List Term) (graph : List Triple) → StopsAs e rest (line true ahead) →
+    r ≡ from_stop e → Steps (Err r) ahead rest terms graph terms graph
 line_stops ahead rest stop.Memory r terms graph s is = subst (λ (v : Refusal). Steps (Err v) ahead rest terms graph terms graph) (sym is) tt
 line_stops ahead rest (stop.Fault f) r terms graph s is = subst (λ (v : Refusal). Steps (Err v) ahead rest terms graph terms graph) (sym is) s
 

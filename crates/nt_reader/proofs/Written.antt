@@ -16,7 +16,8 @@ ascii_first c cs h = ap (λ (v : List ℕ). v ++ encode_utf8_all cs) (encode_asc
 
 label_by : (text vs : List ℕ) → IsUtf8 text → chars text ≡ 95 ∷ 58 ∷ vs → text ≡ codes "_:" ++ after_first is_colon text
 label_by text vs u e =
-    let is : text ≡ 95 ∷ 58 ∷ encode_utf8_all vs = sym (encodes-chars text u) ∙ ap encode_utf8_all e ∙ ascii_first 95 (58 ∷ vs) (omega arith) ∙ ap (λ (v : List ℕ). 95 ∷ v) (ascii_first 58 vs (omega arith)) in
+    let is : text ≡ 95 ∷ 58 ∷ encode_utf8_all vs = sym (encodes-chars text u) ∙ ap encode_utf8_all e ∙ ascii_first 95 (58 ∷ vs) (omega arith)
+    ∙ ap (λ (v : List ℕ). 95 ∷ v) (ascii_first 58 vs (omega arith)) in
     is ∙ ap (λ (v : List ℕ). codes "_:" ++ after_first is_colon v) (sym is)
 
 pub label_written : (text : List ℕ) → IsUtf8 text → Spells (Spelling NTriples kinds.BlankLabel) (chars text) → text ≡ codes "_:" ++ after_first is_colon text

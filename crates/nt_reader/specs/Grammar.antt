@@ -53,6 +53,6 @@ Spells k xs ts = Lines k xs (prepend ts finished) finished
 abbrev pub IsDocument : List ℕ → List TermTriple → Type 0
 IsDocument source xs = (ts : List Spelled) × IsUtf8 source × Tokens NTriples source ts × Spells true xs ts
 
--- the same with texts of any length
+-- the bytes are UTF-8, and their tokens a document of these triples, with texts of any length
 abbrev pub IsAnyDocument : List ℕ → List TermTriple → Type 0
 IsAnyDocument source xs = (ts : List Spelled) × IsUtf8 source × Tokens NTriples source ts × Spells false xs ts

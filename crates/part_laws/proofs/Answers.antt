@@ -44,7 +44,8 @@ neigh_is_same terms whole part nodes d e at n c =
 pub relevant_is_same : RelevantIsSame
 relevant_is_same s terms whole part nodes d e at n c i sh is = relevant_same whole part n d e sh (same_at s whole part nodes at n c i sh is) terms
 
-has_width : (s : Schema) (terms : List Term) (g h : List Triple) (d : AreDistinct g) (e : AreDistinct h) (p : Pair) → HaveSameAt g h p.node (shape_at s p.shape) → (w : ℕ) → HasWidth s terms g p w → HasWidth s terms h p w
+has_width : (s : Schema) (terms : List Term) (g h : List Triple) (d : AreDistinct g) (e : AreDistinct h) (p : Pair) →
+    HaveSameAt g h p.node (shape_at s p.shape) → (w : ℕ) → HasWidth s terms g p w → HasWidth s terms h p w
 has_width s terms g h d e p same w has =
     record { plain = has.plain; tells = has.tells; is = has.is ∙ width_same g h p.node d e has.plain (shape_at s p.shape) same }
 
@@ -77,7 +78,8 @@ needs_are_same s whole part nodes at p q c =
 pub reach_is_same : ReachIsSame
 reach_is_same s whole part nodes roots shard q = (asked_same s whole part nodes roots shard q, asked_node s whole part nodes roots shard q)
 
-within : (s : Schema) (terms : List Term) (g h : List Triple) (bound : ℕ) (p : Pair) → ((w : ℕ) → HasWidth s terms g p w → HasWidth s terms h p w) → IsWithinWidth s terms g bound p → IsWithinWidth s terms h bound p
+within : (s : Schema) (terms : List Term) (g h : List Triple) (bound : ℕ) (p : Pair) → ((w : ℕ) → HasWidth s terms g p w → HasWidth s terms h p w) →
+    IsWithinWidth s terms g bound p → IsWithinWidth s terms h bound p
 within s terms g h bound p to (w, has, le) = (w, to w has, le)
 
 alike : (s : Schema) (terms : List Term) (whole part : List Triple) (nodes : List TermId) (budget : ℕ) (pairs : List Pair) → AreDistinct whole → AreDistinct part → IsPartAt s whole part nodes →

@@ -210,7 +210,8 @@ module _ (g h : List Triple) (n : TermId) (d : AreDistinct g) (e : AreDistinct h
   shut_back : IsShut h sh n → IsShut g sh n
   shut_back x = (x.0, any_same (λ u. not (is_relevant sh.occs n u)) (outs h n) (outs g n) (λ u c. (same_items g h d e (λ v. same_id v.s n) out_same u).1 c) x.1)
 
-  places_there : (terms : List Term) (hold fail : TermId → Option ExprId → Type 0) → HasPlaces hold fail g sh n (relevant_in_order terms g sh n) → HasPlaces hold fail h sh n (relevant_in_order terms h sh n)
+  places_there : (terms : List Term) (hold fail : TermId → Option ExprId → Type 0) → HasPlaces hold fail g sh n (relevant_in_order terms g sh n) →
+      HasPlaces hold fail h sh n (relevant_in_order terms h sh n)
   places_there terms hold fail m = record {
     open_to = λ shut. m.open_to (shut_back shut);
     places = m.places;
@@ -227,7 +228,8 @@ module _ (g h : List Triple) (n : TermId) (d : AreDistinct g) (e : AreDistinct h
   match_same s terms view lean None same m = m
   match_same s terms view lean (Some sh) same m = places_there g h n d e sh (same sh refl) terms (MayHold s terms view lean) (MayFail s terms view lean) m
 
-  pub shape_same : ShapesArePlaces → OrderIsWhole → (s : Schema) (terms : List Term) → IsLoaded s → (T : List Pair) (i : ShapeId) → HaveSameAt g h n (shape_at s i) → ShapeOk s terms g T n i → ShapeOk s terms h T n i
+  pub shape_same : ShapesArePlaces → OrderIsWhole → (s : Schema) (terms : List Term) → IsLoaded s → (T : List Pair) (i : ShapeId) →
+      HaveSameAt g h n (shape_at s i) → ShapeOk s terms g T n i → ShapeOk s terms h T n i
   shape_same law order s terms loaded T i same ok = by (shape_at s i) refl same
     where
       by : (x : Option Shape) → shape_at s i ≡ x → HaveSameAt g h n x → ShapeOk s terms h T n i

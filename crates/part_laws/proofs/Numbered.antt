@@ -103,7 +103,8 @@ module _ (s : Schema) (own terms : List Term) (m : TermId → TermId) (is : IsRe
           let (z, found, led) = some_led to (slice_get pairs k) (to r) (sym (slice_get-map to pairs k) ∙ e) in
           found ∙ ap Some (pair_apart s own terms m is z r led)
 
-  goes_next_to : (lower : Known) (k : ℕ) (gone : List Pair) (p : Pair) → GoesNext s own g f pairs budget lower k gone p → GoesNext s terms there f moved budget (known_renumbered m lower) k (map to gone) (to p)
+  goes_next_to : (lower : Known) (k : ℕ) (gone : List Pair) (p : Pair) → GoesNext s own g f pairs budget lower k gone p →
+      GoesNext s terms there f moved budget (known_renumbered m lower) k (map to gone) (to p)
   goes_next_to lower k gone p (can, first) = ((can_go_to lower k gone p).0 can, others)
     where
       others : (r : Pair) → CanGo s terms there f moved budget (known_renumbered m lower) k (map to gone) r → ¬ ComesBefore moved r (to p)
@@ -112,17 +113,20 @@ module _ (s : Schema) (own terms : List Term) (m : TermId → TermId) (is : IsRe
           first q ((can_go_to lower k gone q).1 (subst (λ z. CanGo s terms there f moved budget (known_renumbered m lower) k (map to gone) z) (sym e) c))
           (before_back p q (subst (λ z. ComesBefore moved z (to p)) (sym e) before))
 
-  confirmed_to : (lower : Known) (k : ℕ) (gone kept : List Pair) → IsConfirmed s own g f pairs budget lower k gone kept → IsConfirmed s terms there f moved budget (known_renumbered m lower) k (map to gone) (map to kept)
+  confirmed_to : (lower : Known) (k : ℕ) (gone kept : List Pair) → IsConfirmed s own g f pairs budget lower k gone kept →
+      IsConfirmed s terms there f moved budget (known_renumbered m lower) k (map to gone) (map to kept)
   confirmed_to lower k gone kept c r held =
       let (p, in_kept, e) = from_map to kept r held in
       let u = c p in_kept in
-      subst (λ z. IsNarrow s terms there f moved budget k z × (¬ Contains (map to gone) z) × PairCanMatch s terms there (with_kept (known_renumbered m lower) (map to kept) (map to gone)) Impossible z) e (
+      subst (λ z. IsNarrow s terms there f moved budget k z × (¬ Contains (map to gone) z) ×
+      PairCanMatch s terms there (with_kept (known_renumbered m lower) (map to kept) (map to gone)) Impossible z) e (
         (narrow_to k p).0 u.0,
         (λ d. u.1 ((pair_there s own terms m is gone p).1 d)),
         subst (λ z. PairCanMatch s terms there z Impossible (to p)) (kept_to lower kept gone) ((match_to s own terms m is distinct whole texts g ends (with_kept lower kept gone) Impossible p).0 u.2),
       )
 
-  confirmed_back : (lower : Known) (k : ℕ) (gone kept : List Pair) → IsConfirmed s terms there f moved budget (known_renumbered m lower) k (map to gone) (map to kept) → IsConfirmed s own g f pairs budget lower k gone kept
+  confirmed_back : (lower : Known) (k : ℕ) (gone kept : List Pair) →
+      IsConfirmed s terms there f moved budget (known_renumbered m lower) k (map to gone) (map to kept) → IsConfirmed s own g f pairs budget lower k gone kept
   confirmed_back lower k gone kept c p held =
       let u = c (to p) (in_map to kept p held) in (
         (narrow_to k p).1 u.0,
@@ -130,7 +134,8 @@ module _ (s : Schema) (own terms : List Term) (m : TermId → TermId) (is : IsRe
         (match_to s own terms m is distinct whole texts g ends (with_kept lower kept gone) Impossible p).1 (subst (λ z. PairCanMatch s terms there z Impossible (to p)) (sym (kept_to lower kept gone)) u.2),
       )
 
-  refined_at_to : (lower : Known) (k : ℕ) (gone kept : List Pair) → IsRefinedAt s own g f pairs budget lower k gone kept → IsRefinedAt s terms there f moved budget (known_renumbered m lower) k (map to gone) (map to kept)
+  refined_at_to : (lower : Known) (k : ℕ) (gone kept : List Pair) → IsRefinedAt s own g f pairs budget lower k gone kept →
+      IsRefinedAt s terms there f moved budget (known_renumbered m lower) k (map to gone) (map to kept)
   refined_at_to lower k gone kept r = record { in_turn = in_turn; finished = finished; confirmed = confirmed_to lower k gone kept r.confirmed; greatest = greatest }
     where
       in_turn : (j : ℕ) (u : Pair) → slice_get (map to gone) j ≡ Some u → GoesNext s terms there f moved budget (known_renumbered m lower) k (take j (map to gone)) u
@@ -154,8 +159,16 @@ module _ (s : Schema) (own terms : List Term) (m : TermId → TermId) (is : IsRe
 
   below_to : (k : ℕ) (known : Known) → AreRefinedBelow s own g f pairs budget k known → AreRefinedBelow s terms there f moved budget k (known_renumbered m known)
   below_to zero known (yes_is, no_is) = (ap (map to) yes_is, ap (map to) no_is)
-  below_to (suc k) known (lower, gone, kept, before, at, yes_is, no_is) =
-      (known_renumbered m lower, map to gone, map to kept, below_to k lower before, refined_at_to lower k gone kept at, ap (map to) yes_is ∙ map-append to lower.yes kept, ap (map to) no_is ∙ map-append to lower.no gone)
+  below_to (suc k) known (lower, gone, kept, before, at, yes_is, no_is) = (
+    known_renumbered m lower,
+    map to gone,
+    map to kept,
+    below_to k lower before,
+    refined_at_to lower k gone kept at,
+    ap (map to) yes_is
+        ∙ map-append to lower.yes kept,
+    ap (map to) no_is ∙ map-append to lower.no gone,
+  )
 
 pub numbers_do_not_matter : TextsAreDistinct → WidthIsOne → NodesAreDecided → NumbersDoNotMatter
 numbers_do_not_matter texts widths nodes s own terms m g f pairs budget known is distinct whole ends refined =

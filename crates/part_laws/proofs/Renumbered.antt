@@ -354,7 +354,8 @@ module _ (s : Schema) (own terms : List Term) (m : TermId → TermId) (is : IsRe
       neighbourhood_to : (n : TermId) → neighbourhood terms (map to g) (m n) ≡ map to (neighbourhood own g n)
       neighbourhood_to n =
           (λ i. outs_to n i ++ filter (λ t. not (is_loop t)) (ins_to n i))
-          ∙ ap (λ zs. map to (sorted_by (by_object own) (outs g n)) ++ zs) (filter_mapped to (λ t. not (is_loop t)) (λ t. not (is_loop t)) (sorted_by (by_subject own) (ins g n)) (λ t. ap not (loop_to t)))
+          ∙ ap (λ zs. map to (sorted_by (by_object own) (outs g n)) ++ zs)
+          (filter_mapped to (λ t. not (is_loop t)) (λ t. not (is_loop t)) (sorted_by (by_subject own) (ins g n)) (λ t. ap not (loop_to t)))
           ∙ sym (map-append to (sorted_by (by_object own) (outs g n)) (filter (λ t. not (is_loop t)) (sorted_by (by_subject own) (ins g n))))
 
       -- ---- of a Shape of the schema

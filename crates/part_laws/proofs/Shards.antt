@@ -48,7 +48,8 @@ module _ (s : Schema) (whole part : List Triple) (nodes : List TermId) (at : IsP
       by false false x y z held = absurd (true≢false (sym z))
 
 -- the same where it has all triples there
-pub near_at : (whole part : List Triple) (nodes : List TermId) → IsWholeAt whole part nodes → (n : TermId) → Contains nodes n → (t : Triple) → (same_id t.s n || same_id t.o n) ≡ true → Contains whole t ↔ Contains part t
+pub near_at : (whole part : List Triple) (nodes : List TermId) → IsWholeAt whole part nodes → (n : TermId) → Contains nodes n → (t : Triple) →
+    (same_id t.s n || same_id t.o n) ≡ true → Contains whole t ↔ Contains part t
 near_at whole part nodes at n c t near = ((λ held. at.covers t held (ends (same_id t.s n) (same_id t.o n) refl refl near)), at.inside t)
   where
     ends : (a b : Bool) → same_id t.s n ≡ a → same_id t.o n ≡ b → (a || b) ≡ true → Contains nodes t.s ⊎ Contains nodes t.o

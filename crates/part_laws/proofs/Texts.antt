@@ -81,7 +81,8 @@ module _ (own terms : List Term) (held : (x : Term) → Contains own x → Conta
   unfolding number_of
   number_past h = past_is (slice_get own n.0) refl h
 
-module _ (texts : TextsAreDistinct) (widths : WidthIsOne) (decided : NodesAreDecided) (s : Schema) (first : List Term) (whole part : Data) (is_whole : IsGraph whole) (is_part : IsGraph part) (numbers : AreNumberedBy s first whole part) where
+module _ (texts : TextsAreDistinct) (widths : WidthIsOne) (decided : NodesAreDecided) (s : Schema) (first : List Term) (whole part : Data)
+    (is_whole : IsGraph whole) (is_part : IsGraph part) (numbers : AreNumberedBy s first whole part) where
   abbrev number : TermId → TermId
   number n = number_of part.terms whole.terms numbers.held n
 
@@ -149,7 +150,8 @@ module _ (texts : TextsAreDistinct) (widths : WidthIsOne) (decided : NodesAreDec
 
   -- ---- the part by the whole's numbers is a part at the nodes of the pairs
 
-  module _ (nodes : List Term) (is : HasWhatIsRead s whole part nodes) (roots : List Root) (within : ReachWithin s part nodes roots) (pairs : List Pair) (asked : AreAsked s part.terms part.triples roots pairs) where
+  module _ (nodes : List Term) (is : HasWhatIsRead s whole part nodes) (roots : List Root) (within : ReachWithin s part nodes roots) (pairs : List Pair)
+      (asked : AreAsked s part.terms part.triples roots pairs) where
     abbrev moved : List Pair
     moved = map (pair_renumbered number) pairs
 
@@ -193,7 +195,8 @@ module _ (texts : TextsAreDistinct) (widths : WidthIsOne) (decided : NodesAreDec
     pub closed_whole : (f : List ℕ) (budget : ℕ) → HoldNeeds s whole.triples moved
     closed_whole f budget = closed_over s whole.terms whole.triples there at f budget is_whole.apart there_apart is_part_at moved node_at closed_there
 
-    pub refined_whole : (f : List ℕ) (budget : ℕ) (known : Known) → IsRefined s part.terms part.triples f pairs budget known → IsRefined s whole.terms whole.triples f moved budget (known_renumbered number known)
+    pub refined_whole : (f : List ℕ) (budget : ℕ) (known : Known) → IsRefined s part.terms part.triples f pairs budget known →
+        IsRefined s whole.terms whole.triples f moved budget (known_renumbered number known)
     refined_whole f budget known refined =
         refined_back s whole.terms whole.triples there at f budget is_whole.apart there_apart is_part_at moved node_at (known_renumbered number known)
         (numbers_do_not_matter texts widths decided s part.terms whole.terms number part.triples f pairs budget known moves is_part.once is_part.terms is_part.ends refined)
@@ -203,7 +206,8 @@ module _ (texts : TextsAreDistinct) (widths : WidthIsOne) (decided : NodesAreDec
 
 -- ---- answers
 
-module _ (texts : TextsAreDistinct) (widths : WidthIsOne) (decided : NodesAreDecided) (s : Schema) (first : List Term) (whole part : Data) (nodes : List Term) (roots : List Root) (f : List ℕ) (budget : ℕ)
+module _ (texts : TextsAreDistinct) (widths : WidthIsOne) (decided : NodesAreDecided) (s : Schema) (first : List Term) (whole part : Data) (nodes : List Term)
+    (roots : List Root) (f : List ℕ) (budget : ℕ)
     (known : Known) (is_whole : IsGraph whole) (is_part : IsGraph part) (numbers : AreNumberedBy s first whole part) (is : HasWhatIsRead s whole part nodes) (within : ReachWithin s part nodes roots)
     (own : IsKnownOf s f budget part roots known) where
   abbrev to : TermId → TermId
@@ -231,7 +235,8 @@ module _ (texts : TextsAreDistinct) (widths : WidthIsOne) (decided : NodesAreDec
   root_same : (r w : Root) → AreSameRoot part whole r w → root_to r ≡ w
   root_same r w same = λ i. record { node = root_is texts widths decided s first whole part is_whole is_part numbers r w same i; expr = same.expr i }
 
-  pub alike : RefinementIsLocal → OneVerdict → SomeVerdict → (all : List Root) (known_all : Known) → IsKnownOf s f budget whole all known_all → (r : Root) → Contains roots r → Contains all (root_to r) →
+  pub alike : RefinementIsLocal → OneVerdict → SomeVerdict → (all : List Root) (known_all : Known) → IsKnownOf s f budget whole all known_all → (r : Root) →
+      Contains roots r → Contains all (root_to r) →
       (v : Verdict) → IsSure s whole.terms known_all (to r.node) r.expr v ↔ IsSure s part.terms known r.node r.expr v
   alike local one some all known_all other r held asked v = (
     (λ h. (sure_by_number r v).1 (sure_there one some s whole.terms known_all known_to (to r.node) r.expr (λ i sign st u. ((says i sign st u).1, (says i sign st u).0)) v h)),

@@ -32,7 +32,8 @@ Same : (TermId → Option ExprId → Type 0) → (TermId → Option ExprId → T
 Same a b = (m : TermId) (v : Option ExprId) → a m v ↔ b m v
 
 -- what holds or fails alike allows the same places
-module _ (hold fail hold' fail' : TermId → Option ExprId → Type 0) (holds : (m : TermId) (v : Option ExprId) → hold m v ↔ hold' m v) (fails : (m : TermId) (v : Option ExprId) → fail m v ↔ fail' m v) (sh : Shape) (n : TermId) where
+module _ (hold fail hold' fail' : TermId → Option ExprId → Type 0) (holds : (m : TermId) (v : Option ExprId) → hold m v ↔ hold' m v)
+    (fails : (m : TermId) (v : Option ExprId) → fail m v ↔ fail' m v) (sh : Shape) (n : TermId) where
   stay_out_same : (t : Triple) (b : Bool) → MayStayOut hold fail sh n t b ↔ MayStayOut hold' fail' sh n t b
   stay_out_same t true =
       let same = all_same (λ o. fail t.o o.value) (λ o. fail' t.o o.value) (filter (is_forward n t) sh.occs) (λ o c. fails t.o o.value) in

@@ -24,7 +24,8 @@ key_there : (q : Pair) (es : List (Pair × Standing)) → (¬ (standing_in es q 
 key_there q [] said = absurd (said refl)
 key_there q (e ∷ es) said = go (λ h. key_there q es h) (same_pair q e.0) refl said
   where
-    go : ((¬ (standing_in es q ≡ unsaid)) → Contains (map (λ d. d.0) es) q) → (b : Bool) → same_pair q e.0 ≡ b → (¬ (unwrap_or (cond b (Some e.1) (lookup (same_pair q) es)) unsaid ≡ unsaid)) → Contains (e.0 ∷ map (λ d. d.0) es) q
+    go : ((¬ (standing_in es q ≡ unsaid)) → Contains (map (λ d. d.0) es) q) → (b : Bool) → same_pair q e.0 ≡ b →
+        (¬ (unwrap_or (cond b (Some e.1) (lookup (same_pair q) es)) unsaid ≡ unsaid)) → Contains (e.0 ∷ map (λ d. d.0) es) q
     go deeper true same h = subst (λ z. Contains (z ∷ map (λ d. d.0) es) q) (pair_is q e.0 same) (is_first q (map (λ d. d.0) es))
     go deeper false other h = is_later e.0 (map (λ d. d.0) es) q (deeper h)
 

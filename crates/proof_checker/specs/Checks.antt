@@ -73,7 +73,8 @@ pub record IsTrueAs (s : Schema) (old terms : List Term) (g : List Triple) (byte
   pub nodes : List TermId
   pub read : IsReadAs old terms bytes proof nodes
   pub truth : (f : List ℕ) (U : List TermId) (T : List Pair) → IsStratum s f → HoldsLines U terms proof.nodes → HoldsEnds U g → IsTheTyping s terms g f U T → IsTrueProof s terms nodes T proof
-  pub replies : (f : List ℕ) (U : List TermId) (T : List Pair) → IsStratum s f → HoldsLines U terms proof.nodes → HoldsEnds U g → IsTheTyping s terms g f U T → (a : Answer) → Contains answers a → IsTrueAnswer s terms T a
+  pub replies : (f : List ℕ) (U : List TermId) (T : List Pair) → IsStratum s f → HoldsLines U terms proof.nodes → HoldsEnds U g → IsTheTyping s terms g f U T →
+      (a : Answer) → Contains answers a → IsTrueAnswer s terms T a
 
 -- the bytes are the text of a proof that names other files than these, and this part is the first whose digests differ
 pub record IsStaleFor (files : Digests) (bytes : List ℕ) (part : Part) : Type 0 where

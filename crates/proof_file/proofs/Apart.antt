@@ -79,7 +79,8 @@ target_same (Targets.Label (Labels.Blank a)) Targets.Start e = absurd (omega (ar
 target_same (Targets.Label (Labels.Iri a)) (Targets.Label (Labels.Iri b)) e = ap (λ z. Targets.Label (Labels.Iri z)) (iri_same a b e)
 target_same (Targets.Label (Labels.Iri a)) (Targets.Label (Labels.Blank b)) e = absurd (omega (arith, ap (λ z. get_or z 0 0) e))
 target_same (Targets.Label (Labels.Blank a)) (Targets.Label (Labels.Iri b)) e = absurd (omega (arith, ap (λ z. get_or z 0 0) e))
-target_same (Targets.Label (Labels.Blank a)) (Targets.Label (Labels.Blank b)) e = ap (λ z. Targets.Label (Labels.Blank z)) (encodes_same a b (append_cancel_left (codes "_:") (encode_utf8_all a) (encode_utf8_all b) e))
+target_same (Targets.Label (Labels.Blank a)) (Targets.Label (Labels.Blank b)) e = ap (λ z. Targets.Label (Labels.Blank z))
+    (encodes_same a b (append_cancel_left (codes "_:") (encode_utf8_all a) (encode_utf8_all b) e))
 
 no_letter : (n : ℕ) → IsNumber n → decimal n ≡ 114 ∷ [] → ⊥
 no_letter n h e =
@@ -330,7 +331,8 @@ passes_head f digest strata None ls = refl
 passes_head f digest strata (Some h) ls =
     ap f (head_first h ls) ∙ digest Parts.Schema h.files.schema _ ∙ imports h.files.imports ∙ digest Parts.Data h.files.graph _ ∙ strata h.strata ls
   where
-    imports : (is : List Digest256) → f (map (λ d. Lines.Digest Parts.Import d) is ++ (Lines.Digest Parts.Data h.files.graph ∷ Lines.Strata h.strata ∷ ls)) ≡ f (Lines.Digest Parts.Data h.files.graph ∷ Lines.Strata h.strata ∷ ls)
+    imports : (is : List Digest256) →
+        f (map (λ d. Lines.Digest Parts.Import d) is ++ (Lines.Digest Parts.Data h.files.graph ∷ Lines.Strata h.strata ∷ ls)) ≡ f (Lines.Digest Parts.Data h.files.graph ∷ Lines.Strata h.strata ∷ ls)
     imports [] = refl
     imports (i ∷ is) = digest Parts.Import i _ ∙ imports is
 
@@ -470,7 +472,8 @@ pub only_text : (p q : Proof) (a b tail : List ℕ) → ProofText p a → ProofT
 only_text p q a b tail h k e =
     let inner : lines_text (lines_of q) ++ (last_line ++ []) ≡ lines_text (lines_of p) ++ (last_line ++ tail) =
     (first_same q.head p.head (lines_text (lines_of q) ++ last_line) (lines_text (lines_of p) ++ (last_line ++ tail))
-    (sym k.spelled ∙ e ∙ ap (λ z. z ++ tail) h.spelled ∙ append_assoc (first_line p.head) (lines_text (lines_of p) ++ last_line) tail ∙ ap (λ z. first_line p.head ++ z) (append_assoc (lines_text (lines_of p)) last_line tail))).1 in
+    (sym k.spelled ∙ e ∙ ap (λ z. z ++ tail) h.spelled ∙ append_assoc (first_line p.head) (lines_text (lines_of p) ++ last_line) tail
+    ∙ ap (λ z. first_line p.head ++ z) (append_assoc (lines_text (lines_of p)) last_line tail))).1 in
     let found = prefix (lines_of p) (lines_of q) [] (last_line ++ tail) (good_lines p a h) (good_lines q b k) inner in
     by found.0 found.1.0 (all_back IsGood (lines_of p) found.0 (subst (AllByRecursion IsGood) found.1.0 (good_lines q b k))) found.1.1
   where

@@ -107,7 +107,8 @@ plus_part text rest is (Lines.Record r) h e = by r.kind refl
   where
     by : (k : RecordKind) → r.kind ≡ k → (r : Record) × (IsPlus r × (fields 32 rest ≡ record_fields r))
     by (Plus ps) kind =
-        let same : rest ≡ join_with_byte 32 (record_fields r) = tail_two 43 32 rest (join_with_byte 32 (record_fields r)) (sym is ∙ e ∙ ap (λ k. kind_mark k ++ join_with_byte 32 (record_fields r)) kind) in
+        let same : rest ≡ join_with_byte 32 (record_fields r) = tail_two 43 32 rest (join_with_byte 32 (record_fields r))
+        (sym is ∙ e ∙ ap (λ k. kind_mark k ++ join_with_byte 32 (record_fields r)) kind) in
         (r, ((h.0, subst IsPlusKind (sym kind) tt), ap (fields 32) same ∙ record_cut r h.0))
     by (Minus rank xs) kind = absurd (omega (arith, ap (λ z. get_or z 0 0) (sym is ∙ e ∙ ap (λ k. kind_mark k ++ join_with_byte 32 (record_fields r)) kind)))
 
@@ -132,7 +133,8 @@ minus_part text rest is (Lines.Record r) h e = by r.kind refl
     by : (k : RecordKind) → r.kind ≡ k → (r : Record) × (IsMinus r × (fields 32 rest ≡ record_fields r))
     by (Plus ps) kind = absurd (omega (arith, ap (λ z. get_or z 0 0) (sym is ∙ e ∙ ap (λ k. kind_mark k ++ join_with_byte 32 (record_fields r)) kind)))
     by (Minus rank xs) kind =
-        let same : rest ≡ join_with_byte 32 (record_fields r) = tail_two 45 32 rest (join_with_byte 32 (record_fields r)) (sym is ∙ e ∙ ap (λ k. kind_mark k ++ join_with_byte 32 (record_fields r)) kind) in
+        let same : rest ≡ join_with_byte 32 (record_fields r) = tail_two 45 32 rest (join_with_byte 32 (record_fields r))
+        (sym is ∙ e ∙ ap (λ k. kind_mark k ++ join_with_byte 32 (record_fields r)) kind) in
         (r, ((h.0, subst IsMinusKind (sym kind) tt), ap (fields 32) same ∙ record_cut r h.0))
 
 pub minus_stops : (text rest : List ℕ) (e : Stop) → text ≡ codes "- " ++ rest → Reads record_fields IsMinus (fields 32 rest) (Err e) → Reads line_text IsWholeLine text (Err e)

@@ -14,7 +14,8 @@ draft_begins r d bytes (same, inl past) h k = (behind no_lines, (past, h))
 draft_begins r d bytes (same, inr (inl read)) h k = (heading opened, (read, k))
 draft_begins r d bytes (same, inr (inr fault)) h k = (failed 0, (fault, tt))
 
-pub draft_grows : (w : Where) (old new : Reader) (l : Line) (d e : Draft) → Goes w old new (Nexts.Line l) → IsDraftAt d w → ((h : Heading) (w : Where) → IsHeadingDraft d h → Leads l h w → IsDraftAt e w) → ((p q : Proof) → IsDraft d p → Grows p l q → IsDraft e q) →
+pub draft_grows : (w : Where) (old new : Reader) (l : Line) (d e : Draft) → Goes w old new (Nexts.Line l) → IsDraftAt d w →
+    ((h : Heading) (w : Where) → IsHeadingDraft d h → Leads l h w → IsDraftAt e w) → ((p q : Proof) → IsDraft d p → Grows p l q → IsDraft e q) →
     (w : Where) × (Stands new w × IsDraftAt e w)
 draft_grows (heading k) old new l d e (w, (leads, stands)) h lead add = (w, (stands, lead k w h leads))
 draft_grows (behind p) old new l d e (q, (grows, past)) h lead add = (behind q, (past, add p q h grows))

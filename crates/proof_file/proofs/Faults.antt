@@ -103,7 +103,8 @@ utf8_strata : (ns : List ℕ) → AllByRecursion IsNumber ns → IsUtf8 (flat_ma
 unfolding encode
 utf8_strata [] h = ([], (refl, refl))
 utf8_strata (n ∷ ns) (h, hs) =
-    IsUtf8-append (32 ∷ []) (decimal n ++ flat_map (λ n. 32 ∷ decimal n) ns) (32 ∷ [], (refl, refl)) (IsUtf8-append (decimal n) (flat_map (λ n. 32 ∷ decimal n) ns) (utf8_number n h) (utf8_strata ns hs))
+    IsUtf8-append (32 ∷ []) (decimal n ++ flat_map (λ n. 32 ∷ decimal n) ns) (32 ∷ [], (refl, refl))
+    (IsUtf8-append (decimal n) (flat_map (λ n. 32 ∷ decimal n) ns) (utf8_number n h) (utf8_strata ns hs))
 
 pub utf8_line : (l : Line) → IsGood l → IsUtf8 (line_text l)
 unfolding encode
@@ -140,8 +141,10 @@ ended_lines a (l ∷ ls) =
 abbrev pub IsNone : Option Head → List Line → List ℕ → Type 0
 IsNone head ls line = ¬ IsLast (stage_after (first_stage head) ls) line × ((l : Line) → IsGood l → Follows (stage_after (first_stage head) ls) (last_after [] ls) l → line ≡ line_text l → ⊥)
 
-none_follows : (head : Option Head) (ls : List Line) (q : Proof) (line ys : List ℕ) → AllByRecursion IsGood ls → IsClean 10 line → IsNone head ls line → ProofText q (front_of head ls ++ (ended line ++ ys)) → ⊥
-none_follows head ls q line ys good clean none h = by found.0 found.1.0 (all_back IsGood ls found.0 (subst (AllByRecursion IsGood) found.1.0 (good_lines q (front_of head ls ++ (ended line ++ ys)) h))) found.1.1.0
+none_follows : (head : Option Head) (ls : List Line) (q : Proof) (line ys : List ℕ) → AllByRecursion IsGood ls → IsClean 10 line → IsNone head ls line →
+    ProofText q (front_of head ls ++ (ended line ++ ys)) → ⊥
+none_follows head ls q line ys good clean none h =
+    by found.0 found.1.0 (all_back IsGood ls found.0 (subst (AllByRecursion IsGood) found.1.0 (good_lines q (front_of head ls ++ (ended line ++ ys)) h))) found.1.1.0
   where
     found : (more : List Line) × ((lines_of q ≡ ls ++ more) × ((ended line ++ ys ≡ lines_text more ++ last_line) × (first_stage q.head ≡ first_stage head)))
     found = after_lines head ls q (ended line ++ ys) good h
@@ -177,7 +180,8 @@ front_ended None ls = ended_lines (codes "shex-proof 1") ls
 front_ended (Some h) ls = ended_lines (codes "shex-proof 2") ls
 
 -- the lines begin a text, and the line that comes next, if there is one, is none that may follow
-pub fault_at_line : (p : Proof) (ls left : List Line) (whole rest : List ℕ) (at : ℕ) → ProofText p (text_of p) → lines_of p ≡ ls ++ left → whole ≡ front_of p.head ls ++ rest → length (front_of p.head ls) ≡ at →
+pub fault_at_line : (p : Proof) (ls left : List Line) (whole rest : List ℕ) (at : ℕ) → ProofText p (text_of p) → lines_of p ≡ ls ++ left →
+    whole ≡ front_of p.head ls ++ rest → length (front_of p.head ls) ≡ at →
     ((line more : List ℕ) → IsClean 10 line → rest ≡ ended line ++ more → IsNone p.head ls line) → IsFault whole at
 fault_at_line p ls left whole rest at text begins parts place none = record {
   none = λ q h. nowhere q (subst (ProofText q) parts h);
@@ -201,7 +205,8 @@ fault_at_line p ls left whole rest at text begins parts place none = record {
         found = after_lines p.head ls q rest good h
 
         by : (more : List Line) → AllByRecursion IsGood more → rest ≡ lines_text more ++ last_line → ⊥
-        by [] goods is = none_follows p.head ls q (codes "end") [] good (refl, (refl, (refl, tt))) (none (codes "end") [] (refl, (refl, (refl, tt))) is) (subst (λ z. ProofText q (front_of p.head ls ++ z)) is h)
+        by [] goods is = none_follows p.head ls q (codes "end") [] good (refl, (refl, (refl, tt))) (none (codes "end") [] (refl, (refl, (refl, tt))) is)
+            (subst (λ z. ProofText q (front_of p.head ls ++ z)) is h)
         by (m ∷ more) (goodm, goods) is =
             let split : rest ≡ ended (line_text m) ++ (lines_text more ++ last_line) = is ∙ append_assoc (ended (line_text m)) (lines_text more) last_line in
             none_follows p.head ls q (line_text m) (lines_text more ++ last_line) good (clean_line m goodm) (none (line_text m) (lines_text more ++ last_line) (clean_line m goodm) split)
@@ -241,7 +246,8 @@ no_feed (Lines.Digest p d) h = tt
 no_feed (Lines.Strata ns) h = tt
 no_feed (Lines.Section k) h = tt
 no_feed (Lines.Record r) h = tt
-no_feed (Lines.Claim c) h = not_contained 10 (target_text c.target) (clean_back 10 (codes " ") (target_text c.target) (clean_back 10 (decimal c.node) (codes " " ++ target_text c.target) (clean_back 10 (claim_mark c.holds) (decimal c.node ++ (codes " " ++ target_text c.target)) h)))
+no_feed (Lines.Claim c) h = not_contained 10 (target_text c.target)
+    (clean_back 10 (codes " ") (target_text c.target) (clean_back 10 (decimal c.node) (codes " " ++ target_text c.target) (clean_back 10 (claim_mark c.holds) (decimal c.node ++ (codes " " ++ target_text c.target)) h)))
 
 -- ---- how many lines there are
 

@@ -76,7 +76,8 @@ no_comma : (b : ℕ) → 48 ≤ b → b ≤ 57 → b ≢ 44
 no_comma b h k e = omega arith
 
 -- the counts of a state
-pub counts_left : (o : Option (Bor (List ℕ))) (text : List ℕ) (ns : List ℕ) → IsGiven o text → AllByRecursion IsNumber ns → text ≡ join_with_byte 44 (map decimal ns) → fields_left 44 o ≡ map decimal ns
+pub counts_left : (o : Option (Bor (List ℕ))) (text : List ℕ) (ns : List ℕ) → IsGiven o text → AllByRecursion IsNumber ns →
+    text ≡ join_with_byte 44 (map decimal ns) → fields_left 44 o ≡ map decimal ns
 counts_left None text [] given h e = refl
 counts_left None text (n ∷ ns) given (h, hs) e =
     let some : 0 < length (decimal n) = decimal_nonempty n (omega arith) in
@@ -108,7 +109,8 @@ pub done_stops : (field : List ℕ) (r : Option (Bor (List ℕ) × Bor (List ℕ
     Reads decimal IsNumber p.0.now (Err e) → Reads state_text IsState field (Err e)
 done_stops field r p e h is = blames decimal IsNumber p.0.now state_text IsState field e (λ x good k. (x.done, (good.0, (state_is field r p h is x good k).0)))
 
-pub counts_stop : (field : List ℕ) (r : Option (Bor (List ℕ) × Bor (List ℕ))) (p : Bor (List ℕ) × Bor (List ℕ)) (o : Option (Bor (List ℕ))) (e : Stop) → IsSplitOnceResult 58 field r → r ≡ Some p → IsGiven o p.1.now →
+pub counts_stop : (field : List ℕ) (r : Option (Bor (List ℕ) × Bor (List ℕ))) (p : Bor (List ℕ) × Bor (List ℕ)) (o : Option (Bor (List ℕ))) (e : Stop) →
+    IsSplitOnceResult 58 field r → r ≡ Some p → IsGiven o p.1.now →
     Reads (λ ns. map decimal ns) (AllByRecursion IsNumber) (fields_left 44 o) (Err e) → Reads state_text IsState field (Err e)
 counts_stop field r p o e h is given = blames (λ ns. map decimal ns) (AllByRecursion IsNumber) (fields_left 44 o) state_text IsState field e
     (λ x good k. (x.counts, (good.1, counts_left o p.1.now x.counts given good.1 (state_is field r p h is x good k).1)))
@@ -116,5 +118,6 @@ counts_stop field r p o e h is given = blames (λ ns. map decimal ns) (AllByRecu
 pub state_found : (field : List ℕ) (r : Option (Bor (List ℕ) × Bor (List ℕ))) (p : Bor (List ℕ) × Bor (List ℕ)) (o : Option (Bor (List ℕ))) (n : ℕ) (ns : List ℕ) →
     IsSplitOnceResult 58 field r → r ≡ Some p → IsGiven o p.1.now → p.0.now ≡ decimal n → fields_left 44 o ≡ map decimal ns → field ≡ decimal n ++ (58 ∷ join_with_byte 44 (map decimal ns))
 state_found field r p o n ns h is given done counts =
-    (subst (λ q. MatchOption q ((i : ℕ) → i < length field → get_or field i 0 ≢ 58) (λ x. (field ≡ x.0.now ++ (58 ∷ x.1.now)) × ((i : ℕ) → i < length x.0.now → get_or x.0.now i 0 ≢ 58))) is (split_parts 58 field r h (lit< tt))).0
+    (subst (λ q. MatchOption q ((i : ℕ) → i < length field → get_or field i 0 ≢ 58) (λ x. (field ≡ x.0.now ++ (58 ∷ x.1.now)) ×
+    ((i : ℕ) → i < length x.0.now → get_or x.0.now i 0 ≢ 58))) is (split_parts 58 field r h (lit< tt))).0
     ∙ ap (λ z. z ++ 58 ∷ p.1.now) done ∙ ap (λ z. decimal n ++ 58 ∷ z) (counts_text o p.1.now ns given counts)

@@ -71,7 +71,8 @@ sections_run stage last may claims x above (s ∷ ss) cs (h, hs) (k, ks) =
           (λ n t. sections_run (Stages.Record s.stratum n t) last tt (λ c. tt) s (λ j lt. lt) ss cs hs ks),
     )
 
-later_run : (n : ℕ) (last : List ℕ) (ss : List Section) (cs : List Claim) → Rises IsSectionBefore ss → AllByRecursion (λ x. Rises IsRecordBefore x.records) ss → Runs (Stages.Nodes n) last (later ss cs)
+later_run : (n : ℕ) (last : List ℕ) (ss : List Section) (cs : List Claim) → Rises IsSectionBefore ss → AllByRecursion (λ x. Rises IsRecordBefore x.records) ss →
+    Runs (Stages.Nodes n) last (later ss cs)
 later_run n last [] cs h k = claims_run (Stages.Nodes n) last tt (λ c. tt) cs
 later_run n last (s ∷ ss) cs h (k, ks) =
     subst (Runs (Stages.Nodes n) last) (sym (later_first s ss cs)) (
@@ -136,7 +137,8 @@ pub record Grown (p : Proof) (stage : Stage) (last : List ℕ) (l : Line) : Type
   pub fits : Fits whole stage last
   pub lines : lines_of whole ≡ lines_of p ++ l ∷ []
 
-node_grows : (p : Proof) (n : ℕ) (last : List ℕ) (t : Term) → Keeps p → Fits p (Stages.Nodes n) last → IsLine (Lines.Node t) → Follows (Stages.Nodes n) last (Lines.Node t) → Grown p (Stages.Nodes (suc n)) (line_text (Lines.Node t)) (Lines.Node t)
+node_grows : (p : Proof) (n : ℕ) (last : List ℕ) (t : Term) → Keeps p → Fits p (Stages.Nodes n) last → IsLine (Lines.Node t) →
+    Follows (Stages.Nodes n) last (Lines.Node t) → Grown p (Stages.Nodes (suc n)) (line_text (Lines.Node t)) (Lines.Node t)
 node_grows p n last t keeps (sections, (claims, (count, more))) good (few, above) = record {
   whole = record { head = p.head; nodes = p.nodes ++ t ∷ []; sections = []; claims = [] };
   grows = node t sections claims;
@@ -169,17 +171,20 @@ lines_with ns ss = map (λ t. Lines.Node t) ns ++ flat_map section_lines ss
 
 without_claims : (p : Proof) → p.claims ≡ [] → body_lines p ≡ lines_with p.nodes p.sections
 unfolding lines_with
-without_claims p e = ap (λ z. map (λ t. Lines.Node t) p.nodes ++ (flat_map section_lines p.sections ++ map (λ c. Lines.Claim c) z)) e ∙ ap (λ z. map (λ t. Lines.Node t) p.nodes ++ z) (nil_end (flat_map section_lines p.sections))
+without_claims p e = ap (λ z. map (λ t. Lines.Node t) p.nodes ++ (flat_map section_lines p.sections ++ map (λ c. Lines.Claim c) z)) e
+    ∙ ap (λ z. map (λ t. Lines.Node t) p.nodes ++ z) (nil_end (flat_map section_lines p.sections))
   where
     nil_end : {X : Type 0} (xs : List X) → xs ++ [] ≡ xs
     nil_end [] = refl
     nil_end (x ∷ xs) = ap (λ z. x ∷ z) (nil_end xs)
 
 -- one more line of the last section
-line_more : (ns : List Term) (front : List Section) (x y : Section) (l : Line) → section_lines y ≡ section_lines x ++ l ∷ [] → lines_with ns (front ++ y ∷ []) ≡ lines_with ns (front ++ x ∷ []) ++ l ∷ []
+line_more : (ns : List Term) (front : List Section) (x y : Section) (l : Line) → section_lines y ≡ section_lines x ++ l ∷ [] →
+    lines_with ns (front ++ y ∷ []) ≡ lines_with ns (front ++ x ∷ []) ++ l ∷ []
 unfolding lines_with
 line_more ns front x y l e =
-    ap (λ z. map (λ t. Lines.Node t) ns ++ z) (flat_map-append section_lines front (y ∷ []) ∙ ap (λ z. flat_map section_lines front ++ z) (nil_end (section_lines y) ∙ e ∙ ap (λ z. z ++ l ∷ []) (sym (nil_end (section_lines x))))
+    ap (λ z. map (λ t. Lines.Node t) ns ++ z) (flat_map-append section_lines front (y ∷ [])
+    ∙ ap (λ z. flat_map section_lines front ++ z) (nil_end (section_lines y) ∙ e ∙ ap (λ z. z ++ l ∷ []) (sym (nil_end (section_lines x))))
     ∙ sym (append_assoc (flat_map section_lines front) (flat_map section_lines (x ∷ [])) (l ∷ [])) ∙ ap (λ z. z ++ l ∷ []) (sym (flat_map-append section_lines front (x ∷ []))))
     ∙ sym (append_assoc (map (λ t. Lines.Node t) ns) (flat_map section_lines (front ++ x ∷ [])) (l ∷ []))
   where
@@ -189,9 +194,11 @@ line_more ns front x y l e =
 
 section_more : (ns : List Term) (ss : List Section) (k : ℕ) → lines_with ns (ss ++ record { stratum = k; records = [] } ∷ []) ≡ lines_with ns ss ++ Lines.Section k ∷ []
 unfolding lines_with
-section_more ns ss k = ap (λ z. map (λ t. Lines.Node t) ns ++ z) (flat_map-append section_lines ss (record { stratum = k; records = [] } ∷ [])) ∙ sym (append_assoc (map (λ t. Lines.Node t) ns) (flat_map section_lines ss) (Lines.Section k ∷ []))
+section_more ns ss k = ap (λ z. map (λ t. Lines.Node t) ns ++ z) (flat_map-append section_lines ss (record { stratum = k; records = [] } ∷ []))
+    ∙ sym (append_assoc (map (λ t. Lines.Node t) ns) (flat_map section_lines ss) (Lines.Section k ∷ []))
 
-section_grows : (p : Proof) (last : List ℕ) (k : ℕ) → Keeps p → p.claims ≡ [] → Rises IsSectionBefore (p.sections ++ record { stratum = k; records = [] } ∷ []) → IsLine (Lines.Section k) → Grown p (Stages.Section k) last (Lines.Section k)
+section_grows : (p : Proof) (last : List ℕ) (k : ℕ) → Keeps p → p.claims ≡ [] →
+    Rises IsSectionBefore (p.sections ++ record { stratum = k; records = [] } ∷ []) → IsLine (Lines.Section k) → Grown p (Stages.Section k) last (Lines.Section k)
 section_grows p last k keeps claims rises good = record {
   whole = record { head = p.head; nodes = p.nodes; sections = p.sections ++ record { stratum = k; records = [] } ∷ []; claims = [] };
   grows = section k claims;
@@ -215,7 +222,8 @@ section_grows p last k keeps claims rises good = record {
   where
     lines : lines_of (record { head = p.head; nodes = p.nodes; sections = p.sections ++ record { stratum = k; records = [] } ∷ []; claims = [] }) ≡ lines_of p ++ Lines.Section k ∷ []
     lines = behind_head p.head _ (body_lines p) (Lines.Section k)
-        (without_claims (record { head = p.head; nodes = p.nodes; sections = p.sections ++ record { stratum = k; records = [] } ∷ []; claims = [] }) refl ∙ section_more p.nodes p.sections k ∙ ap (λ z. z ++ Lines.Section k ∷ []) (sym (without_claims p claims)))
+        (without_claims (record { head = p.head; nodes = p.nodes; sections = p.sections ++ record { stratum = k; records = [] } ∷ []; claims = [] }) refl
+        ∙ section_more p.nodes p.sections k ∙ ap (λ z. z ++ Lines.Section k ∷ []) (sym (without_claims p claims)))
 
 claim_grows : (p : Proof) (last : List ℕ) (c : Claim) → Keeps p → IsLine (Lines.Claim c) → Grown p Stages.Claims last (Lines.Claim c)
 claim_grows p last c keeps good = record {
@@ -233,11 +241,13 @@ claim_grows p last c keeps good = record {
 }
   where
     lines : lines_of (record { head = p.head; nodes = p.nodes; sections = p.sections; claims = p.claims ++ c ∷ [] }) ≡ lines_of p ++ Lines.Claim c ∷ []
-    lines = behind_head p.head _ (body_lines p) (Lines.Claim c) (ap (λ z. map (λ t. Lines.Node t) p.nodes ++ (flat_map section_lines p.sections ++ z)) (map-append (λ c. Lines.Claim c) p.claims (c ∷ []))
+    lines = behind_head p.head _ (body_lines p) (Lines.Claim c)
+        (ap (λ z. map (λ t. Lines.Node t) p.nodes ++ (flat_map section_lines p.sections ++ z)) (map-append (λ c. Lines.Claim c) p.claims (c ∷ []))
         ∙ ap (λ z. map (λ t. Lines.Node t) p.nodes ++ z) (sym (append_assoc (flat_map section_lines p.sections) (map (λ c. Lines.Claim c) p.claims) (Lines.Claim c ∷ [])))
         ∙ sym (append_assoc (map (λ t. Lines.Node t) p.nodes) (flat_map section_lines p.sections ++ map (λ c. Lines.Claim c) p.claims) (Lines.Claim c ∷ [])))
 
-entry_grows : (p : Proof) (last : List ℕ) (k : ℕ) (Next : Record → Type 0) (r : Record) → Keeps p → InSection p k Next → Next r → IsLine (Lines.Record r) → Grown p (Stages.Record k r.node r.shape) last (Lines.Record r)
+entry_grows : (p : Proof) (last : List ℕ) (k : ℕ) (Next : Record → Type 0) (r : Record) → Keeps p → InSection p k Next → Next r → IsLine (Lines.Record r) →
+    Grown p (Stages.Record k r.node r.shape) last (Lines.Record r)
 entry_grows p last k Next r keeps inside next good = record {
   whole = record { head = p.head; nodes = p.nodes; sections = inside.front ++ record { stratum = k; records = inside.records ++ r ∷ [] } ∷ []; claims = [] };
   grows = entry r inside.front k inside.records inside.claims inside.sections;
@@ -262,10 +272,13 @@ entry_grows p last k Next r keeps inside next good = record {
 }
   where
     rises : Rises IsSectionBefore (inside.front ++ record { stratum = k; records = inside.records ++ r ∷ [] } ∷ [])
-    rises = last_section inside.front (record { stratum = k; records = inside.records }) (record { stratum = k; records = inside.records ++ r ∷ [] }) refl (subst (Rises IsSectionBefore) inside.sections keeps.sections)
+    rises = last_section inside.front (record { stratum = k; records = inside.records })
+        (record { stratum = k; records = inside.records ++ r ∷ [] }) refl (subst (Rises IsSectionBefore) inside.sections keeps.sections)
 
-    lines : lines_of (record { head = p.head; nodes = p.nodes; sections = inside.front ++ record { stratum = k; records = inside.records ++ r ∷ [] } ∷ []; claims = [] }) ≡ lines_of p ++ Lines.Record r ∷ []
-    lines = behind_head p.head _ (body_lines p) (Lines.Record r) (without_claims (record { head = p.head; nodes = p.nodes; sections = inside.front ++ record { stratum = k; records = inside.records ++ r ∷ [] } ∷ []; claims = [] }) refl
+    lines : lines_of (record { head = p.head; nodes = p.nodes; sections = inside.front ++ record { stratum = k; records = inside.records ++ r ∷ [] } ∷ []; claims = [] }) ≡
+        lines_of p ++ Lines.Record r ∷ []
+    lines = behind_head p.head _ (body_lines p) (Lines.Record r)
+        (without_claims (record { head = p.head; nodes = p.nodes; sections = inside.front ++ record { stratum = k; records = inside.records ++ r ∷ [] } ∷ []; claims = [] }) refl
         ∙ line_more p.nodes inside.front (record { stratum = k; records = inside.records }) (record { stratum = k; records = inside.records ++ r ∷ [] }) (Lines.Record r)
         (ap (λ z. Lines.Section k ∷ z) (map-append (λ r. Lines.Record r) inside.records (r ∷ [])))
         ∙ ap (λ z. z ++ Lines.Record r ∷ []) (sym (without_claims p inside.claims ∙ ap (lines_with p.nodes) inside.sections)))

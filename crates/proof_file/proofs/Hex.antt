@@ -108,7 +108,8 @@ byte_at (b ∷ bytes) zero (h, hs) lt = h
 byte_at (b ∷ bytes) (suc i) (h, hs) lt = byte_at bytes i hs (omega arith)
 
 -- two digits that are those of no byte stand in no digest
-pub no_digest : (text : List ℕ) (i : ℕ) → i < 32 → ((n : ℕ) → n < 256 → ¬ (get_or text (2 * i) 0 ∷ get_or text (2 * i + 1) 0 ∷ [] ≡ hex_text n)) → (d : Digest256) → IsDigest d → text ≡ digest_text d → ⊥
+pub no_digest : (text : List ℕ) (i : ℕ) → i < 32 → ((n : ℕ) → n < 256 → ¬ (get_or text (2 * i) 0 ∷ get_or text (2 * i + 1) 0 ∷ [] ≡ hex_text n)) →
+    (d : Digest256) → IsDigest d → text ≡ digest_text d → ⊥
 no_digest text i lt none d good e =
     let within : i < length d.0 = omega (arith, good.0) in
     none (get_or d.0 i 0) (byte_at d.0 i good.1 within) (ap (λ z. get_or z (2 * i) 0 ∷ get_or z (2 * i + 1) 0 ∷ []) e ∙ digits_at d.0 i within)

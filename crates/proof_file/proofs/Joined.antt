@@ -55,9 +55,11 @@ sections_written (x ∷ xs) = ap (λ z. lines_text (section_lines x) ++ z) (sect
 
 -- the lines of a head, one after another, and what follows them
 pub head_first : (h : Head) (ls : List Line) →
-    head_lines (Some h) ++ ls ≡ Lines.Digest Parts.Schema h.files.schema ∷ (map (λ d. Lines.Digest Parts.Import d) h.files.imports ++ (Lines.Digest Parts.Data h.files.graph ∷ Lines.Strata h.strata ∷ ls))
+    head_lines (Some h) ++ ls ≡
+    Lines.Digest Parts.Schema h.files.schema ∷ (map (λ d. Lines.Digest Parts.Import d) h.files.imports ++ (Lines.Digest Parts.Data h.files.graph ∷ Lines.Strata h.strata ∷ ls))
 head_first h ls =
-    ap (λ z. Lines.Digest Parts.Schema h.files.schema ∷ z) (append_assoc (map (λ d. Lines.Digest Parts.Import d) h.files.imports) (Lines.Digest Parts.Data h.files.graph ∷ Lines.Strata h.strata ∷ []) ls)
+    ap (λ z. Lines.Digest Parts.Schema h.files.schema ∷ z)
+    (append_assoc (map (λ d. Lines.Digest Parts.Import d) h.files.imports) (Lines.Digest Parts.Data h.files.graph ∷ Lines.Strata h.strata ∷ []) ls)
 
 -- what `push_head` appends is the lines of the head
 pub head_written : (h : Head) →
@@ -84,7 +86,8 @@ proof_written p =
     ∙ sym (append_assoc (lines_text (head_lines p.head)) (lines_text (body_lines p)) last_line)
     ∙ ap (λ z. z ++ last_line) (sym (flat_map-append (λ l. ended (line_text l)) (head_lines p.head) (body_lines p))))
   where
-    inner : flat_map (λ x. lines_text (section_lines x)) p.sections ++ flat_map (λ c. ended (line_text (Lines.Claim c))) p.claims ≡ lines_text (flat_map section_lines p.sections ++ map (λ c. Lines.Claim c) p.claims)
+    inner : flat_map (λ x. lines_text (section_lines x)) p.sections ++ flat_map (λ c. ended (line_text (Lines.Claim c))) p.claims ≡
+        lines_text (flat_map section_lines p.sections ++ map (λ c. Lines.Claim c) p.claims)
     inner = ap (λ z. z ++ flat_map (λ c. ended (line_text (Lines.Claim c))) p.claims) (sections_written p.sections)
         ∙ ap (λ z. lines_text (flat_map section_lines p.sections) ++ z) (lines_written (λ c. Lines.Claim c) p.claims)
         ∙ sym (flat_map-append (λ l. ended (line_text l)) (flat_map section_lines p.sections) (map (λ c. Lines.Claim c) p.claims))

@@ -22,7 +22,8 @@ pub digit_of : (n i : ℕ) → IsNumber n → i < length (decimal n) → (48 ≤
 digit_of n i h lt = digit_at (decimal n) i (digits_decimal own n (omega arith)) lt
 
 -- a text up to the first separator, and what follows it
-pub cut_fields : (c : ℕ) (bs : List ℕ) (r : Option (Bor (List ℕ) × Bor (List ℕ))) → IsSplitOnceResult c bs r → c < 128 → MatchOption r (fields c bs ≡ bs ∷ []) (λ x. fields c bs ≡ x.0.now ∷ fields c x.1.now)
+pub cut_fields : (c : ℕ) (bs : List ℕ) (r : Option (Bor (List ℕ) × Bor (List ℕ))) → IsSplitOnceResult c bs r → c < 128 →
+    MatchOption r (fields c bs ≡ bs ∷ []) (λ x. fields c bs ≡ x.0.now ∷ fields c x.1.now)
 cut_fields c bs None h lt =
     let all : position_or_len (λ b. b == c) bs ≡ length bs = split_once_first c bs None h lt in
     slice_split_none (λ b. b == c) bs (λ k d within. fails_before_first (λ b. b == c) bs k d (omega arith))

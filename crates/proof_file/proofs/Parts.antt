@@ -42,7 +42,8 @@ claim_parts holds text r h c good e = split_after 32 text (decimal c.node) (targ
 pub no_claim : (holds : Bool) (text : List ℕ) (r : Option (Bor (List ℕ) × Bor (List ℕ))) → IsSplitOnceResult 32 text r → r ≡ None → (c : Claim) → IsClaim holds c → text ≡ claim_rest c → ⊥
 no_claim holds text r h is c good e = subst (λ o. MatchOption o ⊥ (λ p. (p.0.now ≡ decimal c.node) × (p.1.now ≡ target_text c.target))) is (claim_parts holds text r h c good e)
 
-claim_is : (holds : Bool) (text : List ℕ) (r : Option (Bor (List ℕ) × Bor (List ℕ))) (p : Bor (List ℕ) × Bor (List ℕ)) → IsSplitOnceResult 32 text r → r ≡ Some p → (c : Claim) → IsClaim holds c → text ≡ claim_rest c →
+claim_is : (holds : Bool) (text : List ℕ) (r : Option (Bor (List ℕ) × Bor (List ℕ))) (p : Bor (List ℕ) × Bor (List ℕ)) → IsSplitOnceResult 32 text r →
+    r ≡ Some p → (c : Claim) → IsClaim holds c → text ≡ claim_rest c →
     (p.0.now ≡ decimal c.node) × (p.1.now ≡ target_text c.target)
 claim_is holds text r p h is c good e = subst (λ o. MatchOption o ⊥ (λ p. (p.0.now ≡ decimal c.node) × (p.1.now ≡ target_text c.target))) is (claim_parts holds text r h c good e)
 
@@ -58,7 +59,8 @@ target_stops holds text r p e h is = blames target_text IsTextTarget p.1.now cla
 
 pub places_stop : (fs : List (List ℕ)) (node shape : List ℕ) (source : List (List ℕ)) (e : Stop) → fs ≡ node ∷ shape ∷ source →
     Reads (λ ps. map place_text ps) (AllByRecursion IsPlace) source (Err e) → Reads record_fields IsPlus fs (Err e)
-places_stop fs node shape source e is = blames (λ ps. map place_text ps) (AllByRecursion IsPlace) source record_fields IsPlus fs e (λ r good k. part r.kind good.0.1.1 good.1 (cons_tail _ _ _ _ (cons_tail _ _ _ _ (sym is ∙ k))))
+places_stop fs node shape source e is = blames (λ ps. map place_text ps)
+    (AllByRecursion IsPlace) source record_fields IsPlus fs e (λ r good k. part r.kind good.0.1.1 good.1 (cons_tail _ _ _ _ (cons_tail _ _ _ _ (sym is ∙ k))))
   where
     part : (k : RecordKind) → IsKind k → IsPlusKind k → source ≡ kind_fields k → (ps : List Place) × (AllByRecursion IsPlace ps × (source ≡ map place_text ps))
     part (Plus ps) good plus e = (ps, (good, e))
@@ -121,7 +123,8 @@ states_same (x ∷ xs) (y ∷ ys) (h, hs) (k, ks) e =
     let b = states_same xs ys hs ks (cons_tail (state_text x) (state_text y) (map state_text xs) (map state_text ys) e) in
     λ i. a i ∷ b i
 
-pub not_rising : (fs : List (List ℕ)) (node shape rank : List ℕ) (source : List (List ℕ)) (xs : List State) → fs ≡ node ∷ shape ∷ rank ∷ source → source ≡ map state_text xs → AllByRecursion IsState xs → ¬ (Rises IsStateBefore xs) →
+pub not_rising : (fs : List (List ℕ)) (node shape rank : List ℕ) (source : List (List ℕ)) (xs : List State) → fs ≡ node ∷ shape ∷ rank ∷ source →
+    source ≡ map state_text xs → AllByRecursion IsState xs → ¬ (Rises IsStateBefore xs) →
     (r : Record) → IsMinus r → fs ≡ record_fields r → ⊥
 not_rising fs node shape rank source xs is made states falls r good e = part r.kind good.0.1.1 good.1 (cons_tail _ _ _ _ (cons_tail _ _ _ _ (sym is ∙ e)))
   where

@@ -249,7 +249,8 @@ module _ (x : Setting) (p : Proof) (loaded : IsLoaded x.schema) (accepted : AreA
         let all = true_to (top_of f) T complete in
         ((λ q c. all.ins q c (level_top f q.shape.0)), λ q c. all.outs q c (level_top f q.pair.shape.0))
 
-    claim_true : (T : List Pair) → IsTheTyping x.schema x.terms x.graph f U T → (c : Claim) (y : Option TermId) → slice_get x.nodes c.node ≡ y → PassesClaim x p c y → IsTrueClaim x.schema x.terms x.nodes T c
+    claim_true : (T : List Pair) → IsTheTyping x.schema x.terms x.graph f U T → (c : Claim) (y : Option TermId) → slice_get x.nodes c.node ≡ y →
+        PassesClaim x p c y → IsTrueClaim x.schema x.terms x.nodes T c
     claim_true T complete c None is h = absurd h
     claim_true T complete c (Some n) is (e, target, sure) = record { node = n; is_node = is; expr = e; is_target = target; says = says c.holds sure }
       where

@@ -57,7 +57,8 @@ no_line_cut xs e =
 pub stuck_none : (stage : Stage) (last rest : List ℕ) → HasNoEnd rest → IsStuck stage last rest
 stuck_none stage last rest clean = λ line more h e. absurd (true≢false (sym (eq-eqb 10 10 refl) ∙ (all_back (λ b. (b == 10) ≡ false) line (10 ∷ more) (subst HasNoEnd e clean)).0))
 
-pub stuck_line : (stage : Stage) (last rest text more : List ℕ) → rest ≡ text ++ 10 ∷ more → HasNoEnd text → ¬ IsLast stage text → ((l : Line) → IsNext stage last l → ¬ (text ≡ line_text l)) → IsStuck stage last rest
+pub stuck_line : (stage : Stage) (last rest text more : List ℕ) → rest ≡ text ++ 10 ∷ more → HasNoEnd text → ¬ IsLast stage text →
+    ((l : Line) → IsNext stage last l → ¬ (text ≡ line_text l)) → IsStuck stage last rest
 stuck_line stage last rest text more is clean end none = λ line after h e.
     let same : line ≡ text = (once 10 line text after more h clean (sym e ∙ is)).0 in
     ((λ ends. end (sym same ∙ ends.0, ends.1)), λ l next reads. none l next (sym same ∙ reads))
@@ -65,7 +66,8 @@ stuck_line stage last rest text more is clean end none = λ line after h e.
 -- ---- a line more
 
 -- the bytes begin with one more line
-text_more : (head : Option Head) (ls more : List Line) (l : Line) (whole rest : List ℕ) → whole ≡ front_of head ls ++ (line_text l ++ 10 ∷ rest) → more ≡ ls ++ l ∷ [] → whole ≡ front_of head more ++ rest
+text_more : (head : Option Head) (ls more : List Line) (l : Line) (whole rest : List ℕ) → whole ≡ front_of head ls ++ (line_text l ++ 10 ∷ rest) →
+    more ≡ ls ++ l ∷ [] → whole ≡ front_of head more ++ rest
 text_more head ls more l whole rest e is = e ∙ sym grown
   where
     grown : front_of head more ++ rest ≡ front_of head ls ++ (line_text l ++ 10 ∷ rest)
@@ -121,7 +123,8 @@ stuck_at p ls left stage last whole rest text begins parts at is stuck =
       λ l good follows same. k.1 l (good, subst (λ z. Follows z last l) (sym at) (subst (λ z. Follows (stage_after (first_stage p.head) ls) z l) (sym is) follows)) same,
     ))
 
-pub past_stuck : (old : Reader) (p : Proof) (left : List ℕ) → IsPast old p → ((left ≡ old.rest.now) × IsStuck old.stage old.last.now old.rest.now) ⊎ ((old.rest.now ≡ last_line ++ left) × ((0 < length left) × MayEnd old.stage)) →
+pub past_stuck : (old : Reader) (p : Proof) (left : List ℕ) → IsPast old p → ((left ≡ old.rest.now) × IsStuck old.stage old.last.now old.rest.now) ⊎
+    ((old.rest.now ≡ last_line ++ left) × ((0 < length left) × MayEnd old.stage)) →
     IsFault old.whole.now (length old.whole.now - length left)
 past_stuck old p left past (inl (same, stuck)) =
     subst (λ z. IsFault old.whole.now (length old.whole.now - length z)) (sym same)
@@ -148,7 +151,8 @@ headed_text head limits = its_text (headed head) (record {
 
     head_feeds : (head : Option Head) → AllByRecursion HasNoFeed (head_lines head)
     head_feeds None = tt
-    head_feeds (Some h) = (tt, all_append HasNoFeed (map (λ d. Lines.Digest Parts.Import d) h.files.imports) (Lines.Digest Parts.Data h.files.graph ∷ Lines.Strata h.strata ∷ []) (imports_feeds h.files.imports) (tt, (tt, tt)))
+    head_feeds (Some h) =
+        (tt, all_append HasNoFeed (map (λ d. Lines.Digest Parts.Import d) h.files.imports) (Lines.Digest Parts.Data h.files.graph ∷ Lines.Strata h.strata ∷ []) (imports_feeds h.files.imports) (tt, (tt, tt)))
 
 -- a digest, and what a head may have behind the part that is read
 no_digest : Digest256
@@ -173,7 +177,8 @@ completed_lines : (h : Heading) → head_lines (Some (completed h)) ≡ heading_
 unfolding completed left_lines
 completed_lines opened = refl
 completed_lines (importing s is) = refl
-completed_lines (filed files) = sym (ap (λ z. Lines.Digest Parts.Schema files.schema ∷ z) (append_assoc (map (λ d. Lines.Digest Parts.Import d) files.imports) (Lines.Digest Parts.Data files.graph ∷ []) (Lines.Strata [] ∷ [])))
+completed_lines (filed files) =
+    sym (ap (λ z. Lines.Digest Parts.Schema files.schema ∷ z) (append_assoc (map (λ d. Lines.Digest Parts.Import d) files.imports) (Lines.Digest Parts.Data files.graph ∷ []) (Lines.Strata [] ∷ [])))
 
 left_good : (h : Heading) → AllByRecursion IsLine (left_lines h)
 unfolding left_lines
@@ -209,7 +214,8 @@ heading_goes_on (filed files) may = may
 pub heading_unended : (old : Reader) (h : Heading) → IsHeading old h → ¬ MayEnd old.stage
 heading_unended old h read may = heading_goes_on h (subst MayEnd read.stage may)
 
-pub heading_stuck : (old : Reader) (h : Heading) (left : List ℕ) → IsHeading old h → ((left ≡ old.rest.now) × IsStuck old.stage old.last.now old.rest.now) ⊎ ((old.rest.now ≡ last_line ++ left) × ((0 < length left) × MayEnd old.stage)) →
+pub heading_stuck : (old : Reader) (h : Heading) (left : List ℕ) → IsHeading old h → ((left ≡ old.rest.now) × IsStuck old.stage old.last.now old.rest.now) ⊎
+    ((old.rest.now ≡ last_line ++ left) × ((0 < length left) × MayEnd old.stage)) →
     IsFault old.whole.now (length old.whole.now - length left)
 heading_stuck old h left read (inl (same, stuck)) =
     let text = headed_text (Some (completed h)) (subst (AllByRecursion IsLine) (sym (completed_lines h)) (all_append IsLine (heading_lines h) (left_lines h) read.limits (left_good h))) in
@@ -224,7 +230,8 @@ heading_next : (old new : Reader) (h more : Heading) (l : Line) → IsHeading ol
     new.whole.now ≡ old.whole.now → new.stage ≡ heading_stage more → new.last.now ≡ old.last.now → IsHeading new more
 heading_next old new h more l read rest good lines whole stage last = record {
   limits = subst (AllByRecursion IsLine) (sym lines) (all_append IsLine (heading_lines h) (l ∷ []) read.limits (good, tt));
-  parts = text_more (Some (completed h)) (heading_lines h) (heading_lines more) l new.whole.now new.rest.now (whole ∙ read.parts ∙ ap (λ z. (headed_line ++ lines_text (heading_lines h)) ++ z) rest) lines;
+  parts = text_more (Some (completed h)) (heading_lines h) (heading_lines more) l new.whole.now new.rest.now (whole ∙ read.parts
+      ∙ ap (λ z. (headed_line ++ lines_text (heading_lines h)) ++ z) rest) lines;
   stage = stage;
   last = last ∙ read.last;
 }
@@ -234,9 +241,11 @@ heading_whole : (old new : Reader) (files : Digests) (ns : List ℕ) → IsHeadi
     new.whole.now ≡ old.whole.now → new.stage ≡ Stages.Nodes 0 → new.last.now ≡ old.last.now → IsPast new (headed (Some (record { files = files; strata = ns })))
 heading_whole old new files ns read rest good whole stage last = record {
   text = headed_text (Some head) (subst (AllByRecursion IsLine) (sym lines) (all_append IsLine (heading_lines (filed files)) (Lines.Strata ns ∷ []) read.limits (good, tt)));
-  parts = text_more (Some head) (heading_lines (filed files)) (lines_of (headed (Some head))) (Lines.Strata ns) new.whole.now new.rest.now (whole ∙ read.parts ∙ ap (λ z. (headed_line ++ lines_text (heading_lines (filed files))) ++ z) rest) all;
+  parts = text_more (Some head) (heading_lines (filed files)) (lines_of (headed (Some head)))
+      (Lines.Strata ns) new.whole.now new.rest.now (whole ∙ read.parts ∙ ap (λ z. (headed_line ++ lines_text (heading_lines (filed files))) ++ z) rest) all;
   fits = subst (λ z. Fits (headed (Some head)) z new.last.now) (sym stage) (subst (λ z. Fits (headed (Some head)) (Stages.Nodes 0) z) (sym (last ∙ read.last)) (refl, (refl, (refl, λ t lt. tt))));
-  stage = stage ∙ sym (ap (stage_after Stages.Head) all ∙ stage_append Stages.Head (heading_lines (filed files)) (Lines.Strata ns ∷ []) ∙ ap (λ z. next_stage z (Lines.Strata ns)) (heading_staged (filed files)));
+  stage = stage ∙ sym (ap (stage_after Stages.Head) all ∙ stage_append Stages.Head (heading_lines (filed files)) (Lines.Strata ns ∷ [])
+      ∙ ap (λ z. next_stage z (Lines.Strata ns)) (heading_staged (filed files)));
   last = last ∙ read.last ∙ sym (ap (last_after []) all ∙ last_append [] (heading_lines (filed files)) (Lines.Strata ns ∷ []) ∙ heading_last (filed files));
 }
   where
@@ -334,6 +343,8 @@ no_first bytes none = record {
   begins = (no_lines, (text_of no_lines, headed_text None tt));
   stops = λ line more clean e (q, (ys, h)).
       let split : line ++ 10 ∷ ys ≡ first_words q.head ++ 10 ∷ (lines_text (lines_of q) ++ last_line) =
-      sym (append_assoc line (10 ∷ []) ys) ∙ h.spelled ∙ ap (λ z. z ++ (lines_text (lines_of q) ++ last_line)) (first_ended q.head) ∙ append_assoc (first_words q.head) (10 ∷ []) (lines_text (lines_of q) ++ last_line) in
-      none q.head more (e ∙ ap (λ z. ended z ++ more) (once 10 line (first_words q.head) ys (lines_text (lines_of q) ++ last_line) (not_held 10 line clean) (clean_first q.head) split).0 ∙ ap (λ z. z ++ more) (sym (first_ended q.head)));
+      sym (append_assoc line (10 ∷ []) ys) ∙ h.spelled ∙ ap (λ z. z ++ (lines_text (lines_of q) ++ last_line)) (first_ended q.head)
+      ∙ append_assoc (first_words q.head) (10 ∷ []) (lines_text (lines_of q) ++ last_line) in
+      none q.head more (e ∙ ap (λ z. ended z ++ more) (once 10 line (first_words q.head) ys (lines_text (lines_of q) ++ last_line) (not_held 10 line clean) (clean_first q.head) split).0
+      ∙ ap (λ z. z ++ more) (sym (first_ended q.head)));
 }

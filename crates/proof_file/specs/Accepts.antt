@@ -37,7 +37,7 @@ pub record Setting : Type 0 where
   pub strata : List ℕ
   pub nodes : List TermId
 
--- the same from its parts
+-- what a record is checked against, from its parts
 abbrev pub setting_of : List ℕ → Schema → List Term → List Triple → List TermId → Setting
 setting_of f s terms g nodes = record { schema = s; terms = terms; graph = g; strata = f; nodes = nodes }
 
@@ -105,7 +105,7 @@ module _ (x : Setting) (p : Proof) where
       sh n (relevant_in_order x.terms x.graph sh n) states
   PassesMinus k n sh rank states w = ⊥
 
-  -- the same of a node and a Shape that need not be there
+  -- the check of a record of either kind, on the stratum k, of a node and a Shape that need not be there
   abbrev pub PassesKind : ℕ → RecordKind → Option TermId → Option Shape → Why → Type 0
   PassesKind k (Plus places) (Some n) (Some sh) w = PassesPlus k n sh places w
   PassesKind k (Minus rank states) (Some n) (Some sh) w = PassesMinus k n sh rank states w

@@ -72,7 +72,8 @@ module _ (s : Schema) (terms : List Term) (g : List Triple) (f : List ℕ) (stra
 
     pub places_hold : (ts : List Triple) (places : List Place) → AreAllowed (MayHold s terms a Impossible) (MayFail s terms a Impossible) sh p.node ts places →
         AreAllowed (MayHold s terms b Impossible) (MayFail s terms b Impossible) sh p.node ts places
-    places_hold ts places h = all_weaker_allowed (MayHold s terms a Impossible) (MayFail s terms a Impossible) (MayHold s terms b Impossible) (MayFail s terms b Impossible) sh p.node (λ t. Unit {0}) hold_up fail_up ts places (λ t c. tt) h
+    places_hold ts places h = all_weaker_allowed (MayHold s terms a Impossible) (MayFail s terms a Impossible) (MayHold s terms b Impossible)
+        (MayFail s terms b Impossible) sh p.node (λ t. Unit {0}) hold_up fail_up ts places (λ t c. tt) h
 
   -- states that are closed under a view are so under another that answers alike up to the stratum
   module _ (a b : Known) (same : (q : Pair) → level f q.shape ≤ level f p.shape → (v : Verdict) → PairIs a q v ↔ PairIs b q v) where

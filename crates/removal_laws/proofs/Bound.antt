@@ -148,6 +148,7 @@ whole cost need n = go n
     row : (c k : ℕ) → c * (1 + k) + c * (1 + k) + c ≡ (2 * k + 3) * c
     row c k = omega arith
 
-    go : (m : ℕ) → total (λ i. cost i * (1 + needs_count cost need n i)) m + total (λ i. cost i * (1 + needs_count cost need n i)) m + total cost m ≡ total (λ i. (2 * needs_count cost need n i + 3) * cost i) m
+    go : (m : ℕ) → total (λ i. cost i * (1 + needs_count cost need n i)) m + total (λ i. cost i * (1 + needs_count cost need n i)) m + total cost m ≡
+        total (λ i. (2 * needs_count cost need n i + 3) * cost i) m
     go zero = refl
     go (suc m) = let a = row (cost m) (needs_count cost need n m) in let b = go m in omega (arith, a, b)

@@ -39,7 +39,7 @@ module _ (s : Schema) (terms : List Term) (a b : Known) (n : TermId) where
   CarriesYes e =
       ((i : ShapeId) (sign : Bool) → StandsIn s i e sign → Carries Yes i) × ((i : ShapeId) → StandsIn s i e true → Carries No i)
 
-  -- the same of a sure No
+  -- it answers so much that a sure No stays: No for each Shape in e, and Yes for those behind a ShapeNot
   abbrev pub CarriesNo : ExprId → Type 0
   CarriesNo e =
       ((i : ShapeId) (sign : Bool) → StandsIn s i e sign → Carries No i) × ((i : ShapeId) → StandsIn s i e true → Carries Yes i)

@@ -284,7 +284,8 @@ module _ (s : Schema) (terms : List Term) (g : List Triple) (f : List ℕ) (pair
           no_on : (q : Pair) → Contains (lower.no ++ gone) q → Contains (known_by elsewhere pairs marks').no q
           no_on q c = elim (Contains-append_cases (marked No pairs marks) (outside pairs elsewhere.no) q (r.knows.1.1 q c)) [
             | inl m ↦ (let (i, there, mark) = to_mark No pairs marks q m in
-                is_no elsewhere pairs distinct marks' i q there (other_mark i (λ is. (let w = here_open.1 in let z : slice_get marks at ≡ Some No = subst (λ j. slice_get marks j ≡ Some No) is mark in absurd cc)) ∙ mark))
+                is_no elsewhere pairs distinct marks' i q there (other_mark i (λ is. (let w = here_open.1 in let z : slice_get marks at ≡
+                Some No = subst (λ j. slice_get marks j ≡ Some No) is mark in absurd cc)) ∙ mark))
             | inr o ↦ Contains-append_right (marked No pairs marks') (outside pairs elsewhere.no) q o
           ]
 

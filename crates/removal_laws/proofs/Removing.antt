@@ -149,7 +149,8 @@ module _ (s : Schema) (terms : List Term) (g : List Triple) (f : List ℕ) (pair
           yes_on : (q : Pair) → Contains (known_by elsewhere pairs marks).yes q → Contains (known_by elsewhere pairs marks').yes q
           yes_on q c = elim (Contains-append_cases (marked Yes pairs marks) (outside pairs elsewhere.yes) q c) [
             | inl m ↦ (let (i, there, mark) = to_mark Yes pairs marks q m in
-                is_yes elsewhere pairs distinct marks' i q there (other_mark i (λ e. (let w = here_open.1 in let z : slice_get marks at ≡ Some Yes = subst (λ j. slice_get marks j ≡ Some Yes) e mark in absurd cc)) ∙ mark))
+                is_yes elsewhere pairs distinct marks' i q there (other_mark i (λ e. (let w = here_open.1 in let z : slice_get marks at ≡
+                Some Yes = subst (λ j. slice_get marks j ≡ Some Yes) e mark in absurd cc)) ∙ mark))
             | inr o ↦ Contains-append_right (marked Yes pairs marks') (outside pairs elsewhere.yes) q o
           ]
 
@@ -182,7 +183,8 @@ module _ (s : Schema) (terms : List Term) (g : List Triple) (f : List ℕ) (pair
               kept : (u : Pair) → Contains (known_by elsewhere pairs marks).no u → Contains (known_by elsewhere pairs marks').no u
               kept u h = elim (Contains-append_cases (marked No pairs marks) (outside pairs elsewhere.no) u h) [
                 | inl m ↦ (let (i, there, mark) = to_mark No pairs marks u m in
-                    is_no elsewhere pairs distinct marks' i u there (other_mark i (λ e. (let w = here_open.1 in let z : slice_get marks at ≡ Some No = subst (λ j. slice_get marks j ≡ Some No) e mark in absurd cc)) ∙ mark))
+                    is_no elsewhere pairs distinct marks' i u there (other_mark i (λ e. (let w = here_open.1 in let z : slice_get marks at ≡
+                    Some No = subst (λ j. slice_get marks j ≡ Some No) e mark in absurd cc)) ∙ mark))
                 | inr o ↦ Contains-append_right (marked No pairs marks') (outside pairs elsewhere.no) u o
               ]
 

@@ -28,7 +28,8 @@ use Rattle.schema_load.proofs.Shaped.{can_unfold}
 
 -- ---- the survey
 
-pub limits_met : (parts : List Part) (deep crowded : Option ℕ) (shapes : ℕ) (counts : List ℕ) → deep ≡ None → crowded ≡ None → IsFirstFound (IsDeep parts) deep → IsFirstFound (IsCrowded parts) crowded → shapes ≡ length (filter is_shape parts) → shapes ≤ 4096 →
+pub limits_met : (parts : List Part) (deep crowded : Option ℕ) (shapes : ℕ) (counts : List ℕ) → deep ≡ None → crowded ≡ None →
+    IsFirstFound (IsDeep parts) deep → IsFirstFound (IsCrowded parts) crowded → shapes ≡ length (filter is_shape parts) → shapes ≤ 4096 →
     AreCounts parts counts → MeetsLimits parts
 limits_met parts deep crowded shapes counts none_deep none_crowded no_deep no_crowded number few counted = record {
   not_deep = found_none (IsDeep parts) deep none_deep no_deep;
@@ -37,7 +38,8 @@ limits_met parts deep crowded shapes counts none_deep none_crowded no_deep no_cr
   counted = λ p there. (let (n, has, capped) = counted.each p there in (n, has));
 }
 
-pub survey_met : (parts : List Part) (s : Survey) → AreTargets parts s.targets.items → NoneIs (HasOne (IsTwice parts)) → NoneIs (HasOne (IsMissing parts)) → AreFine parts → IsSorted parts s.targets.items s.order.items → HasAll parts s.order.items →
+pub survey_met : (parts : List Part) (s : Survey) → AreTargets parts s.targets.items → NoneIs (HasOne (IsTwice parts)) → NoneIs (HasOne (IsMissing parts)) →
+    AreFine parts → IsSorted parts s.targets.items s.order.items → HasAll parts s.order.items →
     MeetsLimits parts → AreDepths parts s.depths.items → IsSurveyOf parts s
 survey_met parts s targets once there fine sorted all limits depths = record {
   meets = all_met parts s.targets.items s.order.items targets once sorted all there limits;
@@ -62,13 +64,16 @@ entries_are parts depths entries e i p at =
     let (k, x, is, here, entry) = from_place 0 parts p c in
     (x, subst (λ n. IsAt parts n x) (let q : k ≡ p = omega arith in q) here, entry)
 
-pub entries_few : (parts : List Part) (depths entries : List ℕ) → entries ≡ entry_places parts depths 256 → AreDepths parts depths → NoneIs (IsDeep parts) → length (filter is_entry parts) ≤ 4294967295 → length entries ≤ 4294967295
+pub entries_few : (parts : List Part) (depths entries : List ℕ) → entries ≡ entry_places parts depths 256 → AreDepths parts depths → NoneIs (IsDeep parts) →
+    length (filter is_entry parts) ≤ 4294967295 → length entries ≤ 4294967295
 entries_few parts depths entries e deep low few = let h = ap length e ∙ all_entries parts depths deep.each low in omega arith
 
 -- ---- the schema
 
-pub built : (docs : List Document) (terms : List Term) (survey : Survey) (n : Numbering) (o : Outline) (s : Schema) → IsSurveyOf (parts_of docs) survey → length (filter is_entry (parts_of docs)) ≤ 4294967295 →
-    IsNumbering (parts_of docs) survey.depths.items n → IsOutline terms (parts_of docs) (number_in n.numbers.items) o → AllZip (IsEntryAt terms (parts_of docs) (number_in n.numbers.items)) n.entries.items s.exprs →
+pub built : (docs : List Document) (terms : List Term) (survey : Survey) (n : Numbering) (o : Outline) (s : Schema) → IsSurveyOf (parts_of docs) survey →
+    length (filter is_entry (parts_of docs)) ≤ 4294967295 →
+    IsNumbering (parts_of docs) survey.depths.items n → IsOutline terms (parts_of docs) (number_in n.numbers.items) o →
+    AllZip (IsEntryAt terms (parts_of docs) (number_in n.numbers.items)) n.entries.items s.exprs →
     s.shapes ≡ o.shapes.items → s.labels ≡ o.labels → s.start ≡ o.start → Stands docs terms s
 built docs terms survey n o s is few numbering outline exprs shapes_are labels_are start_same = record {
   meets = is.meets;
@@ -89,10 +94,13 @@ built docs terms survey n o s is few numbering outline exprs shapes_are labels_a
     one_id : (a b : ℕ) → a ≡ b → (let x : ExprId = record { 0 = a } in x) ≡ (let y : ExprId = record { 0 = b } in y)
     one_id a b e = ap (λ k. let z : ExprId = record { 0 = k } in z) e
 
--- the same of parts that are those of documents
-pub built_of : (docs : List Document) (parts : List Part) (terms : List Term) (survey : Survey) (n : Numbering) (o : Outline) (s : Schema) → parts ≡ parts_of docs → IsSurveyOf parts survey → length (filter is_entry parts) ≤ 4294967295 →
+-- documents stand for the schema that is built of parts which are theirs
+pub built_of : (docs : List Document) (parts : List Part) (terms : List Term) (survey : Survey) (n : Numbering) (o : Outline) (s : Schema) →
+    parts ≡ parts_of docs → IsSurveyOf parts survey → length (filter is_entry parts) ≤ 4294967295 →
     IsNumbering parts survey.depths.items n → IsOutline terms parts (number_in n.numbers.items) o → AllZip (IsEntryAt terms parts (number_in n.numbers.items)) n.entries.items s.exprs →
     s.shapes ≡ o.shapes.items → s.labels ≡ o.labels → s.start ≡ o.start → Stands docs terms s
 built_of docs parts terms survey n o s e is few numbering outline exprs shapes_are labels_are start_same =
-    built docs terms survey n o s (subst (λ ps. IsSurveyOf ps survey) e is) (subst (λ ps. length (filter is_entry ps) ≤ 4294967295) e few) (subst (λ ps. IsNumbering ps survey.depths.items n) e numbering)
-    (subst (λ ps. IsOutline terms ps (number_in n.numbers.items) o) e outline) (subst (λ ps. AllZip (IsEntryAt terms ps (number_in n.numbers.items)) n.entries.items s.exprs) e exprs) shapes_are labels_are start_same
+    built docs terms survey n o s (subst (λ ps. IsSurveyOf ps survey) e is) (subst (λ ps. length (filter is_entry ps) ≤ 4294967295) e few)
+    (subst (λ ps. IsNumbering ps survey.depths.items n) e numbering)
+    (subst (λ ps. IsOutline terms ps (number_in n.numbers.items) o) e outline)
+    (subst (λ ps. AllZip (IsEntryAt terms ps (number_in n.numbers.items)) n.entries.items s.exprs) e exprs) shapes_are labels_are start_same

@@ -20,7 +20,8 @@ use Rattle.schema_load.proofs.Grouping.{enter_not_leave, from_take, grouped_not_
 module _ (parts : List Part) (targets : List ℕ) where
   module _ (s : List Standing) (trail starts : List ℕ) (count : ℕ) (rest : List Visit) (v : Visit) (before : IsGrouping parts targets s trail starts count (rest ++ v ∷ [])) where
     -- a place is left that begins a group: what was opened from there on has its group
-    module _ (p i : ℕ) (e : v ≡ Leave p) (is : get_or s p Unseen ≡ Open i) (init : List ℕ) (ends : starts ≡ init ++ i ∷ []) (after : List Standing) (numbered : AreNumbered s trail i (length trail) count after) where
+    module _ (p i : ℕ) (e : v ≡ Leave p) (is : get_or s p Unseen ≡ Open i) (init : List ℕ) (ends : starts ≡ init ++ i ∷ []) (after : List Standing)
+        (numbered : AreNumbered s trail i (length trail) count after) where
       has_start : Contains starts i
       has_start = subst (λ z. Contains z i) (sym ends) (Contains-append_right init (i ∷ []) i (is_first i []))
 
@@ -88,7 +89,8 @@ module _ (parts : List Part) (targets : List ℕ) where
         where
           go : HowItWas q → slice_get (take i trail) j ≡ Some q
           go (same_unseen was after_is) = absurd (open_not_unseen (get_or after q Unseen) j now after_is)
-          go (same_open k was lt after_is) = let f = one_open (get_or after q Unseen) k j after_is now in in_take i trail j q (omega arith) (before.stands q j (subst (λ z. get_or s q Unseen ≡ Open z) f was))
+          go (same_open k was lt after_is) = let f = one_open (get_or after q Unseen) k j after_is now in in_take i trail j q (omega arith)
+              (before.stands q j (subst (λ z. get_or s q Unseen ≡ Open z) f was))
           go (same_group g was after_is) = absurd (open_not_grouped (get_or after q Unseen) j g now after_is)
           go (now_grouped k was le after_is) = absurd (open_not_grouped (get_or after q Unseen) j count now after_is)
 
@@ -192,7 +194,8 @@ module _ (parts : List Part) (targets : List ℕ) where
           go x (same_unseen was now) = absurd (grouped_not_unseen (get_or after r Unseen) g b now)
           go x (same_open k was lt now) = absurd (open_not_grouped (get_or after r Unseen) k g now b)
           go (same_group h was now) (same_group m once after_is) =
-              before.one q r g (subst (λ z. get_or s q Unseen ≡ Grouped z) (one_grouped (get_or after q Unseen) h g now a) was) (subst (λ z. get_or s r Unseen ≡ Grouped z) (one_grouped (get_or after r Unseen) m g after_is b) once)
+              before.one q r g (subst (λ z. get_or s q Unseen ≡ Grouped z) (one_grouped (get_or after q Unseen) h g now a) was)
+              (subst (λ z. get_or s r Unseen ≡ Grouped z) (one_grouped (get_or after r Unseen) m g after_is b) once)
           go (now_grouped j was le now) (now_grouped k once more after_is) = in_group q r j k was once le more
           go (same_group h was now) (now_grouped k once more after_is) = absurd (
               let l = before.low q h was in

@@ -25,7 +25,8 @@ module _ (parts : List Part) where
 
   pub have_more : (ps : List ℕ) (q m n : ℕ) → HaveOccurrences parts ps m → HasOccurrences parts q n → HaveOccurrences parts (ps ++ q ∷ []) (m + n)
   have_more [] q _ n of_none h = subst (λ k. HaveOccurrences parts (q ∷ []) k) (let e : n + 0 ≡ 0 + n = omega arith in e) (of_more h of_none)
-  have_more (p ∷ ps) q _ n (of_more {m = a} {n = b} first rest) h = subst (λ k. HaveOccurrences parts (p ∷ (ps ++ q ∷ [])) k) (let e : a + (b + n) ≡ (a + b) + n = omega arith in e) (of_more first (have_more ps q b n rest h))
+  have_more (p ∷ ps) q _ n (of_more {m = a} {n = b} first rest) h = subst (λ k. HaveOccurrences parts (p ∷ (ps ++ q ∷ [])) k)
+      (let e : a + (b + n) ≡ (a + b) + n = omega arith in e) (of_more first (have_more ps q b n rest h))
 
   -- ---- a triple expression has one number of occurrences
 
@@ -70,7 +71,8 @@ module _ (parts : List Part) where
 
   -- ---- the number at a place
 
-  form_count : (p v q : ℕ) (t : TriplePart) (f : TripleForm) → t.form ≡ f → IsAt parts p (Parts.Triple t) → IsFormTarget parts f q → ((a : _) → f ≡ Arc a → ⊥) → HaveCount parts (form_nexts q f) v → HasCount parts p v
+  form_count : (p v q : ℕ) (t : TriplePart) (f : TripleForm) → t.form ≡ f → IsAt parts p (Parts.Triple t) → IsFormTarget parts f q → ((a : _) → f ≡ Arc a → ⊥) →
+      HaveCount parts (form_nexts q f) v → HasCount parts p v
   form_count p v q t (Each ps) e at target no_arc (n, all, cap) = (n, of_each at e all, cap)
   form_count p v q t (One ps) e at target no_arc (n, all, cap) = (n, of_one at e all, cap)
   form_count p v q t (Arc a) e at target no_arc (n, all, cap) = absurd (no_arc a refl)
@@ -79,7 +81,8 @@ module _ (parts : List Part) where
       let zero_more = have_zero b later in
       (n, of_include at e target (subst (λ k. HasOccurrences parts q k) (let s : a ≡ n = omega arith in s) here), cap)
 
-  pub count_of : (p v q : ℕ) (t : TriplePart) → IsAt parts p (Parts.Triple t) → IsFormTarget parts t.form q → ((a : _) → t.form ≡ Arc a → ⊥) → HaveCount parts (form_nexts q t.form) v → HasCount parts p v
+  pub count_of : (p v q : ℕ) (t : TriplePart) → IsAt parts p (Parts.Triple t) → IsFormTarget parts t.form q → ((a : _) → t.form ≡ Arc a → ⊥) →
+      HaveCount parts (form_nexts q t.form) v → HasCount parts p v
   count_of p v q t at target no_arc have = form_count p v q t t.form refl at target no_arc have
 
   pub count_arc : (p : ℕ) (t : TriplePart) (a : _) → IsAt parts p (Parts.Triple t) → t.form ≡ Arc a → HasCount parts p 1
@@ -96,8 +99,10 @@ module _ (parts : List Part) where
   next_triple triples p q r t at target c = form_triple q r t.form target (λ z h. triples p z (Parts.Triple t) at h) c
 
   -- the number at a place from those next to it
-  pub sum_count : (p q v : ℕ) (t : TriplePart) (x : Part) (ps counts : List ℕ) → IsAt parts p (Parts.Triple t) → IsAt parts p x → ps ≡ nexts q x → IsFormTarget parts t.form q → HoldTriples parts → ((a : _) → t.form ≡ Arc a → ⊥) →
-      ((r : ℕ) → Contains (nexts q (Parts.Triple t)) r → IsCountAt parts r (get_or counts r 0)) → (((r : ℕ) → Contains ps r → HasCount parts r (get_or counts r 0)) → HaveCount parts ps v) → HasCount parts p v
+  pub sum_count : (p q v : ℕ) (t : TriplePart) (x : Part) (ps counts : List ℕ) → IsAt parts p (Parts.Triple t) → IsAt parts p x → ps ≡ nexts q x →
+      IsFormTarget parts t.form q → HoldTriples parts → ((a : _) → t.form ≡ Arc a → ⊥) →
+      ((r : ℕ) → Contains (nexts q (Parts.Triple t)) r → IsCountAt parts r (get_or counts r 0)) →
+      (((r : ℕ) → Contains ps r → HasCount parts r (get_or counts r 0)) → HaveCount parts ps v) → HasCount parts p v
   sum_count p q v t x ps counts at again e target triples no_arc each sum =
       let same : ps ≡ form_nexts q t.form = e ∙ ap (nexts q) (one_at parts p x (Parts.Triple t) again at) in
       count_of p v q t at target no_arc
@@ -124,7 +129,8 @@ module _ (parts : List Part) where
     low = λ q. subst (λ ds. get_or ds q 0 ≤ 257) (sym e) (let h = zeros_low (length parts) q in omega arith);
   }
 
-  pub counted_more : (order counts : List ℕ) (i p v : ℕ) → p < length parts → slice_get order i ≡ Some p → AreCounted order counts i → v ≤ 257 → IsCountAt parts p v → AreCounted order (set counts p v) (i + 1)
+  pub counted_more : (order counts : List ℕ) (i p v : ℕ) → p < length parts → slice_get order i ≡ Some p → AreCounted order counts i → v ≤ 257 →
+      IsCountAt parts p v → AreCounted order (set counts p v) (i + 1)
   counted_more order counts i p v within here d small mine = record { size = length-set counts p v ∙ d.size; count = count; low = low }
     where
       inside : p < length counts
@@ -189,7 +195,8 @@ module _ (parts : List Part) where
         | inr (top, more) ↦ absurd (omega arith)
       ]
 
-  pub crowded_test : NoneIs (HasOne (IsTwice parts)) → (p q v : ℕ) (s : ShapePart) (b : Bool) → IsAt parts p (Parts.Shape s) → s.body ≡ Some q → HasCount parts q v → IsTrue b ↔ (256 < v) → IsTrue b ↔ IsCrowded parts p
+  pub crowded_test : NoneIs (HasOne (IsTwice parts)) → (p q v : ℕ) (s : ShapePart) (b : Bool) → IsAt parts p (Parts.Shape s) → s.body ≡ Some q →
+      HasCount parts q v → IsTrue b ↔ (256 < v) → IsTrue b ↔ IsCrowded parts p
   crowded_test once p q v s b at e has answer = carried b answer (λ lt. crowded_so p q v s at e has lt) (λ bad. elim (cases_lt 256 v) [
     | inl lt ↦ lt
     | inr le ↦ absurd (crowded_not once p q v s at e has (omega arith) bad)
@@ -225,5 +232,6 @@ capped_top m n a b (inr (e, le)) (inr (f, lf)) lt = inr (refl, omega arith)
 pub have_count_none : (parts : List Part) → HaveCount parts [] 0
 have_count_none parts = (0, of_none, inl (refl, omega arith))
 
-pub have_count_more : (parts : List Part) (ps : List ℕ) (q a b v : ℕ) → HaveCount parts ps a → HasCount parts q b → ((m n : ℕ) → IsCapped m a → IsCapped n b → IsCapped (m + n) v) → HaveCount parts (ps ++ q ∷ []) v
+pub have_count_more : (parts : List Part) (ps : List ℕ) (q a b v : ℕ) → HaveCount parts ps a → HasCount parts q b →
+    ((m n : ℕ) → IsCapped m a → IsCapped n b → IsCapped (m + n) v) → HaveCount parts (ps ++ q ∷ []) v
 have_count_more parts ps q a b v (m, all, x) (n, one, y) sum = (m + n, have_more parts ps q m n all one, sum m n x y)

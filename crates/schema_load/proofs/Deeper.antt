@@ -80,7 +80,8 @@ module _ (parts : List Part) (targets order : List ℕ) (are : AreTargets parts 
   pub next_within : (i p : ℕ) (x : Part) → slice_get order i ≡ Some p → IsAt parts p x → (q : ℕ) → Contains (nexts (get_or targets p 0) x) q → q < length parts
   next_within i p x here at q c = let (j, lt, there) = earlier i p x here at q c in sorted.within j q there
 
-  pub deep_more : NoneIs (HasOne (IsTwice parts)) → (depths : List ℕ) (i p m : ℕ) (x : Part) → slice_get order i ≡ Some p → IsAt parts p x → AreDeep parts order depths i → IsGreatest depths (nexts (get_or targets p 0) x) m →
+  pub deep_more : NoneIs (HasOne (IsTwice parts)) → (depths : List ℕ) (i p m : ℕ) (x : Part) → slice_get order i ≡ Some p → IsAt parts p x →
+      AreDeep parts order depths i → IsGreatest depths (nexts (get_or targets p 0) x) m →
       AreDeep parts order (set depths p (weight x + m)) (i + 1)
   deep_more once depths i p m x here at d g = record { size = length-set depths p (weight x + m) ∙ d.size; deep = deep; low = low }
     where

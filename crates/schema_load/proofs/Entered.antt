@@ -32,7 +32,8 @@ pub record AreCountedTo (parts : List Part) (numbers : List ℕ) (i : ℕ) : Typ
 pub counted_none : (parts : List Part) (numbers : List ℕ) → numbers ≡ [] → AreCountedTo parts numbers 0
 counted_none parts numbers e = record { size = ap length e; each = λ p lt. absurd (omega arith) }
 
-pub counted_more : (parts : List Part) (numbers after : List ℕ) (i v : ℕ) → AreCountedTo parts numbers i → v ≡ length (filter is_shape (take i parts)) → after ≡ numbers ++ v ∷ [] → AreCountedTo parts after (i + 1)
+pub counted_more : (parts : List Part) (numbers after : List ℕ) (i v : ℕ) → AreCountedTo parts numbers i → v ≡ length (filter is_shape (take i parts)) →
+    after ≡ numbers ++ v ∷ [] → AreCountedTo parts after (i + 1)
 counted_more parts numbers after i v before is pushed = record {
   size = ap length pushed ∙ (let h = length-append numbers (v ∷ []) in let s = before.size in omega arith);
   each = λ p lt. subst (λ ns. get_or ns p 0 ≡ shape_number parts p) (sym pushed) (each_push (λ q n. n ≡ shape_number parts q) numbers i v before.size before.each is p lt);
@@ -48,11 +49,13 @@ shapes_before [] (suc i) = omega arith
 shapes_before (x ∷ xs) zero = omega arith
 shapes_before (x ∷ xs) (suc i) = go (is_shape x) (shapes_before xs i)
   where
-    go : (b : Bool) → length (filter is_shape (take i xs)) ≤ length (filter is_shape xs) → length (if b then x ∷ filter is_shape (take i xs) else filter is_shape (take i xs)) ≤ length (if b then x ∷ filter is_shape xs else filter is_shape xs)
+    go : (b : Bool) → length (filter is_shape (take i xs)) ≤ length (filter is_shape xs) →
+        length (if b then x ∷ filter is_shape (take i xs) else filter is_shape (take i xs)) ≤ length (if b then x ∷ filter is_shape xs else filter is_shape xs)
     go true le = omega arith
     go false le = le
 
-pub shapes_next : (parts : List Part) (i v n : ℕ) (x : Part) → IsAt parts i x → v ≡ length (filter is_shape (take i parts)) → n ≡ one_if (is_shape x) → length (filter is_shape parts) ≤ 4096 → (v + n ≡ length (filter is_shape (take (i + 1) parts))) × (v + n ≤ 4096)
+pub shapes_next : (parts : List Part) (i v n : ℕ) (x : Part) → IsAt parts i x → v ≡ length (filter is_shape (take i parts)) → n ≡ one_if (is_shape x) →
+    length (filter is_shape parts) ≤ 4096 → (v + n ≡ length (filter is_shape (take (i + 1) parts))) × (v + n ≤ 4096)
 shapes_next parts i v n x at is one few =
     let step = filter_step is_shape parts i x at in
     let low = shapes_before parts (i + 1) in
@@ -61,7 +64,8 @@ shapes_next parts i v n x at is one few =
 
 -- ---- numbers of members
 
-pub ids_next : (f : ℕ → ExprId) (places : List ℕ) (i : ℕ) (ids after : List ExprId) → i < length places → ids ≡ map f (take i places) → after ≡ ids ++ f (get_or places i 0) ∷ [] → after ≡ map f (take (i + 1) places)
+pub ids_next : (f : ℕ → ExprId) (places : List ℕ) (i : ℕ) (ids after : List ExprId) → i < length places → ids ≡ map f (take i places) →
+    after ≡ ids ++ f (get_or places i 0) ∷ [] → after ≡ map f (take (i + 1) places)
 ids_next f places i ids after lt before pushed =
     pushed ∙ (ap (λ us. us ++ f (get_or places i 0) ∷ []) before ∙ (sym (map-append f (take i places) (get_or places i 0 ∷ [])) ∙ ap (map f) (sym (take_more places i 0 lt))))
 
@@ -85,8 +89,10 @@ module _ (parts : List Part) (number : ℕ → ExprId) (entries : List ℕ) wher
   pub taken : (rest : List Part) (exprs : List Expr) (i p : ℕ) (x : Part) → AreEntered parts number entries rest exprs i → slice_get entries i ≡ Some p → slice_get rest p ≡ Some x → IsAt parts p x
   taken rest exprs i p x before here at = sym (before.left i p (omega arith) here) ∙ at
 
-  pub entered_more : AreDistinct entries → (rest after : List Part) (exprs more_exprs : List Expr) (i p : ℕ) (x : Part) (made : Expr) → AreEntered parts number entries rest exprs i → i < length entries → p ≡ get_or entries i 0 →
-      IsAt parts p x → length after ≡ length rest → ((q : ℕ) → (q ≡ p → ⊥) → slice_get after q ≡ slice_get rest q) → ((terms : List Term) → IsEntryOf terms parts number p x made) → more_exprs ≡ exprs ++ made ∷ [] →
+  pub entered_more : AreDistinct entries → (rest after : List Part) (exprs more_exprs : List Expr) (i p : ℕ) (x : Part) (made : Expr) →
+      AreEntered parts number entries rest exprs i → i < length entries → p ≡ get_or entries i 0 →
+      IsAt parts p x → length after ≡ length rest → ((q : ℕ) → (q ≡ p → ⊥) → slice_get after q ≡ slice_get rest q) →
+      ((terms : List Term) → IsEntryOf terms parts number p x made) → more_exprs ≡ exprs ++ made ∷ [] →
       AreEntered parts number entries after more_exprs (i + 1)
   entered_more distinct rest after exprs more_exprs i p x made before lt read at size others entry pushed = record {
     size = size ∙ before.size;
@@ -97,7 +103,8 @@ module _ (parts : List Part) (number : ℕ → ExprId) (entries : List ℕ) wher
         (zip_push (IsEntryAt terms parts number) (take i entries) exprs p made (before.made terms) (x, at, entry terms)));
   }
 
-  pub entered_all : (rest : List Part) (exprs : List Expr) (i : ℕ) → length entries ≤ i → AreEntered parts number entries rest exprs i → (terms : List Term) → AllZip (IsEntryAt terms parts number) entries exprs
+  pub entered_all : (rest : List Part) (exprs : List Expr) (i : ℕ) → length entries ≤ i → AreEntered parts number entries rest exprs i → (terms : List Term) →
+      AllZip (IsEntryAt terms parts number) entries exprs
   entered_all rest exprs i le before terms = subst (λ ps. AllZip (IsEntryAt terms parts number) ps exprs) (take_all entries i le) (before.made terms)
     where
       take_all : (xs : List ℕ) (n : ℕ) → length xs ≤ n → take n xs ≡ xs

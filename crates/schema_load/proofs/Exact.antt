@@ -40,7 +40,8 @@ exactly_err docs terms d e is refused = elim (one_cause docs terms d e is refuse
 ]
 
 -- documents that stand for a schema are not refused
-pub unrefused : (docs : List Document) (old terms : List Term) (s : Schema) (e : LoadError) → Stands docs terms s → AddsAll old (predicates_of (parts_of docs)) terms → length terms ≤ max_terms → IsRefused docs old e → ⊥
+pub unrefused : (docs : List Document) (old terms : List Term) (s : Schema) (e : LoadError) → Stands docs terms s →
+    AddsAll old (predicates_of (parts_of docs)) terms → length terms ≤ max_terms → IsRefused docs old e → ⊥
 unrefused docs old terms s (Twice l) x added fits refused = stands_unrefused docs terms old s (Twice l) x refused (omega arith)
 unrefused docs old terms s (Missing l) x added fits refused = stands_unrefused docs terms old s (Missing l) x refused (omega arith)
 unrefused docs old terms s (Circle l) x added fits refused = stands_unrefused docs terms old s (Circle l) x refused (omega arith)
@@ -57,7 +58,8 @@ loaded_any docs terms (Ok s) ordered stands = is_loaded docs terms s ordered sta
 loaded_any docs terms (Err d) ordered stands = tt
 
 -- the whole of the clause `exactly`, for any answer
-pub exactly_any : (docs : List Document) (old terms : List Term) (r : Result Schema LoadError) (e : LoadError) → IfOk r (Stands docs terms) → OnOk r (AddsAll old (predicates_of (parts_of docs)) terms) → OnOk r (length terms ≤ max_terms) →
+pub exactly_any : (docs : List Document) (old terms : List Term) (r : Result Schema LoadError) (e : LoadError) → IfOk r (Stands docs terms) →
+    OnOk r (AddsAll old (predicates_of (parts_of docs)) terms) → OnOk r (length terms ≤ max_terms) →
     IfErr r (Explains docs old) → IsRefused docs old e → (r ≡ Err e) ⊎ (r ≡ Err Memory)
 exactly_any docs old terms (Ok s) e stands added fits causes refused = absurd (unrefused docs old terms s e stands added fits refused)
 exactly_any docs old terms (Err d) e stands added fits causes refused = exactly_err docs old d e causes refused

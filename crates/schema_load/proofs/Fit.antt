@@ -99,8 +99,10 @@ module _ (terms : List Term) (parts : List Part) (number : ℕ → ExprId) (orde
   mutual
     pub unfolding_fits : (p k : ℕ) (plan : Plan) (occs : List Occurrence) → Unfolds terms parts number p k plan occs → IsFit k (length occs) plan
     unfolding_fits p k _ _ (arc {t = t} at form oc) = fit_times k 1 t.min t.max (symbol k) (ordered p t at) (fit_symbol k)
-    unfolding_fits p k _ occs (each_of {t = t} {ps = ps} {plans = us} at form all) = fit_times k (length occs) t.min t.max (each us) (ordered p t at) (fit_each k (length occs) us (unfoldings_fit ps k us occs all))
-    unfolding_fits p k _ occs (one_of {t = t} {ps = ps} {plans = us} at form all) = fit_times k (length occs) t.min t.max (one us) (ordered p t at) (fit_one k (length occs) us (unfoldings_fit ps k us occs all))
+    unfolding_fits p k _ occs (each_of {t = t} {ps = ps} {plans = us} at form all) = fit_times k (length occs) t.min t.max (each us) (ordered p t at)
+        (fit_each k (length occs) us (unfoldings_fit ps k us occs all))
+    unfolding_fits p k _ occs (one_of {t = t} {ps = ps} {plans = us} at form all) = fit_times k (length occs) t.min t.max (one us) (ordered p t at)
+        (fit_one k (length occs) us (unfoldings_fit ps k us occs all))
     unfolding_fits p k _ occs (included {q = q} {t = t} {plan = u} at form named rest) = fit_times k (length occs) t.min t.max u (ordered p t at) (unfolding_fits q k u occs rest)
 
     unfoldings_fit : (ps : List ℕ) (k : ℕ) (plans : Plans) (occs : List Occurrence) → UnfoldAll terms parts number ps k plans occs → AreFit k (length occs) plans

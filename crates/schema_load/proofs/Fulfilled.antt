@@ -70,6 +70,7 @@ explained docs parts terms e same is = go e (subst (λ ps. Explain ps terms e) s
     go Shapes h = h
     go Full h = h
 
-pub explained_any : {X : Type 0} (docs : List Document) (parts : List Part) (terms : List Term) (r : Result X LoadError) → parts ≡ parts_of docs → IfErr r (Explain parts terms) → IfErr r (Explains docs terms)
+pub explained_any : {X : Type 0} (docs : List Document) (parts : List Part) (terms : List Term) (r : Result X LoadError) → parts ≡ parts_of docs →
+    IfErr r (Explain parts terms) → IfErr r (Explains docs terms)
 explained_any docs parts terms (Ok x) same is = tt
 explained_any docs parts terms (Err e) same is = explained docs parts terms e same is

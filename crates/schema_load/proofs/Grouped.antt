@@ -42,7 +42,8 @@ popped_last xs ys init b (Some x) e f n =
 pub joined_none : (starts : List ℕ) (position : ℕ) (now : List ℕ) → now ≡ starts → (out : List ℕ) × (starts ≡ now ++ out) × ((b : ℕ) → Contains out b → position < b)
 joined_none starts position now e = ([], sym e ∙ sym (append-nil now), λ b c. absurd (not_in_none b c))
 
-pub joined_more : (starts : List ℕ) (position : ℕ) (now after : List ℕ) (b : ℕ) → now ≡ after ++ b ∷ [] → position < b → (out : List ℕ) × (starts ≡ now ++ out) × ((c : ℕ) → Contains out c → position < c) →
+pub joined_more : (starts : List ℕ) (position : ℕ) (now after : List ℕ) (b : ℕ) → now ≡ after ++ b ∷ [] → position < b → (out : List ℕ) ×
+    (starts ≡ now ++ out) × ((c : ℕ) → Contains out c → position < c) →
     (out : List ℕ) × (starts ≡ after ++ out) × ((c : ℕ) → Contains out c → position < c)
 joined_more starts position now after b e lt (out, all, behind) = (
   b ∷ out,
@@ -60,7 +61,8 @@ numbered_none s trail start group = record {
   kept = λ p apart. refl;
 }
 
-pub numbered_more : (s now : List Standing) (trail : List ℕ) (start i group p : ℕ) → start ≤ i → slice_get trail i ≡ Some p → p < length s → AreNumbered s trail start i group now → AreNumbered s trail start (i + 1) group (set now p (Grouped group))
+pub numbered_more : (s now : List Standing) (trail : List ℕ) (start i group p : ℕ) → start ≤ i → slice_get trail i ≡ Some p → p < length s →
+    AreNumbered s trail start i group now → AreNumbered s trail start (i + 1) group (set now p (Grouped group))
 numbered_more s now trail start i group p le at lt before = record {
   size = length-set now p (Grouped group) ∙ before.size;
   grouped = λ j q low high there. elim (cases_eq q p) [
@@ -97,15 +99,18 @@ numbers_more s w groups g e before = record {
         | inr (n, same) ↦ (
             let size = before.size in
             let one = one_grouped w g h e (same ∙ is) in
-            get_or_from_slice_get (groups ++ g ∷ []) p h 0 (subst (λ z. slice_get (groups ++ g ∷ []) z ≡ Some h) (let f : length groups ≡ p = omega arith in f) (subst (λ z. slice_get (groups ++ g ∷ []) (length groups) ≡ Some z) one (get_last groups g)))
+            get_or_from_slice_get (groups ++ g ∷ []) p h 0 (subst (λ z. slice_get (groups ++ g ∷ []) z ≡ Some h) (let f : length groups ≡
+            p = omega arith in f) (subst (λ z. slice_get (groups ++ g ∷ []) (length groups) ≡ Some z) one (get_last groups g)))
             )
       ]
       );
 }
 
-pub numbers_next : (s : List Standing) (i : ℕ) (groups after : List ℕ) (g : ℕ) → i < length s → get_or s i Unseen ≡ Grouped g → after ≡ groups ++ g ∷ [] → AreNumbers (take i s) groups → AreNumbers (take (i + 1) s) after
+pub numbers_next : (s : List Standing) (i : ℕ) (groups after : List ℕ) (g : ℕ) → i < length s → get_or s i Unseen ≡ Grouped g → after ≡ groups ++ g ∷ [] →
+    AreNumbers (take i s) groups → AreNumbers (take (i + 1) s) after
 numbers_next s i groups after g lt is pushed before =
-    subst (λ z. AreNumbers z after) (sym (take_more s i Unseen lt)) (subst (AreNumbers (take i s ++ get_or s i Unseen ∷ [])) (sym pushed) (numbers_more (take i s) (get_or s i Unseen) groups g is before))
+    subst (λ z. AreNumbers z after) (sym (take_more s i Unseen lt))
+    (subst (AreNumbers (take i s ++ get_or s i Unseen ∷ [])) (sym pushed) (numbers_more (take i s) (get_or s i Unseen) groups g is before))
 
 pub numbers_all : (s : List Standing) (i : ℕ) (groups : List ℕ) → length s ≤ i → AreNumbers (take i s) groups → AreNumbers s groups
 numbers_all s i groups le are = subst (λ z. AreNumbers z groups) (take_all s i le) are
@@ -117,7 +122,8 @@ numbers_all s i groups le are = subst (λ z. AreNumbers z groups) (take_all s i 
     take_all (x ∷ xs) (suc n) h = ap (λ us. x ∷ us) (take_all xs n (omega arith))
 
 -- none of the places that were looked at is of the group
-pub none_of_group : (groups places : List ℕ) (n group : ℕ) → length places ≤ n → ((k : ℕ) → k < n → ¬ (get_or groups (get_or places k 0) 0 ≡ group)) → IsTrue false ↔ ((q : ℕ) × Contains places q × (get_or groups q 0 ≡ group))
+pub none_of_group : (groups places : List ℕ) (n group : ℕ) → length places ≤ n → ((k : ℕ) → k < n → ¬ (get_or groups (get_or places k 0) 0 ≡ group)) →
+    IsTrue false ↔ ((q : ℕ) × Contains places q × (get_or groups q 0 ≡ group))
 none_of_group groups places n group le none = falsely (λ (q, c, same). (
     let (k, at) = index_of places q c in
     let lt = slice_get_within places k q at in
@@ -182,7 +188,8 @@ module _ (parts : List Part) (targets : List ℕ) where
           let (i, q, at, leave) = walking.begun 0 (walking.first (omega arith)) in
           absurd (let bad : ⊥ = cc in bad)
 
-  pub are_groups : (s : List Standing) (trail starts groups : List ℕ) (count : ℕ) → IsGrouping parts targets s trail starts count [] → AreNumbers s groups → AreInside parts targets → AreGroups parts targets groups
+  pub are_groups : (s : List Standing) (trail starts groups : List ℕ) (count : ℕ) → IsGrouping parts targets s trail starts count [] → AreNumbers s groups →
+      AreInside parts targets → AreGroups parts targets groups
   are_groups s trail starts groups count walking numbers all_inside = record {
     size = numbers.size ∙ walking.size;
     falls = falls;
@@ -243,7 +250,8 @@ module _ (parts : List Part) (targets : List ℕ) where
     leads_back_by p x b places group all_inside at are_next is answer = carried b answer forth back
       where
         forth : (q : ℕ) × Contains places q × (get_or groups q 0 ≡ group) → Reaches parts p p
-        forth (q, c, same) = let next : IsNext parts targets p q = (x, at, subst (λ ps. Contains ps q) are_next c) in back_by_group p q (slice_get_within parts p x at) (all_inside p q next) next (same ∙ is)
+        forth (q, c, same) = let next : IsNext parts targets p q = (x, at, subst (λ ps. Contains ps q) are_next c) in
+            back_by_group p q (slice_get_within parts p x at) (all_inside p q next) next (same ∙ is)
 
         back : Reaches parts p p → (q : ℕ) × Contains places q × (get_or groups q 0 ≡ group)
         back round = let (q, next, same) = group_by_back p round in (q, subst (λ ps. Contains ps q) (sym are_next) (next_at parts targets p q x at next), same ∙ sym is)
@@ -260,7 +268,8 @@ module _ (parts : List Part) (targets : List ℕ) where
       ]
 
   pub each_grouped : (w : Walk) (s : List Standing) → IsWalking parts targets w [] → s ≡ w.standings.items → (p : ℕ) → p < length s → (g : ℕ) × (get_or s p Unseen ≡ Grouped g)
-  each_grouped w s walking e = subst (λ z. (p : ℕ) → p < length z → (g : ℕ) × (get_or z p Unseen ≡ Grouped g)) (sym e) (all_grouped w.standings.items w.trail.items w.starts.items (length w.firsts.items) walking)
+  each_grouped w s walking e = subst (λ z. (p : ℕ) → p < length z → (g : ℕ) × (get_or z p Unseen ≡ Grouped g)) (sym e)
+      (all_grouped w.standings.items w.trail.items w.starts.items (length w.firsts.items) walking)
 
   pub begins : (n : ℕ) (w : Walk) (visits : List Visit) → n ≡ length parts → IsAtFirst n w → AreEntered n visits → IsWalking parts targets w visits
   begins n w visits size first are =
@@ -270,10 +279,12 @@ module _ (parts : List Part) (targets : List ℕ) where
       (subst (λ z. IsGrouping parts targets (replicate n Unseen) [] [] (length z) visits) (sym first.firsts) (at_first n visits size are))))
 
   -- an open place is left
-  pub left_as : (before after : Walk) (rest : List Visit) (v : Visit) (p : ℕ) → v ≡ Leave p → IsWalking parts targets before (rest ++ v ∷ []) → IsLeft before p after → IsWalking parts targets after rest
+  pub left_as : (before after : Walk) (rest : List Visit) (v : Visit) (p : ℕ) → v ≡ Leave p → IsWalking parts targets before (rest ++ v ∷ []) →
+      IsLeft before p after → IsWalking parts targets after rest
   left_as before after rest v p e walking (n, is, inl closing) =
       subst (λ z. IsGrouping parts targets after.standings.items z after.starts.items (length after.firsts.items) rest) (sym closing.trail)
       (subst (λ z. IsGrouping parts targets after.standings.items (take n before.trail.items) after.starts.items z rest) (sym closing.count)
       (closed parts targets before.standings.items before.trail.items before.starts.items (length before.firsts.items) rest v walking p n e is after.starts.items closing.ends after.standings.items closing.numbered))
   left_as before after rest v p e walking (n, is, inr (apart, same)) =
-      subst (λ w. IsWalking parts targets w rest) (sym same) (passed parts targets before.standings.items before.trail.items before.starts.items (length before.firsts.items) rest v walking p n e is apart)
+      subst (λ w. IsWalking parts targets w rest) (sym same)
+      (passed parts targets before.standings.items before.trail.items before.starts.items (length before.firsts.items) rest v walking p n e is apart)

@@ -46,7 +46,8 @@ heads_step k (u ∷ us) zero x at =
     alone (Parts.Triple t) = refl
 heads_step k (u ∷ us) (suc i) x at = go u (heads_step (k + 1) us i x at ∙ ap (λ n. declarations (k + 1) (take i us) ++ head_in x n) (let e : (k + 1) + i ≡ k + suc i = omega arith in e))
   where
-    go : (v : Part) → declarations (k + 1) (take (suc i) us) ≡ declarations (k + 1) (take i us) ++ head_in x (k + suc i) → declarations k (v ∷ take (suc i) us) ≡ declarations k (v ∷ take i us) ++ head_in x (k + suc i)
+    go : (v : Part) → declarations (k + 1) (take (suc i) us) ≡ declarations (k + 1) (take i us) ++ head_in x (k + suc i) →
+        declarations k (v ∷ take (suc i) us) ≡ declarations k (v ∷ take i us) ++ head_in x (k + suc i)
     go (Parts.Declares l) e = ap (λ us. first l ∷ us) e
       where
         first : Label → Label × ℕ
@@ -78,7 +79,8 @@ labels_step parts number i x at =
     ∙ (map-append (λ d. (d.0, number d.1)) (declarations 0 (take i parts)) (head_in x i)
     ∙ ap (λ us. labels_in (take i parts) number ++ us) (numbered_head number x i)))
 
-pub labels_more : (parts : List Part) (number : ℕ → ExprId) (i : ℕ) (old new : List (Label × ExprId)) → i < length parts → old ≡ labels_in (take i parts) number → AddsLabel parts number i old new → new ≡ labels_in (take (i + 1) parts) number
+pub labels_more : (parts : List Part) (number : ℕ → ExprId) (i : ℕ) (old new : List (Label × ExprId)) → i < length parts →
+    old ≡ labels_in (take i parts) number → AddsLabel parts number i old new → new ≡ labels_in (take (i + 1) parts) number
 labels_more parts number i old new lt before adds =
     let (x, at) = part_at parts i lt in
     adds x at ∙ (ap (λ us. us ++ label_in x i number) before ∙ sym (labels_step parts number i x at))
@@ -95,7 +97,8 @@ take_get (u ∷ us) zero j x e = absurd (let bad : ⊥ = cc in bad)
 take_get (u ∷ us) (suc i) zero x e = (e, omega arith)
 take_get (u ∷ us) (suc i) (suc j) x e = let (at, lt) = take_get us i j x e in (at, omega arith)
 
-pub label_new : (parts : List Part) (number : ℕ → ExprId) (i : ℕ) (labels : List (Label × ExprId)) → NoneIs (HasOne (IsTwice parts)) → labels ≡ labels_in (take i parts) number → (l : Label) → IsAt parts i (Parts.Declares l) → ¬ IsDeclared labels l
+pub label_new : (parts : List Part) (number : ℕ → ExprId) (i : ℕ) (labels : List (Label × ExprId)) → NoneIs (HasOne (IsTwice parts)) →
+    labels ≡ labels_in (take i parts) number → (l : Label) → IsAt parts i (Parts.Declares l) → ¬ IsDeclared labels l
 label_new parts number i labels once are l at (e, c) =
     let (d, held, is) = from_map (λ d. (d.0, number d.1)) (declarations 0 (take i parts)) (l, e) (subst (λ us. Contains us (l, e)) are c) in
     let head = head_of 0 (take i parts) d held in
@@ -105,7 +108,8 @@ label_new parts number i labels once are l at (e, c) =
 
 -- ---- one label
 
-pub declared_next : (parts : List Part) (number : ℕ → ExprId) (p : ℕ) (l m : Label) (n : ExprId) (old new : List (Label × ExprId)) (r : Bool) → IsAt parts p (Parts.Declares l) → m ≡ l → n ≡ number (p + 1) → (¬ IsDeclared old l) →
+pub declared_next : (parts : List Part) (number : ℕ → ExprId) (p : ℕ) (l m : Label) (n : ExprId) (old new : List (Label × ExprId)) (r : Bool) →
+    IsAt parts p (Parts.Declares l) → m ≡ l → n ≡ number (p + 1) → (¬ IsDeclared old l) →
     DeclaresNext old m n r new → AddsLabel parts number p old new
 declared_next parts number p l m n old new true at copy is absent (fresh, grown) x there =
     subst (λ z. new ≡ old ++ label_in z p number) (one_at parts p (Parts.Declares l) x at there)

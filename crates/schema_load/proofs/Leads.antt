@@ -67,11 +67,13 @@ module _ (parts : List Part) where
     next_of once p q (x, at, leads) = (x, at, leads_next once x (get_or targets p 0) q (are.each p x at) leads)
 
     -- in an order that has all places none leads to itself
-    back : NoneIs (HasOne (IsTwice parts)) → (order : List ℕ) → IsSorted parts targets order → (p q : ℕ) → Reaches parts p q → (i : ℕ) → slice_get order i ≡ Some p → (j : ℕ) × (j < i) × (slice_get order j ≡ Some q)
+    back : NoneIs (HasOne (IsTwice parts)) → (order : List ℕ) → IsSorted parts targets order → (p q : ℕ) → Reaches parts p q → (i : ℕ) →
+        slice_get order i ≡ Some p → (j : ℕ) × (j < i) × (slice_get order j ≡ Some q)
     back once order sorted p q (at_once {x = x} at leads) i e = sorted.behind i p q e (next_of once p q (x, at, leads))
     back once order sorted p q (through {q = m} {x = x} at leads rest) i e = deeper (sorted.behind i p m e (next_of once p m (x, at, leads))) (λ j h. back once order sorted m q rest j h)
       where
-        deeper : ((j : ℕ) × (j < i) × (slice_get order j ≡ Some m)) → ((j : ℕ) → slice_get order j ≡ Some m → (k : ℕ) × (k < j) × (slice_get order k ≡ Some q)) → (k : ℕ) × (k < i) × (slice_get order k ≡ Some q)
+        deeper : ((j : ℕ) × (j < i) × (slice_get order j ≡ Some m)) → ((j : ℕ) → slice_get order j ≡ Some m → (k : ℕ) × (k < j) ×
+            (slice_get order k ≡ Some q)) → (k : ℕ) × (k < i) × (slice_get order k ≡ Some q)
         deeper (j, lt, h) more = let (k, less, g) = more j h in (k, omega arith, g)
 
     no_round : NoneIs (HasOne (IsTwice parts)) → (order : List ℕ) → IsSorted parts targets order → (p n i : ℕ) → i < n → slice_get order i ≡ Some p → ¬ Reaches parts p p
@@ -140,7 +142,8 @@ AreTargetsTo parts ts k = (length ts ≡ k) × ((q : ℕ) → q < k → IsTarget
 pub targets_none : (parts : List Part) (ts : List ℕ) → ts ≡ [] → AreTargetsTo parts ts 0
 targets_none parts ts e = (ap length e, λ q lt. absurd (omega arith))
 
-pub targets_more : (parts : List Part) (ts after : List ℕ) (k v : ℕ) (x : Part) → IsAt parts k x → IsTarget parts x v → after ≡ ts ++ v ∷ [] → AreTargetsTo parts ts k → AreTargetsTo parts after (k + 1)
+pub targets_more : (parts : List Part) (ts after : List ℕ) (k v : ℕ) (x : Part) → IsAt parts k x → IsTarget parts x v → after ≡ ts ++ v ∷ [] →
+    AreTargetsTo parts ts k → AreTargetsTo parts after (k + 1)
 targets_more parts ts after k v x at target pushed (size, each) = (
   ap length pushed ∙ (let h = length-append ts (v ∷ []) in omega arith),
   λ q lt. subst (λ us. IsTargetAt parts q (get_or us q 0)) (sym pushed) (each_push (IsTargetAt parts) ts k v size each (target_at parts k v x at target) q lt),

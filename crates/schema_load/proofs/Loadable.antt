@@ -43,7 +43,8 @@ first_of d = d.0
 
 -- ---- lists by index
 
-pub append_cases : {X : Type 0} (xs ys : List X) (i : ℕ) (x : X) → slice_get (xs ++ ys) i ≡ Some x → ((i < length xs) × (slice_get xs i ≡ Some x)) ⊎ ((j : ℕ) × (i ≡ length xs + j) × (slice_get ys j ≡ Some x))
+pub append_cases : {X : Type 0} (xs ys : List X) (i : ℕ) (x : X) → slice_get (xs ++ ys) i ≡ Some x → ((i < length xs) × (slice_get xs i ≡ Some x)) ⊎
+    ((j : ℕ) × (i ≡ length xs + j) × (slice_get ys j ≡ Some x))
 append_cases [] ys i x e = inr (i, omega arith, e)
 append_cases (y ∷ xs) ys zero x e = inl (omega arith, e)
 append_cases (y ∷ xs) ys (suc i) x e = elim (append_cases xs ys i x e) [
@@ -89,7 +90,8 @@ count_before test (v ∷ us) zero u e passed = let same : v ≡ u = cc in go (te
     go false h = absurd (let bad : ⊥ = cc in bad)
 count_before test (v ∷ us) (suc p) u e passed = go (test v) (count_before test us p u e passed)
   where
-    go : (b : Bool) → length (filter test (take p us)) < length (filter test us) → length (cond b (v ∷ filter test (take p us)) (filter test (take p us))) < length (cond b (v ∷ filter test us) (filter test us))
+    go : (b : Bool) → length (filter test (take p us)) < length (filter test us) →
+        length (cond b (v ∷ filter test (take p us)) (filter test (take p us))) < length (cond b (v ∷ filter test us) (filter test us))
     go true h = omega arith
     go false h = h
 
@@ -252,13 +254,16 @@ module _ (docs : List Document) (terms : List Term) (s : Schema) (ordered : AreO
   whole = are_whole docs
 
   shape_below : (p : ℕ) (head : _) → IsAt parts p (Parts.Shape head) → shape_number parts p < length s.shapes
-  shape_below p head at = let h = count_before is_shape parts p (Parts.Shape head) at refl in let l = zip_long (IsShapeAt terms parts x.number) (shape_places parts) s.shapes x.shapes in let n = places_long is_shape 0 parts in omega arith
+  shape_below p head at = let h = count_before is_shape parts p (Parts.Shape head) at refl in let l = zip_long (IsShapeAt terms parts x.number)
+      (shape_places parts) s.shapes x.shapes in let n = places_long is_shape 0 parts in omega arith
 
   refers_of : (i p : ℕ) (u : Part) (v : Expr) → slice_get order i ≡ Some p → IsAt parts p u → IsEntryOf terms parts x.number p u v → RefersBelow s i v
   refers_of i p (Parts.And ps) v at here e =
-      subst (λ z. RefersBelow s i z) (sym e) (λ n c. (let (q, held, same) = from_map x.number ps n c in subst (λ (z : ExprId). z.0 < i) same (member_below i p q (Parts.And ps) at here refl held (whole.members p q (Parts.And ps) here held))))
+      subst (λ z. RefersBelow s i z) (sym e)
+      (λ n c. (let (q, held, same) = from_map x.number ps n c in subst (λ (z : ExprId). z.0 < i) same (member_below i p q (Parts.And ps) at here refl held (whole.members p q (Parts.And ps) here held))))
   refers_of i p (Parts.Or ps) v at here e =
-      subst (λ z. RefersBelow s i z) (sym e) (λ n c. (let (q, held, same) = from_map x.number ps n c in subst (λ (z : ExprId). z.0 < i) same (member_below i p q (Parts.Or ps) at here refl held (whole.members p q (Parts.Or ps) here held))))
+      subst (λ z. RefersBelow s i z) (sym e)
+      (λ n c. (let (q, held, same) = from_map x.number ps n c in subst (λ (z : ExprId). z.0 < i) same (member_below i p q (Parts.Or ps) at here refl held (whole.members p q (Parts.Or ps) here held))))
   refers_of i p (Parts.Not q) v at here e = subst (λ z. RefersBelow s i z) (sym e) (member_below i p q (Parts.Not q) at here refl refl (whole.members p q (Parts.Not q) here refl))
   refers_of i p (Parts.Node c) v at here e = subst (λ z. RefersBelow s i z) (sym e) tt
   refers_of i p (Parts.Shape h) v at here e = subst (λ z. RefersBelow s i z) (sym e) (shape_below p h here)
@@ -336,7 +341,8 @@ module _ (docs : List Document) (terms : List Term) (s : Schema) (ordered : AreO
   body_there (Some q) None occs e o c = absurd e
   body_there (Some q) (Some b) occs e o c = values_there q 0 b occs e o c
 
-  body_few : (p : ℕ) (head : ShapePart) (q : Option ℕ) (c : Option Plan) (occs : List Occurrence) → IsAt parts p (Parts.Shape head) → head.body ≡ q → IsBody terms parts x.number q c occs → length occs ≤ 256
+  body_few : (p : ℕ) (head : ShapePart) (q : Option ℕ) (c : Option Plan) (occs : List Occurrence) → IsAt parts p (Parts.Shape head) → head.body ≡ q →
+      IsBody terms parts x.number q c occs → length occs ≤ 256
   body_few p head None None occs at is e = let h = ap length e in omega arith
   body_few p head None (Some b) occs at is e = absurd e
   body_few p head (Some q) None occs at is e = absurd e

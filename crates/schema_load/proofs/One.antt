@@ -30,7 +30,8 @@ pub place_found : (test : Part → Bool) (k : ℕ) (parts : List Part) (i : ℕ)
 place_found test k [] i x at passed = absurd (let bad : ⊥ = cc in bad)
 place_found test k (y ∷ ys) zero x at passed =
     let same : y ≡ x = cc in
-    subst (λ n. Contains (with_place (test y) k (places_where test (k + 1) ys)) n) (let h : k ≡ k + 0 = omega arith in h) (first_place (test y) k (places_where test (k + 1) ys) (ap test same ∙ passed))
+    subst (λ n. Contains (with_place (test y) k (places_where test (k + 1) ys)) n) (let h : k ≡ k + 0 = omega arith in h)
+    (first_place (test y) k (places_where test (k + 1) ys) (ap test same ∙ passed))
 place_found test k (y ∷ ys) (suc i) x at passed =
     kept_place (test y) k (places_where test (k + 1) ys) (k + suc i)
     (subst (λ n. Contains (places_where test (k + 1) ys) n) (let h : (k + 1) + i ≡ k + suc i = omega arith in h) (place_found test (k + 1) ys i x at passed))

@@ -179,7 +179,8 @@ module _ (docs : List Document) (terms : List Term) (a b : Schema) (distinct : A
   one_value None i j there e f = e ∙ sym f
   one_value (Some q) i j there e f = e ∙ (ap Some (number q (there q refl)) ∙ sym f)
 
-  one_occurrence : (p : ℕ) (t : TriplePart) (c : ArcPart) (i j : Occurrence) → IsAt parts p (Parts.Triple t) → t.form ≡ Arc c → IsOccurrence terms parts x.number c i → IsOccurrence terms parts y.number c j → i ≡ j
+  one_occurrence : (p : ℕ) (t : TriplePart) (c : ArcPart) (i j : Occurrence) → IsAt parts p (Parts.Triple t) → t.form ≡ Arc c →
+      IsOccurrence terms parts x.number c i → IsOccurrence terms parts y.number c j → i ≡ j
   one_occurrence p t c i j at form e f = λ k. record {
     inverse = (e.inverse ∙ sym f.inverse) k;
     predicate = one_term c.predicate i.predicate j.predicate e.predicate f.predicate k;
@@ -203,32 +204,40 @@ module _ (docs : List Document) (terms : List Term) (a b : Schema) (distinct : A
         (ap (λ z. times z.min z.max (symbol k)) same, ap (λ z. z ∷ []) (one_occurrence p t c o q at e oc (subst (λ z. IsOccurrence terms parts y.number z q) arcs od)))
     one_unfolding p k _ _ _ _ (arc {t = t} {a = c} at e oc) (each_of {t = u} {ps = ps} here h all) = let (same, form) = one_form p t u (Arc c) (Each ps) at here e h in absurd (let bad : ⊥ = cc in bad)
     one_unfolding p k _ _ _ _ (arc {t = t} {a = c} at e oc) (one_of {t = u} {ps = ps} here h all) = let (same, form) = one_form p t u (Arc c) (One ps) at here e h in absurd (let bad : ⊥ = cc in bad)
-    one_unfolding p k _ _ _ _ (arc {t = t} {a = c} at e oc) (included {t = u} {l = l} here h d rest) = let (same, form) = one_form p t u (Arc c) (Include l) at here e h in absurd (let bad : ⊥ = cc in bad)
+    one_unfolding p k _ _ _ _ (arc {t = t} {a = c} at e oc) (included {t = u} {l = l} here h d rest) = let (same, form) = one_form p t u (Arc c)
+        (Include l) at here e h in absurd (let bad : ⊥ = cc in bad)
     one_unfolding p k _ _ i j (each_of {t = t} {ps = ps} {plans = us} at e all) (each_of {t = u} {ps = qs} {plans = ws} here h rest) =
         let (same, form) = one_form p t u (Each ps) (Each qs) at here e h in
         let members : qs ≡ ps = cc in
         let (plans, occs) = one_unfold_all ps k us ws i j all (subst (λ z. UnfoldAll terms parts y.number z k ws j) members rest) in
         (ap (λ z. times z.min z.max (each us)) same ∙ ap (λ z. times u.min u.max (each z)) plans, occs)
     one_unfolding p k _ _ _ _ (each_of {t = t} {ps = ps} at e all) (arc {t = u} {a = c} here h oc) = let (same, form) = one_form p t u (Each ps) (Arc c) at here e h in absurd (let bad : ⊥ = cc in bad)
-    one_unfolding p k _ _ _ _ (each_of {t = t} {ps = ps} at e all) (one_of {t = u} {ps = qs} here h rest) = let (same, form) = one_form p t u (Each ps) (One qs) at here e h in absurd (let bad : ⊥ = cc in bad)
-    one_unfolding p k _ _ _ _ (each_of {t = t} {ps = ps} at e all) (included {t = u} {l = l} here h d rest) = let (same, form) = one_form p t u (Each ps) (Include l) at here e h in absurd (let bad : ⊥ = cc in bad)
+    one_unfolding p k _ _ _ _ (each_of {t = t} {ps = ps} at e all) (one_of {t = u} {ps = qs} here h rest) = let (same, form) = one_form p t u (Each ps)
+        (One qs) at here e h in absurd (let bad : ⊥ = cc in bad)
+    one_unfolding p k _ _ _ _ (each_of {t = t} {ps = ps} at e all) (included {t = u} {l = l} here h d rest) = let (same, form) = one_form p t u (Each ps)
+        (Include l) at here e h in absurd (let bad : ⊥ = cc in bad)
     one_unfolding p k _ _ i j (one_of {t = t} {ps = ps} {plans = us} at e all) (one_of {t = u} {ps = qs} {plans = ws} here h rest) =
         let (same, form) = one_form p t u (One ps) (One qs) at here e h in
         let members : qs ≡ ps = cc in
         let (plans, occs) = one_unfold_all ps k us ws i j all (subst (λ z. UnfoldAll terms parts y.number z k ws j) members rest) in
         (ap (λ z. times z.min z.max (one us)) same ∙ ap (λ z. times u.min u.max (one z)) plans, occs)
     one_unfolding p k _ _ _ _ (one_of {t = t} {ps = ps} at e all) (arc {t = u} {a = c} here h oc) = let (same, form) = one_form p t u (One ps) (Arc c) at here e h in absurd (let bad : ⊥ = cc in bad)
-    one_unfolding p k _ _ _ _ (one_of {t = t} {ps = ps} at e all) (each_of {t = u} {ps = qs} here h rest) = let (same, form) = one_form p t u (One ps) (Each qs) at here e h in absurd (let bad : ⊥ = cc in bad)
-    one_unfolding p k _ _ _ _ (one_of {t = t} {ps = ps} at e all) (included {t = u} {l = l} here h d rest) = let (same, form) = one_form p t u (One ps) (Include l) at here e h in absurd (let bad : ⊥ = cc in bad)
+    one_unfolding p k _ _ _ _ (one_of {t = t} {ps = ps} at e all) (each_of {t = u} {ps = qs} here h rest) = let (same, form) = one_form p t u (One ps)
+        (Each qs) at here e h in absurd (let bad : ⊥ = cc in bad)
+    one_unfolding p k _ _ _ _ (one_of {t = t} {ps = ps} at e all) (included {t = u} {l = l} here h d rest) = let (same, form) = one_form p t u (One ps)
+        (Include l) at here e h in absurd (let bad : ⊥ = cc in bad)
     one_unfolding p k _ _ i j (included {q = q} {t = t} {l = l} {plan = us} at e d rest) (included {q = r} {t = u} {l = m} {plan = ws} here h f others) =
         let (same, form) = one_form p t u (Include l) (Include m) at here e h in
         let label : m ≡ l = cc in
         let target : r ≡ q = one_named parts x.meets.labels_once l r q (subst (λ z. IsNamed parts z r) label f) d in
         let (plans, occs) = one_unfolding q k us ws i j rest (subst (λ z. Unfolds terms parts y.number z k ws j) target others) in
         (ap (λ z. times z.min z.max us) same ∙ ap (λ z. times u.min u.max z) plans, occs)
-    one_unfolding p k _ _ _ _ (included {t = t} {l = l} at e d rest) (arc {t = u} {a = c} here h oc) = let (same, form) = one_form p t u (Include l) (Arc c) at here e h in absurd (let bad : ⊥ = cc in bad)
-    one_unfolding p k _ _ _ _ (included {t = t} {l = l} at e d rest) (each_of {t = u} {ps = qs} here h all) = let (same, form) = one_form p t u (Include l) (Each qs) at here e h in absurd (let bad : ⊥ = cc in bad)
-    one_unfolding p k _ _ _ _ (included {t = t} {l = l} at e d rest) (one_of {t = u} {ps = qs} here h all) = let (same, form) = one_form p t u (Include l) (One qs) at here e h in absurd (let bad : ⊥ = cc in bad)
+    one_unfolding p k _ _ _ _ (included {t = t} {l = l} at e d rest) (arc {t = u} {a = c} here h oc) = let (same, form) = one_form p t u (Include l)
+        (Arc c) at here e h in absurd (let bad : ⊥ = cc in bad)
+    one_unfolding p k _ _ _ _ (included {t = t} {l = l} at e d rest) (each_of {t = u} {ps = qs} here h all) = let (same, form) = one_form p t u (Include l)
+        (Each qs) at here e h in absurd (let bad : ⊥ = cc in bad)
+    one_unfolding p k _ _ _ _ (included {t = t} {l = l} at e d rest) (one_of {t = u} {ps = qs} here h all) = let (same, form) = one_form p t u (Include l)
+        (One qs) at here e h in absurd (let bad : ⊥ = cc in bad)
 
     one_unfold_all : (ps : List ℕ) (k : ℕ) (m n : Plans) (i j : List Occurrence) → UnfoldAll terms parts x.number ps k m i → UnfoldAll terms parts y.number ps k n j → (m ≡ n) × (i ≡ j)
     one_unfold_all [] k _ _ _ _ none none = (refl, refl)
@@ -255,7 +264,8 @@ module _ (docs : List Document) (terms : List Term) (a b : Schema) (distinct : A
       closed = e.closed ∙ (ap (λ (z : ShapePart). z.closed) same ∙ sym f.closed)
 
       extra : v.extra ≡ w.extra
-      extra = zip_one (IsTerm terms) (IsTerm terms) e.head.extra v.extra w.extra (λ iri i j c g h. one_term iri i j g h) e.extra (subst (λ (z : ShapePart). AllZip (IsTerm terms) z.extra w.extra) (sym same) f.extra)
+      extra = zip_one (IsTerm terms)
+          (IsTerm terms) e.head.extra v.extra w.extra (λ iri i j c g h. one_term iri i j g h) e.extra (subst (λ (z : ShapePart). AllZip (IsTerm terms) z.extra w.extra) (sym same) f.extra)
 
       bodies : (v.body ≡ w.body) × (v.occs ≡ w.occs)
       bodies = one_body e.head.body v.body w.body v.occs w.occs e.body (subst (λ (z : ShapePart). IsBody terms parts y.number z.body w.body w.occs) (sym same) f.body)
@@ -285,7 +295,8 @@ module _ (docs : List Document) (terms : List Term) (a b : Schema) (distinct : A
   one_labels k (Parts.Triple t ∷ us) same = one_labels (k + 1) us (deeper k _ us same)
 
   pub labels : a.labels ≡ b.labels
-  labels = x.labels ∙ (one_labels 0 parts (λ i l at. subst (λ n. x.number (n + 1) ≡ y.number (n + 1)) (let h : i ≡ 0 + i = omega arith in h) (number (i + 1) (whole.behind i (Parts.Declares l) at refl))) ∙ sym y.labels)
+  labels = x.labels ∙ (one_labels 0 parts (λ i l at. subst (λ n. x.number (n + 1) ≡ y.number (n + 1)) (let h : i ≡
+      0 + i = omega arith in h) (number (i + 1) (whole.behind i (Parts.Declares l) at refl))) ∙ sym y.labels)
 
   pub start : a.start ≡ b.start
   start = go (root_start docs) refl x.start y.start

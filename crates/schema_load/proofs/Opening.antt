@@ -25,12 +25,14 @@ use Rattle.schema_load.proofs.Grouping.{enter_not_leave, grouped_not_unseen, not
 
 -- ---- how many visits can come
 
-unseen_open : (parts : List Part) (targets : List ℕ) (s : List Standing) (p : ℕ) (x : Part) (n : ℕ) → length targets ≡ length parts → length s ≡ length parts → slice_get parts p ≡ Some x → get_or s p Unseen ≡ Unseen →
+unseen_open : (parts : List Part) (targets : List ℕ) (s : List Standing) (p : ℕ) (x : Part) (n : ℕ) → length targets ≡ length parts → length s ≡ length parts →
+    slice_get parts p ≡ Some x → get_or s p Unseen ≡ Unseen →
     unseen parts targets (set s p (Open n)) + (1 + length (nexts (get_or targets p 0) x)) ≡ unseen parts targets s
 unseen_open [] targets s p x n a b at fresh = absurd (let bad : ⊥ = cc in bad)
 unseen_open (y ∷ ys) [] s p x n a b at fresh = absurd (omega arith)
 unseen_open (y ∷ ys) (t ∷ ts) [] p x n a b at fresh = absurd (omega arith)
-unseen_open (y ∷ ys) (t ∷ ts) (Unseen ∷ ss) zero x n a b at fresh = let same : y ≡ x = cc in subst (λ z. unseen ys ts ss + (1 + length (nexts t z)) ≡ (1 + length (nexts t y)) + unseen ys ts ss) same (omega arith)
+unseen_open (y ∷ ys) (t ∷ ts) (Unseen ∷ ss) zero x n a b at fresh = let same : y ≡ x = cc in
+    subst (λ z. unseen ys ts ss + (1 + length (nexts t z)) ≡ (1 + length (nexts t y)) + unseen ys ts ss) same (omega arith)
 unseen_open (y ∷ ys) (t ∷ ts) (Open m ∷ ss) zero x n a b at fresh = absurd (let bad : ⊥ = cc in bad)
 unseen_open (y ∷ ys) (t ∷ ts) (Grouped g ∷ ss) zero x n a b at fresh = absurd (let bad : ⊥ = cc in bad)
 unseen_open (y ∷ ys) (t ∷ ts) (Unseen ∷ ss) (suc p) x n a b at fresh = let h = unseen_open ys ts ss p x n (omega arith) (omega arith) at fresh in omega arith
@@ -169,7 +171,8 @@ module _ (parts : List Part) (targets : List ℕ) where
       | inr (e, same) ↦ subst (λ z. Reaches parts a z) same (to_entered parts targets s trail starts count rest (Enter p) before p refl i a early)
     ]
 
-    now_back : (i j a b : ℕ) → i < j → slice_get (trail ++ p ∷ []) i ≡ Some a → slice_get (trail ++ p ∷ []) j ≡ Some b → ((c : ℕ) → Contains (starts ++ length trail ∷ []) c → (c ≤ i) ⊎ (j < c)) → Reaches parts b a
+    now_back : (i j a b : ℕ) → i < j → slice_get (trail ++ p ∷ []) i ≡ Some a → slice_get (trail ++ p ∷ []) j ≡ Some b →
+        ((c : ℕ) → Contains (starts ++ length trail ∷ []) c → (c ≤ i) ⊎ (j < c)) → Reaches parts b a
     now_back i j a b lt u w apart = let early = trail_before i j a b lt u w in elim (trail_is j b w) [
       | inl late ↦ before.back i j a b lt early late (λ c has. apart c (Contains-append_left starts (length trail ∷ []) c has))
       | inr (e, same) ↦ absurd (elim (apart (length trail) (Contains-append_right starts (length trail ∷ []) (length trail) (is_first (length trail) []))) [
@@ -261,7 +264,14 @@ module _ (parts : List Part) (targets : List ℕ) where
           let c = next_at parts targets p r x at_p (subst (λ z. IsNext parts targets z r) (sym same) next) in
           let (k, is) = index_of ns r c in
           let l = length-append rest (Leave p ∷ []) in
-          inr (length rest, length base + k, (let lt : length rest < length base + k = omega arith in lt), subst (λ z. slice_get now (length rest) ≡ Some (Leave z)) same is_here, get_right base (map Enter ns) k (Enter r) (entered_at ns k r is))
+          inr (
+            length rest,
+            length base + k,
+            (let lt : length rest < length base + k = omega arith in lt),
+            subst (λ z. slice_get now (length rest) ≡
+                Some (Leave z)) same is_here,
+            get_right base (map Enter ns) k (Enter r) (entered_at ns k r is),
+          )
           )
     ]
       where
@@ -277,7 +287,12 @@ module _ (parts : List Part) (targets : List ℕ) where
         ))
         go low (inr (a, k, lt, leave, enter)) = elim (split_one rest (Enter p) (Enter r) k enter) [
           | inl there ↦ inr (a, k, lt, from_rest a (Leave q) (not_last rest (Enter p) a k (Leave q) (Enter r) lt there leave), from_rest k (Enter r) there)
-          | inr (e, same) ↦ inl (inr (length trail, subst (λ z. get_or after z Unseen ≡ Open (length trail)) (one_entered (Enter p) p r refl same) now_p, λ b c le. (let h : b ≤ length trail = omega arith in h)))
+          | inr (e, same) ↦ inl (inr (
+            length trail,
+            subst (λ z. get_or after z Unseen ≡
+                Open (length trail)) (one_entered (Enter p) p r refl same) now_p,
+            λ b c le. (let h : b ≤ length trail = omega arith in h),
+          ))
         ]
 
     now_falls : (q r g : ℕ) → get_or after q Unseen ≡ Grouped g → IsNext parts targets q r → (h : ℕ) × (get_or after r Unseen ≡ Grouped h) × (h ≤ g)
@@ -313,7 +328,8 @@ module _ (parts : List Part) (targets : List ℕ) where
       waits = now_waits;
     }
 
-    pub opened_as : (n : ℕ) (trail_now starts_now : List ℕ) (visits : List Visit) → n ≡ length trail → trail_now ≡ trail ++ p ∷ [] → starts_now ≡ starts ++ n ∷ [] → visits ≡ now → IsGrouping parts targets (set s p (Open n)) trail_now starts_now count visits
+    pub opened_as : (n : ℕ) (trail_now starts_now : List ℕ) (visits : List Visit) → n ≡ length trail → trail_now ≡ trail ++ p ∷ [] →
+        starts_now ≡ starts ++ n ∷ [] → visits ≡ now → IsGrouping parts targets (set s p (Open n)) trail_now starts_now count visits
     opened_as n trail_now starts_now visits e f g h =
         subst (λ z. IsGrouping parts targets (set s p (Open z)) trail_now starts_now count visits) (sym e)
         (subst (λ z. IsGrouping parts targets after z starts_now count visits) (sym f)
@@ -331,4 +347,5 @@ module _ (parts : List Part) (targets : List ℕ) where
 
     pub less_as : (n : ℕ) (visits : List Visit) → n ≡ length trail → visits ≡ now → length visits + unseen parts targets (set s p (Open n)) ≡ length rest + unseen parts targets s
     less_as n visits e h =
-        subst (λ z. length visits + unseen parts targets (set s p (Open z)) ≡ length rest + unseen parts targets s) (sym e) (subst (λ z. length z + unseen parts targets after ≡ length rest + unseen parts targets s) (sym h) less)
+        subst (λ z. length visits + unseen parts targets (set s p (Open z)) ≡ length rest + unseen parts targets s) (sym e)
+        (subst (λ z. length z + unseen parts targets after ≡ length rest + unseen parts targets s) (sym h) less)

@@ -38,7 +38,8 @@ module _ (given : Part → Option Label) (parts : List Part) where
   }
 
   -- where it gives one
-  noted_next : (i : ℕ) (x : Part) (l : Label) (old new : Label → Option ℕ) → IsAt parts i x → given x ≡ Some l → AreLast given parts i old → ((m : Label) → new m ≡ cond (same_label l m) (Some i) (old m)) → AreLast given parts (i + 1) new
+  noted_next : (i : ℕ) (x : Part) (l : Label) (old new : Label → Option ℕ) → IsAt parts i x → given x ≡ Some l → AreLast given parts i old →
+      ((m : Label) → new m ≡ cond (same_label l m) (Some i) (old m)) → AreLast given parts (i + 1) new
   noted_next i x l old new at gives before noted = record { there = there; all = all }
     where
       here : (m : Label) → l ≡ m → new m ≡ Some i
@@ -80,13 +81,15 @@ module _ (given : Part → Option Label) (parts : List Part) where
   last_all i last low le before = subst (λ n. AreLast given parts n last) (let e : i ≡ length parts = omega arith in e) before
 
   -- a label that is given twice is given again behind the first of two places
-  again : (last : Label → Option ℕ) (l : Label) (p q : ℕ) (x y : Part) → AreLast given parts (length parts) last → IsAt parts p x → given x ≡ Some l → IsAt parts q y → given y ≡ Some l → p < q → IsElsewhere (last l) p
+  again : (last : Label → Option ℕ) (l : Label) (p q : ℕ) (x y : Part) → AreLast given parts (length parts) last → IsAt parts p x → given x ≡ Some l →
+      IsAt parts q y → given y ≡ Some l → p < q → IsElsewhere (last l) p
   again last l p q x y are here gives there too lt =
       let (r, e, le) = are.all l q y (slice_get_within parts q y there) there too in
       subst (λ o. IsElsewhere o p) (sym e) (λ same. omega arith)
 
   -- where another place is noted, the label is given there
-  pub other_place : (last : Label → Option ℕ) (l : Label) (p : ℕ) → AreLast given parts (length parts) last → IsElsewhere (last l) p → (q : ℕ) × (y : Part) × IsAt parts q y × (given y ≡ Some l) × (p ≡ q → ⊥)
+  pub other_place : (last : Label → Option ℕ) (l : Label) (p : ℕ) → AreLast given parts (length parts) last → IsElsewhere (last l) p → (q : ℕ) × (y : Part) ×
+      IsAt parts q y × (given y ≡ Some l) × (p ≡ q → ⊥)
   other_place last l p are elsewhere = go (last l) refl elsewhere
     where
       go : (o : Option ℕ) → last l ≡ o → IsElsewhere o p → (q : ℕ) × (y : Part) × IsAt parts q y × (given y ≡ Some l) × (p ≡ q → ⊥)
@@ -145,7 +148,8 @@ module _ (parts : List Part) (names : Names) (are : AreNames parts names) where
   head_again : (l : Label) (p q : ℕ) → IsAt parts p (Parts.Declares l) → IsAt parts q (Parts.Declares l) → p < q → IsGivenAgain names (Parts.Declares l) p
   head_again l p q here there lt = again declared_label parts (get same_label names.declared) l p q (Parts.Declares l) (Parts.Declares l) are.declared here refl there refl lt
 
-  name_again : (l : Label) (p q : ℕ) (t u : TriplePart) → IsAt parts p (Parts.Triple t) → t.label ≡ Some l → IsAt parts q (Parts.Triple u) → u.label ≡ Some l → p < q → IsGivenAgain names (Parts.Triple t) p
+  name_again : (l : Label) (p q : ℕ) (t u : TriplePart) → IsAt parts p (Parts.Triple t) → t.label ≡ Some l → IsAt parts q (Parts.Triple u) → u.label ≡ Some l →
+      p < q → IsGivenAgain names (Parts.Triple t) p
   name_again l p q t u here e there f lt =
       subst (λ g. IsAgain (get same_label names.named) g p) (sym e) (again named_label parts (get same_label names.named) l p q (Parts.Triple t) (Parts.Triple u) are.named here e there f lt)
 

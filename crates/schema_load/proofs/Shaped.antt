@@ -96,7 +96,8 @@ module _ (terms : List Term) (parts : List Part) (number : ℕ → ExprId) where
   added_on p (Parts.Ref l) ps old new before e = same_shapes ps old new before e
   added_on p (Parts.Triple t) ps old new before e = same_shapes ps old new before e
 
-  pub shapes_more : (i : ℕ) (old new : List Shape) → i < length parts → Zipped (places_where is_shape 0 (take i parts)) old → AddsShape terms parts number i old new → Zipped (places_where is_shape 0 (take (i + 1) parts)) new
+  pub shapes_more : (i : ℕ) (old new : List Shape) → i < length parts → Zipped (places_where is_shape 0 (take i parts)) old →
+      AddsShape terms parts number i old new → Zipped (places_where is_shape 0 (take (i + 1) parts)) new
   shapes_more i old new lt before adds =
       let (x, at) = part_at parts i lt in
       subst (λ ps. Zipped ps new) (sym (shapes_step i x at)) (added_on i x (places_where is_shape 0 (take i parts)) old new before (adds x at))

@@ -90,7 +90,8 @@ module _ (parts : List Part) (targets : List ℕ) where
   ready done p x b at not answer = carried b answer (λ all. (not, λ q next. all q (next_at p q x at next))) (λ (n, all) q c. all q (x, at, c))
 
   -- a place that is ready goes behind
-  pub kept_more : (done : List Bool) (order : List ℕ) (p : ℕ) → p < length parts → Keeps parts targets done order → IsReady parts targets done p → Keeps parts targets (set done p true) (order ++ p ∷ [])
+  pub kept_more : (done : List Bool) (order : List ℕ) (p : ℕ) → p < length parts → Keeps parts targets done order → IsReady parts targets done p →
+      Keeps parts targets (set done p true) (order ++ p ∷ [])
   kept_more done order p lt kept (not, all) = record {
     size = length-set done p true ∙ kept.size;
     sorted = record { within = within; behind = behind };
@@ -144,18 +145,21 @@ module _ (parts : List Part) (targets : List ℕ) where
   abbrev pub IsLeft : List Bool → ℕ → Type 0
   IsLeft done r = (r < length parts) × (get_or done r false ≡ false)
 
-  left_next : (done : List Bool) → AreTargets parts targets → AreInside parts targets → ((p : ℕ) → p < length parts → ¬ IsReady parts targets done p) → (r : ℕ) → IsLeft done r → (q : ℕ) × Steps parts r q × IsLeft done q
+  left_next : (done : List Bool) → AreTargets parts targets → AreInside parts targets → ((p : ℕ) → p < length parts → ¬ IsReady parts targets done p) →
+      (r : ℕ) → IsLeft done r → (q : ℕ) × Steps parts r q × IsLeft done q
   left_next done are inside none r (lt, not) = go (all_or_one done (nexts (get_or targets r 0) (get_or parts r Parts.Start)))
     where
       at : IsAt parts r (get_or parts r Parts.Start)
       at = slice_get-get_or parts r Parts.Start lt
 
-      go : ((q : ℕ) → Contains (nexts (get_or targets r 0) (get_or parts r Parts.Start)) q → get_or done q false ≡ true) ⊎ ((q : ℕ) × Contains (nexts (get_or targets r 0) (get_or parts r Parts.Start)) q × (get_or done q false ≡ false)) → (q : ℕ) × Steps parts r q × IsLeft done q
+      go : ((q : ℕ) → Contains (nexts (get_or targets r 0) (get_or parts r Parts.Start)) q → get_or done q false ≡ true) ⊎
+          ((q : ℕ) × Contains (nexts (get_or targets r 0) (get_or parts r Parts.Start)) q × (get_or done q false ≡ false)) → (q : ℕ) × Steps parts r q × IsLeft done q
       go (inl all) = absurd (none r lt (not, λ q n. all q (next_at r q (get_or parts r Parts.Start) at n)))
       go (inr (q, c, free)) = (q, step_of parts targets are r q (get_or parts r Parts.Start, at, c), (inside r q (get_or parts r Parts.Start, at, c), free))
 
   -- where none of the places that are left is ready some place leads to itself
-  pub circle_left : (done : List Bool) (order : List ℕ) → AreTargets parts targets → AreInside parts targets → Keeps parts targets done order → ((p : ℕ) → p < length parts → ¬ IsReady parts targets done p) →
+  pub circle_left : (done : List Bool) (order : List ℕ) → AreTargets parts targets → AreInside parts targets → Keeps parts targets done order →
+      ((p : ℕ) → p < length parts → ¬ IsReady parts targets done p) →
       ¬ (length order ≡ length parts) → (q : ℕ) × Reaches parts q q
   circle_left done order are inside kept none short =
       let (p, lt, not) = one_left done (let c = kept.count in omega (arith, short)) in
@@ -171,10 +175,12 @@ module _ (parts : List Part) (targets : List ℕ) where
     | inr apart ↦ before q lt (omega (arith, apart)) (subst (λ z. IsReady parts targets z q) same is)
   ]
 
-  pub round_more : (start : ℕ) (done after : List Bool) (behind p : ℕ) (was now moved : Bool) → p + (behind + 1) ≡ length parts → undone done ≤ start → (was ≡ true → undone done < start) → (was ≡ false → AreStill done behind) →
+  pub round_more : (start : ℕ) (done after : List Bool) (behind p : ℕ) (was now moved : Bool) → p + (behind + 1) ≡ length parts → undone done ≤ start →
+      (was ≡ true → undone done < start) → (was ≡ false → AreStill done behind) →
       (now ≡ true → undone after < undone done) → (now ≡ false → (after ≡ done) × (IsReady parts targets after p → ⊥)) → ((now ≡ true) × (moved ≡ true)) ⊎ ((now ≡ false) × (moved ≡ was)) →
       (undone after ≤ start) × (moved ≡ true → undone after < start) × (moved ≡ false → AreStill after (behind + 1))
-  round_more start done after behind p was now moved place le some still less same (inl (is, set)) = (let h = less is in omega arith, λ m. (let h = less is in omega arith), λ m. absurd (let bad : ⊥ = cc in bad))
+  round_more start done after behind p was now moved place le some still less same (inl (is, set)) =
+      (let h = less is in omega arith, λ m. (let h = less is in omega arith), λ m. absurd (let bad : ⊥ = cc in bad))
   round_more start done after behind p was now moved place le some still less same (inr (is, set)) =
       let (one, here) = same is in
       let equal : undone after ≡ undone done = ap undone one in

@@ -42,7 +42,8 @@ sym_plan n = search (rules, the_lemmas)
 -- ---- depths
 
 -- what a part leads to is less deep by its weight
-pub lower : (parts : List Part) (depths : List ℕ) (p q : ℕ) (x : Part) → AreDepths parts depths → IsAt parts p x → LeadsTo parts x q → q < length parts → weight x + get_or depths q 0 ≤ get_or depths p 0
+pub lower : (parts : List Part) (depths : List ℕ) (p q : ℕ) (x : Part) → AreDepths parts depths → IsAt parts p x → LeadsTo parts x q → q < length parts →
+    weight x + get_or depths q 0 ≤ get_or depths p 0
 lower parts depths p q x are at leads lt = (are.each p (slice_get_within parts p x at)).no_deeper (weight x + get_or depths q 0) (below at leads (are.each q lt).so_deep)
 
 -- ---- what is needed for the parts of a triple expression
@@ -79,7 +80,8 @@ module _ (parts : List Part) (depths : List ℕ) (are : AreDepths parts depths) 
     pub less : get_or depths q 0 < get_or depths p 0
     pub room : HasRoom parts q k
 
-  pub include_ready : NoneIs (HasOne (IsTwice parts)) → (targets : List ℕ) → AreTargets parts targets → (p k : ℕ) (l : Label) → IsFormAt parts p (Include l) → HasRoom parts p k → IsIncluded p (get_or targets p 0) k l
+  pub include_ready : NoneIs (HasOne (IsTwice parts)) → (targets : List ℕ) → AreTargets parts targets → (p k : ℕ) (l : Label) → IsFormAt parts p (Include l) →
+      HasRoom parts p k → IsIncluded p (get_or targets p 0) k l
   include_ready once targets aims p k l (t, at, e) (n, occurrences, few) = go (has_form p k n t (Include l) at e occurrences)
     where
       named : IsNamed parts l (get_or targets p 0)
@@ -103,7 +105,8 @@ form_inside parts targets p f aims (t, at, e) = let lt = slice_get_within parts 
 
 pub predicate_there : (parts : List Part) (terms : List Term) (p : ℕ) (a : ArcPart) → HasPredicates parts terms → IsFormAt parts p (Arc a) → Contains terms (Iri a.predicate)
 predicate_there parts terms p a has (t, at, e) =
-    has (Iri a.predicate) (in_flat_map predicates_in parts (Parts.Triple t) (Iri a.predicate) (got_in parts p (Parts.Triple t) at) (subst (λ f. Contains (predicate_of f) (Iri a.predicate)) (sym e) (is_first (Iri a.predicate) [])))
+    has (Iri a.predicate)
+    (in_flat_map predicates_in parts (Parts.Triple t) (Iri a.predicate) (got_in parts p (Parts.Triple t) at) (subst (λ f. Contains (predicate_of f) (Iri a.predicate)) (sym e) (is_first (Iri a.predicate) [])))
 
 pub value_inside : (parts : List Part) (p n : ℕ) (a : ArcPart) → AreWhole parts → n ≡ length parts → IsFormAt parts p (Arc a) → IsValueInside a.value n
 value_inside parts p n a whole size (t, at, e) = go a.value refl
@@ -140,10 +143,12 @@ module _ (terms : List Term) (parts : List Part) (number : ℕ → ExprId) where
   row_after [] u = refl
   row_after (v ∷ us) u = ap (λ z. more_plans v z) (row_after us u)
 
-  all_after : (ps : List ℕ) (p k : ℕ) (plans : Plans) (plan : Plan) (occs added : List Occurrence) → UnfoldAll terms parts number ps k plans occs → Unfolds terms parts number p (k + length occs) plan added →
+  all_after : (ps : List ℕ) (p k : ℕ) (plans : Plans) (plan : Plan) (occs added : List Occurrence) → UnfoldAll terms parts number ps k plans occs →
+      Unfolds terms parts number p (k + length occs) plan added →
       UnfoldAll terms parts number (ps ++ p ∷ []) k (after plans plan) (occs ++ added)
   all_after _ p k _ plan _ added none last =
-      subst (λ us. UnfoldAll terms parts number (p ∷ []) k (more_plans plan no_plans) us) (append-nil added) (more (subst (λ n. Unfolds terms parts number p n plan added) (let e : k + 0 ≡ k = omega arith in e) last) none)
+      subst (λ us. UnfoldAll terms parts number (p ∷ []) k (more_plans plan no_plans) us) (append-nil added)
+      (more (subst (λ n. Unfolds terms parts number p n plan added) (let e : k + 0 ≡ k = omega arith in e) last) none)
   all_after _ p k _ plan _ added (more {p = q} {ps = qs} {plan = u} {plans = us} {occs = i} {rest = j} first rest) last =
       subst (λ vs. UnfoldAll terms parts number (q ∷ (qs ++ p ∷ [])) k (more_plans u (after us plan)) vs) (sym (append_assoc i j added))
       (more first (all_after qs p (k + length i) us plan j added rest
@@ -167,7 +172,8 @@ module _ (terms : List Term) (parts : List Part) (number : ℕ → ExprId) where
         subst (λ cs. UnfoldAll terms parts number (take (i + 1) members) (length start) (plans_of cs) (before.added ++ more_occs)) (sym pushed)
         (subst (λ us. UnfoldAll terms parts number (take (i + 1) members) (length start) (row us) (before.added ++ more_occs)) (sym (map-append plan_of counts (count ∷ [])))
         (subst (λ z. UnfoldAll terms parts number (take (i + 1) members) (length start) z (before.added ++ more_occs)) (sym (row_after (map plan_of counts) (plan_of count)))
-        (subst (λ ps. UnfoldAll terms parts number ps (length start) (after (plans_of counts) (plan_of count)) (before.added ++ more_occs)) (ap (λ z. take i members ++ z ∷ []) read ∙ sym (take_more members i 0 lt))
+        (subst (λ ps. UnfoldAll terms parts number ps (length start) (after (plans_of counts) (plan_of count)) (before.added ++ more_occs)) (ap (λ z. take i members ++ z ∷ []) read
+        ∙ sym (take_more members i 0 lt))
         (all_after (take i members) p (length start) (plans_of counts) (plan_of count) before.added more_occs before.all
         (subst (λ n. Unfolds terms parts number p n (plan_of count) more_occs) long last)))));
   }
@@ -182,7 +188,8 @@ module _ (terms : List Term) (parts : List Part) (number : ℕ → ExprId) where
       let (a, b, sum, first, rest) = have_first parts p n (drop (i + 1) members) (subst (λ us. HaveOccurrences parts us n) (items_left members i p lt (read_any members i p lt read)) all) in
       (a, first, omega arith)
 
-  pub rest_room : NoneIs (HasOne (IsTwice parts)) → (members : List ℕ) (i p : ℕ) (now new added : List Occurrence) (plan : Plan) → i < length members → p ≡ get_or members i 0 → HaveRoom parts (drop i members) (length now) →
+  pub rest_room : NoneIs (HasOne (IsTwice parts)) → (members : List ℕ) (i p : ℕ) (now new added : List Occurrence) (plan : Plan) → i < length members →
+      p ≡ get_or members i 0 → HaveRoom parts (drop i members) (length now) →
       new ≡ now ++ added → Unfolds terms parts number p (length now) plan added → HaveRoom parts (drop (i + 1) members) (length new)
   rest_room once members i p now new added plan lt read (n, all, few) grown unfolded =
       let (a, b, sum, first, rest) = have_first parts p n (drop (i + 1) members) (subst (λ us. HaveOccurrences parts us n) (items_left members i p lt (read_any members i p lt read)) all) in
@@ -192,7 +199,8 @@ module _ (terms : List Term) (parts : List Part) (number : ℕ → ExprId) where
 
   -- ---- answers
 
-  pub with_times : (p k : ℕ) (t : TriplePart) (old new added : List Occurrence) (plan : Plan) (r : Result Count AllocError) → IsAt parts p (Parts.Triple t) → new ≡ old ++ added → UnfoldsForm terms parts number t.form k plan added →
+  pub with_times : (p k : ℕ) (t : TriplePart) (old new added : List Occurrence) (plan : Plan) (r : Result Count AllocError) → IsAt parts p (Parts.Triple t) →
+      new ≡ old ++ added → UnfoldsForm terms parts number t.form k plan added →
       IfOk r (λ count. plan_of count ≡ times t.min t.max plan) → IfOk r (λ count. (more_occs : List Occurrence) × (new ≡ old ++ more_occs) × Unfolds terms parts number p k (plan_of count) more_occs)
   with_times p k t old new added plan (Ok count) at grown unfolded e =
       (added, grown, subst (λ z. Unfolds terms parts number p k z added) (sym e) (unfolds p k t t.form plan added at refl unfolded))
@@ -204,6 +212,7 @@ module _ (terms : List Term) (parts : List Part) (number : ℕ → ExprId) where
   by_inclusion q k l f old new (Ok count) e named (added, grown, unfolded) = (added, grown, subst (λ z. UnfoldsForm terms parts number z k (plan_of count) added) (sym e) (q, named, unfolded))
   by_inclusion q k l f old new (Err e) same named h = tt
 
-  pub by_arc : (k : ℕ) (a : ArcPart) (f : TripleForm) (o : Occurrence) (symbol_is : ℕ) (old new : List Occurrence) → f ≡ Arc a → IsOccurrence terms parts number a o → symbol_is ≡ k → new ≡ old ++ o ∷ [] →
+  pub by_arc : (k : ℕ) (a : ArcPart) (f : TripleForm) (o : Occurrence) (symbol_is : ℕ) (old new : List Occurrence) → f ≡ Arc a →
+      IsOccurrence terms parts number a o → symbol_is ≡ k → new ≡ old ++ o ∷ [] →
       (more_occs : List Occurrence) × (new ≡ old ++ more_occs) × UnfoldsForm terms parts number f k (plan_of (Sym symbol_is)) more_occs
   by_arc k a f o n old new e is symbol_is grown = (o ∷ [], grown, subst (λ z. UnfoldsForm terms parts number z k (plan_of (Sym n)) (o ∷ [])) (sym e) (o, is, sym_plan n ∙ ap symbol symbol_is, refl))

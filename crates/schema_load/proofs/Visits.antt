@@ -63,12 +63,14 @@ pub entered_next : (n : ℕ) (visits after : List Visit) → AreEntered n visits
 entered_next n visits after before pushed = record {
   size = ap length pushed ∙ (let h = length-append visits (Enter n ∷ []) in let s = before.size in omega arith);
   each = λ p lt. subst (λ vs. slice_get vs p ≡ Some (Enter p)) (sym pushed) (elim (cases_eq p n) [
-    | inl same ↦ subst (λ z. slice_get (visits ++ Enter n ∷ []) z ≡ Some (Enter z)) (sym same) (subst (λ z. slice_get (visits ++ Enter n ∷ []) z ≡ Some (Enter n)) before.size (get_last visits (Enter n)))
+    | inl same ↦ subst (λ z. slice_get (visits ++ Enter n ∷ []) z ≡ Some (Enter z)) (sym same)
+        (subst (λ z. slice_get (visits ++ Enter n ∷ []) z ≡ Some (Enter n)) before.size (get_last visits (Enter n)))
     | inr apart ↦ get_left visits (Enter n ∷ []) p (Enter p) (before.each p (omega (arith, apart)))
   ]);
 }
 
-pub visits_next : (start : List Visit) (places : List ℕ) (i : ℕ) (now after : List Visit) → i < length places → now ≡ start ++ map Enter (take i places) → after ≡ now ++ Enter (get_or places i 0) ∷ [] → after ≡ start ++ map Enter (take (i + 1) places)
+pub visits_next : (start : List Visit) (places : List ℕ) (i : ℕ) (now after : List Visit) → i < length places → now ≡ start ++ map Enter (take i places) →
+    after ≡ now ++ Enter (get_or places i 0) ∷ [] → after ≡ start ++ map Enter (take (i + 1) places)
 visits_next start places i now after lt before pushed =
     pushed
     ∙ (ap (λ vs. vs ++ Enter (get_or places i 0) ∷ []) before
@@ -77,17 +79,20 @@ visits_next start places i now after lt before pushed =
 
 -- ---- how many can come
 
-pub unopened_set : (parts : List Part) (targets : List ℕ) (opened : List Bool) (p : ℕ) (x : Part) → length targets ≡ length parts → length opened ≡ length parts → slice_get parts p ≡ Some x → get_or opened p false ≡ false →
+pub unopened_set : (parts : List Part) (targets : List ℕ) (opened : List Bool) (p : ℕ) (x : Part) → length targets ≡ length parts →
+    length opened ≡ length parts → slice_get parts p ≡ Some x → get_or opened p false ≡ false →
     unopened parts targets (set opened p true) + (1 + length (nexts (get_or targets p 0) x)) ≡ unopened parts targets opened
 unopened_set [] targets opened p x a b at free = absurd (let bad : ⊥ = cc in bad)
 unopened_set (y ∷ ys) [] opened p x a b at free = absurd (omega arith)
 unopened_set (y ∷ ys) (t ∷ ts) [] p x a b at free = absurd (omega arith)
 unopened_set (y ∷ ys) (t ∷ ts) (true ∷ os) zero x a b at free = absurd (let bad : ⊥ = cc in bad)
-unopened_set (y ∷ ys) (t ∷ ts) (false ∷ os) zero x a b at free = let same : y ≡ x = cc in subst (λ z. unopened ys ts os + (1 + length (nexts t z)) ≡ (1 + length (nexts t y)) + unopened ys ts os) same (omega arith)
+unopened_set (y ∷ ys) (t ∷ ts) (false ∷ os) zero x a b at free = let same : y ≡ x = cc in
+    subst (λ z. unopened ys ts os + (1 + length (nexts t z)) ≡ (1 + length (nexts t y)) + unopened ys ts os) same (omega arith)
 unopened_set (y ∷ ys) (t ∷ ts) (true ∷ os) (suc p) x a b at free = unopened_set ys ts os p x (omega arith) (omega arith) at free
 unopened_set (y ∷ ys) (t ∷ ts) (false ∷ os) (suc p) x a b at free = let h = unopened_set ys ts os p x (omega arith) (omega arith) at free in omega arith
 
-pub now_visits : (rest pushed after : List Visit) (read ns : List ℕ) (p : ℕ) → pushed ≡ rest ++ Leave p ∷ [] → read ≡ ns → after ≡ pushed ++ map Enter read → after ≡ (rest ++ Leave p ∷ []) ++ map Enter ns
+pub now_visits : (rest pushed after : List Visit) (read ns : List ℕ) (p : ℕ) → pushed ≡ rest ++ Leave p ∷ [] → read ≡ ns → after ≡ pushed ++ map Enter read →
+    after ≡ (rest ++ Leave p ∷ []) ++ map Enter ns
 now_visits rest pushed after read ns p a b e = e ∙ (ap (λ vs. vs ++ map Enter read) a ∙ ap (λ us. (rest ++ Leave p ∷ []) ++ map Enter us) b)
 
 module _ (parts : List Part) (targets : List ℕ) where
@@ -169,7 +174,8 @@ module _ (parts : List Part) (targets : List ℕ) where
     ]
 
   -- a place that is entered for the first time
-  module _ (are : AreTargets parts targets) (are_inside : AreInside parts targets) (opened done : List Bool) (rest : List Visit) (p : ℕ) (x : Part) (before : IsVisiting parts targets opened done (rest ++ Enter p ∷ [])) (at_p : IsAt parts p x) where
+  module _ (are : AreTargets parts targets) (are_inside : AreInside parts targets) (opened done : List Bool) (rest : List Visit) (p : ℕ) (x : Part)
+      (before : IsVisiting parts targets opened done (rest ++ Enter p ∷ [])) (at_p : IsAt parts p x) where
     abbrev ns : List ℕ
     ns = nexts (get_or targets p 0) x
 

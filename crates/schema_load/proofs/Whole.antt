@@ -157,7 +157,8 @@ module _ (whole : List Part) where
     triples_good : (p : ℕ) (ts : TripleExprs) → Holds p (lay_triples p ts) → AreGood p (lay_triples p ts)
     triples_good p no_triples h = tt
     triples_good p (more_triples t ts) h =
-        good_append p (size_of_triple t) (lay_triple p t) (lay_triples (p + size_of_triple t) ts) (triple_size p t) (triple_good p t (holds_left p (lay_triple p t) (lay_triples (p + size_of_triple t) ts) h))
+        good_append p (size_of_triple t) (lay_triple p t) (lay_triples (p + size_of_triple t) ts) (triple_size p t)
+        (triple_good p t (holds_left p (lay_triple p t) (lay_triples (p + size_of_triple t) ts) h))
         (triples_good (p + size_of_triple t) ts (holds_right p (size_of_triple t) (lay_triple p t) (lay_triples (p + size_of_triple t) ts) (triple_size p t) h))
 
     form_good : (p : ℕ) (b : TripleBody) → Holds p (lay_form p b) → AreGood p (lay_form p b)
@@ -176,7 +177,8 @@ module _ (whole : List Part) where
       let mine : Holds (p + 1) (lay (p + 1) d.expr) = holds_left (p + 1) (lay (p + 1) d.expr) (lay_decls (p + (1 + size_of d.expr)) ds) h in
       let next : p + (1 + size_of d.expr) ≡ (p + 1) + size_of d.expr = omega arith in
       let others : Holds (p + (1 + size_of d.expr)) (lay_decls (p + (1 + size_of d.expr)) ds) =
-      subst (λ k. Holds k (lay_decls (p + (1 + size_of d.expr)) ds)) (sym next) (holds_right (p + 1) (size_of d.expr) (lay (p + 1) d.expr) (lay_decls (p + (1 + size_of d.expr)) ds) (size_is (p + 1) d.expr) h) in (
+      subst (λ k. Holds k (lay_decls (p + (1 + size_of d.expr)) ds)) (sym next)
+      (holds_right (p + 1) (size_of d.expr) (lay (p + 1) d.expr) (lay_decls (p + (1 + size_of d.expr)) ds) (size_is (p + 1) d.expr) h) in (
         (λ q n. absurd n, λ b. expr_here (p + 1) d.expr mine, λ q n. absurd n, λ q n. absurd n),
         good_append (p + 1) (size_of d.expr) (lay (p + 1) d.expr) (lay_decls (p + (1 + size_of d.expr)) ds) (size_is (p + 1) d.expr) (good (p + 1) d.expr mine)
             (subst (λ k. AreGood k (lay_decls (p + (1 + size_of d.expr)) ds)) next (decls_good (p + (1 + size_of d.expr)) ds others)),

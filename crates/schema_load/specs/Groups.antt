@@ -55,7 +55,7 @@ pub record IsGrouping (parts : List Part) (targets : List ℕ) (standings : List
   -- each place was entered, or it is to be
   pub waits : (p : ℕ) → p < length parts → get_or standings p Unseen ≡ Unseen → (i : ℕ) × (slice_get visits i ≡ Some (Enter p))
 
--- the same of a walk and the visits that are left
+-- a walk has grouped what it has left, with these visits before it
 abbrev pub IsWalking : List Part → List ℕ → Walk → List Visit → Type 0
 IsWalking parts targets w visits = IsGrouping parts targets w.standings.items w.trail.items w.starts.items (length w.firsts.items) visits
 

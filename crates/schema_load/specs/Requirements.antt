@@ -61,7 +61,7 @@ mutual
     of_one : {p n : ℕ} {t : TriplePart} {ps : List ℕ} → IsAt parts p (Triple t) → t.form ≡ One ps → HaveOccurrences parts ps n → HasOccurrences parts p n
     of_include : {p q n : ℕ} {t : TriplePart} {l : Label} → IsAt parts p (Triple t) → t.form ≡ Include l → IsNamed parts l q → HasOccurrences parts q n → HasOccurrences parts p n
 
-  -- the same of triple expressions together
+  -- triple expressions together have so many occurrences of TripleConstraints, inclusions unfolded
   pub data HaveOccurrences (parts : List Part) : List ℕ → ℕ → Type 0 where
     of_none : HaveOccurrences parts [] 0
     of_more : {p m n : ℕ} {ps : List ℕ} → HasOccurrences parts p m → HaveOccurrences parts ps n → HaveOccurrences parts (p ∷ ps) (m + n)

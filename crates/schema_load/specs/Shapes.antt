@@ -17,7 +17,7 @@ abbrev pub IsBodyInside : List Part → Option ℕ → Type 0
 IsBodyInside parts None = ⊤
 IsBodyInside parts (Some p) = IsTripleAt parts p × HasRoom parts p 0
 
--- so is that of each Shape
+-- the body of each Shape, if it has one, is a triple expression that can be unfolded
 abbrev pub CanUnfold : List Part → Type 0
 CanUnfold parts = (p : ℕ) (head : ShapePart) → IsAt parts p (Parts.Shape head) → IsBodyInside parts head.body
 

@@ -76,7 +76,7 @@ module _ (terms : List Term) (parts : List Part) (number : ℕ → ExprId) where
       included : {p q k : ℕ} {t : TriplePart} {l : Label} {plan : Plan} {occs : List Occurrence} → IsAt parts p (Parts.Triple t) → t.form ≡ Include l → IsNamed parts l q → Unfolds q k plan occs
           → Unfolds p k (times t.min t.max plan) occs
 
-    -- the same of members one after the other
+    -- members one after the other stand for these plans and occurrences
     pub data UnfoldAll : List ℕ → ℕ → Plans → List Occurrence → Type 0 where
       none : {k : ℕ} → UnfoldAll [] k no_plans []
       more : {p k : ℕ} {ps : List ℕ} {plan : Plan} {plans : Plans} {occs rest : List Occurrence} → Unfolds p k plan occs → UnfoldAll ps (k + length occs) plans rest

@@ -35,7 +35,7 @@ IsValueInside (Some p) n = p < n
 abbrev pub HasRoom : List Part → ℕ → ℕ → Type 0
 HasRoom parts p k = (n : ℕ) × HasOccurrences parts p n × (k + n ≤ 256)
 
--- the same of some together
+-- behind k occurrences there is room for those of the triple expressions at these places together
 abbrev pub HaveRoom : List Part → List ℕ → ℕ → Type 0
 HaveRoom parts ps k = (n : ℕ) × HaveOccurrences parts ps n × (k + n ≤ 256)
 

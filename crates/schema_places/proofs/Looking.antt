@@ -15,7 +15,8 @@ pub of_document : (base bytes : List ℕ) (thing : Thing) (p : Parsed) → IsRea
 of_document base bytes thing p is = record { end = None; ends = (is.0, is.1); apart = λ e. cc; place = refl }
 
 -- what an error tells
-pub of_error : (base bytes : List ℕ) (thing : Thing) (e : SchemaError) → Explains base e bytes → e ≢ errors.Memory → (found : Option ℕ) → IsMet e thing (length bytes) found → Looks base thing bytes found
+pub of_error : (base bytes : List ℕ) (thing : Thing) (e : SchemaError) → Explains base e bytes → e ≢ errors.Memory → (found : Option ℕ) →
+    IsMet e thing (length bytes) found → Looks base thing bytes found
 of_error base bytes thing e explains apart (Some at) (other, place) = record { end = Some e; ends = (apart, explains); apart = other; place = place }
 of_error base bytes thing e explains apart None is = (e, (apart, explains), is)
 

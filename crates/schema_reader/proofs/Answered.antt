@@ -45,11 +45,13 @@ pub compact_none : (base source : List ℕ) (result : Result Parsed SchemaError)
 compact_none base source (Ok p) all = tt
 compact_none base source (Err e) all = λ apart r h. apart (all h.0 h.1)
 
-pub compact_imports : (base source : List ℕ) (result : Result Parsed SchemaError) → ImportsHaveSchemes → IsSome (scheme_of base) → IfOk result (compact.IsRead base source) → IfOk result (λ p. All HasScheme p.doc.imports)
+pub compact_imports : (base source : List ℕ) (result : Result Parsed SchemaError) → ImportsHaveSchemes → IsSome (scheme_of base) →
+    IfOk result (compact.IsRead base source) → IfOk result (λ p. All HasScheme p.doc.imports)
 compact_imports base source (Ok p) law some (x, spelled, h) = subst (λ (iris : List (List ℕ)). All HasScheme iris) (sym (ap (λ (d : Document). d.imports) h.document)) (law base source x some spelled)
 compact_imports base source (Err e) law some h = tt
 
-pub compact_ordered : (base source : List ℕ) (result : Result Parsed SchemaError) → DocumentsAreOrdered → IfOk result (compact.IsRead base source) → IfOk result (λ p. IsOrderedDocument (document_of p.doc))
+pub compact_ordered : (base source : List ℕ) (result : Result Parsed SchemaError) → DocumentsAreOrdered → IfOk result (compact.IsRead base source) →
+    IfOk result (λ p. IsOrderedDocument (document_of p.doc))
 compact_ordered base source (Ok p) law (x, spelled, h) = subst IsOrderedDocument (sym h.document) (law base source x spelled)
 compact_ordered base source (Err e) law h = tt
 
@@ -72,7 +74,9 @@ schemed base reference iri utf8 h e =
     subst IsSome (sym (ap scheme_of (encodes-chars iri utf8) ∙ e)) (either_some (scheme_of reference) (scheme_of base) h)
 
 -- one more import
-pub one_more : (base : List ℕ) (references old new : List (List ℕ)) (n : ℕ) (reference iri : List ℕ) → n < length references → reference ≡ get_or references n reference → iri ≡ resolved_import base reference → new ≡ old ++ iri ∷ [] → old ≡ map (resolved_import base) (take n references) → new ≡ map (resolved_import base) (take (n + 1) references)
+pub one_more : (base : List ℕ) (references old new : List (List ℕ)) (n : ℕ) (reference iri : List ℕ) → n < length references →
+    reference ≡ get_or references n reference → iri ≡ resolved_import base reference → new ≡ old ++ iri ∷ [] →
+    old ≡ map (resolved_import base) (take n references) → new ≡ map (resolved_import base) (take (n + 1) references)
 one_more base references old new n reference iri inside is e pushed held =
     let f = resolved_import base in
     pushed ∙ ap (λ (iris : List (List ℕ)). iris ++ iri ∷ []) held ∙ ap (λ (last : List ℕ). map f (take n references) ++ last ∷ []) (e ∙ ap f is)
@@ -81,7 +85,8 @@ one_more base references old new n reference iri inside is e pushed held =
 pub one_more_schemed : (old new : List (List ℕ)) (iri : List ℕ) → HasScheme iri → new ≡ old ++ iri ∷ [] → All HasScheme old → All HasScheme new
 one_more_schemed old new iri h pushed held = subst (λ (iris : List (List ℕ)). All HasScheme iris) (sym pushed) (All-push HasScheme old iri held h)
 
-pub json_complete : (base : List ℕ) (doc kept : Document) (p : Parsed) (r : Read) → document_of p.doc ≡ with_base base doc → scope_of p.prefixes ≡ base_alone base → doc ≡ kept → r.document ≡ with_base base kept → r.names ≡ base_alone base → read_of p ≡ r
+pub json_complete : (base : List ℕ) (doc kept : Document) (p : Parsed) (r : Read) → document_of p.doc ≡ with_base base doc →
+    scope_of p.prefixes ≡ base_alone base → doc ≡ kept → r.document ≡ with_base base kept → r.names ≡ base_alone base → read_of p ≡ r
 json_complete base doc kept p r document names same d n = one_read (read_of p) r (document ∙ ap (with_base base) same ∙ sym d) (names ∙ sym n)
 
 pub json_none : (base source : List ℕ) (e : SchemaError) → json_laws.RefusedAreNone → IsCause source e → AreNone Json base source e

@@ -139,7 +139,8 @@ module _ (sat : TermId → ExprId → Type 0) (g : List Triple) (sh : Shape) (n 
   rest_ok open_to left apart stays irrelevant = record {
     unmatched = λ t o held can of forward take. elim (Contains-append_cases left apart t held) [
       | inl l ↦ all_at (λ u. ¬ SatValue (sat t.o) u.value) (filter (is_forward n t) sh.occs) o (stays_mentioned t can (stays t l)).1
-          (filter_has (is_forward n t) sh.occs o of (and_from (not o.inverse) (fits o n t) (not_from_false o.inverse forward) take.0)) (subst (λ b. SatValue (sat (other_end b t)) o.value) forward take.1)
+          (filter_has (is_forward n t) sh.occs o of (and_from (not o.inverse) (fits o n t) (not_from_false o.inverse forward) take.0))
+          (subst (λ b. SatValue (sat (other_end b t)) o.value) forward take.1)
       | inr a ↦ clash t (irrelevant t a).1 (any_true (λ u. fits u n t) sh.occs o of take.0)
     ];
     in_extra = λ t held can. elim (Contains-append_cases left apart t held) [

@@ -46,7 +46,7 @@ module _ (s : Schema) (terms : List Term) (loaded : IsLoaded s) where
   sat_layer T n e =
       entry_same s terms T n e.0 (SatWithin e.0 s terms T n) (Sat s terms T n) (λ d lt. sat_fuel T n e.0 (suc d.0) d lt (omega arith)) (entry s e) (λ y is. loaded.refers e y is)
 
--- the same of verdicts, under two views that answer alike
+-- an entry has one verdict under two views that answer alike
 pub sure_entry_same :
     (s : Schema) (terms : List Term) (view view' : Known) → ((p : Pair) (v : Verdict) → PairIs view p v ↔ PairIs view' p v) →
     (n : TermId) (i : ℕ) (a b : ExprId → Verdict → Type 0) → ((d : ExprId) → d.0 < i → (v : Verdict) → a d v ↔ b d v) →

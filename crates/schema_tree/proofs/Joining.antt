@@ -211,7 +211,7 @@ module _ (s : Schema) (terms : List Term) (loaded : IsLoaded s) (view : Known) (
       (so_far_opposite (IsSure s terms view n) apart decisive (known decisive es (entry s e) is) (take i es) v h (get_or es i d)
       (subst (λ w. IsSure s terms view n (get_or es i d) w) (third decisive found (known decisive es (entry s e) is) other ends) sure))
 
--- the same number is the same expression
+-- expressions of one number are equal
 same_number : (e d : ExprId) → same_expr e d ≡ true → e ≡ d
 same_number e d h = let is : e.0 ≡ d.0 = eqb-true e.0 d.0 h in λ i. record { 0 = is i }
 

@@ -119,7 +119,7 @@ SatKnowsNoBound =
     IsLoaded s → e.0 < k → e.0 < m →
     SatWithin k s terms T n e ↔ SatWithin m s terms T n e
 
--- the same of verdicts: that on an expression is its own layer's over those on its members
+-- the verdict on an expression is its own layer's over the verdicts on its members
 abbrev pub SureIsItsLayer : Type 0
 SureIsItsLayer =
     (s : Schema) (terms : List Term) (view : Known) (n : TermId) (e : ExprId) (v : Verdict) → IsLoaded s →

@@ -21,7 +21,7 @@ use Rattle.schema_tree.specs.Entries.{entry, shape_at}
 abbrev pub IsEntry : Schema → ExprId → Type 0
 IsEntry s e = e.0 < length s.exprs
 
--- the same of an entry that need not be given
+-- the number of an entry that is there, if one is given
 abbrev pub IsEntryIfAny : Schema → Option ExprId → Type 0
 IsEntryIfAny s None = ⊤
 IsEntryIfAny s (Some e) = IsEntry s e

@@ -95,6 +95,6 @@ CanMatch s terms g view lean n None = ⊥
 CanMatch s terms g view lean n (Some sh) =
     HasPlaces (MayHold s terms view lean) (MayFail s terms view lean) g sh n (relevant_in_order terms g sh n)
 
--- the same of a pair
+-- the node of a pair has its Shape by such places
 abbrev pub PairCanMatch : Schema → List Term → List Triple → Known → Lean → Pair → Type 0
 PairCanMatch s terms g view lean p = CanMatch s terms g view lean p.node (shape_at s p.shape)

@@ -21,7 +21,7 @@ SatEntry T terms n member (Some (Not e)) = ¬ (member e)
 SatEntry T terms n member (Some (Node c)) = SatNodeAt c (slice_get terms n.0)
 SatEntry T terms n member (Some (Shape i)) = Contains T (record { node = n; shape = i })
 
--- the same through at most so many members of members
+-- n satisfies e under T, through at most so many members of members
 unfoldable pub SatWithin : ℕ → Schema → List Term → List Pair → TermId → ExprId → Type 0
 SatWithin zero s terms T n e = ⊥
 SatWithin (suc k) s terms T n e = SatEntry T terms n (SatWithin k s terms T n) (entry s e)

@@ -39,7 +39,8 @@ Same p q = Agrees Common LongNext p q
 long_at : (t : Spelled) → IsLong t → (ts : Ahead Spelled) → LongNext Long (token t ts)
 long_at t l ts = (refl, (t, ts, refl, l))
 
-fits_agree : {A : Type 0} (j : Bool) (t : Spelled) (bytes : List ℕ) (x : A) (b : Bool) → nat_lt max_text (length bytes) ≡ b → (max_text < length bytes → IsLong t) → Agree t (cond (j && b) (Err Long) (Ok x)) (Ok x)
+fits_agree : {A : Type 0} (j : Bool) (t : Spelled) (bytes : List ℕ) (x : A) (b : Bool) → nat_lt max_text (length bytes) ≡ b →
+    (max_text < length bytes → IsLong t) → Agree t (cond (j && b) (Err Long) (Ok x)) (Ok x)
 fits_agree true t bytes x true e l = inr (long_at t (l (ltb-true max_text (length bytes) e)))
 fits_agree true t bytes x false e l = refl
 fits_agree false t bytes x b e l = refl
@@ -69,7 +70,8 @@ module _ (j : Bool) where
 
   label_agrees : (t : Spelled) → Agree t (label_of j t) (label_of false t)
   unfolding label_of
-  label_agrees t = let label = after_first is_colon t.text in cond_agrees t (is_symbol symbol.BlankLabel t) _ _ (λ e. fits_agree j t label (chars label) (nat_lt max_text (length label)) refl (by_label e))
+  label_agrees t = let label = after_first is_colon t.text in
+      cond_agrees t (is_symbol symbol.BlankLabel t) _ _ (λ e. fits_agree j t label (chars label) (nat_lt max_text (length label)) refl (by_label e))
 
 lexical_agrees : (t : Spelled) (o : Option (List ℕ)) → text_of t ≡ o → Agree t (lexical true o) (lexical false o)
 lexical_agrees t None e = syntax_agrees t
@@ -120,7 +122,8 @@ same_resource = choice _ _ _ _ _ (bind _ _ _ _ (taken _ _ (label_agrees true)) (
 same_suffixed : (lex : List ℕ) → Same (suffixed true lex) (suffixed false lex)
 unfolding suffixed
 same_suffixed lex =
-    choice _ _ _ _ _ (taken _ _ (tagged_agrees Common LongNext refl lex)) (choice _ _ _ _ _ (bind _ _ _ _ (agrees_mark Common LongNext refl symbol.Carets) (λ _. taken _ _ (typed_agrees lex))) (given _))
+    choice _ _ _ _ _ (taken _ _ (tagged_agrees Common LongNext refl lex))
+    (choice _ _ _ _ _ (bind _ _ _ _ (agrees_mark Common LongNext refl symbol.Carets) (λ _. taken _ _ (typed_agrees lex))) (given _))
 
 same_object : Same (object true) (object false)
 unfolding object literal

@@ -36,12 +36,14 @@ one_command k line x y c d =
 pub empty_adds : (line : List ℕ) (start : ℕ) (old : List Command) → line ≡ [] → Adds (Ok tt) line start old old
 empty_adds line start old e = ([], sym (append-nil old), subst (λ (v : List ℕ). AreLines true [] (v ∷ [])) (sym e) (empty_line no_lines))
 
-pub command_adds : (line : List ℕ) (s : Sign) (rest : List ℕ) (start : ℕ) (x : Command) (old new : List Command) → line ≡ character s ∷ 32 ∷ rest → IsCommand true x (character s ∷ 32 ∷ rest) → new ≡ old ++ x ∷ []
+pub command_adds : (line : List ℕ) (s : Sign) (rest : List ℕ) (start : ℕ) (x : Command) (old new : List Command) → line ≡ character s ∷ 32 ∷ rest →
+    IsCommand true x (character s ∷ 32 ∷ rest) → new ≡ old ++ x ∷ []
     → Adds (Ok tt) line start old new
 command_adds line s rest start x old new e c n = (x ∷ [], n, command_line (subst (IsCommand true x) (sym e) c) no_lines)
 
 -- no sign begins the line
-pub none_begins : (line : List ℕ) → ((behind : List ℕ) → line ≢ 43 ∷ behind) → ((behind : List ℕ) → line ≢ 45 ∷ behind) → ((behind : List ℕ) → line ≢ 63 ∷ behind) → (s : Sign) (behind : List ℕ) → line ≢ character s ∷ behind
+pub none_begins : (line : List ℕ) → ((behind : List ℕ) → line ≢ 43 ∷ behind) → ((behind : List ℕ) → line ≢ 45 ∷ behind) →
+    ((behind : List ℕ) → line ≢ 63 ∷ behind) → (s : Sign) (behind : List ℕ) → line ≢ character s ∷ behind
 none_begins line a b c Plus behind = a behind
 none_begins line a b c Minus behind = b behind
 none_begins line a b c Question behind = c behind

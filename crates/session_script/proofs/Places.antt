@@ -8,7 +8,8 @@ use Rattle.session_script.specs.declared.signs.Sign.TheVariants.{Plus, Minus, Qu
 
 local_target : IsLocal target
 unfolding target
-local_target = local_either _ _ _ (local_bind _ _ (local_one _ _) (λ _. local_give _)) (local_either _ _ _ (local_bind _ _ (local_one _ _) (λ _. local_give _)) (local_bind _ _ (local_one _ _) (λ _. local_give _)))
+local_target = local_either _ _ _ (local_bind _ _ (local_one _ _) (λ _. local_give _))
+    (local_either _ _ _ (local_bind _ _ (local_one _ _) (λ _. local_give _)) (local_bind _ _ (local_one _ _) (λ _. local_give _)))
 
 local_asked : IsLocal asked
 unfolding asked

@@ -129,7 +129,8 @@ module _ (s : Sign) (rest : List ℕ) (u : IsUtf8 rest) where
   same_left : (left behind : Ahead Spelled) (t : Spelled) (more : Ahead Spelled) → left ≡ token t behind → SameNext left (token t more)
   same_left left behind t more e = subst (λ (v : Ahead Spelled). SameNext v (token t more)) (sym e) refl
 
-  onward : (x : Command) (front : List Spelled) (t : Spelled) (more : List Spelled) → Spells true s x (front ++ t ∷ more) → (sign_of x ≡ s) × Body true x (prepend front (token t (prepend more finished))) finished
+  onward : (x : Command) (front : List Spelled) (t : Spelled) (more : List Spelled) → Spells true s x (front ++ t ∷ more) → (sign_of x ≡ s) ×
+      Body true x (prepend front (token t (prepend more finished))) finished
   onward x front t more (e, h) = (e, subst (λ (v : Ahead Spelled). Body true x v finished) (prepend-append front (t ∷ more) finished) h)
 
   long_place : (left : Ahead Spelled) (at begun : ℕ) → command true s ahead ≡ Err (faults.Long, left) → Stands Map rest left at → IsBehind (IsLongAt s rest) begun (begun + at) × HasNone true line
@@ -180,7 +181,8 @@ module _ (s : Sign) (rest : List ℕ) (u : IsUtf8 rest) where
 
   place_within : (left : Ahead Spelled) (at : ℕ) → Stands Map rest left at → at ≤ length rest
   place_within left at stands =
-      let t : nat_lt (place_of rest stands.next) (suc (length rest)) ≡ true = ∥∥₁_elim stands.reached (hlevel props) (λ r. lt-ltb (place_of rest stands.next) (suc (length rest)) (next_within stands.next r)) in
+      let t : nat_lt (place_of rest stands.next) (suc (length rest)) ≡ true = ∥∥₁_elim stands.reached (hlevel props)
+      (λ r. lt-ltb (place_of rest stands.next) (suc (length rest)) (next_within stands.next r)) in
       let lt = ltb-true (place_of rest stands.next) (suc (length rest)) t in
       let is = stands.placed in
       omega (arith, lt, is)

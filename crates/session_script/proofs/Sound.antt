@@ -105,7 +105,8 @@ module _ (k : Bool) where
 
   node_literal_meets : (ts : Ahead Spelled) → Meets (r.node_literal k) (λ x rest. any.Literal (short_string_of k) node_tagged_of (absolute_typed_of k) x ts rest) ts
   unfolding r.node_literal
-  node_literal_meets ts = meets_bind (meets_one (λ lex m s. meets_choice (λ _. meets_give (lex, (m, s, inl (refl, refl)))) (λ n. meets_rule (suffix_meets lex m) (λ x rest h. (lex, (m, s, node_suffix lex x m rest n h))))))
+  node_literal_meets ts =
+      meets_bind (meets_one (λ lex m s. meets_choice (λ _. meets_give (lex, (m, s, inl (refl, refl)))) (λ n. meets_rule (suffix_meets lex m) (λ x rest h. (lex, (m, s, node_suffix lex x m rest n h))))))
 
   node_meets : (ts : Ahead Spelled) → Meets (r.node k) (λ x rest. g.Node k x ts rest) ts
   unfolding r.node

@@ -109,7 +109,8 @@ pub record Comes (text rest : List ℕ) (xs : List Command) : Type 0 where
 pub begins : (text : List ℕ) (xs : List Command) → xs ≡ [] → Comes text text xs
 begins text xs e = record { front = []; lines = refl; size = omega arith; read = subst (λ (v : List Command). AreLines true v []) (sym e) no_lines }
 
-pub comes_on : (text rest line behind : List ℕ) (old new : List Command) → Comes text rest old → IsCut rest line behind → ((xs : List Command) × (new ≡ old ++ xs) × AreLines true xs (line ∷ [])) → Comes text behind new
+pub comes_on : (text rest line behind : List ℕ) (old new : List Command) → Comes text rest old → IsCut rest line behind →
+    ((xs : List Command) × (new ≡ old ++ xs) × AreLines true xs (line ∷ [])) → Comes text behind new
 comes_on text rest line behind old new c cut (xs, e, a) = record {
   front = c.front ++ line ∷ [];
   lines = c.lines ∙ ap (λ (v : List (List ℕ)). c.front ++ v) cut.lines ∙ sym (append_assoc c.front (line ∷ []) (lines_of behind));
@@ -121,9 +122,13 @@ comes_on text rest line behind old new c cut (xs, e, a) = record {
   read = subst (λ (v : List Command). AreLines true v (c.front ++ line ∷ [])) (sym e) (are_append c.read a);
 }
 
-pub comes_to : (text rest : List ℕ) (old new : List Command) → IsUtf8 text → Comes text rest old → lines_of rest ≡ rest ∷ [] → ((xs : List Command) × (new ≡ old ++ xs) × AreLines true xs (rest ∷ [])) → IsScript text new
-comes_to text rest old new u c last (xs, e, a) =
-    (u, subst (λ (v : List (List ℕ)). AreLines true new v) (sym (c.lines ∙ ap (λ (v : List (List ℕ)). c.front ++ v) last)) (subst (λ (v : List Command). AreLines true v (c.front ++ rest ∷ [])) (sym e) (are_append c.read a)))
+pub comes_to : (text rest : List ℕ) (old new : List Command) → IsUtf8 text → Comes text rest old → lines_of rest ≡ rest ∷ [] →
+    ((xs : List Command) × (new ≡ old ++ xs) × AreLines true xs (rest ∷ [])) → IsScript text new
+comes_to text rest old new u c last (xs, e, a) = (
+  u,
+  subst (λ (v : List (List ℕ)). AreLines true new v) (sym (c.lines
+      ∙ ap (λ (v : List (List ℕ)). c.front ++ v) last)) (subst (λ (v : List Command). AreLines true v (c.front ++ rest ∷ [])) (sym e) (are_append c.read a)),
+)
 
 -- a line is refused
 module _ (text rest line : List ℕ) (more : List (List ℕ)) (old : List Command) (c : Comes text rest old) (next : lines_of rest ≡ line ∷ more) where

@@ -136,7 +136,8 @@ module _ (s : Schema) (g : List Triple) (terms : List Term) where
   selects_of : (i : Item) (x : ExprId) (ns : List TermId) → IsTarget s i.target x → AreNodes terms g i.selector ns → Selects s g terms i (map (association i x) ns)
   selects_of i x ns declared found = record { expr = x; nodes = ns; declared = declared; found = found; made = refl }
 
-  pub many_refuses : (so : List Association) (i : Item) (x : ExprId) (ns : List TermId) → IsTarget s i.target x → AreNodes terms g i.selector ns → max_associations < length so + length ns → Refuses s g terms so i error.Many
+  pub many_refuses : (so : List Association) (i : Item) (x : ExprId) (ns : List TermId) → IsTarget s i.target x → AreNodes terms g i.selector ns →
+      max_associations < length so + length ns → Refuses s g terms so i error.Many
   many_refuses so i x ns declared found long =
       let n = length-append so (map (association i x) ns) in
       let m = length-map ns (association i x) in
@@ -147,7 +148,8 @@ pub one_found : (g : List Triple) (terms : List Term) (t : Term) (n : TermId) (n
 one_found g terms t n ns is e = (n, is, e)
 
 -- those that a pattern selects
-pub triples_found : {X E : Type 0} (items : X → List TermId) (g : List Triple) (terms : List Term) (s : Selector) (x : TriplePattern) (r : Result X E) → s ≡ Triples x → IfOk r (λ v. IsStrictlySortedBy (compare_at terms) (items v))
+pub triples_found : {X E : Type 0} (items : X → List TermId) (g : List Triple) (terms : List Term) (s : Selector) (x : TriplePattern) (r : Result X E) →
+    s ≡ Triples x → IfOk r (λ v. IsStrictlySortedBy (compare_at terms) (items v))
     → IfOk r (λ v. (n : TermId) → Contains (items v) n ↔ IsFocus terms g x n) → IfOk r (λ v. AreNodes terms g s (items v))
 triples_found items g terms s x (Ok v) e sorted exactly = subst (λ (z : Selector). AreNodes terms g z (items v)) (sym e) (sorted, exactly)
 triples_found items g terms s x (Err f) e sorted exactly = tt

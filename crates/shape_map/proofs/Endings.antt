@@ -63,7 +63,8 @@ module _ (nodes labels : Scope) (source : List ℕ) (u : IsUtf8 source) where
   explains (stop.Fault Full) at rest h s = place Full rest at h s
   explains (stop.Fault Prefix) at rest h s = (place Prefix rest at h s, undeclared rest at h s)
 
-  reads_err : (e : Stop) (at : ℕ) (rest : Ahead Spelled) (xs : List Item) → IsMap nodes labels source xs → StopsAs {Y = List Item} e rest (shape_map nodes labels ahead) → ReadsAs (Err (error_of e at)) xs
+  reads_err : (e : Stop) (at : ℕ) (rest : Ahead Spelled) (xs : List Item) → IsMap nodes labels source xs →
+      StopsAs {Y = List Item} e rest (shape_map nodes labels ahead) → ReadsAs (Err (error_of e at)) xs
   reads_err stop.Memory at rest xs m h = tt
   reads_err (stop.Fault Syntax) at rest xs m h = apart (xs, finished) (Syntax, rest) (sym (is_read xs m) ∙ h)
   reads_err (stop.Fault Deep) at rest xs m h = apart (xs, finished) (Deep, rest) (sym (is_read xs m) ∙ h)
@@ -99,10 +100,12 @@ module _ (nodes labels : Scope) (source : List ℕ) (u : IsUtf8 source) (first :
   moved : (e : Stop) (rest : Ahead Spelled) → StopsAs {Y = List Item} e rest (shape_map nodes labels first) → StopsAs {Y = List Item} e rest (shape_map nodes labels (stream_from Map source 0))
   moved e rest h = subst (λ (ts : Ahead Spelled). StopsAs {Y = List Item} e rest (shape_map nodes labels ts)) begins h
 
-  pub err_from : (e : Stop) (x : MapError) (at : ℕ) (rest : Ahead Spelled) (zs : List Item) → IsMap nodes labels source zs → StopsAs {Y = List Item} e rest (shape_map nodes labels first) → x ≡ error_of e at → ReadsAs (Err x) zs
+  pub err_from : (e : Stop) (x : MapError) (at : ℕ) (rest : Ahead Spelled) (zs : List Item) → IsMap nodes labels source zs →
+      StopsAs {Y = List Item} e rest (shape_map nodes labels first) → x ≡ error_of e at → ReadsAs (Err x) zs
   err_from e x at rest zs m h is = subst (λ (y : MapError). ReadsAs (Err y) zs) (sym is) (reads_err nodes labels source u e at rest zs m (moved e rest h))
 
-  pub cause_from : (e : Stop) (x : MapError) (at : ℕ) (rest : Ahead Spelled) (text : Source) → StopsAs {Y = List Item} e rest (shape_map nodes labels first) → text ≡ record { mode = Map; text = source }
+  pub cause_from : (e : Stop) (x : MapError) (at : ℕ) (rest : Ahead Spelled) (text : Source) → StopsAs {Y = List Item} e rest (shape_map nodes labels first) →
+      text ≡ record { mode = Map; text = source }
       → Stands text.mode text.text rest at → x ≡ error_of e at
       → Explains nodes labels x source
   cause_from e x at rest text h same s is =

@@ -26,7 +26,9 @@ passing order p q g ts e t = (there, back)
   where
     there : Contains ts t → Contains g t × (p t ≡ true) × (q t ≡ true)
     there h =
-        let i = Contains-permutation (sorted_by order (filter q (filter p g))) (filter q (filter p g)) t (IsPermutation-sym (filter q (filter p g)) (sorted_by order (filter q (filter p g))) (sorted_same order (filter q (filter p g)))) (subst (λ (v : List Triple). Contains v t) e h) in
+        let i = Contains-permutation (sorted_by order (filter q (filter p g)))
+        (filter q (filter p g)) t (IsPermutation-sym (filter q (filter p g)) (sorted_by order (filter q (filter p g))) (sorted_same order (filter q (filter p g))))
+        (subst (λ (v : List Triple). Contains v t) e h) in
         let (j, b) = in_filter q (filter p g) t i in
         let (k, a) = in_filter p g t j in
         (k, a, b)
@@ -36,12 +38,14 @@ passing order p q g ts e t = (there, back)
         subst (λ (v : List Triple). Contains v t) (sym e)
         (Contains-permutation (filter q (filter p g)) (sorted_by order (filter q (filter p g))) t (sorted_same order (filter q (filter p g))) (filter_has q (filter p g) t (filter_has p g t h a) b))
 
-pub with_object : (order : Triple → Triple → Ordering) (f : Focus) (o p : TermId) (g ts : List Triple) → f ≡ Subject → ts ≡ sorted_by order (filter (λ t. same_id t.p p) (filter (λ t. same_id t.o o) g))
+pub with_object : (order : Triple → Triple → Ordering) (f : Focus) (o p : TermId) (g ts : List Triple) → f ≡ Subject →
+    ts ≡ sorted_by order (filter (λ t. same_id t.p p) (filter (λ t. same_id t.o o) g))
     → (t : Triple) → Contains ts t ↔ (Contains g t × (same_id (at_other f t) o ≡ true) × (same_id t.p p ≡ true))
 with_object order Subject o p g ts e is = passing order (λ t. same_id t.o o) (λ t. same_id t.p p) g ts is
 with_object order Object o p g ts e is = absurd cc
 
-pub with_subject : (order : Triple → Triple → Ordering) (f : Focus) (o p : TermId) (g ts : List Triple) → f ≡ Object → ts ≡ sorted_by order (filter (λ t. same_id t.p p) (filter (λ t. same_id t.s o) g))
+pub with_subject : (order : Triple → Triple → Ordering) (f : Focus) (o p : TermId) (g ts : List Triple) → f ≡ Object →
+    ts ≡ sorted_by order (filter (λ t. same_id t.p p) (filter (λ t. same_id t.s o) g))
     → (t : Triple) → Contains ts t ↔ (Contains g t × (same_id (at_other f t) o ≡ true) × (same_id t.p p ≡ true))
 with_subject order Object o p g ts e is = passing order (λ t. same_id t.s o) (λ t. same_id t.p p) g ts is
 with_subject order Subject o p g ts e is = absurd cc

@@ -20,13 +20,15 @@ more_text terms a (b ∷ more) =
     ∙ sym (append_assoc (codes ",\n" ++ answer_text terms b) (flat_map (λ x. codes ",\n" ++ answer_text terms x) more) (codes "\n")))
 
 -- what is written is the text
-pub listed : (terms : List Term) (xs : List Answer) (first : Answer) (before one two three : List ℕ) → Some first ≡ slice_get xs 0 → one ≡ before ++ answer_text terms first → two ≡ one ++ flat_map (λ b. codes ",\n" ++ answer_text terms b) (take (length xs - 1) (drop 1 xs)) →
+pub listed : (terms : List Term) (xs : List Answer) (first : Answer) (before one two three : List ℕ) → Some first ≡ slice_get xs 0 →
+    one ≡ before ++ answer_text terms first → two ≡ one ++ flat_map (λ b. codes ",\n" ++ answer_text terms b) (take (length xs - 1) (drop 1 xs)) →
     three ≡ two ++ codes "\n" → three ≡ before ++ result_text terms xs
 listed terms [] first before one two three at q r s = cc
 listed terms (x ∷ xs) first before one two three at q r s =
     let own : first ≡ x = cc in
     let head : one ≡ before ++ answer_text terms x = q ∙ ap (λ a. before ++ answer_text terms a) own in
-    s ∙ ap (λ z. z ++ codes "\n") (r ∙ ap (λ zs. one ++ flat_map (λ b. codes ",\n" ++ answer_text terms b) zs) (behind_is x xs) ∙ ap (λ z. z ++ flat_map (λ b. codes ",\n" ++ answer_text terms b) xs) head)
+    s ∙ ap (λ z. z ++ codes "\n") (r ∙ ap (λ zs. one ++ flat_map (λ b. codes ",\n" ++ answer_text terms b) zs) (behind_is x xs)
+    ∙ ap (λ z. z ++ flat_map (λ b. codes ",\n" ++ answer_text terms b) xs) head)
     ∙ append_assoc (before ++ answer_text terms x) (flat_map (λ b. codes ",\n" ++ answer_text terms b) xs) (codes "\n")
     ∙ append_assoc before (answer_text terms x) (flat_map (λ b. codes ",\n" ++ answer_text terms b) xs ++ codes "\n")
     ∙ ap (λ z. before ++ z) (sym (more_text terms x xs))

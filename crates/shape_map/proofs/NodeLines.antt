@@ -48,4 +48,5 @@ blank_target_plain t x h e =
     let goal = target.Label (label.Blank (chars text)) in
     let c = chosen (same_symbol (symbol_of t.kind t.text) symbol.BlankLabel) Syntax (Ok goal) x e in
     let d = clean_behind_first 58 t.text (omega arith) (h (line_by (λ k. same_symbol (symbol_of k t.text) symbol.BlankLabel) t.kind refl refl refl c.0)) in
-    subst (λ (y : Target). Plain (target_text y)) (ok_same goal x c.1) (plain_append (codes "_:") (encode_utf8_all (chars text)) (refl, (refl, tt)) (plain_encodes (chars text) (plain_chars text d.0 d.1)))
+    subst (λ (y : Target). Plain (target_text y)) (ok_same goal x c.1)
+    (plain_append (codes "_:") (encode_utf8_all (chars text)) (refl, (refl, tt)) (plain_encodes (chars text) (plain_chars text d.0 d.1)))

@@ -50,7 +50,8 @@ over : (n : ℕ) → ¬ (n ≤ max_terms) → max_terms < n
 over n never = omega (arith, never)
 
 -- where a further one finds no room, all of them are above the limit
-pub overfull : (all old mid xs behind : List Term) (x : Term) → all ≡ xs ++ x ∷ behind → AddsAll old xs mid → ((¬ Contains mid x) × (length mid ≡ max_terms)) → (new : List Term) → AddsAll old all new → max_terms < length new
+pub overfull : (all old mid xs behind : List Term) (x : Term) → all ≡ xs ++ x ∷ behind → AddsAll old xs mid → ((¬ Contains mid x) × (length mid ≡ max_terms)) →
+    (new : List Term) → AddsAll old all new → max_terms < length new
 overfull all old mid xs behind x e front full new h =
     let (m, before, rest) = all_split old new xs (x ∷ behind) (subst (λ v. AddsAll old v new) e h) in
     let same : m ≡ mid = all_one old m mid xs before front in
@@ -188,7 +189,8 @@ module _ (items : List Item) (nodes : List Term) (k : ℕ) where
       next i l e h ∙ ap (λ s. nodes ++ (written s ++ behind (k + 1))) is ∙ sym (append_assoc nodes (t ∷ []) (behind (k + 1))) ∙ ap (λ v. v ++ behind (k + 1)) (sym same)
 
   -- an item with a pattern
-  pub pattern_on : (i : Item) (x : TriplePattern) (new : List Term) → k < length items → i ≡ get_or items k i → i.selector ≡ Triples x → new ≡ nodes → AreSoFar → written_nodes items ≡ new ++ behind (k + 1)
+  pub pattern_on : (i : Item) (x : TriplePattern) (new : List Term) → k < length items → i ≡ get_or items k i → i.selector ≡ Triples x → new ≡ nodes →
+      AreSoFar → written_nodes items ≡ new ++ behind (k + 1)
   pattern_on i x new l e is same h = next i l e h ∙ ap (λ s. nodes ++ (written s ++ behind (k + 1))) is ∙ ap (λ v. v ++ behind (k + 1)) (sym same)
 
   -- all of them

@@ -31,7 +31,8 @@ pub record Passes {A : Type 0} (p : R A) (G : List Spelled → Type 0) (P : List
   pub good : (y : A × Ahead Spelled) → p ts ≡ Ok y → (front : List Spelled) × (ts ≡ prepend front y.1) × G front
   pub bad : (e : Fault × Ahead Spelled) → p ts ≡ Err e → (front : List Spelled) × (ts ≡ prepend front e.1) × P front e.0 e.1
 
-passes_rule : {A : Type 0} {p : R A} {G H : List Spelled → Type 0} {P Q : List Spelled → Fault → Ahead Spelled → Type 0} {ts : Ahead Spelled} → Passes p G P ts → ((front : List Spelled) → G front → H front)
+passes_rule : {A : Type 0} {p : R A} {G H : List Spelled → Type 0} {P Q : List Spelled → Fault → Ahead Spelled → Type 0} {ts : Ahead Spelled} →
+    Passes p G P ts → ((front : List Spelled) → G front → H front)
     → ((front : List Spelled) (f : Fault) (rest : Ahead Spelled) → P front f rest → Q front f rest) → Passes p H Q ts
 passes_rule h g k = record { good = λ y e. let (a, b, c) = h.good y e in (a, b, g a c); bad = λ x e. let (a, b, c) = h.bad x e in (a, b, k a x.0 x.1 c) }
 
@@ -51,7 +52,8 @@ one_good {A = A} class G h (token t ts) y e = by (class t) refl e
     by (Ok x) k is = (t ∷ [], ap (λ (v : A × Ahead Spelled). token t v.1) (ok_is (x, ts) y is), h x t ts (t, refl, k))
     by (Err d) k is = absurd cc
 
-one_bad : {A : Type 0} (class : Spelled → Result A Fault) (P : List Spelled → Fault → Ahead Spelled → Type 0) → ((ts : Ahead Spelled) → P [] Syntax ts) → ((t : Spelled) (rest : Ahead Spelled) (f : Fault) → class t ≡ Err f → P [] f (token t rest))
+one_bad : {A : Type 0} (class : Spelled → Result A Fault) (P : List Spelled → Fault → Ahead Spelled → Type 0) → ((ts : Ahead Spelled) → P [] Syntax ts) →
+    ((t : Spelled) (rest : Ahead Spelled) (f : Fault) → class t ≡ Err f → P [] f (token t rest))
     → (ts : Ahead Spelled) (e : Fault × Ahead Spelled) → one Syntax class ts ≡ Err e → (front : List Spelled) × (ts ≡ prepend front e.1) × P front e.0 e.1
 one_bad class P s h finished e is = let k = err_is (Syntax, finished) e is in ([], ap (λ (v : Fault × Ahead Spelled). v.1) k, subst (λ (v : Fault × Ahead Spelled). P [] v.0 v.1) k (s finished))
 one_bad class P s h broken e is = let k = err_is (Syntax, broken) e is in ([], ap (λ (v : Fault × Ahead Spelled). v.1) k, subst (λ (v : Fault × Ahead Spelled). P [] v.0 v.1) k (s broken))
@@ -61,7 +63,8 @@ one_bad {A = A} class P s h (token t ts) e is = by (class t) refl is
     by (Ok x) k is = absurd (apart (x, ts) e is)
     by (Err d) k is = let m = err_is (d, token t ts) e is in ([], ap (λ (v : Fault × Ahead Spelled). v.1) m, subst (λ (v : Fault × Ahead Spelled). P [] v.0 v.1) m (h t ts d k))
 
-passes_one : {A : Type 0} {class : Spelled → Result A Fault} {G : List Spelled → Type 0} {P : List Spelled → Fault → Ahead Spelled → Type 0} {ts : Ahead Spelled} → ((x : A) (t : Spelled) (r : Ahead Spelled) → Is class x (token t r) r → G (t ∷ []))
+passes_one : {A : Type 0} {class : Spelled → Result A Fault} {G : List Spelled → Type 0} {P : List Spelled → Fault → Ahead Spelled →
+    Type 0} {ts : Ahead Spelled} → ((x : A) (t : Spelled) (r : Ahead Spelled) → Is class x (token t r) r → G (t ∷ []))
     → ((ts : Ahead Spelled) → P [] Syntax ts) → ((t : Spelled) (rest : Ahead Spelled) (f : Fault) → class t ≡ Err f → P [] f (token t rest)) → Passes (one Syntax class) G P ts
 passes_one {class = class} {G = G} {P = P} {ts = ts} g s h = record { good = λ y e. one_good class G g ts y e; bad = λ e is. one_bad class P s h ts e is }
 
@@ -100,7 +103,8 @@ passes_chosen : {A : Type 0} (b : Bool) (p q : R A) (G : List Spelled → Type 0
 passes_chosen true p q G P ts a b = (a.good, a.bad)
 passes_chosen false p q G P ts a b = (b.good, b.bad)
 
-passes_either : {A : Type 0} {class : Spelled → Bool} {p q : R A} {G : List Spelled → Type 0} {P : List Spelled → Fault → Ahead Spelled → Type 0} {ts : Ahead Spelled} → Passes p G P ts → Passes q G P ts → Passes (either class p q) G P ts
+passes_either : {A : Type 0} {class : Spelled → Bool} {p q : R A} {G : List Spelled → Type 0} {P : List Spelled → Fault → Ahead Spelled →
+    Type 0} {ts : Ahead Spelled} → Passes p G P ts → Passes q G P ts → Passes (either class p q) G P ts
 passes_either {class = class} {p = p} {q = q} {G = G} {P = P} {ts = ts} a b = let c = passes_chosen (next_is class ts) p q G P ts a b in record { good = c.0; bad = c.1 }
 
 -- a loop, behind any tokens
@@ -110,7 +114,8 @@ passes_within : {S : Type 0} (class : Spelled → Bool) (step : S → R S) (P : 
 passes_within class step P h zero b s ts = let t : Passes (give s) (λ g. Unit {0}) (λ g. P (b ++ g)) ts = passes_give tt in record { good = t.good; bad = t.bad }
 passes_within class step P h (suc n) b s ts =
     let c = passes_chosen (next_is class ts) (step s >>= loop_within n class step) (give s) (λ g. Unit {0}) (λ g. P (b ++ g)) ts
-    (passes_bind (h b s ts) (λ x r front k. passes_rule (passes_within class step P h n (b ++ front) x r) (λ g u. tt) (λ g f rest. subst (λ (v : List Spelled). P v f rest) (append_assoc b front g)))) (passes_give tt) in
+    (passes_bind (h b s ts) (λ x r front k. passes_rule (passes_within class step P h n (b ++ front) x r) (λ g u. tt) (λ g f rest. subst (λ (v : List Spelled). P v f rest) (append_assoc b front g))))
+    (passes_give tt) in
     record { good = c.0; bad = c.1 }
 
 passes_loop : {S : Type 0} (class : Spelled → Bool) (step : S → R S) (P : List Spelled → Fault → Ahead Spelled → Type 0)
@@ -130,7 +135,8 @@ IsPlain ts = plain ts ≡ true
 plain_one : (t : Spelled) → is_among target_marks t ≡ false → IsPlain (t ∷ [])
 plain_one t e = rw e refl
 
-plain_more : (t : Spelled) (xs zs : List Spelled) (b : Bool) → is_among target_marks t ≡ b → cond b false (plain xs) ≡ true → (plain xs ≡ true → plain zs ≡ true) → cond (is_among target_marks t) false (plain zs) ≡ true
+plain_more : (t : Spelled) (xs zs : List Spelled) (b : Bool) → is_among target_marks t ≡ b → cond b false (plain xs) ≡ true →
+    (plain xs ≡ true → plain zs ≡ true) → cond (is_among target_marks t) false (plain zs) ≡ true
 plain_more t xs zs true e g ih = absurd cc
 plain_more t xs zs false e g ih = rw e (ih g)
 
@@ -269,7 +275,8 @@ module _ (v : Scope) where
   plain_bind : {A B : Type 0} {p : R A} {f : A → R B} {ts : Ahead Spelled} → Passes p IsPlain At ts → ((x : A) (r : Ahead Spelled) → Passes (f x) IsPlain At r) → Passes (p >>= f) IsPlain At ts
   plain_bind a h = passes_bind a (λ x r front k. passes_rule (h x r) (λ g m. plain_append front g k m) (λ g f rest m. (plain_append front g k m.0, m.1)))
 
-  class_plain : {A : Type 0} {class : Spelled → Result A Fault} {ts : Ahead Spelled} (ks : List Symbol) → outside ks target_marks ≡ true → ((x : A) (ts r : Ahead Spelled) → Is class x ts r → Next ks ts)
+  class_plain : {A : Type 0} {class : Spelled → Result A Fault} {ts : Ahead Spelled} (ks : List Symbol) → outside ks target_marks ≡ true →
+      ((x : A) (ts r : Ahead Spelled) → Is class x ts r → Next ks ts)
       → ((t : Spelled) (rest : Ahead Spelled) (f : Fault) → class t ≡ Err f → Cause names v f (token t rest)) → Passes (one Syntax class) IsPlain At ts
   class_plain ks out begins bad = passes_one (λ x t r h. plain_one t (no_next ks target_marks (token t r) out (begins x (token t r) r h))) at_syntax (λ t rest f e. (refl, bad t rest f e))
 
@@ -285,7 +292,8 @@ module _ (v : Scope) where
 
   literal_plain : (ts : Ahead Spelled) → Passes (literal v) IsPlain At ts
   unfolding literal
-  literal_plain ts = plain_bind (class_plain (symbol.Str ∷ []) refl (any.string_begins false) (string_bad names v)) (λ lex m. passes_either (class_plain node_tags refl (tagged_begins lex) (tagged_bad names v lex))
+  literal_plain ts = plain_bind (class_plain (symbol.Str ∷ []) refl (any.string_begins false) (string_bad names v))
+      (λ lex m. passes_either (class_plain node_tags refl (tagged_begins lex) (tagged_bad names v lex))
       (passes_either (plain_bind (mark_plain symbol.Carets refl) (λ _ n. class_plain iris refl (typed_begins v lex) (typed_bad v lex))) plain_give))
 
   resource_plain : (ts : Ahead Spelled) → Passes (resource v) IsPlain At ts
@@ -314,7 +322,8 @@ module _ (v : Scope) where
 
   triples_plain : (ts : Ahead Spelled) → Passes (triples v) IsPlain At ts
   unfolding triples pattern
-  triples_plain ts = plain_bind (mark_plain symbol.OpenBrace refl) (λ _ m. plain_bind (passes_either (subjects_plain m) (objects_plain m)) (λ x n. plain_bind (mark_plain symbol.CloseBrace refl) (λ _ r. plain_give)))
+  triples_plain ts = plain_bind (mark_plain symbol.OpenBrace refl)
+      (λ _ m. plain_bind (passes_either (subjects_plain m) (objects_plain m)) (λ x n. plain_bind (mark_plain symbol.CloseBrace refl) (λ _ r. plain_give)))
 
   selector_plain : (ts : Ahead Spelled) → Passes (selector v) IsPlain At ts
   unfolding selector
@@ -392,7 +401,8 @@ module _ (nodes labels : Scope) where
 
   -- a mark, which is the token that was passed
   mark_on : {ts : Ahead Spelled} (a : Symbol) (b : List Spelled) → Passes (mark a) (λ g. (t : Spelled) × (g ≡ t ∷ []) × (is_among (a ∷ []) t ≡ true)) (On b) ts
-  mark_on a b = passes_one (λ x t r h. (t, refl, first a x (token t r) r h)) (λ ts. on_none b Syntax ts tt) (λ t rest f e. on_none b f (token t rest) (syntax_behind f (token t rest) (is_symbol a t) t e))
+  mark_on a b = passes_one (λ x t r h. (t, refl, first a x (token t r) r h)) (λ ts. on_none b Syntax ts tt)
+      (λ t rest f e. on_none b f (token t rest) (syntax_behind f (token t rest) (is_symbol a t) t e))
     where
       syntax_behind : (f : Fault) (rest : Ahead Spelled) (c : Bool) (x : Spelled) → cond c (Ok x) (Err Syntax) ≡ Err f → Behind b f rest
       syntax_behind f rest true x e = absurd (apart x f e)
@@ -401,7 +411,8 @@ module _ (nodes labels : Scope) where
   on_give : {A : Type 0} {x : A} {ts : Ahead Spelled} (b : List Spelled) → Passes (give x) All (On b) ts
   on_give b = passes_give tt
 
-  class_on : {A : Type 0} {class : Spelled → Result A Fault} {ts : Ahead Spelled} (b : List Spelled) → ((t : Spelled) (rest : Ahead Spelled) (f : Fault) → class t ≡ Err f → Behind b f (token t rest)) → Passes (one Syntax class) All (On b) ts
+  class_on : {A : Type 0} {class : Spelled → Result A Fault} {ts : Ahead Spelled} (b : List Spelled) →
+      ((t : Spelled) (rest : Ahead Spelled) (f : Fault) → class t ≡ Err f → Behind b f (token t rest)) → Passes (one Syntax class) All (On b) ts
   class_on b bad = passes_one (λ x t r h. tt) (λ ts. on_none b Syntax ts tt) (λ t rest f e. on_none b f (token t rest) (bad t rest f e))
 
   target_on : (b : List Spelled) (ts : Ahead Spelled) → ends_in_mark b ≡ true → Passes (target labels) All (On b) ts
@@ -448,7 +459,8 @@ module _ (nodes labels : Scope) where
   unfolding items
   items_on ts = behind_bind [] (added_on [] [] ts refl) (λ xs m front k. passes_loop (is_symbol symbol.Comma) (behind nodes labels) Behind behind_on front xs m)
 
-  at_end : (b : List Spelled) (ts : Ahead Spelled) (e : Fault × Ahead Spelled) → Path (Answer Spelled Fault (List Item)) (Err (Syntax, ts)) (Err e) → (front : List Spelled) × (ts ≡ prepend front e.1) × On b front e.0 e.1
+  at_end : (b : List Spelled) (ts : Ahead Spelled) (e : Fault × Ahead Spelled) → Path (Answer Spelled Fault (List Item)) (Err (Syntax, ts)) (Err e) →
+      (front : List Spelled) × (ts ≡ prepend front e.1) × On b front e.0 e.1
   at_end b ts e is = let k = err_is (Syntax, ts) e is in ([], ap (λ (v : Fault × Ahead Spelled). v.1) k, subst (λ (v : Fault × Ahead Spelled). On b [] v.0 v.1) k (on_none b Syntax ts tt))
 
   finish_on : (b : List Spelled) (xs : List Item) (ts : Ahead Spelled) → Passes (finish Syntax xs) All (On b) ts

@@ -63,7 +63,8 @@ module _ (v : Scope) where
 
   local_asked : IsLocal (asked v)
   unfolding asked
-  local_asked = local_either _ _ _ (local_bind _ _ (local_one _ _) (λ _. local_give _)) (local_either _ _ _ (local_bind _ _ (local_one _ _) (λ i. local_give _)) (local_bind _ _ (local_one _ _) (λ _. local_wish)))
+  local_asked = local_either _ _ _ (local_bind _ _ (local_one _ _) (λ _. local_give _))
+      (local_either _ _ _ (local_bind _ _ (local_one _ _) (λ i. local_give _)) (local_bind _ _ (local_one _ _) (λ _. local_wish)))
 
 module _ (nodes labels : Scope) where
   local_item : IsLocal (item nodes labels)

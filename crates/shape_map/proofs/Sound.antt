@@ -57,7 +57,8 @@ module _ (v : Scope) where
 
   selector_meets : (ts : Ahead Spelled) → Meets (selector v) (λ s r. g.Selector v s ts r) ts
   unfolding selector
-  selector_meets ts = meets_either (meets_bind (meets_rule (triples_meet ts) (λ x r h. meets_give (inr (x, refl, h))))) (meets_bind (meets_rule (node_meets ts) (λ x r h. meets_give (inl (x, refl, h)))))
+  selector_meets ts = meets_either (meets_bind (meets_rule (triples_meet ts) (λ x r h. meets_give (inr (x, refl, h)))))
+      (meets_bind (meets_rule (node_meets ts) (λ x r h. meets_give (inl (x, refl, h)))))
 
   target_meets : (ts : Ahead Spelled) → Meets (target v) (λ t r. g.Target v t ts r) ts
   unfolding target
@@ -96,5 +97,6 @@ module _ (nodes labels : Scope) where
   pub map_meets : (ts : Ahead Spelled) → Meets (shape_map nodes labels) (λ xs r. g.ShapeMap nodes labels xs ts) ts
   unfolding shape_map all_items
   map_meets ts = meets_bind (meets_either
-      (meets_rule (items_meet ts) (λ xs r h. meets_finish (λ e. inr (subst (λ (r : Ahead Spelled). (first : List Item) × (g.Added nodes labels [] first ⨾ Many (g.Behind nodes labels) first xs) ts r) e h))))
+      (meets_rule (items_meet ts) (λ xs r h. meets_finish (λ e. inr (subst (λ (r : Ahead Spelled). (first : List Item) ×
+      (g.Added nodes labels [] first ⨾ Many (g.Behind nodes labels) first xs) ts r) e h))))
       (meets_give (meets_finish (λ e. inl (refl, e)))))

@@ -68,7 +68,7 @@ module _ (v : Scope) where
   abbrev pub Wish : goal.Target → Bool → Phrase Spelled
   Wish t b ts r = ((true ≡ b) × Target t ts r) ⊎ ((false ≡ b) × (Mark symbol.Exclamation ⨾ Target t) ts r)
 
-  -- the same behind its `@`, which may stand in the token of the target
+  -- what is asked for behind `@`, which may stand in the token of the target
   abbrev pub Asked : goal.Target → Bool → Phrase Spelled
   Asked t b ts r =
       ((target.Start ≡ t) × (true ≡ b) × Mark symbol.AtStart ts r)

@@ -114,7 +114,8 @@ one_cause datatype fs errors.Memory e h k m n = absurd (m refl)
 one_cause datatype fs d errors.Memory h k m n = absurd (n refl)
 
 -- what is judged is admitted
-sound_pattern : (b : Bool) (datatype : Option (List ℕ)) (f g : Facet) (e : PatternError) → Causes datatype (f ∷ []) (errors.Pattern e) → refused_pattern b f e ≡ Ok g → (f ≡ g) × IsAdmitted b datatype f
+sound_pattern : (b : Bool) (datatype : Option (List ℕ)) (f g : Facet) (e : PatternError) → Causes datatype (f ∷ []) (errors.Pattern e) →
+    refused_pattern b f e ≡ Ok g → (f ≡ g) × IsAdmitted b datatype f
 sound_pattern true datatype f g e h is = absurd (no_ok (fault.Pattern e) g is)
 sound_pattern false datatype f g refusal.Large h is = (ok_same f g is, record { no_float = h.0; decimal = h.1.0; patterns = large_is f h.1.1 })
 sound_pattern false datatype f g refusal.Flag h is = absurd (no_ok (fault.Pattern refusal.Flag) g is)
@@ -136,7 +137,8 @@ unfolding judged_facet
 sound_admitted b datatype (Ok g) f is = let a = sound_judged b datatype g f (judged (alone datatype g)) is in (subst (IsAdmitted b datatype) a.0 a.1, ap Ok a.0)
 sound_admitted b datatype (Err e) f is = absurd (no_ok e f is)
 
-pub admitted_is : (b : Bool) (datatype : Option (List ℕ)) (class : Spelled → Result Facet Fault) (f : Facet) (ts r : Ahead Spelled) → Is (λ t. admitted b datatype (class t)) f ts r → IsAdmitted b datatype f × Is class f ts r
+pub admitted_is : (b : Bool) (datatype : Option (List ℕ)) (class : Spelled → Result Facet Fault) (f : Facet) (ts r : Ahead Spelled) →
+    Is (λ t. admitted b datatype (class t)) f ts r → IsAdmitted b datatype f × Is class f ts r
 admitted_is b datatype class f ts r (t, e, h) = let a = sound_admitted b datatype (class t) f h in (a.0, (t, e, a.1))
 
 -- what is admitted is judged so
@@ -158,7 +160,8 @@ judged_ok : (b : Bool) (datatype : Option (List ℕ)) (f : Facet) → IsAdmitted
 unfolding judged_facet
 judged_ok b datatype f a = judged_ok_by b datatype f (judged (alone datatype f)) a
 
-pub is_admitted : (b : Bool) (datatype : Option (List ℕ)) (class : Spelled → Result Facet Fault) (f : Facet) (ts r : Ahead Spelled) → IsAdmitted b datatype f → Is class f ts r → Is (λ t. admitted b datatype (class t)) f ts r
+pub is_admitted : (b : Bool) (datatype : Option (List ℕ)) (class : Spelled → Result Facet Fault) (f : Facet) (ts r : Ahead Spelled) → IsAdmitted b datatype f →
+    Is class f ts r → Is (λ t. admitted b datatype (class t)) f ts r
 is_admitted b datatype class f ts r a (t, e, h) = (t, e, ap (admitted b datatype) h ∙ judged_ok b datatype f a)
 
 -- the answers of the code for a single facet
@@ -171,7 +174,8 @@ refused_true f errors.FacetNumber = refl
 refused_true f (errors.Pattern e) = refl
 refused_true f errors.Memory = refl
 
-refused_judged_by : (datatype : Option (List ℕ)) (f : Facet) (e : MakeError) (j : Judged (alone datatype f)) → Causes datatype (f ∷ []) e → (e ≢ errors.Memory) → judged_by true datatype f j ≡ Err (fault_of e)
+refused_judged_by : (datatype : Option (List ℕ)) (f : Facet) (e : MakeError) (j : Judged (alone datatype f)) → Causes datatype (f ∷ []) e →
+    (e ≢ errors.Memory) → judged_by true datatype f j ≡ Err (fault_of e)
 refused_judged_by datatype f e (inl s) h n = absurd (not_refused datatype (f ∷ []) e s h n)
 refused_judged_by datatype f e (inr (d, k, m)) h n = refused_true f d ∙ ap (λ (x : MakeError). Err (fault_of x)) (one_cause datatype (f ∷ []) d e k h m n)
 

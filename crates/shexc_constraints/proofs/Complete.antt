@@ -194,17 +194,21 @@ module _ (bounded : Bool) (datatype : Option (List ℕ)) where
   pub text_facets_read : (fs gs : List Facet) (ts r : Ahead Spelled) → Many (g.TextFacet bounded datatype) fs gs ts r → Never text_facets r → text_facets_behind bounded datatype fs ts ≡ Ok (gs, r)
   unfolding text_facets_behind
   text_facets_read fs gs ts r h f =
-      loop_read (is_among text_facets) (text_facet bounded datatype) (g.TextFacet bounded datatype) Anything (consumes_text_facet bounded datatype) (λ a b ts m o k. (text_facet_read a b ts m o).0) (λ a b ts m o. (text_facet_read a b ts m o).1) (λ m n. tt)
+      loop_read (is_among text_facets) (text_facet bounded datatype) (g.TextFacet bounded datatype) Anything (consumes_text_facet bounded datatype)
+      (λ a b ts m o k. (text_facet_read a b ts m o).0) (λ a b ts m o. (text_facet_read a b ts m o).1) (λ m n. tt)
       fs gs ts r h tt f
 
-  pub number_facets_read : (fs gs : List Facet) (ts r : Ahead Spelled) → Many (g.NumberFacet bounded datatype) fs gs ts r → Never number_facets r → number_facets_behind bounded datatype fs ts ≡ Ok (gs, r)
+  pub number_facets_read : (fs gs : List Facet) (ts r : Ahead Spelled) → Many (g.NumberFacet bounded datatype) fs gs ts r → Never number_facets r →
+      number_facets_behind bounded datatype fs ts ≡ Ok (gs, r)
   unfolding number_facets_behind
   number_facets_read fs gs ts r h f =
-      loop_read (is_among number_facets) (number_facet bounded datatype) (g.NumberFacet bounded datatype) Anything (consumes_number_facet bounded datatype) (λ a b ts m o k. (number_facet_read a b ts m o).0) (λ a b ts m o. (number_facet_read a b ts m o).1) (λ m n. tt)
+      loop_read (is_among number_facets) (number_facet bounded datatype) (g.NumberFacet bounded datatype) Anything (consumes_number_facet bounded datatype)
+      (λ a b ts m o k. (number_facet_read a b ts m o).0) (λ a b ts m o. (number_facet_read a b ts m o).1) (λ m n. tt)
       fs gs ts r h tt f
 
   pub facets_read : (fs gs : List Facet) (ts r : Ahead Spelled) → Many (g.AnyFacet bounded datatype) fs gs ts r → Never all_facets r → facets_behind bounded datatype fs ts ≡ Ok (gs, r)
   unfolding facets_behind
   facets_read fs gs ts r h f =
-      loop_read (is_among all_facets) (facet bounded datatype) (g.AnyFacet bounded datatype) Anything (consumes_facet bounded datatype) (λ a b ts m o k. (facet_read a b ts m o).0) (λ a b ts m o. (facet_read a b ts m o).1) (λ m n. tt)
+      loop_read (is_among all_facets) (facet bounded datatype) (g.AnyFacet bounded datatype) Anything (consumes_facet bounded datatype)
+      (λ a b ts m o k. (facet_read a b ts m o).0) (λ a b ts m o. (facet_read a b ts m o).1) (λ m n. tt)
       fs gs ts r h tt f

@@ -55,7 +55,8 @@ module _ (v : Scope) where
   unfolding tag_of
   tag_begins text ts r h = guarded tags tag_of _ (λ t. refl) text ts r h
 
-  module _ (p : R (List ℕ)) (P : List ℕ → Phrase Spelled) (local : IsLocal p) (takes : Consumes p) (reads : (text : List ℕ) (ts r : Ahead Spelled) → P text ts r → Never typing r → p ts ≡ Ok (text, r)) where
+  module _ (p : R (List ℕ)) (P : List ℕ → Phrase Spelled) (local : IsLocal p) (takes : Consumes p)
+      (reads : (text : List ℕ) (ts r : Ahead Spelled) → P text ts r → Never typing r → p ts ≡ Ok (text, r)) where
     stem_or_exact_read : (xs ys : List Except) (ts r : Ahead Spelled) → g.Adds (g.Excluded v P) xs ys ts r → Never exact r → stem_or_exact v p xs ts ≡ Ok (ys, r)
     unfolding stem_or_exact
     stem_or_exact_read xs ys ts r (x, e, (text, inl (q, (m, h, (w, c))))) f =
@@ -79,12 +80,14 @@ module _ (v : Scope) where
         (fewer exact excluding r refl f) (not_symbol excluding symbol.Minus r refl f)
 
     -- what is ahead behind a text
-    stemmed_read : (stem : List ℕ → Value) (range : Option (List ℕ) → List Except → Value) (text : List ℕ) (xs : List Except) (x : Value) (m n r : Ahead Spelled) → stem_or_range stem range text xs ≡ x → Mark symbol.Tilde m n
+    stemmed_read : (stem : List ℕ → Value) (range : Option (List ℕ) → List Except →
+        Value) (text : List ℕ) (xs : List Except) (x : Value) (m n r : Ahead Spelled) → stem_or_range stem range text xs ≡ x → Mark symbol.Tilde m n
         → Many (g.Adds (g.Exclusion v P)) [] xs n r → Never excluding r → stemmed v p stem range text m ≡ Ok (x, r)
     unfolding stemmed
     stemmed_read stem range text xs x m n r e (w, c) h f = rw (took symbol.Tilde w m n c, exclusions_read [] xs n r h f, e) refl
 
-    excluded_read : (range : Option (List ℕ) → List Except → Value) (xs ys : List Except) (x : Value) (n k r : Ahead Spelled) → range None ys ≡ x → g.Adds (g.Excluded v P) [] xs n k → Many (g.Adds (g.Exclusion v P)) xs ys k r
+    excluded_read : (range : Option (List ℕ) → List Except → Value) (xs ys : List Except) (x : Value) (n k r : Ahead Spelled) → range None ys ≡ x →
+        g.Adds (g.Excluded v P) [] xs n k → Many (g.Adds (g.Exclusion v P)) xs ys k r
         → Never excluding r → excluded v p range n ≡ Ok (x, r)
     unfolding excluded
     excluded_read range xs ys x n k r e h others f =
@@ -213,7 +216,8 @@ module _ (bounded : Bool) (v : Scope) where
       let a = text_facet_read bounded None [] fs ts m h in
       (rw (no_next text_facets node_kinds ts refl a.1, a.0, text_facets_read bounded None fs gs m r i f, k) refl, nexts text_facets non_literals ts refl a.1)
 
-  pub literal_constraint_read : (e : ShapeExpr) (ts r : Ahead Spelled) → g.LiteralConstraint bounded v e ts r → Never all_facets r → (literal_constraint bounded v ts ≡ Ok (e, r)) × Next literal_constraints ts
+  pub literal_constraint_read : (e : ShapeExpr) (ts r : Ahead Spelled) → g.LiteralConstraint bounded v e ts r → Never all_facets r →
+      (literal_constraint bounded v ts ≡ Ok (e, r)) × Next literal_constraints ts
   unfolding literal_constraint any_literal of_datatype of_values of_numbers
   literal_constraint_read e ts r (inl (fs, k, (m, (w, c), h))) f =
       (rw (begins symbol.Literal w ts m c, took symbol.Literal w ts m c, facets_read bounded None [] fs m r h f, k) refl, nexts (symbol.Literal ∷ []) literal_constraints ts refl (first symbol.Literal w ts m c))
@@ -222,7 +226,15 @@ module _ (bounded : Bool) (v : Scope) where
       (rw (no_symbol iris symbol.Literal ts refl n, n, iri_read v i ts m c, facets_read bounded (Some (chars i)) [] fs m r h f, k) refl, nexts iris literal_constraints ts refl n)
   literal_constraint_read e ts r (inr (inr (inl (xs, fs, k, (m, c, h))))) f =
       let a = value_set_read v xs ts m c in (
-        rw (no_symbol (symbol.OpenBracket ∷ []) symbol.Literal ts refl a.1, no_next (symbol.OpenBracket ∷ []) iris ts refl a.1, single symbol.OpenBracket ts ∙ a.1, a.0, facets_read bounded None [] fs m r h f, k) refl,
+        rw (
+          no_symbol (symbol.OpenBracket ∷ []) symbol.Literal ts refl a.1,
+          no_next (symbol.OpenBracket ∷ []) iris ts refl a.1,
+          single symbol.OpenBracket ts
+              ∙ a.1,
+          a.0,
+          facets_read bounded None [] fs m r h f,
+          k,
+        ) refl,
         nexts (symbol.OpenBracket ∷ []) literal_constraints ts refl a.1,
       )
   literal_constraint_read e ts r (inr (inr (inr (fs, gs, k, (m, h, i))))) f =

@@ -86,14 +86,16 @@ module _ (deep : Bool) where
   pub alike_either : {A : Type 0} (class : Spelled → Bool) (p q r s : Reader Spelled Fault A) → Alike p q → Alike r s → Alike (either class p r) (either class q s)
   alike_either class p q r s a h = record { agree = agrees_either is_common IsLimit class p q r s a.agree h.agree }
 
-  pub alike_loop : {S : Type 0} (class : Spelled → Bool) (p q : S → Reader Spelled Fault S) → ((s : S) → Consumes (p s)) → ((s : S) → Consumes (q s)) → ((s : S) → Alike (p s) (q s)) → (s : S) → Alike (loop class p s) (loop class q s)
+  pub alike_loop : {S : Type 0} (class : Spelled → Bool) (p q : S → Reader Spelled Fault S) → ((s : S) → Consumes (p s)) → ((s : S) → Consumes (q s)) →
+      ((s : S) → Alike (p s) (q s)) → (s : S) → Alike (loop class p s) (loop class q s)
   alike_loop class p q a b h s = record { agree = agrees_loop is_common IsLimit class p q a b (λ x. (h x).agree) s }
 
   facets_agree : (b : Bool) (datatype : Option (List ℕ)) (class : Spelled → Result Facet Fault)
       → Alike (one fault.Syntax (λ t. admitted b datatype (class t))) (one fault.Syntax (λ t. admitted false datatype (class t)))
   facets_agree b datatype class = record { agree = agrees_one is_common IsLimit fault.Syntax _ _ refl (λ t. admitted_alike t b datatype (class t)) }
 
-  pub agrees_a_facet : (bounded : Bool) (datatype : Option (List ℕ)) (class : Spelled → Result Facet Fault) (fs : List Facet) → Alike (a_facet bounded datatype class fs) (a_facet false datatype class fs)
+  pub agrees_a_facet : (bounded : Bool) (datatype : Option (List ℕ)) (class : Spelled → Result Facet Fault) (fs : List Facet) →
+      Alike (a_facet bounded datatype class fs) (a_facet false datatype class fs)
   unfolding a_facet
   agrees_a_facet bounded datatype class fs = alike_bind _ _ _ _ (facets_agree bounded datatype _) (λ f. alike_same _)
 
@@ -159,4 +161,5 @@ module _ (deep : Bool) where
 
   pub agrees_literal_constraint : (bounded : Bool) (v : Scope) → Alike (literal_constraint bounded v) (literal_constraint false v)
   unfolding literal_constraint
-  agrees_literal_constraint bounded v = alike_either _ _ _ _ _ (agrees_any_literal bounded v) (alike_either _ _ _ _ _ (agrees_of_datatype bounded v) (alike_either _ _ _ _ _ (agrees_of_values bounded v) (agrees_of_numbers bounded v)))
+  agrees_literal_constraint bounded v = alike_either _ _ _ _ _ (agrees_any_literal bounded v)
+      (alike_either _ _ _ _ _ (agrees_of_datatype bounded v) (alike_either _ _ _ _ _ (agrees_of_values bounded v) (agrees_of_numbers bounded v)))

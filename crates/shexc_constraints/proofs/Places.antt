@@ -197,11 +197,13 @@ pub local_exclusions : (v : Scope) (p : R (List ℕ)) (local : IsLocal p) (takes
 unfolding exclusions
 local_exclusions v p local takes xs = local_loop _ _ (consumes_exclusion v p local takes) (local_exclusion v p local takes) _
 
-pub local_stemmed : (v : Scope) (p : R (List ℕ)) (local : IsLocal p) (takes : Consumes p) (stem : List ℕ → Value) (range : Option (List ℕ) → List Except → Value) (text : List ℕ) → IsLocal (stemmed v p stem range text)
+pub local_stemmed : (v : Scope) (p : R (List ℕ)) (local : IsLocal p) (takes : Consumes p) (stem : List ℕ → Value) (range : Option (List ℕ) → List Except →
+    Value) (text : List ℕ) → IsLocal (stemmed v p stem range text)
 unfolding stemmed
 local_stemmed v p local takes stem range text = local_bind _ _ (local_one _ _) (λ _. local_bind _ _ (local_exclusions v p local takes _) (λ xs. local_give _))
 
-pub consumes_stemmed : (v : Scope) (p : R (List ℕ)) (local : IsLocal p) (takes : Consumes p) (stem : List ℕ → Value) (range : Option (List ℕ) → List Except → Value) (text : List ℕ) → Consumes (stemmed v p stem range text)
+pub consumes_stemmed : (v : Scope) (p : R (List ℕ)) (local : IsLocal p) (takes : Consumes p) (stem : List ℕ → Value) (range : Option (List ℕ) → List Except →
+    Value) (text : List ℕ) → Consumes (stemmed v p stem range text)
 unfolding stemmed
 consumes_stemmed v p local takes stem range text = consumes_bind _ _ (consumes_one _ _) (λ _. local_bind _ _ (local_exclusions v p local takes _) (λ xs. local_give _))
 
@@ -247,11 +249,13 @@ consumes_any_tag v = consumes_bind _ _ (consumes_one _ _) (λ _. local_stemmed v
 
 pub local_wildcard : (v : Scope) → IsLocal (wildcard v)
 unfolding wildcard
-local_wildcard v = local_bind _ _ (local_one _ _) (λ _. local_bind _ _ (local_one _ _) (λ _. local_either _ _ _ (local_excluded v (iri_text v) (local_iri_text v) (consumes_iri_text v) _) (local_either _ _ _ (local_excluded v (tag v) (local_tag v) (consumes_tag v) _) (local_excluded v (lexical_form v) (local_lexical_form v) (consumes_lexical_form v) _))))
+local_wildcard v = local_bind _ _ (local_one _ _)
+    (λ _. local_bind _ _ (local_one _ _) (λ _. local_either _ _ _ (local_excluded v (iri_text v) (local_iri_text v) (consumes_iri_text v) _) (local_either _ _ _ (local_excluded v (tag v) (local_tag v) (consumes_tag v) _) (local_excluded v (lexical_form v) (local_lexical_form v) (consumes_lexical_form v) _))))
 
 pub consumes_wildcard : (v : Scope) → Consumes (wildcard v)
 unfolding wildcard
-consumes_wildcard v = consumes_bind _ _ (consumes_one _ _) (λ _. local_bind _ _ (local_one _ _) (λ _. local_either _ _ _ (local_excluded v (iri_text v) (local_iri_text v) (consumes_iri_text v) _) (local_either _ _ _ (local_excluded v (tag v) (local_tag v) (consumes_tag v) _) (local_excluded v (lexical_form v) (local_lexical_form v) (consumes_lexical_form v) _))))
+consumes_wildcard v = consumes_bind _ _ (consumes_one _ _)
+    (λ _. local_bind _ _ (local_one _ _) (λ _. local_either _ _ _ (local_excluded v (iri_text v) (local_iri_text v) (consumes_iri_text v) _) (local_either _ _ _ (local_excluded v (tag v) (local_tag v) (consumes_tag v) _) (local_excluded v (lexical_form v) (local_lexical_form v) (consumes_lexical_form v) _))))
 
 pub local_value : (v : Scope) → IsLocal (value v)
 unfolding value
@@ -259,7 +263,8 @@ local_value v = local_either _ _ _ (local_wildcard v) (local_either _ _ _ (local
 
 pub consumes_value : (v : Scope) → Consumes (value v)
 unfolding value
-consumes_value v = consumes_either _ _ _ (consumes_wildcard v) (consumes_either _ _ _ (consumes_iri_value v) (consumes_either _ _ _ (consumes_tag_value v) (consumes_either _ _ _ (consumes_any_tag v) (consumes_literal_value v))))
+consumes_value v = consumes_either _ _ _ (consumes_wildcard v)
+    (consumes_either _ _ _ (consumes_iri_value v) (consumes_either _ _ _ (consumes_tag_value v) (consumes_either _ _ _ (consumes_any_tag v) (consumes_literal_value v))))
 
 pub local_value_behind : (v : Scope) (xs : List Value) → IsLocal (value_behind v xs)
 unfolding value_behind
@@ -275,7 +280,8 @@ local_value_set v = local_bind _ _ (local_one _ _) (λ _. local_bind _ _ (local_
 
 pub consumes_value_set : (v : Scope) → Consumes (value_set v)
 unfolding value_set
-consumes_value_set v = consumes_bind _ _ (consumes_one _ _) (λ _. local_bind _ _ (local_loop _ _ (consumes_value_behind v) (local_value_behind v) _) (λ xs. local_bind _ _ (local_one _ _) (λ _. local_give _)))
+consumes_value_set v = consumes_bind _ _ (consumes_one _ _)
+    (λ _. local_bind _ _ (local_loop _ _ (consumes_value_behind v) (local_value_behind v) _) (λ xs. local_bind _ _ (local_one _ _) (λ _. local_give _)))
 
 pub local_of_kind : (bounded : Bool) (v : Scope) → IsLocal (of_kind bounded v)
 unfolding of_kind
@@ -335,8 +341,10 @@ consumes_of_numbers bounded v = consumes_bind _ _ (consumes_number_facet bounded
 
 pub local_literal_constraint : (bounded : Bool) (v : Scope) → IsLocal (literal_constraint bounded v)
 unfolding literal_constraint
-local_literal_constraint bounded v = local_either _ _ _ (local_any_literal bounded v) (local_either _ _ _ (local_of_datatype bounded v) (local_either _ _ _ (local_of_values bounded v) (local_of_numbers bounded v)))
+local_literal_constraint bounded v = local_either _ _ _ (local_any_literal bounded v)
+    (local_either _ _ _ (local_of_datatype bounded v) (local_either _ _ _ (local_of_values bounded v) (local_of_numbers bounded v)))
 
 pub consumes_literal_constraint : (bounded : Bool) (v : Scope) → Consumes (literal_constraint bounded v)
 unfolding literal_constraint
-consumes_literal_constraint bounded v = consumes_either _ _ _ (consumes_any_literal bounded v) (consumes_either _ _ _ (consumes_of_datatype bounded v) (consumes_either _ _ _ (consumes_of_values bounded v) (consumes_of_numbers bounded v)))
+consumes_literal_constraint bounded v = consumes_either _ _ _ (consumes_any_literal bounded v)
+    (consumes_either _ _ _ (consumes_of_datatype bounded v) (consumes_either _ _ _ (consumes_of_values bounded v) (consumes_of_numbers bounded v)))

@@ -52,7 +52,8 @@ mark_by a (token t ts) = by (is_symbol a t)
 mark_by a finished = refl
 mark_by a broken = refl
 
-then_by : {A B : Type 0} (a : Answer Spelled any.Fault A) (next : A → Reader Spelled any.Fault B) (own : A → Reader Spelled Fault B) → ((x : A) (ts : Ahead Spelled) → own x ts ≡ answer_by (next x ts)) → and_then (answer_by a) own ≡ answer_by (and_then a next)
+then_by : {A B : Type 0} (a : Answer Spelled any.Fault A) (next : A → Reader Spelled any.Fault B) (own : A → Reader Spelled Fault B) →
+    ((x : A) (ts : Ahead Spelled) → own x ts ≡ answer_by (next x ts)) → and_then (answer_by a) own ≡ answer_by (and_then a next)
 then_by (Ok p) next own same = same p.0 p.1
 then_by (Err p) next own same = refl
 
@@ -67,6 +68,8 @@ stops_by : {A : Type 0} (a : Answer Spelled any.Fault A) {b : Answer Spelled Fau
 stops_by a plain_stop.Memory r is e = tt
 stops_by a (plain_stop.Fault f) r is e = is ∙ ap answer_by e
 
-pub stops : {A X : Type 0} (view : X → A) (a : Answer Spelled any.Fault A) {b : Answer Spelled Fault A} (s : any_stop.Stop) (result : Result X Stop) (r : Ahead Spelled) → b ≡ answer_by a → IsErrAnd result (λ e. e ≡ stop_by s) → any_stops.StopsAs s r a → Gives view result r b
+pub stops : {A X : Type 0} (view : X →
+    A) (a : Answer Spelled any.Fault A) {b : Answer Spelled Fault A} (s : any_stop.Stop) (result : Result X Stop) (r : Ahead Spelled) → b ≡ answer_by a →
+    IsErrAnd result (λ e. e ≡ stop_by s) → any_stops.StopsAs s r a → Gives view result r b
 stops view a s (Ok x) r is raises e = absurd raises
 stops view a s (Err q) r is raises e = rw raises (stops_by a s r is e)

@@ -77,9 +77,15 @@ fails_at v before ts rest t f is why = subst (λ (q : Ahead Spelled). Fails v be
     by (inr c) = inr (t, rest, refl, c)
 
 -- past more tokens
-fails_behind : (v : Scope) (before front : List Spelled) (ts r : Ahead Spelled) (f : Fault) (q : Ahead Spelled) → ts ≡ prepend front r → AreNone nesting front → Fails v (before ++ front) r f q → Fails v before ts f q
-fails_behind v before front ts r f q is h (more, e, k, c) =
-    (front ++ more, is ∙ ap (prepend front) e ∙ sym (prepend-append front more q), all_append (λ t. is_among nesting t ≡ false) front more h k, subst (λ (bs : List Spelled). Caused v f bs q) (append_assoc before front more) c)
+fails_behind : (v : Scope) (before front : List Spelled) (ts r : Ahead Spelled) (f : Fault) (q : Ahead Spelled) → ts ≡ prepend front r → AreNone nesting front →
+    Fails v (before ++ front) r f q → Fails v before ts f q
+fails_behind v before front ts r f q is h (more, e, k, c) = (
+  front ++ more,
+  is ∙ ap (prepend front) e ∙ sym (prepend-append front more q),
+  all_append (λ t. is_among nesting t ≡
+      false) front more h k,
+  subst (λ (bs : List Spelled). Caused v f bs q) (append_assoc before front more) c,
+)
 
 token_passed : (ts rest : Ahead Spelled) (t : Spelled) → ts ≡ token t rest → is_among nesting t ≡ false → Flat ts rest
 token_passed ts rest t is n = (t ∷ [], is, (n, tt))
@@ -108,7 +114,8 @@ pub says_either : {A : Type 0} {v : Scope} (class : Spelled → Bool) (p q : Rea
 says_either {v = v} class p q a h = record { tells = λ before ts. tells_either (λ _. a.tells before ts) (λ _. h.tells before ts) }
 
 pub says_loop : {S : Type 0} {v : Scope} (class : Spelled → Bool) (step : S → Reader Spelled Fault S) → ((s : S) → Says v (step s)) → (s : S) → Says v (loop class step s)
-says_loop {v = v} class step h s = record { tells = λ before ts. tells_loop class step (λ x r. Flat ts r) (Fails v before ts) (λ x r k. behind v (step x) (h x) before ts r k) s ts (nothing_passed ts) }
+says_loop {v = v} class step h s =
+    record { tells = λ before ts. tells_loop class step (λ x r. Flat ts r) (Fails v before ts) (λ x r k. behind v (step x) (h x) before ts r k) s ts (nothing_passed ts) }
 
 -- the classes of single tokens
 ok_err : {A : Type 0} (x : A) (f : Fault) → Path (Result A Fault) (Ok x) (Err f) → ⊥
@@ -118,7 +125,8 @@ same_err : {A : Type 0} (f g : Fault) → Path (Result A Fault) (Err f) (Err g) 
 same_err f g e = cc
 
 -- a test, and a fault of syntax where it fails
-tested : {A : Type 0} (v : Scope) (before : List Spelled) (t : Spelled) (b : Bool) (c : Result A Fault) (f : Fault) → (b ≡ true → c ≡ Err f → Why v before t f) → cond b c (Err fault.Syntax) ≡ Err f → Why v before t f
+tested : {A : Type 0} (v : Scope) (before : List Spelled) (t : Spelled) (b : Bool) (c : Result A Fault) (f : Fault) →
+    (b ≡ true → c ≡ Err f → Why v before t f) → cond b c (Err fault.Syntax) ≡ Err f → Why v before t f
 tested v before t true c f h e = h refl e
 tested v before t false c f h e = inl (sym (same_err fault.Syntax f e))
 
@@ -245,7 +253,8 @@ plain_shorthand v t = plain_tested v t (is_among terms.shorthands t) _ _ (λ b. 
 
 types : (v : Scope) (t : Spelled) (lex : List ℕ) (c : Result (List ℕ) any.Fault) → Plain v t c → Plain v t (terms.typed_by lex c)
 types v t lex (Ok i) h = plain_tested v t (same_text (chars i) rdf_lang_string) _ _ (λ b. plain_syntax v t) (plain_fine v t _)
-types v t lex (Err g) h = λ f e. let k = h g refl in subst (λ (q : any.Fault). (q ≡ plain.Syntax) ⊎ ((q ≡ plain.Prefix) × ((is_among prefixed t ≡ true) × (v.prefixes (prefix_of t) ≡ None)))) (plain_err g f e) k
+types v t lex (Err g) h = λ f e. let k = h g refl in subst (λ (q : any.Fault). (q ≡ plain.Syntax) ⊎
+    ((q ≡ plain.Prefix) × ((is_among prefixed t ≡ true) × (v.prefixes (prefix_of t) ≡ None)))) (plain_err g f e) k
 
 plain_typed : (v : Scope) (lex : List ℕ) (t : Spelled) → Plain v t (terms.typed_of false v lex t)
 unfolding terms.typed_of
@@ -331,7 +340,8 @@ pattern_says v fs before t f e = tested v before t (is_symbol symbol.Pattern t &
 
 -- a facet that is judged
 module _ (v : Scope) (before : List Spelled) (t : Spelled) (datatype : Option (List ℕ)) (d : IsDatatype v before datatype) where
-  pattern_refused : (bounded : Bool) (g : Facet) (e : PatternError) (f : Fault) → IsFacetAt before t g → Causes datatype (g ∷ []) (errors.Pattern e) → refused_pattern bounded g e ≡ Err f → IsCause v f before t
+  pattern_refused : (bounded : Bool) (g : Facet) (e : PatternError) (f : Fault) → IsFacetAt before t g → Causes datatype (g ∷ []) (errors.Pattern e) →
+      refused_pattern bounded g e ≡ Err f → IsCause v f before t
   pattern_refused true g e f at c is = subst (λ (q : Fault). IsCause v q before t) (same_err (fault.Pattern e) f is) (g, at, c.1.1)
   pattern_refused false g refusal.Large f at c is = absurd (ok_err g f is)
   pattern_refused false g refusal.Flag f at c is = subst (λ (q : Fault). IsCause v q before t) (same_err (fault.Pattern refusal.Flag) f is) (g, at, c.1.1)
@@ -348,7 +358,8 @@ module _ (v : Scope) (before : List Spelled) (t : Spelled) (datatype : Option (L
   judged_says bounded g f (inl s) at is = absurd (ok_err g f is)
   judged_says bounded g f (inr (e, c, n)) at is = facet_refused bounded g e f at c is
 
-  admitted_says : (bounded : Bool) (c : Result Facet Fault) (f : Fault) → ((g : Facet) → c ≡ Ok g → IsFacetAt before t g) → (c ≡ Err f → Why v before t f) → admitted bounded datatype c ≡ Err f → Why v before t f
+  admitted_says : (bounded : Bool) (c : Result Facet Fault) (f : Fault) → ((g : Facet) → c ≡ Ok g → IsFacetAt before t g) → (c ≡ Err f → Why v before t f) →
+      admitted bounded datatype c ≡ Err f → Why v before t f
   unfolding judged_facet
   admitted_says bounded (Ok g) f at h is = judged_says bounded g f (judged (alone datatype g)) (at g refl) is
   admitted_says bounded (Err e) f at h is = h (ap (λ (q : Fault). Err q) (same_err e f is))
@@ -372,18 +383,22 @@ pub record SaysFacets (v : Scope) (datatype : Option (List ℕ)) {A : Type 0} (p
   pub tells : (before : List Spelled) (ts : Ahead Spelled) → IsDatatype v before datatype → Tells p (λ x r. OfFacets ts r) (Fails v before ts) ts
 
 -- behind some of them
-facets_behind_them : {A : Type 0} (v : Scope) (datatype : Option (List ℕ)) (p : Reader Spelled Fault A) → SaysFacets v datatype p → (before : List Spelled) (ts r : Ahead Spelled) → IsDatatype v before datatype → OfFacets ts r
+facets_behind_them : {A : Type 0} (v : Scope) (datatype : Option (List ℕ)) (p : Reader Spelled Fault A) → SaysFacets v datatype p →
+    (before : List Spelled) (ts r : Ahead Spelled) → IsDatatype v before datatype → OfFacets ts r
     → Tells p (λ x q. OfFacets ts q) (Fails v before ts) r
 facets_behind_them v datatype p a before ts r d (b, is, h) =
     tells_so (λ x q k. facets_then ts r q (b, is, h) k) (λ f q k. fails_behind v before b ts r f q is (facets_are_flat b h) k) (a.tells (before ++ b) r (datatype_behind v before b datatype d h))
 
-facets_bind : {A B : Type 0} {v : Scope} {datatype : Option (List ℕ)} {p : Reader Spelled Fault A} {f : A → Reader Spelled Fault B} → SaysFacets v datatype p → ((x : A) → SaysFacets v datatype (f x)) → SaysFacets v datatype (p >>= f)
+facets_bind : {A B : Type 0} {v : Scope} {datatype : Option (List ℕ)} {p : Reader Spelled Fault A} {f : A → Reader Spelled Fault B} → SaysFacets v datatype p →
+    ((x : A) → SaysFacets v datatype (f x)) → SaysFacets v datatype (p >>= f)
 facets_bind {v = v} {datatype = datatype} {f = f} a h = record { tells = λ before ts d. tells_bind (a.tells before ts d) (λ x r k. facets_behind_them v datatype (f x) (h x) before ts r d k) }
 
-facets_either : {A : Type 0} {v : Scope} {datatype : Option (List ℕ)} {class : Spelled → Bool} {p q : Reader Spelled Fault A} → SaysFacets v datatype p → SaysFacets v datatype q → SaysFacets v datatype (either class p q)
+facets_either : {A : Type 0} {v : Scope} {datatype : Option (List ℕ)} {class : Spelled → Bool} {p q : Reader Spelled Fault A} → SaysFacets v datatype p →
+    SaysFacets v datatype q → SaysFacets v datatype (either class p q)
 facets_either a h = record { tells = λ before ts d. tells_either (λ _. a.tells before ts d) (λ _. h.tells before ts d) }
 
-facets_loop : {S : Type 0} {v : Scope} {datatype : Option (List ℕ)} (class : Spelled → Bool) (step : S → Reader Spelled Fault S) → ((s : S) → SaysFacets v datatype (step s)) → (s : S) → SaysFacets v datatype (loop class step s)
+facets_loop : {S : Type 0} {v : Scope} {datatype : Option (List ℕ)} (class : Spelled → Bool) (step : S → Reader Spelled Fault S) →
+    ((s : S) → SaysFacets v datatype (step s)) → (s : S) → SaysFacets v datatype (loop class step s)
 facets_loop {v = v} {datatype = datatype} class step h s = record {
   tells = λ before ts d. tells_loop class step (λ x r. OfFacets ts r) (Fails v before ts) (λ x r k. facets_behind_them v datatype (step x) (h x) before ts r d k) s ts ([], refl, tt);
 }
@@ -393,7 +408,8 @@ no_datatype : {A : Type 0} {v : Scope} {p : Reader Spelled Fault A} → SaysFace
 no_datatype a = record { tells = λ before ts. tells_so (λ x r k. (k.0, k.1, facets_are_flat k.0 k.2)) (λ f r k. k) (a.tells before ts tt) }
 
 -- a token that is a facet
-a_facet_tells : (v : Scope) (bounded : Bool) (datatype : Option (List ℕ)) (before : List Spelled) (ts : Ahead Spelled) → IsDatatype v before datatype → (class : Spelled → Result Facet Fault) → ((t : Spelled) (g : Facet) → class t ≡ Ok g → IsFacetAt before t g)
+a_facet_tells : (v : Scope) (bounded : Bool) (datatype : Option (List ℕ)) (before : List Spelled) (ts : Ahead Spelled) → IsDatatype v before datatype →
+    (class : Spelled → Result Facet Fault) → ((t : Spelled) (g : Facet) → class t ≡ Ok g → IsFacetAt before t g)
     → ((t : Spelled) (f : Fault) → class t ≡ Err f → Why v before t f) → FacetClass class → (fs : List Facet) → Tells (a_facet bounded datatype class fs) (λ x r. OfFacets ts r) (Fails v before ts) ts
 unfolding a_facet
 a_facet_tells v bounded datatype before ts d class at h k fs =
@@ -403,7 +419,8 @@ a_facet_tells v bounded datatype before ts d class at h k fs =
 
 -- the word of a facet and its number
 word_tells : (v : Scope) (datatype : Option (List ℕ)) (words : List Symbol) → within words facet_symbols ≡ true → (fs : List Facet) (number : Symbol → Reader Spelled Fault (List Facet))
-    → ((before : List Spelled) (w : Spelled) (ts : Ahead Spelled) → IsDatatype v before datatype → EndsWith words before w → Tells (number (symbol_of w.kind w.text)) (λ x r. OfFacets ts r) (Fails v before ts) ts)
+    → ((before : List Spelled) (w : Spelled) (ts : Ahead Spelled) → IsDatatype v before datatype → EndsWith words before w →
+    Tells (number (symbol_of w.kind w.text)) (λ x r. OfFacets ts r) (Fails v before ts) ts)
     → SaysFacets v datatype (one fault.Syntax (fresh_word words fs) >>= number)
 word_tells v datatype words among fs number h = record {
   tells = λ before ts d. tells_bind {Q = λ s r. (w : Spelled) × (ts ≡ token w r) × (is_among words w ≡ true) × (symbol_of w.kind w.text ≡ s)}
@@ -461,7 +478,8 @@ says_notes v false = says_give v _
 
 pub says_reference : (v : Scope) → Says v (reference v)
 unfolding reference
-says_reference v = says_either _ _ _ (says_bind _ _ (says_one (at_name_says v) (at_name_flat v)) (λ i. says_give v _)) (says_bind _ _ (says_one (mark_says v _) (mark_flat _ refl)) (λ _. says_bind _ _ (says_label v) (λ l. says_give v _)))
+says_reference v = says_either _ _ _ (says_bind _ _ (says_one (at_name_says v) (at_name_flat v)) (λ i. says_give v _))
+    (says_bind _ _ (says_one (mark_says v _) (mark_flat _ refl)) (λ _. says_bind _ _ (says_label v) (λ l. says_give v _)))
 
 module _ (v : Scope) (bounded : Bool) (datatype : Option (List ℕ)) where
   says_counted : (words : List Symbol) → within words facet_symbols ≡ true → within words counted_words ≡ true → (fs : List Facet) → SaysFacets v datatype (counted bounded datatype words fs)
@@ -553,7 +571,8 @@ says_any_tag v = says_bind _ _ (says_one (mark_says v _) (mark_flat _ refl)) (λ
 
 pub says_wildcard : (v : Scope) → Says v (wildcard v)
 unfolding wildcard
-says_wildcard v = says_bind _ _ (says_one (mark_says v _) (mark_flat _ refl)) (λ _. says_bind _ _ (says_one (mark_says v _) (mark_flat _ refl)) (λ _. says_either _ _ _ (says_excluded v (iri_text v) (says_iri_text v) _) (says_either _ _ _ (says_excluded v (tag v) (says_tag v) _) (says_excluded v (lexical_form v) (says_lexical_form v) _))))
+says_wildcard v = says_bind _ _ (says_one (mark_says v _) (mark_flat _ refl))
+    (λ _. says_bind _ _ (says_one (mark_says v _) (mark_flat _ refl)) (λ _. says_either _ _ _ (says_excluded v (iri_text v) (says_iri_text v) _) (says_either _ _ _ (says_excluded v (tag v) (says_tag v) _) (says_excluded v (lexical_form v) (says_lexical_form v) _))))
 
 pub says_value : (v : Scope) → Says v (value v)
 unfolding value
@@ -565,11 +584,13 @@ says_value_behind v xs = says_bind _ _ (says_value v) (λ x. says_give v _)
 
 pub says_value_set : (v : Scope) → Says v (value_set v)
 unfolding value_set
-says_value_set v = says_bind _ _ (says_one (mark_says v _) (mark_flat _ refl)) (λ _. says_bind _ _ (says_loop _ _ (says_value_behind v) _) (λ xs. says_bind _ _ (says_one (mark_says v _) (mark_flat _ refl)) (λ _. says_give v _)))
+says_value_set v = says_bind _ _ (says_one (mark_says v _) (mark_flat _ refl))
+    (λ _. says_bind _ _ (says_loop _ _ (says_value_behind v) _) (λ xs. says_bind _ _ (says_one (mark_says v _) (mark_flat _ refl)) (λ _. says_give v _)))
 
 pub says_of_kind : (bounded : Bool) (v : Scope) → Says v (of_kind bounded v)
 unfolding of_kind
-says_of_kind bounded v = says_bind _ _ (says_one (word_says v node_kinds) (word_flat node_kinds refl)) (λ s. says_bind _ _ (no_datatype (says_text_facets_behind v bounded None _)) (λ fs. says_give v _))
+says_of_kind bounded v = says_bind _ _ (says_one (word_says v node_kinds) (word_flat node_kinds refl))
+    (λ s. says_bind _ _ (no_datatype (says_text_facets_behind v bounded None _)) (λ fs. says_give v _))
 
 pub says_of_texts : (bounded : Bool) (v : Scope) → Says v (of_texts bounded v)
 unfolding of_texts
@@ -606,4 +627,5 @@ says_of_datatype bounded v = record {
 
 pub says_literal_constraint : (bounded : Bool) (v : Scope) → Says v (literal_constraint bounded v)
 unfolding literal_constraint
-says_literal_constraint bounded v = says_either _ _ _ (says_any_literal bounded v) (says_either _ _ _ (says_of_datatype bounded v) (says_either _ _ _ (says_of_values bounded v) (says_of_numbers bounded v)))
+says_literal_constraint bounded v = says_either _ _ _ (says_any_literal bounded v)
+    (says_either _ _ _ (says_of_datatype bounded v) (says_either _ _ _ (says_of_values bounded v) (says_of_numbers bounded v)))

@@ -19,12 +19,14 @@ use Rattle.shexc_constraints.specs.Patterns.{pattern_of}
 use Rattle.shexc_constraints.specs.Facets.{counted_of, ranged_of}
 
 -- the second reader where the next token is not of the class
-by_class : {T F A : Type 0} (class : T → Bool) (p q : Reader T F A) (R : A → Ahead T → Type 0) (ts : Ahead T) (b : Bool) → next_is class ts ≡ b → Meets p R ts → (next_is class ts ≡ false → Meets q R ts)
+by_class : {T F A : Type 0} (class : T → Bool) (p q : Reader T F A) (R : A → Ahead T → Type 0) (ts : Ahead T) (b : Bool) → next_is class ts ≡ b → Meets p R ts →
+    (next_is class ts ≡ false → Meets q R ts)
     → (y : A × Ahead T) → cond b (p ts) (q ts) ≡ Ok y → R y.0 y.1
 by_class class p q R ts true e h k y is = h.holds y is
 by_class class p q R ts false e h k y is = (k e).holds y is
 
-pub meets_or_else : {T F A : Type 0} (class : T → Bool) (p q : Reader T F A) (R : A → Ahead T → Type 0) (ts : Ahead T) → Meets p R ts → (next_is class ts ≡ false → Meets q R ts) → Meets (either class p q) R ts
+pub meets_or_else : {T F A : Type 0} (class : T → Bool) (p q : Reader T F A) (R : A → Ahead T → Type 0) (ts : Ahead T) → Meets p R ts →
+    (next_is class ts ≡ false → Meets q R ts) → Meets (either class p q) R ts
 meets_or_else class p q R ts h k = record { holds = λ y is. by_class class p q R ts (next_is class ts) refl h k y is }
 
 module _ (v : Scope) where
@@ -55,7 +57,8 @@ module _ (v : Scope) where
 
   pub annotation_meets : (ts : Ahead Spelled) → Meets (annotation v) (λ u r. g.Annotation v ts r) ts
   unfolding annotation
-  annotation_meets ts = meets_bind (meets_one (λ t m c. meets_bind (meets_rule (predicate_meets m) (λ p n h. meets_bind (meets_rule (object_meets n) (λ x r i. meets_give (p, x, (m, (t, c), (n, h, i)))))))))
+  annotation_meets ts =
+      meets_bind (meets_one (λ t m c. meets_bind (meets_rule (predicate_meets m) (λ p n h. meets_bind (meets_rule (object_meets n) (λ x r i. meets_give (p, x, (m, (t, c), (n, h, i)))))))))
 
   pub annotations_meet : (ts : Ahead Spelled) → Meets (annotations v) (λ u r. g.Each (g.Annotation v) ts r) ts
   unfolding annotations

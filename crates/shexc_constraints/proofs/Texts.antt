@@ -17,10 +17,12 @@ use Rattle.shexc_constraints.specs.Meanings.{tag_of}
 use Rattle.shexc_constraints.specs.Values.{form_of}
 
 -- a tag in lower case
-pub tag_is : (t : Spelled) (text bytes low : List ℕ) → is_among tags t ≡ true → text ≡ after_first is_at t.text → IsUtf8 text → IsUtf8 bytes → bytes ≡ map to_ascii_lowercase text → low ≡ chars bytes → tag_of t ≡ Ok low
+pub tag_is : (t : Spelled) (text bytes low : List ℕ) → is_among tags t ≡ true → text ≡ after_first is_at t.text → IsUtf8 text → IsUtf8 bytes →
+    bytes ≡ map to_ascii_lowercase text → low ≡ chars bytes → tag_of t ≡ Ok low
 unfolding tag_of
 tag_is t text bytes low e same u w lowered is =
-    rw e (ap (λ (x : List ℕ). Ok (map to_ascii_lowercase (chars x))) (sym same) ∙ ap (λ (x : List ℕ). Ok x) (sym (is ∙ ap chars lowered ∙ lowered_chars text (chars text) (subst IsUtf8 lowered w) (encodes-chars text u))))
+    rw e (ap (λ (x : List ℕ). Ok (map to_ascii_lowercase (chars x))) (sym same) ∙ ap (λ (x : List ℕ). Ok x) (sym (is ∙ ap chars lowered
+    ∙ lowered_chars text (chars text) (subst IsUtf8 lowered w) (encodes-chars text u))))
 
 -- a term that is no literal has no lexical form
 pub no_form_iri : (r : Result (List ℕ) AllocError) (x : Term) (i : List ℕ) → x ≡ terms.Iri i → IfOk r (λ t. t ≡ chars []) → IfOk r (λ t. t ≡ form_of x)

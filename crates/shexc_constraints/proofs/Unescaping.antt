@@ -47,7 +47,8 @@ high_behind cs (Some q) p is e = let a = four_behind cs q is in let b = low_behi
 eight_behind : (cs : List ℕ) (p : ℕ × List ℕ) → eight_digits cs ≡ Some p → length p.1 < length cs
 eight_behind cs p e = high_behind cs (four_digits cs) p refl e
 
-numeric_behind : (c : ℕ) (cs : List ℕ) (o : Option (ℕ × List ℕ)) (p : Piece × List ℕ) → ((q : ℕ × List ℕ) → o ≡ Some q → length q.1 < length cs) → numeric c cs o ≡ Some p → length p.1 < suc (length cs)
+numeric_behind : (c : ℕ) (cs : List ℕ) (o : Option (ℕ × List ℕ)) (p : Piece × List ℕ) → ((q : ℕ × List ℕ) → o ≡ Some q → length q.1 < length cs) →
+    numeric c cs o ≡ Some p → length p.1 < suc (length cs)
 numeric_behind c cs None p h e = subst (λ (r : Piece × List ℕ). length r.1 < suc (length cs)) (same_some (Kept c, cs) p e) (omega arith)
 numeric_behind c cs (Some q) p h e = let l = h q refl in chosen_behind (is_character q.0) (One q.0, q.1) p _ (omega (arith, l)) e
 
@@ -160,7 +161,8 @@ high_fine : (cs : List ℕ) (o : Option (ℕ × List ℕ)) (p : ℕ × List ℕ)
 high_fine cs None p h is e = absurd (no_some p e)
 high_fine cs (Some q) p h is e = low_fine q.0 q.1 (four_digits q.1) p (four_fine cs q h is) refl e
 
-numeric_fine : (c : ℕ) (cs : List ℕ) (o : Option (ℕ × List ℕ)) (p : Piece × List ℕ) → scalar c ≡ true → all_scalars cs ≡ true → ((q : ℕ × List ℕ) → o ≡ Some q → all_scalars q.1 ≡ true) → numeric c cs o ≡ Some p → Fine p
+numeric_fine : (c : ℕ) (cs : List ℕ) (o : Option (ℕ × List ℕ)) (p : Piece × List ℕ) → scalar c ≡ true → all_scalars cs ≡ true →
+    ((q : ℕ × List ℕ) → o ≡ Some q → all_scalars q.1 ≡ true) → numeric c cs o ≡ Some p → Fine p
 numeric_fine c cs None p s h k e = subst Fine (same_some (Kept c, cs) p e) (kept_fine c cs s h)
 numeric_fine c cs (Some q) p s h k e = chosen_fine q.0 q.1 (is_character q.0) p refl (k q refl) e
 
@@ -227,7 +229,8 @@ unfolding parts_of
 some_behind [] flags e f = absurd (no_some flags (sym f))
 some_behind (c ∷ cs) flags e f = flags_behind (nat_eq c 47) cs flags _ e f
 
-pub leads_ok : (all out rest flags text text_flags : List ℕ) → Leads all (Some (out, rest)) → Some flags ≡ flags_in rest → text ≡ out → text_flags ≡ flags → pattern_by (parts_of all) ≡ Ok (facets.Pattern text text_flags)
+pub leads_ok : (all out rest flags text text_flags : List ℕ) → Leads all (Some (out, rest)) → Some flags ≡ flags_in rest → text ≡ out → text_flags ≡ flags →
+    pattern_by (parts_of all) ≡ Ok (facets.Pattern text text_flags)
 leads_ok all out rest flags text text_flags (e, s, h, n) f a b =
     ap pattern_by (e ∙ ap (with_front out) (some_behind rest flags n f))
     ∙ ap (λ (x : List ℕ). Ok (facets.Pattern x flags)) (append-nil out ∙ sym a) ∙ ap (λ (x : List ℕ). Ok (facets.Pattern text x)) (sym b)
@@ -244,7 +247,8 @@ pub rest_scalar : (all rest : List ℕ) (c : ℕ) → all_scalars all ≡ true �
 rest_scalar all rest c h e = (head_scalar c rest (subst (λ (x : List ℕ). all_scalars x ≡ true) e h)).1
 
 -- a text of characters
-pub text_more : (cs : List ℕ) (i x d : ℕ) (old new : List ℕ) → i < length cs → x ≡ get_or cs i d → old ≡ encode_utf8_all (take i cs) → new ≡ old ++ encode_utf8 x → new ≡ encode_utf8_all (take (i + 1) cs)
+pub text_more : (cs : List ℕ) (i x d : ℕ) (old new : List ℕ) → i < length cs → x ≡ get_or cs i d → old ≡ encode_utf8_all (take i cs) →
+    new ≡ old ++ encode_utf8 x → new ≡ encode_utf8_all (take (i + 1) cs)
 text_more cs i x d old new l is e g =
     g ∙ ap (λ (y : List ℕ). y ++ encode_utf8 x) e
     ∙ ap (λ (y : List ℕ). encode_utf8_all (take i cs) ++ y) (sym (append-nil (encode_utf8 x)))

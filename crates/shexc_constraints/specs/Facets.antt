@@ -75,7 +75,7 @@ pub record IsAdmitted (bounded : Bool) (datatype : Option (List ℕ)) (f : Facet
   pub decimal : ¬ HasOtherNumber (f ∷ [])
   pub patterns : AllByRecursion (IsPattern bounded) (patterns_in (f ∷ []))
 
--- the same as a function: the facet, or the first cause that refuses it
+-- the fault for a cause for which a facet is refused
 abbrev pub fault_of : MakeError → Fault
 fault_of errors.FloatFacet = fault.FloatFacet
 fault_of errors.FacetNumber = fault.FacetNumber

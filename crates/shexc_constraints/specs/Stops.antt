@@ -42,7 +42,7 @@ abbrev pub Gives : {X Y : Type 0} → (X → Y) → Result X Stop → Ahead Spel
 Gives view (Ok x) rest answer = answer ≡ Ok (view x, rest)
 Gives view (Err e) rest answer = StopsAs e rest answer
 
--- the same of what a token stands for
+-- a stop is the fault of what a token stands for, or want of memory
 abbrev pub FailsAs : {Y : Type 0} → Stop → Result Y Fault → Type 0
 FailsAs stop.Memory answer = Unit {0}
 FailsAs (stop.Fault f) answer = answer ≡ Err f

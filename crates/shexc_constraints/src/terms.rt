@@ -1,9 +1,7 @@
 //! What single tokens of ShExC alone stand for (ShEx 2.1, section 6).
 
 ghost use Rattle.std.specs.Prelude.{◌≡◌};
-ghost use Rattle.std.specs.List.{after_first};
 ghost use Rattle.rdf_cursor.specs.Lent.{spelled};
-ghost use Rattle.term_tokens.specs.Terms.{is_at};
 ghost use Rattle.shexc_constraints.specs.Meanings.{tag_of, range_number_of};
 ghost use Rattle.shexc_constraints.specs.Stops.{Answers};
 
@@ -12,17 +10,8 @@ use rdf_cursor::Symbol;
 use rdf_lex::Token;
 use rdf_terms::text::Text;
 use std::alloc::Global;
+use term_tokens::parts::after_at;
 use term_tokens::terms::is_tag;
-
-/// What stands behind `@`.
-fn after_at(text: &str) -> &str
-    ensures { result.now ≡ after_first is_at text.now }
-{
-    match text.split_once('@') {
-        Some((_, after)) => after,
-        None => "",
-    }
-}
 
 /// A language tag, in lower case.
 #[tactic(auto, unfolding(crate::specs::Meanings::tag_of))]

@@ -163,13 +163,16 @@ module _ (a : State) (d : ℕ) (start : Ahead Spelled) where
   gives : {A : Type 0} {before : Ahead Spelled → Type 0} {after : A → Ahead Spelled → Type 0} {x : A} → ((ts : Ahead Spelled) → before ts → after x ts) → Goes before after (give x)
   gives h ts y = tells_give (h ts y)
 
-  goes_bind : {A B : Type 0} {before : Ahead Spelled → Type 0} {mid : A → Ahead Spelled → Type 0} {after : B → Ahead Spelled → Type 0} {p : R A} {f : A → R B} → Goes before mid p → ((x : A) → Goes (mid x) after (f x)) → Goes before after (p >>= f)
+  goes_bind : {A B : Type 0} {before : Ahead Spelled → Type 0} {mid : A → Ahead Spelled → Type 0} {after : B → Ahead Spelled → Type 0} {p : R A} {f : A → R B} →
+      Goes before mid p → ((x : A) → Goes (mid x) after (f x)) → Goes before after (p >>= f)
   goes_bind h g ts y = tells_bind (h ts y) (λ x r k. g x r k)
 
-  goes_either : {A : Type 0} {before : Ahead Spelled → Type 0} {after : A → Ahead Spelled → Type 0} {class : Spelled → Bool} {p q : R A} → Goes before after p → Goes before after q → Goes before after (either class p q)
+  goes_either : {A : Type 0} {before : Ahead Spelled → Type 0} {after : A → Ahead Spelled → Type 0} {class : Spelled → Bool} {p q : R A} → Goes before after p →
+      Goes before after q → Goes before after (either class p q)
   goes_either h g ts y = tells_either (λ _. h ts y) (λ _. g ts y)
 
-  goes_loop : {S : Type 0} (holds : S → Ahead Spelled → Type 0) (class : Spelled → Bool) (step : S → R S) → ((s : S) → Goes (holds s) holds (step s)) → (s : S) → Goes (holds s) holds (loop class step s)
+  goes_loop : {S : Type 0} (holds : S → Ahead Spelled → Type 0) (class : Spelled → Bool) (step : S → R S) → ((s : S) → Goes (holds s) holds (step s)) →
+      (s : S) → Goes (holds s) holds (loop class step s)
   goes_loop holds class step h s ts y = tells_loop class step holds Fails (λ x r k. h x r k) s ts y
 
   -- a bracket that opens
@@ -199,7 +202,8 @@ module _ (a : State) (d : ℕ) (start : Ahead Spelled) where
   opens_tells k zero o c ts x = tells_either (λ i. tells_refuse (too_deep k o ts i x)) (λ i. tells_refuse (syntax_at zero ts x))
   opens_tells k (suc n) o c ts x = tells_bind (opens_on k n o c ts x) (λ w r h. tells_give (n, refl, h))
 
-  goes_opens : {B : Type 0} {n : ℕ} {after : B → Ahead Spelled → Type 0} (k : Symbol) (f : Unit {0} → R B) → within (k ∷ []) brackets ≡ true → outside (k ∷ []) closing_brackets ≡ true → ((m : ℕ) → n ≡ suc m → Goes (At m) after (f tt))
+  goes_opens : {B : Type 0} {n : ℕ} {after : B → Ahead Spelled → Type 0} (k : Symbol) (f : Unit {0} → R B) → within (k ∷ []) brackets ≡ true →
+      outside (k ∷ []) closing_brackets ≡ true → ((m : ℕ) → n ≡ suc m → Goes (At m) after (f tt))
       → Goes (At n) after (opens k n >>= f)
   goes_opens {n = n} k f o c h ts x = tells_bind (opens_tells k n o c ts x) (λ u r y. h y.0 y.1 r y.2)
 
@@ -226,9 +230,11 @@ module _ (a : State) (d : ℕ) (start : Ahead Spelled) where
   unflagged true n ts x = x
   unflagged false n ts x = x
 
-  no_mark : (k : Symbol) → outside (symbol.Integer ∷ []) (k ∷ []) ≡ true → (ts rest : Ahead Spelled) (t w : Spelled) → ts ≡ token t rest → of_symbol k t ≡ Ok w → next_is (is_symbol symbol.Integer) ts ≡ true → ⊥
+  no_mark : (k : Symbol) → outside (symbol.Integer ∷ []) (k ∷ []) ≡ true → (ts rest : Ahead Spelled) (t w : Spelled) → ts ≡ token t rest →
+      of_symbol k t ≡ Ok w → next_is (is_symbol symbol.Integer) ts ≡ true → ⊥
   no_mark k o ts rest t w is e i =
-      let n : is_symbol k t ≡ false = no_symbol (symbol.Integer ∷ []) k (token t rest) o (sym (single symbol.Integer (token t rest)) ∙ subst (λ (q : Ahead Spelled). next_is (is_symbol symbol.Integer) q ≡ true) is i) in
+      let n : is_symbol k t ≡ false = no_symbol (symbol.Integer ∷ []) k (token t rest) o (sym (single symbol.Integer (token t rest))
+      ∙ subst (λ (q : Ahead Spelled). next_is (is_symbol symbol.Integer) q ≡ true) is i) in
       by (is_symbol k t) n e
     where
       by : (b : Bool) → b ≡ false → Path (Result Spelled Fault) (cond b (Ok t) (Err fault.Syntax)) (Ok w) → ⊥
@@ -278,7 +284,8 @@ module _ (a : State) (d : ℕ) (start : Ahead Spelled) where
 
     goes_a_shape : (whole : Bool) → Goes (At n) (λ x. At n) (a_shape true v n inside whole)
     unfolding a_shape
-    goes_a_shape whole = goes_bind (flat says_all_qualifiers) (λ q. goes_opens symbol.OpenBrace _ refl refl (λ m is. goes_bind (goes_shape_behind m is q) (λ s. goes_bind (flat (says_notes v whole)) (λ _. gives (λ ts x. x)))))
+    goes_a_shape whole = goes_bind (flat says_all_qualifiers)
+        (λ q. goes_opens symbol.OpenBrace _ refl refl (λ m is. goes_bind (goes_shape_behind m is q) (λ s. goes_bind (flat (says_notes v whole)) (λ _. gives (λ ts x. x)))))
 
     goes_shape_or_reference : (whole : Bool) → Goes (At n) (λ x. At n) (shape_or_reference true v n inside whole)
     unfolding shape_or_reference
@@ -316,7 +323,8 @@ module _ (a : State) (d : ℕ) (start : Ahead Spelled) where
 
     goes_parenthesised : (whole : Bool) → Goes (At n) (λ x. After whole n x.1) (parenthesised true v n inside)
     unfolding parenthesised
-    goes_parenthesised whole = goes_opens symbol.OpenParenthesis _ refl refl (λ m is. goes_bind ((inner m is).expr) (λ e. goes_bind (goes_close symbol.CloseParenthesis m is refl refl) (λ _. gives (λ ts x. unflagged whole n ts x))))
+    goes_parenthesised whole =
+        goes_opens symbol.OpenParenthesis _ refl refl (λ m is. goes_bind ((inner m is).expr) (λ e. goes_bind (goes_close symbol.CloseParenthesis m is refl refl) (λ _. gives (λ ts x. unflagged whole n ts x))))
 
     goes_dot : (whole : Bool) → Goes (At n) (λ x. After whole n x.1) (dot true v n inside)
     unfolding dot
@@ -361,7 +369,8 @@ module _ (a : State) (d : ℕ) (start : Ahead Spelled) where
 
     goes_limits : (m : ℕ) → n ≡ suc m → Goes (At m) (λ x. At n) (limits true v n inside)
     unfolding limits
-    goes_limits m is = goes_bind (flat (says_one (limit_says v _) (limit_flat _))) (λ least. goes_bind (flat (says_either _ _ _ (says_most least) (says_give v _))) (λ b. goes_bind (goes_close symbol.CloseBrace m is refl refl) (λ _. gives (λ ts x. x))))
+    goes_limits m is = goes_bind (flat (says_one (limit_says v _) (limit_flat _)))
+        (λ least. goes_bind (flat (says_either _ _ _ (says_most least) (says_give v _))) (λ b. goes_bind (goes_close symbol.CloseBrace m is refl refl) (λ _. gives (λ ts x. x))))
 
     goes_short : (k : Symbol) (c : Cardinality) → outside (k ∷ []) nesting ≡ true → Goes (At n) (λ x. At n) (short true v n inside k c)
     unfolding short
@@ -399,7 +408,8 @@ module _ (a : State) (d : ℕ) (start : Ahead Spelled) where
 
     goes_an_arc : (l : Option Label) → Goes (At n) (λ x. At n) (an_arc true v n inside l)
     unfolding an_arc
-    goes_an_arc l = goes_bind (flat says_direction) (λ inverse. goes_bind (flat (says_predicate v)) (λ p. goes_bind goes_arc_value (λ y. goes_bind (goes_cardinality_behind y.1) (λ c. goes_bind (flat (says_annotations v)) (λ _. gives (λ ts x. x))))))
+    goes_an_arc l = goes_bind (flat says_direction)
+        (λ inverse. goes_bind (flat (says_predicate v)) (λ p. goes_bind goes_arc_value (λ y. goes_bind (goes_cardinality_behind y.1) (λ c. goes_bind (flat (says_annotations v)) (λ _. gives (λ ts x. x))))))
 
     goes_grouped : (l : Option Label) → Goes (At n) (λ x. At n) (grouped true v n inside l)
     unfolding grouped
@@ -475,9 +485,11 @@ module _ (a : State) (d : ℕ) (start : Ahead Spelled) where
   after_label : (ts : Ahead Spelled) → Labelled ts → At d ts
   after_label ts l = flat_on d start ts (l.t ∷ [], l.parts, (l.flat, tt)) at_start
 
-  one_label : {A : Type 0} {class : Spelled → Result A Fault} → ClassSays v class → FlatClass class → ((t : Spelled) (x : A) → class t ≡ Ok x → IsLabelled v (t ∷ [])) → Tells (one fault.Syntax class) (λ x ts. Labelled ts) Fails start
+  one_label : {A : Type 0} {class : Spelled → Result A Fault} → ClassSays v class → FlatClass class →
+      ((t : Spelled) (x : A) → class t ≡ Ok x → IsLabelled v (t ∷ [])) → Tells (one fault.Syntax class) (λ x ts. Labelled ts) Fails start
   unfolding at_start
-  one_label h k labels = tells_one (syntax_at d start at_start) (λ t rest x is e. record { t = t; parts = is; labels = labels t x e; flat = k t x e }) (λ t rest f is e. at_token start at_start f t rest is (h [] t f e))
+  one_label h k labels = tells_one (syntax_at d start at_start) (λ t rest x is e. record { t = t; parts = is; labels = labels t x e; flat = k t x e })
+      (λ t rest f is e. at_token start at_start f t rest is (h [] t f e))
 
   label_tells : Tells (label v) (λ l ts. Labelled ts) Fails start
   unfolding label iri
@@ -573,7 +585,8 @@ module _ (d : ℕ) where
   last_fault b broken e is = err_is (fault.Syntax, broken) e is
   last_fault b (token t ts) e is = err_is (fault.Syntax, token t ts) e is
 
-  all_stopped : (a : State) (ts : Ahead Spelled) (y : Answer Spelled Fault State) (e : Fault × Ahead Spelled) → loop is_any (statement true d) a ts ≡ y → and_then y (finish fault.Syntax) ≡ Err e → Stopped a ts e.0 e.1
+  all_stopped : (a : State) (ts : Ahead Spelled) (y : Answer Spelled Fault State) (e : Fault × Ahead Spelled) → loop is_any (statement true d) a ts ≡ y →
+      and_then y (finish fault.Syntax) ≡ Err e → Stopped a ts e.0 e.1
   unfolding loop
   all_stopped a ts (Err q) e s is = loop_stopped (count ts) a ts e (s ∙ is)
   all_stopped a ts (Ok x) e s is =

@@ -115,7 +115,8 @@ module _ (bounded : Bool) (v : Scope) (n : ℕ) (inside : Inside) (spelled : g.I
   no_brace ks c q out h (w, d) = true≢false (sym (begins symbol.OpenBrace w c q d) ∙ no_symbol ks symbol.OpenBrace c out h)
 
   -- behind a value, whose brace may be taken
-  pub cardinality_behind_read : (b : Bool) (o : Option Cardinality) (c q k : Ahead Spelled) → After bounded v n inside spelled complete false b c q → g.MaybeCardinality bounded v n spelled o c k → Next noted k → cardinality_behind bounded v n inside b q ≡ Ok (o, k)
+  pub cardinality_behind_read : (b : Bool) (o : Option Cardinality) (c q k : Ahead Spelled) → After bounded v n inside spelled complete false b c q →
+      g.MaybeCardinality bounded v n spelled o c k → Next noted k → cardinality_behind bounded v n inside b q ≡ Ok (o, k)
   unfolding cardinality_behind
   cardinality_behind_read false o c q k same h f = rw (← same) (cardinality_read o c k h f)
   cardinality_behind_read true o c q k ((z, d), i) (inl (e, same)) f = absurd (no_brace noted c q refl (subst (Next noted) (sym same) f) d)
@@ -133,7 +134,8 @@ module _ (bounded : Bool) (v : Scope) (n : ℕ) (inside : Inside) (spelled : g.I
   value_ends o c k (inr (l, is, inr (inr (inl (e, (w, h)))))) f = nexts (symbol.Question ∷ []) valued c refl (first symbol.Question w c k h)
   value_ends o c k (inr (l, is, inr (inr (inr (m, (y, (w, h)), j))))) f = nexts (symbol.OpenBrace ∷ []) valued c refl (first symbol.OpenBrace w c m h)
 
-  counts : (o : Option Cardinality) (c k : Ahead Spelled) → g.MaybeCardinality bounded v n spelled o c k → Next noted k → (q : Ahead Spelled) → Mark symbol.OpenBrace c q → (0 < n) × (next_is (is_symbol symbol.Integer) q ≡ true)
+  counts : (o : Option Cardinality) (c k : Ahead Spelled) → g.MaybeCardinality bounded v n spelled o c k → Next noted k → (q : Ahead Spelled) →
+      Mark symbol.OpenBrace c q → (0 < n) × (next_is (is_symbol symbol.Integer) q ≡ true)
   counts o c k (inl (e, same)) f q d = absurd (no_brace noted c q refl (subst (Next noted) (sym same) f) d)
   counts o c k (inr (l, is, inl (e, (w, h)))) f q d = absurd (no_brace (symbol.Star ∷ []) c q refl (first symbol.Star w c k h) d)
   counts o c k (inr (l, is, inr (inl (e, (w, h))))) f q d = absurd (no_brace (symbol.Plus ∷ []) c q refl (first symbol.Plus w c k h) d)

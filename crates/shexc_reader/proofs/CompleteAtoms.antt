@@ -42,9 +42,11 @@ abbrev pub extending_whole : List Symbol
 extending_whole = symbol.OpenBrace ∷ noting ++ extending
 
 -- what stands before annotations
-pub before_notes : (v : Scope) (whole : Bool) (ks : List Symbol) (m r : Ahead Spelled) → ((ts : Ahead Spelled) → Next (symbol.Slashes ∷ []) ts → Never ks ts) → low.Notes v whole m r → Never ks r → Never ks m
+pub before_notes : (v : Scope) (whole : Bool) (ks : List Symbol) (m r : Ahead Spelled) → ((ts : Ahead Spelled) → Next (symbol.Slashes ∷ []) ts → Never ks ts) →
+    low.Notes v whole m r → Never ks r → Never ks m
 before_notes v true ks m r out h f =
-    many_follows (is_symbol symbol.Slashes) (λ (a b : Unit {0}) ts r. low.Annotation v ts r) (Never ks) (λ s x ts m (p, y, (k, (w, c), i)). begins symbol.Slashes w ts k c) (λ m n. out m (first_of symbol.Slashes m n)) tt tt m r h f
+    many_follows (is_symbol symbol.Slashes) (λ (a b : Unit {0}) ts r. low.Annotation v ts r) (Never ks)
+    (λ s x ts m (p, y, (k, (w, c), i)). begins symbol.Slashes w ts k c) (λ m n. out m (first_of symbol.Slashes m n)) tt tt m r h f
 before_notes v false ks m r out h f = subst (Never ks) (sym h) f
 
 module _ (bounded : Bool) (v : Scope) (n : ℕ) (inside : Inside) (spelled : g.Inside) (complete : AreComplete inside spelled) where
@@ -94,7 +96,8 @@ module _ (bounded : Bool) (v : Scope) (n : ℕ) (inside : Inside) (spelled : g.I
   unfolding behind_constraint joined_with
   joined_read c b k r h e g1 = rw (e, g1, (shape_or_reference_read bounded v n inside spelled complete false b k r h (λ i. absurd cc)).0) refl
 
-  joins : (whole : Bool) (c b : ShapeExpr) (k r : Ahead Spelled) → g.ShapeOrReference bounded v n spelled whole b k r → Ready whole r → behind_constraint bounded v n inside whole c k ≡ Ok ((both c b, false), r)
+  joins : (whole : Bool) (c b : ShapeExpr) (k r : Ahead Spelled) → g.ShapeOrReference bounded v n spelled whole b k r → Ready whole r →
+      behind_constraint bounded v n inside whole c k ≡ Ok ((both c b, false), r)
   unfolding behind_constraint joined_with braced
   joins true c b k r h f = let a = shape_or_reference_read bounded v n inside spelled complete true b k r h (unnoted true r f) in rw (a.1, a.0) refl
   joins false c b k r (inr h) f =

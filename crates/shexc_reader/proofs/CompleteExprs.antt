@@ -54,7 +54,8 @@ module _ (bounded : Bool) (v : Scope) (n : ℕ) (inside : Inside) (spelled : g.I
   atom_begins whole e ts r (inr (inr (inr (inl (m, (o, (w, c)), h))))) = nexts (symbol.OpenParenthesis ∷ []) (atoms bounded v n inside spelled complete) ts refl (first symbol.OpenParenthesis w ts m c)
   atom_begins whole e ts r (inr (inr (inr (inr (is, (w, c)))))) = nexts (symbol.Dot ∷ []) (atoms bounded v n inside spelled complete) ts refl (first symbol.Dot w ts r c)
 
-  pub negated_read : (whole : Bool) (e : ShapeExpr) (ts r : Ahead Spelled) → g.Negated bounded v n spelled whole e ts r → Ready bounded v n inside spelled complete whole r → Reads bounded v n inside spelled complete whole (negated bounded v n inside whole) e ts r
+  pub negated_read : (whole : Bool) (e : ShapeExpr) (ts r : Ahead Spelled) → g.Negated bounded v n spelled whole e ts r →
+      Ready bounded v n inside spelled complete whole r → Reads bounded v n inside spelled complete whole (negated bounded v n inside whole) e ts r
   unfolding negated
   negated_read whole e ts r (inl h) f =
       let (b, q, is, after) = atom_read bounded v n inside spelled complete whole e ts r h f in
@@ -87,7 +88,8 @@ module _ (bounded : Bool) (v : Scope) (n : ℕ) (inside : Inside) (spelled : g.I
     ended true true r q h e = absurd h
     ended false true r q (o, i) e = no_symbol (symbol.Integer ∷ []) a q no_number (first_of symbol.Integer q i)
 
-    module _ (each : (xs zs : List ShapeExpr) (ts r : Ahead Spelled) → One xs zs ts r → Follow r → (b : Bool) × (q : Ahead Spelled) × (step (xs, false) ts ≡ Ok ((zs, b), q)) × After bounded v n inside spelled complete whole b r q) where
+    module _ (each : (xs zs : List ShapeExpr) (ts r : Ahead Spelled) → One xs zs ts r → Follow r → (b : Bool) × (q : Ahead Spelled) ×
+        (step (xs, false) ts ≡ Ok ((zs, b), q)) × After bounded v n inside spelled complete whole b r q) where
       all_read : (xs ys : List ShapeExpr) (ts r : Ahead Spelled) → Many One xs ys ts r → Follow r → next_is (is_symbol a) r ≡ false → Gives (xs, false) ts ys r
       all_read xs ys ts r none f e = (false, r, loop_stop (is_symbol a) step consumes (xs, false) ts e, refl)
       all_read xs ys ts r (more o none) f e =
@@ -101,7 +103,8 @@ module _ (bounded : Bool) (v : Scope) (n : ℕ) (inside : Inside) (spelled : g.I
           (d, k, loop_more (is_symbol a) step consumes (xs, false) ts (starts xs zs ts m o) ∙ rw (plain (step (xs, false) ts) zs b m q is not_taken same) all, last)
 
       -- the first member, and the others behind it
-      pub separated_read : (p : R (ShapeExpr × Bool)) (x : ShapeExpr) (ys : List ShapeExpr) (ts m r : Ahead Spelled) → (Follow m → Reads bounded v n inside spelled complete whole p x ts m) → Many One (x ∷ []) ys m r → Follow r
+      pub separated_read : (p : R (ShapeExpr × Bool)) (x : ShapeExpr) (ys : List ShapeExpr) (ts m r : Ahead Spelled) →
+          (Follow m → Reads bounded v n inside spelled complete whole p x ts m) → Many One (x ∷ []) ys m r → Follow r
           → next_is (is_symbol a) r ≡ false → (b : Bool) × (q : Ahead Spelled) × (p ts ≡ Ok ((x, b), q)) × Gives (x ∷ [], b) q ys r
       separated_read p x ys ts m r h none f e = let (b, q, is, after) = h f in (b, q, is, (b, q, loop_stop (is_symbol a) step consumes (x ∷ [], b) q (ended whole b r q after e), after))
       separated_read p x ys ts m r h (more {x = zs} {mid = l} o rest) f e =
@@ -111,7 +114,8 @@ module _ (bounded : Bool) (v : Scope) (n : ℕ) (inside : Inside) (spelled : g.I
           (false, m, plain (p ts) x b m q is not_taken same, all_read (x ∷ []) ys m r (more o rest) f e)
 
   -- a mark that joins is no brace and goes on with no atom
-  marked_ready : (whole : Bool) (a : Symbol) (ts : Ahead Spelled) → outside (a ∷ []) extending_whole ≡ true → outside (a ∷ []) extending ≡ true → outside (a ∷ []) (symbol.OpenBrace ∷ []) ≡ true → next_is (is_symbol a) ts ≡ true
+  marked_ready : (whole : Bool) (a : Symbol) (ts : Ahead Spelled) → outside (a ∷ []) extending_whole ≡ true → outside (a ∷ []) extending ≡ true →
+      outside (a ∷ []) (symbol.OpenBrace ∷ []) ≡ true → next_is (is_symbol a) ts ≡ true
       → Ready bounded v n inside spelled complete whole ts
   marked_ready true a ts h k i e = never (a ∷ []) extending_whole ts h (first_of a ts e)
   marked_ready false a ts h k i e =
@@ -127,10 +131,12 @@ module _ (bounded : Bool) (v : Scope) (n : ℕ) (inside : Inside) (spelled : g.I
     abbrev pub Joined : Ahead Spelled → Type 0
     Joined r = Ready bounded v n inside spelled complete whole r × (next_is (is_symbol symbol.And) r ≡ false)
 
-    pub conjunction_read : (e : ShapeExpr) (ts r : Ahead Spelled) → g.Conjunction bounded v n spelled whole e ts r → Joined r → Reads bounded v n inside spelled complete whole (conjunction bounded v n inside whole) e ts r
+    pub conjunction_read : (e : ShapeExpr) (ts r : Ahead Spelled) → g.Conjunction bounded v n spelled whole e ts r → Joined r →
+        Reads bounded v n inside spelled complete whole (conjunction bounded v n inside whole) e ts r
     unfolding conjunction conjunction_from
     conjunction_read e ts r (es, same, (xs, (m, (x, one, h), i))) f =
-        let (b, q, is, (d, k, all, after)) = separated_read whole symbol.And refl refl (g.Negated bounded v n spelled whole) (and_behind bounded v n inside whole) (consumes_and_behind bounded v n inside local whole) (Ready bounded v n inside spelled complete whole)
+        let (b, q, is, (d, k, all, after)) = separated_read whole symbol.And refl refl (g.Negated bounded v n spelled whole)
+        (and_behind bounded v n inside whole) (consumes_and_behind bounded v n inside local whole) (Ready bounded v n inside spelled complete whole)
         (λ us next. marked_ready whole symbol.And us refl refl refl next) and_read (negated bounded v n inside whole) x es ts m r (λ ready. negated_read whole x ts m h ready)
         (subst (λ (z : List ShapeExpr). Many (λ xs ys. Mark symbol.And ⨾ low.Adds (g.Negated bounded v n spelled whole) xs ys) z es m r) (sym one) i) f.0 f.1 in
         (d, k, rw (is, all, same) refl, after)
@@ -140,10 +146,12 @@ module _ (bounded : Bool) (v : Scope) (n : ℕ) (inside : Inside) (spelled : g.I
     unfolding or_behind
     or_read xs zs ts r (m, (w, c), (x, e, h)) f = let (b, q, is, after) = conjunction_read x m r h f in (b, q, rw (took symbol.Or w ts m c, is, e) refl, after)
 
-    pub expression_read : (e : ShapeExpr) (ts r : Ahead Spelled) → g.Expression bounded v n spelled whole e ts r → Joined r → next_is (is_symbol symbol.Or) r ≡ false → Reads bounded v n inside spelled complete whole (expression bounded v n inside whole) e ts r
+    pub expression_read : (e : ShapeExpr) (ts r : Ahead Spelled) → g.Expression bounded v n spelled whole e ts r → Joined r →
+        next_is (is_symbol symbol.Or) r ≡ false → Reads bounded v n inside spelled complete whole (expression bounded v n inside whole) e ts r
     unfolding expression disjunction_from
     expression_read e ts r (es, same, (xs, (m, (x, one, h), i))) f alone =
-        let (b, q, is, (d, k, all, after)) = separated_read whole symbol.Or refl refl (g.Conjunction bounded v n spelled whole) (or_behind bounded v n inside whole) (consumes_or_behind bounded v n inside local whole) Joined
+        let (b, q, is, (d, k, all, after)) = separated_read whole symbol.Or refl refl (g.Conjunction bounded v n spelled whole)
+        (or_behind bounded v n inside whole) (consumes_or_behind bounded v n inside local whole) Joined
         (λ us next. (marked_ready whole symbol.Or us refl refl refl next, no_symbol (symbol.Or ∷ []) symbol.And us refl (first_of symbol.Or us next))) or_read (conjunction bounded v n inside whole) x es ts m r (λ ready. conjunction_read x ts m h ready)
         (subst (λ (z : List ShapeExpr). Many (λ xs ys. Mark symbol.Or ⨾ low.Adds (g.Conjunction bounded v n spelled whole) xs ys) z es m r) (sym one) i) f alone in
         (d, k, rw (is, all, same) refl, after)

@@ -135,7 +135,8 @@ module _ (bounded : Bool) (v : Scope) (n : ℕ) (inside : Inside) (spelled : g.I
     semicolons_read us vs ts m r none (inl (w, c)) f = (
       true,
       loop_more (is_symbol symbol.Semicolon) (semicolon bounded v n inside) (consumes_semicolon bounded v n inside local) (us, false) ts (begins symbol.Semicolon w ts r c)
-          ∙ rw (last_read us ts r (w, c) f) (loop_stop (is_symbol symbol.Semicolon) (semicolon bounded v n inside) (consumes_semicolon bounded v n inside local) (us, true) r (no_symbol grouping symbol.Semicolon r refl f)),
+          ∙ rw (last_read us ts r (w, c) f)
+          (loop_stop (is_symbol symbol.Semicolon) (semicolon bounded v n inside) (consumes_semicolon bounded v n inside local) (us, true) r (no_symbol grouping symbol.Semicolon r refl f)),
     )
     semicolons_read us vs ts m r none (inr same) f =
         (false, rw same (loop_stop (is_symbol symbol.Semicolon) (semicolon bounded v n inside) (consumes_semicolon bounded v n inside local) (us, false) r (no_symbol grouping symbol.Semicolon r refl f)))
@@ -174,7 +175,8 @@ module _ (bounded : Bool) (v : Scope) (n : ℕ) (inside : Inside) (spelled : g.I
         let after = nexts closers grouping r refl f in
         rw (
           group_read u ts m h (many_follows (is_symbol symbol.Bar) (λ us vs. Mark symbol.Bar ⨾ low.Adds (g.Group bounded v n spelled) us vs) (Next grouping) bar_next bar_then (u ∷ []) us m r rest after),
-          loop_read (is_symbol symbol.Bar) (bar bounded v n inside) (λ us vs. Mark symbol.Bar ⨾ low.Adds (g.Group bounded v n spelled) us vs) (Next grouping) (consumes_bar bounded v n inside local) bar_read bar_next bar_then (u ∷ []) us m r rest after
+          loop_read (is_symbol symbol.Bar) (bar bounded v n inside) (λ us vs. Mark symbol.Bar ⨾ low.Adds (g.Group bounded v n spelled) us vs) (Next grouping)
+              (consumes_bar bounded v n inside local) bar_read bar_next bar_then (u ∷ []) us m r rest after
               (no_symbol closers symbol.Bar r refl f),
           is,
         ) refl
@@ -196,7 +198,8 @@ module _ (bounded : Bool) (v : Scope) (n : ℕ) (inside : Inside) (spelled : g.I
         took symbol.Dot w ts m c,
       ) refl
 
-  by_first : (dot_next b : Bool) (e : ShapeExpr) (value : MaybeShapeExpr) (ts q : Ahead Spelled) → next_is (is_symbol symbol.Dot) ts ≡ dot_next → ((m : Ahead Spelled) → Mark symbol.Dot ts m → next_is (is_among connectives) m ≡ true)
+  by_first : (dot_next b : Bool) (e : ShapeExpr) (value : MaybeShapeExpr) (ts q : Ahead Spelled) → next_is (is_symbol symbol.Dot) ts ≡ dot_next →
+      ((m : Ahead Spelled) → Mark symbol.Dot ts m → next_is (is_among connectives) m ≡ true)
       → expression bounded v n inside false ts ≡ Ok ((e, b), q) → one_expr e ≡ value → arc_value bounded v n inside ts ≡ Ok ((value, b), q)
   unfolding arc_value dot_value further
   by_first true b e value ts q d behind reads is =
@@ -209,11 +212,14 @@ module _ (bounded : Bool) (v : Scope) (n : ℕ) (inside : Inside) (spelled : g.I
       (false, c, rw (begins symbol.Dot w ts c d, took symbol.Dot w ts c d, no_next valued connectives c refl (value_ends bounded v n inside spelled complete o c k card f), e) refl, refl)
   arc_value_read o value ts c k (inr (e, is, behind, h)) card f =
       let at_end = value_ends bounded v n inside spelled complete o c k card f in
-      let (b, q, reads, after) = expression_read bounded v n inside spelled complete local false e ts c h (value_ready bounded v n inside spelled complete o c k card f, no_symbol valued symbol.And c refl at_end) (no_symbol valued symbol.Or c refl at_end) in
+      let (b, q, reads, after) =
+      expression_read bounded v n inside spelled complete local false e ts c h (value_ready bounded v n inside spelled complete o c k card f, no_symbol valued symbol.And c refl at_end)
+      (no_symbol valued symbol.Or c refl at_end) in
       (b, q, by_first (next_is (is_symbol symbol.Dot) ts) b e value ts q refl behind reads is, after)
 
   -- what a whole expression leaves
-  flat : (e : ShapeExpr) (x : Answer Spelled Fault (ShapeExpr × Bool)) (b : Bool) (r q : Ahead Spelled) → After bounded v n inside spelled complete true b r q → x ≡ Ok ((e, b), q) → x ≡ Ok ((e, false), r)
+  flat : (e : ShapeExpr) (x : Answer Spelled Fault (ShapeExpr × Bool)) (b : Bool) (r q : Ahead Spelled) → After bounded v n inside spelled complete true b r q →
+      x ≡ Ok ((e, b), q) → x ≡ Ok ((e, false), r)
   flat e x false r q same is = is ∙ ap (λ (z : Ahead Spelled). Ok ((e, false), z)) (sym same)
   flat e x true r q same is = absurd same
 
@@ -223,7 +229,9 @@ module _ (bounded : Bool) (v : Scope) (n : ℕ) (inside : Inside) (spelled : g.I
 
   pub whole_read : (e : ShapeExpr) (ts r : Ahead Spelled) → g.Expression bounded v n spelled true e ts r → Never joining r → expression bounded v n inside true ts ≡ Ok ((e, false), r)
   whole_read e ts r h f =
-      let (b, q, reads, after) = expression_read bounded v n inside spelled complete local true e ts r h (fewer extending_whole joining r refl f, not_symbol joining symbol.And r refl f) (not_symbol joining symbol.Or r refl f) in
+      let (b, q, reads, after) =
+      expression_read bounded v n inside spelled complete local true e ts r h (fewer extending_whole joining r refl f, not_symbol joining symbol.And r refl f)
+      (not_symbol joining symbol.Or r refl f) in
       flat e (expression bounded v n inside true ts) b r q after reads
 
   pub here_complete : AreComplete (record { expr = expression bounded v n inside true; triple_expr = alternatives bounded v n inside }) (g.here bounded v n spelled)

@@ -48,7 +48,8 @@ module _ (bounded : Bool) (d : ℕ) where
   expr_read v e ts r h f = rw (whole_read bounded v d (level bounded v d) (g.Level bounded v d) (level_complete bounded v d) (local_level bounded v d) e ts r h f) refl
 
   kept : (v : Scope) (e : ShapeExpr) (ts r : Ahead Spelled) → g.Negated bounded v d (g.Level bounded v d) true e ts r → next_is (is_symbol symbol.External) ts ≡ false
-  kept v e ts r (inl h) = no_symbol (atoms bounded v d (level bounded v d) (g.Level bounded v d) (level_complete bounded v d)) symbol.External ts refl (atom_begins bounded v d (level bounded v d) (g.Level bounded v d) (level_complete bounded v d) true e ts r h)
+  kept v e ts r (inl h) =
+      no_symbol (atoms bounded v d (level bounded v d) (g.Level bounded v d) (level_complete bounded v d)) symbol.External ts refl (atom_begins bounded v d (level bounded v d) (g.Level bounded v d) (level_complete bounded v d) true e ts r h)
   kept v e ts r (inr (a, is, (m, (w, c), h))) = no_symbol (symbol.Not ∷ []) symbol.External ts refl (first symbol.Not w ts m c)
 
   not_external : (v : Scope) (e : ShapeExpr) (ts r : Ahead Spelled) → g.Whole bounded d v e ts r → next_is (is_symbol symbol.External) ts ≡ false
@@ -124,7 +125,8 @@ module _ (bounded : Bool) (d : ℕ) where
         i,
       ) refl
 
-  pub external_stops : (a b : State) (l : Label) (ts m r : Ahead Spelled) → Many (g.Statement bounded d) a b ts m → AnyLabel b.scope l m r → next_is (is_symbol symbol.External) r ≡ true → document bounded d a ts ≡ Err (External, r)
+  pub external_stops : (a b : State) (l : Label) (ts m r : Ahead Spelled) → Many (g.Statement bounded d) a b ts m → AnyLabel b.scope l m r →
+      next_is (is_symbol symbol.External) r ≡ true → document bounded d a ts ≡ Err (External, r)
   unfolding document
   external_stops a b l ts m r h k i =
       let n = (label_read b.scope l m r k).1 in

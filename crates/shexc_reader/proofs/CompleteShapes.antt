@@ -70,7 +70,8 @@ module _ (v : Scope) where
   qualifiers_read : (q : Bool × List (List ℕ)) (ts r : Ahead Spelled) → Many (g.Qualifier v) (false, []) q ts r → Never qualifying r → all_qualifiers v ts ≡ Ok (q, r)
   unfolding all_qualifiers
   qualifiers_read q ts r h f =
-      loop_read (is_among qualifiers) (qualifier v) (g.Qualifier v) (Never predicates) (consumes_qualifier v) qualifier_read qualifier_begins (λ m n. never qualifiers predicates m refl n) (false, []) q ts r h
+      loop_read (is_among qualifiers) (qualifier v) (g.Qualifier v) (Never predicates)
+      (consumes_qualifier v) qualifier_read qualifier_begins (λ m n. never qualifiers predicates m refl n) (false, []) q ts r h
       (fewer predicates qualifying r refl f) (fewer qualifiers qualifying r refl f)
 
   pub qualified_begins : (a b : Bool × List (List ℕ)) (ts r : Ahead Spelled) → Many (g.Qualifier v) a b ts r → Next (symbol.OpenBrace ∷ []) r → Next shapes ts
@@ -93,11 +94,13 @@ module _ (bounded : Bool) (v : Scope) (n : ℕ) (inside : Inside) (spelled : g.I
   maybe_triple_read t ts r (inr (u, e, h)) f =
       rw (no_symbol units symbol.CloseBrace ts refl (complete.triple_begins u ts r h), complete.triple_expr u ts r h (nexts (symbol.CloseBrace ∷ []) closers r refl f), e) refl
 
-  pub shape_behind_read : (q : Bool × List (List ℕ)) (t : MaybeTripleExpr) (e : ShapeExpr) (ts r : Ahead Spelled) → shape q.0 q.1 t ≡ e → (InBraces t ⨾ Mark symbol.CloseBrace) ts r → shape_behind bounded v n inside q ts ≡ Ok (e, r)
+  pub shape_behind_read : (q : Bool × List (List ℕ)) (t : MaybeTripleExpr) (e : ShapeExpr) (ts r : Ahead Spelled) → shape q.0 q.1 t ≡ e →
+      (InBraces t ⨾ Mark symbol.CloseBrace) ts r → shape_behind bounded v n inside q ts ≡ Ok (e, r)
   unfolding shape_behind
   shape_behind_read q t e ts r is (m, h, (w, c)) = rw (maybe_triple_read t ts m h (first symbol.CloseBrace w m r c), took symbol.CloseBrace w m r c, is) refl
 
-  a_shape_read : (whole : Bool) (e : ShapeExpr) (ts r : Ahead Spelled) → g.AShape bounded v n spelled whole e ts r → (whole ≡ true → Never noting r) → (a_shape bounded v n inside whole ts ≡ Ok (e, r)) × Next shapes ts
+  a_shape_read : (whole : Bool) (e : ShapeExpr) (ts r : Ahead Spelled) → g.AShape bounded v n spelled whole e ts r → (whole ≡ true → Never noting r) →
+      (a_shape bounded v n inside whole ts ≡ Ok (e, r)) × Next shapes ts
   unfolding a_shape
   a_shape_read whole e ts r (q, t, is, (m, h, (l, (k, (o, (w, c)), b), i))) f =
       let brace = first symbol.OpenBrace w m k c in (

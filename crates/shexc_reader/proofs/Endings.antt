@@ -87,7 +87,8 @@ none_behind broken (token t ts) e h = absurd h
 none_behind (token t ts) other e h = absurd (omega arith)
 
 -- none of the symbols that have a refusal of their own
-none_named : (rest : Ahead Spelled) → next_is (is_symbol symbol.Percent) rest ≡ false → next_is (is_symbol symbol.Abstract) rest ≡ false → next_is (is_symbol symbol.Extends) rest ≡ false → next_is (is_symbol symbol.Restricts) rest ≡ false
+none_named : (rest : Ahead Spelled) → next_is (is_symbol symbol.Percent) rest ≡ false → next_is (is_symbol symbol.Abstract) rest ≡ false →
+    next_is (is_symbol symbol.Extends) rest ≡ false → next_is (is_symbol symbol.Restricts) rest ≡ false
     → next_is (is_among named) rest ≡ false
 unfolding is_symbol is_among
 none_named finished p q r w = refl
@@ -112,7 +113,8 @@ module _ (base source : List ℕ) (u : IsUtf8 source) where
   is_read : (x : State) → IsDocument base source x → document true max_depth a ahead ≡ Ok (x, finished)
   is_read x h = document_read true max_depth a x ahead (document_ahead x h)
 
-  any_place : (f : Fault) (rest : Ahead Spelled) (at : ℕ) → is_limit true f ≡ false → document true max_depth a ahead ≡ Err (f, rest) → Stands Schema source rest at → IsFaultPlace (SpellsAny base) Schema source at
+  any_place : (f : Fault) (rest : Ahead Spelled) (at : ℕ) → is_limit true f ≡ false → document true max_depth a ahead ≡ Err (f, rest) →
+      Stands Schema source rest at → IsFaultPlace (SpellsAny base) Schema source at
   any_place f rest at c e s = fault_place Schema source u (AnyShExC a) rest at (blocked_any a ahead f rest c e) s
 
   limit_place : (f : Fault) (rest : Ahead Spelled) (at : ℕ) → document true max_depth a ahead ≡ Err (f, rest) → Stands Schema source rest at → IsFaultPlace (Spells base) Schema source at
@@ -127,7 +129,9 @@ module _ (base source : List ℕ) (u : IsUtf8 source) where
   same_state x z rest is doc = ap (λ (w : State × Ahead Spelled). w.0) (ok_is (x, rest) (z, finished) (sym is ∙ is_read z doc))
 
   -- the token at the place, behind the statements that were read
-  stands : (Thing : State → List Spelled → Spelled → Type 0) (f : Fault) (rest : Ahead Spelled) (at : ℕ) (h : Stopped max_depth a ahead f rest) (t : Spelled) (more : Ahead Spelled) → rest ≡ token t more → Thing h.state h.inside t → Stands Schema source rest at
+  stands : (Thing : State → List Spelled → Spelled →
+      Type 0) (f : Fault) (rest : Ahead Spelled) (at : ℕ) (h : Stopped max_depth a ahead f rest) (t : Spelled) (more : Ahead Spelled) → rest ≡ token t more →
+      Thing h.state h.inside t → Stands Schema source rest at
       → StandsAt base source Thing at
   stands Thing f rest at h t more is thing s =
       let inner : h.mid ≡ prepend h.inside (token t more) = h.parts ∙ ap (prepend h.inside) is in
@@ -155,14 +159,17 @@ module _ (base source : List ℕ) (u : IsUtf8 source) where
         | inr (t, more, is, c) ↦ stands (HasCause f) f rest at h t more is c s
       ]
 
-  symbol_stands : (k : Symbol) (Thing : State → List Spelled → Spelled → Type 0) → ((x : State) (us : List Spelled) (t : Spelled) → is_symbol k t ≡ true → Thing x us t) → (rest : Ahead Spelled) (at : ℕ) → next_is (is_symbol k) rest ≡ true
+  symbol_stands : (k : Symbol) (Thing : State → List Spelled → Spelled → Type 0) →
+      ((x : State) (us : List Spelled) (t : Spelled) → is_symbol k t ≡ true → Thing x us t) → (rest : Ahead Spelled) (at : ℕ) → next_is (is_symbol k) rest ≡ true
       → document true max_depth a ahead ≡ Err (fault.Syntax, rest) → Stands Schema source rest at → StandsAt base source Thing at
-  symbol_stands k Thing is (token t more) at n e s = let h = stopped max_depth a ahead fault.Syntax (token t more) e in stands Thing fault.Syntax (token t more) at h t more refl (is h.state h.inside t n) s
+  symbol_stands k Thing is (token t more) at n e s = let h = stopped max_depth a ahead fault.Syntax (token t more) e in
+      stands Thing fault.Syntax (token t more) at h t more refl (is h.state h.inside t n) s
   symbol_stands k Thing is finished at n e s = absurd cc
   symbol_stands k Thing is broken at n e s = absurd cc
 
   -- where no token lies ahead none stands at the place
-  ends_there : (rest : Ahead Spelled) (at : ℕ) (front : List Spelled) → ahead ≡ prepend front rest → ((other : Ahead Spelled) → SameNext rest other → count other ≡ 0) → Stands Schema source rest at → HasNoToken source at
+  ends_there : (rest : Ahead Spelled) (at : ℕ) (front : List Spelled) → ahead ≡ prepend front rest →
+      ((other : Ahead Spelled) → SameNext rest other → count other ≡ 0) → Stands Schema source rest at → HasNoToken source at
   ends_there rest at front parts none s =
       by (fault_place Schema source u (IsLonger front) rest at (record { front = front; parts = parts; none = λ x other same more. (let n = none other same in let c = count_behind front other in omega (arith, n, c, more)) }) s)
     where
@@ -172,7 +179,8 @@ module _ (base source : List ℕ) (u : IsUtf8 source) where
       by (place.at_end ts tokens is never) = inl is
 
   -- a token without a refusal of its own stands there, or none
-  unnamed : (rest : Ahead Spelled) (at : ℕ) → next_is (is_among named) rest ≡ false → document true max_depth a ahead ≡ Err (fault.Syntax, rest) → Stands Schema source rest at → HasNoToken source at ⊎ StandsAt base source (HasCause fault.Syntax) at
+  unnamed : (rest : Ahead Spelled) (at : ℕ) → next_is (is_among named) rest ≡ false → document true max_depth a ahead ≡ Err (fault.Syntax, rest) →
+      Stands Schema source rest at → HasNoToken source at ⊎ StandsAt base source (HasCause fault.Syntax) at
   unnamed rest at n e s = by (stopped max_depth a ahead fault.Syntax rest e) rest refl
     where
       front_of : (h : Stopped max_depth a ahead fault.Syntax rest) → ahead ≡ prepend (h.front ++ h.inside) rest
@@ -184,17 +192,22 @@ module _ (base source : List ℕ) (u : IsUtf8 source) where
       by h broken is = inl (ends_there rest at (h.front ++ h.inside) (front_of h) (λ other same. none_behind broken other refl (subst (λ (q : Ahead Spelled). SameNext q other) is same)) s)
 
   -- where the reader finds a fault of syntax, EXTERNAL does not stand in the place of an expression
-  ahead_of_token : (front : List Spelled) (from at : ℕ) (t : Spelled) → Between Schema source 0 front from → IsFirst Schema source from t.kind t.text at → ahead ≡ prepend front (token t (stream_from Schema source (at + length t.text)))
+  ahead_of_token : (front : List Spelled) (from at : ℕ) (t : Spelled) → Between Schema source 0 front from → IsFirst Schema source from t.kind t.text at →
+      ahead ≡ prepend front (token t (stream_from Schema source (at + length t.text)))
   ahead_of_token front from at t passed first =
       let b = start Schema source u in
       let cut = cut_behind Schema source u 0 from front b passed in
-      stream_between Schema source u 0 from front b passed ∙ ap (prepend front) (stream_next Schema source u from (at_token t.kind t.text at) cut (first_next Schema source from t.kind t.text at u cut first))
+      stream_between Schema source u 0 from front b passed ∙ ap (prepend front)
+      (stream_next Schema source u from (at_token t.kind t.text at) cut (first_next Schema source from t.kind t.text at u cut first))
 
-  -- the same behind other tokens
-  external_anyhow : (front : List Spelled) (t : Spelled) (behind other : Ahead Spelled) → document true max_depth a (prepend front (token t behind)) ≡ Err (fault.External, token t behind) → document true max_depth a (prepend front (token t other)) ≡ Err (fault.External, token t other)
+  -- EXTERNAL stands in no expression's place behind other tokens either
+  external_anyhow : (front : List Spelled) (t : Spelled) (behind other : Ahead Spelled) →
+      document true max_depth a (prepend front (token t behind)) ≡ Err (fault.External, token t behind) →
+      document true max_depth a (prepend front (token t other)) ≡ Err (fault.External, token t other)
   external_anyhow front t behind other e = by (document true max_depth a (prepend front (token t behind))) e (local_document true max_depth a (prepend front (token t behind)))
     where
-      by : (y : Answer Spelled Fault State) → y ≡ Err (fault.External, token t behind) → IsLocalAt (document true max_depth a) (prepend front (token t behind)) y → document true max_depth a (prepend front (token t other)) ≡ Err (fault.External, token t other)
+      by : (y : Answer Spelled Fault State) → y ≡ Err (fault.External, token t behind) →
+          IsLocalAt (document true max_depth a) (prepend front (token t behind)) y → document true max_depth a (prepend front (token t other)) ≡ Err (fault.External, token t other)
       by (Ok x) is l = absurd (apart x (fault.External, token t behind) is)
       by (Err x) is (f, parts, moved) =
           let same = err_is x (fault.External, token t behind) is in
@@ -209,7 +222,8 @@ module _ (base source : List ℕ) (u : IsUtf8 source) where
       stops l h =
           let there = external_stops true max_depth a x.state l (prepend x.front (token x.t x.behind)) (prepend x.inside (token x.t x.behind)) (token x.t x.behind) x.statements h x.thing.0 in
           let behind = stream_from Schema source (at + length x.t.text) in
-          let here = subst (λ (ts : Ahead Spelled). document true max_depth a ts ≡ Err (fault.External, token x.t behind)) (sym (ahead_of_token x.front x.from at x.t x.passed x.first)) (external_anyhow x.front x.t x.behind behind there) in
+          let here = subst (λ (ts : Ahead Spelled). document true max_depth a ts ≡ Err (fault.External, token x.t behind))
+          (sym (ahead_of_token x.front x.from at x.t x.passed x.first)) (external_anyhow x.front x.t x.behind behind there) in
           other_fault rest (token x.t behind) (sym e ∙ here)
 
       by : IsLabelled x.state.scope x.inside → ⊥
@@ -217,7 +231,8 @@ module _ (base source : List ℕ) (u : IsUtf8 source) where
       by (w, is, inr (name, h)) = stops (Blank name) (inr (name, refl, (w, ap (λ (us : List Spelled). prepend us (token x.t x.behind)) is, h)))
 
   -- what is said of a fault of syntax: an action, a word that is left out, or a place alone
-  by_symbols : (b c d f : Bool) (rest : Ahead Spelled) (at : ℕ) → next_is (is_symbol symbol.Percent) rest ≡ b → next_is (is_symbol symbol.Abstract) rest ≡ c → next_is (is_symbol symbol.Extends) rest ≡ d → next_is (is_symbol symbol.Restricts) rest ≡ f
+  by_symbols : (b c d f : Bool) (rest : Ahead Spelled) (at : ℕ) → next_is (is_symbol symbol.Percent) rest ≡ b → next_is (is_symbol symbol.Abstract) rest ≡ c →
+      next_is (is_symbol symbol.Extends) rest ≡ d → next_is (is_symbol symbol.Restricts) rest ≡ f
       → document true max_depth a ahead ≡ Err (fault.Syntax, rest) → Stands Schema source rest at
       → Explains base (cond b errors.Action (cond c (errors.Form (chars (codes "ABSTRACT"))) (cond d (errors.Form (chars (codes "EXTENDS"))) (cond f (errors.Form (chars (codes "RESTRICTS"))) (errors.Syntax at))))) source
   by_symbols true c d f rest at p q r w e s = (at, (any_place fault.Syntax rest at refl e s, symbol_stands symbol.Percent (IsSymbol symbol.Percent) (λ x us t h. h) rest at p e s))
@@ -242,12 +257,14 @@ module _ (base source : List ℕ) (u : IsUtf8 source) where
   explains (fault.Pattern refusal.Syntax) at rest e s = (at, (any_place (fault.Pattern refusal.Syntax) rest at refl e s, caused (fault.Pattern refusal.Syntax) rest at (λ is. absurd cc) e s))
   explains (fault.Pattern refusal.Memory) at rest e s = (at, (any_place (fault.Pattern refusal.Memory) rest at refl e s, caused (fault.Pattern refusal.Memory) rest at (λ is. absurd cc) e s))
 
-  explained : (e : Stop) (x : SchemaError) (at : ℕ) (rest : Ahead Spelled) → StopsAs {Y = State} e rest (document true max_depth a ahead) → Stands Schema source rest at → IsErrorOf e rest at x → Explains base x source
+  explained : (e : Stop) (x : SchemaError) (at : ℕ) (rest : Ahead Spelled) → StopsAs {Y = State} e rest (document true max_depth a ahead) →
+      Stands Schema source rest at → IsErrorOf e rest at x → Explains base x source
   explained stop.Memory x at rest h s is = subst (λ (y : SchemaError). Explains base y source) (sym is) tt
   explained (stop.Fault f) x at rest h s (inl is) = subst (λ (y : SchemaError). Explains base y source) (sym is) tt
   explained (stop.Fault f) x at rest h s (inr is) = subst (λ (y : SchemaError). Explains base y source) (sym is) (explains f at rest h s)
 
-  reads_err : (e : Stop) (x : SchemaError) (at : ℕ) (rest : Ahead Spelled) (z : State) → IsDocument base source z → StopsAs {Y = State} e rest (document true max_depth a ahead) → IsErrorOf e rest at x → ReadsAs (Err x) z
+  reads_err : (e : Stop) (x : SchemaError) (at : ℕ) (rest : Ahead Spelled) (z : State) → IsDocument base source z →
+      StopsAs {Y = State} e rest (document true max_depth a ahead) → IsErrorOf e rest at x → ReadsAs (Err x) z
   reads_err stop.Memory x at rest z doc h is = is
   reads_err (stop.Fault f) x at rest z doc h (inl is) = is
   reads_err (stop.Fault f) x at rest z doc h (inr is) = absurd (apart (z, finished) (f, rest) (sym (is_read z doc) ∙ h))
@@ -265,10 +282,12 @@ module _ (base source : List ℕ) (u : IsUtf8 source) (first : Ahead Spelled) (b
   pub ok_from : (x z : State) (rest : Ahead Spelled) (p : Parsed) → document true max_depth b first ≡ Ok (x, rest) → IsParsedOf p x → IsDocument base source z → ReadsAs (Ok p) z
   ok_from x z rest p is last doc = subst (IsParsedOf p) (same_state base source u x z rest (moved (λ q ts. document true max_depth q ts ≡ Ok (x, rest)) is) doc) last
 
-  pub err_from : (z : State) (e : Stop) (x : SchemaError) (at : ℕ) (rest : Ahead Spelled) → IsDocument base source z → StopsAs {Y = State} e rest (document true max_depth b first) → IsErrorOf e rest at x → ReadsAs (Err x) z
+  pub err_from : (z : State) (e : Stop) (x : SchemaError) (at : ℕ) (rest : Ahead Spelled) → IsDocument base source z →
+      StopsAs {Y = State} e rest (document true max_depth b first) → IsErrorOf e rest at x → ReadsAs (Err x) z
   err_from z e x at rest doc h is = reads_err base source u e x at rest z doc (moved (λ q ts. StopsAs {Y = State} e rest (document true max_depth q ts)) h) is
 
-  pub cause_from : (e : Stop) (x : SchemaError) (at : ℕ) (rest : Ahead Spelled) (text : Source) → StopsAs {Y = State} e rest (document true max_depth b first) → text ≡ record { mode = Schema; text = source }
+  pub cause_from : (e : Stop) (x : SchemaError) (at : ℕ) (rest : Ahead Spelled) (text : Source) → StopsAs {Y = State} e rest (document true max_depth b first) →
+      text ≡ record { mode = Schema; text = source }
       → Stands text.mode text.text rest at → IsErrorOf e rest at x → Explains base x source
   cause_from e x at rest text h same s is =
       explained base source u e x at rest (moved (λ q ts. StopsAs {Y = State} e rest (document true max_depth q ts)) h) (subst (λ (y : Source). Stands y.mode y.text rest at) same s) is

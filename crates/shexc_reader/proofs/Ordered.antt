@@ -25,7 +25,8 @@ use Rattle.shexc_reader.specs.States.{State, document_in}
 use Rattle.shexc_reader.specs.Trees.{all_of, any_of, each_of, one_of, once, with, Cardinality, is_bare, body_in, bracketed}
 
 -- what a step keeps, all steps keep
-pub many_keep : {S : Type 0} (P : S → Type 0) (One : S → S → Phrase Spelled) → ((s x : S) (ts m : Ahead Spelled) → One s x ts m → P s → P x) → (s y : S) (ts r : Ahead Spelled) → Many One s y ts r → P s → P y
+pub many_keep : {S : Type 0} (P : S → Type 0) (One : S → S → Phrase Spelled) → ((s x : S) (ts m : Ahead Spelled) → One s x ts m → P s → P x) →
+    (s y : S) (ts r : Ahead Spelled) → Many One s y ts r → P s → P y
 many_keep P One keeps s y ts r none p = p
 many_keep P One keeps s y ts r (more {x = x} {mid = m} o rest) p = many_keep P One keeps x y m r rest (keeps s x ts m o p)
 
@@ -89,12 +90,14 @@ one_ordered (t ∷ []) h = h.0
 one_ordered (t ∷ u ∷ us) h = (at_once, h)
 
 -- members with a mark between them
-exprs_separated : (a : Symbol) (One : ShapeExpr → Phrase Spelled) → ((x : ShapeExpr) (ts r : Ahead Spelled) → One x ts r → IsOrderedExpr x) → (es : List ShapeExpr) (ts r : Ahead Spelled) → g.Separated a One es ts r → AreOrderedExprs (exprs es)
+exprs_separated : (a : Symbol) (One : ShapeExpr → Phrase Spelled) → ((x : ShapeExpr) (ts r : Ahead Spelled) → One x ts r → IsOrderedExpr x) →
+    (es : List ShapeExpr) (ts r : Ahead Spelled) → g.Separated a One es ts r → AreOrderedExprs (exprs es)
 exprs_separated a One every es ts r (xs, (m, (x, e, h), others)) =
     many_keep (λ (ys : List ShapeExpr). AreOrderedExprs (exprs ys)) _ (λ s y ts m o p. subst (λ (zs : List ShapeExpr). AreOrderedExprs (exprs zs)) o.2.1 (expr_more s o.2.0 p (every o.2.0 o.0 m o.2.2))) xs es m r others
     (subst (λ (zs : List ShapeExpr). AreOrderedExprs (exprs zs)) e (every x ts m h, tt))
 
-triples_separated : (a : Symbol) (One : TripleExpr → Phrase Spelled) → ((x : TripleExpr) (ts r : Ahead Spelled) → One x ts r → IsOrderedTriple x) → (es : List TripleExpr) (ts r : Ahead Spelled) → g.Separated a One es ts r → AreOrderedTriples (triples es)
+triples_separated : (a : Symbol) (One : TripleExpr → Phrase Spelled) → ((x : TripleExpr) (ts r : Ahead Spelled) → One x ts r → IsOrderedTriple x) →
+    (es : List TripleExpr) (ts r : Ahead Spelled) → g.Separated a One es ts r → AreOrderedTriples (triples es)
 triples_separated a One every es ts r (xs, (m, (x, e, h), others)) =
     many_keep (λ (ys : List TripleExpr). AreOrderedTriples (triples ys)) _ (λ s y ts m o p. subst (λ (zs : List TripleExpr). AreOrderedTriples (triples zs)) o.2.1 (triple_more s o.2.0 p (every o.2.0 o.0 m o.2.2))) xs es m r others
     (subst (λ (zs : List TripleExpr). AreOrderedTriples (triples zs)) e (every x ts m h, tt))
@@ -103,7 +106,8 @@ triples_separated a One every es ts r (xs, (m, (x, e, h), others)) =
 body_ordered : (t : TripleExpr) → IsOrderedTriple t → IsOrderedBody (body_in t)
 body_ordered (triple l least most body) h = h.1
 
-labelled_by : (b : Bool) (l : Option Label) (c : Cardinality) (t : TripleExpr) → IsOrdered c.0 c.1 → IsOrderedTriple t → IsOrderedTriple (cond b (with l c (body_in t)) (with l c (each (triples (t ∷ [])))))
+labelled_by : (b : Bool) (l : Option Label) (c : Cardinality) (t : TripleExpr) → IsOrdered c.0 c.1 → IsOrderedTriple t →
+    IsOrderedTriple (cond b (with l c (body_in t)) (with l c (each (triples (t ∷ [])))))
 labelled_by true l c t h k = (h, body_ordered t k)
 labelled_by false l c t h k = (h, (k, tt))
 

@@ -70,11 +70,13 @@ consumes_shape_behind bounded v n inside inner q = consumes_then _ _ (local_mayb
 
 pub local_a_shape : (bounded : Bool) (v : Scope) (n : ℕ) (inside : Inside) (inner : AreLocal inside) (whole : Bool) → IsLocal (a_shape bounded v n inside whole)
 unfolding a_shape
-local_a_shape bounded v n inside inner whole = local_bind _ _ (local_all_qualifiers v) (λ q. local_bind _ _ (local_opens _ n) (λ _. local_bind _ _ (local_shape_behind bounded v n inside inner _) (λ s. local_bind _ _ (local_notes v whole) (λ _. local_give _))))
+local_a_shape bounded v n inside inner whole = local_bind _ _ (local_all_qualifiers v)
+    (λ q. local_bind _ _ (local_opens _ n) (λ _. local_bind _ _ (local_shape_behind bounded v n inside inner _) (λ s. local_bind _ _ (local_notes v whole) (λ _. local_give _))))
 
 pub consumes_a_shape : (bounded : Bool) (v : Scope) (n : ℕ) (inside : Inside) (inner : AreLocal inside) (whole : Bool) → Consumes (a_shape bounded v n inside whole)
 unfolding a_shape
-consumes_a_shape bounded v n inside inner whole = consumes_then _ _ (local_all_qualifiers v) (λ q. consumes_bind _ _ (consumes_opens _ n) (λ _. local_bind _ _ (local_shape_behind bounded v n inside inner _) (λ s. local_bind _ _ (local_notes v whole) (λ _. local_give _))))
+consumes_a_shape bounded v n inside inner whole = consumes_then _ _ (local_all_qualifiers v)
+    (λ q. consumes_bind _ _ (consumes_opens _ n) (λ _. local_bind _ _ (local_shape_behind bounded v n inside inner _) (λ s. local_bind _ _ (local_notes v whole) (λ _. local_give _))))
 
 pub local_shape_or_reference : (bounded : Bool) (v : Scope) (n : ℕ) (inside : Inside) (inner : AreLocal inside) (whole : Bool) → IsLocal (shape_or_reference bounded v n inside whole)
 unfolding shape_or_reference
@@ -90,7 +92,8 @@ local_braced bounded v n inside inner c = local_bind _ _ (local_opens _ n) (λ _
 
 pub consumes_braced : (bounded : Bool) (v : Scope) (n : ℕ) (inside : Inside) (inner : AreLocal inside) (c : ShapeExpr) → Consumes (braced bounded v n inside c)
 unfolding braced
-consumes_braced bounded v n inside inner c = consumes_bind _ _ (consumes_opens _ n) (λ _. local_either _ _ _ (local_give _) (local_bind _ _ (local_shape_behind bounded v n inside inner _) (λ s. local_give _)))
+consumes_braced bounded v n inside inner c = consumes_bind _ _ (consumes_opens _ n)
+    (λ _. local_either _ _ _ (local_give _) (local_bind _ _ (local_shape_behind bounded v n inside inner _) (λ s. local_give _)))
 
 pub local_joined_with : (bounded : Bool) (v : Scope) (n : ℕ) (inside : Inside) (inner : AreLocal inside) (whole : Bool) (c : ShapeExpr) → IsLocal (joined_with bounded v n inside whole c)
 unfolding joined_with
@@ -103,15 +106,18 @@ consumes_joined_with bounded v n inside inner whole c = consumes_bind _ _ (consu
 pub local_behind_constraint : (bounded : Bool) (v : Scope) (n : ℕ) (inside : Inside) (inner : AreLocal inside) (whole : Bool) (c : ShapeExpr) → IsLocal (behind_constraint bounded v n inside whole c)
 unfolding behind_constraint
 local_behind_constraint bounded v n inside inner true c = local_either _ _ _ (local_joined_with bounded v n inside inner true c) (local_give _)
-local_behind_constraint bounded v n inside inner false c = local_either _ _ _ (local_braced bounded v n inside inner c) (local_either _ _ _ (local_joined_with bounded v n inside inner false c) (local_give _))
+local_behind_constraint bounded v n inside inner false c = local_either _ _ _ (local_braced bounded v n inside inner c)
+    (local_either _ _ _ (local_joined_with bounded v n inside inner false c) (local_give _))
 
 pub local_constraint_first : (bounded : Bool) (v : Scope) (n : ℕ) (inside : Inside) (inner : AreLocal inside) (whole : Bool) → IsLocal (constraint_first bounded v n inside whole)
 unfolding constraint_first
-local_constraint_first bounded v n inside inner whole = local_bind _ _ (local_non_literal bounded v) (λ c. local_bind _ _ (local_notes v whole) (λ _. local_behind_constraint bounded v n inside inner whole _))
+local_constraint_first bounded v n inside inner whole = local_bind _ _ (local_non_literal bounded v)
+    (λ c. local_bind _ _ (local_notes v whole) (λ _. local_behind_constraint bounded v n inside inner whole _))
 
 pub consumes_constraint_first : (bounded : Bool) (v : Scope) (n : ℕ) (inside : Inside) (inner : AreLocal inside) (whole : Bool) → Consumes (constraint_first bounded v n inside whole)
 unfolding constraint_first
-consumes_constraint_first bounded v n inside inner whole = consumes_bind _ _ (consumes_non_literal bounded v) (λ c. local_bind _ _ (local_notes v whole) (λ _. local_behind_constraint bounded v n inside inner whole _))
+consumes_constraint_first bounded v n inside inner whole = consumes_bind _ _ (consumes_non_literal bounded v)
+    (λ c. local_bind _ _ (local_notes v whole) (λ _. local_behind_constraint bounded v n inside inner whole _))
 
 pub local_literal_only : (bounded : Bool) (v : Scope) (n : ℕ) (inside : Inside) (inner : AreLocal inside) (whole : Bool) → IsLocal (literal_only bounded v n inside whole)
 unfolding literal_only
@@ -125,17 +131,20 @@ pub local_constraint_behind : (bounded : Bool) (v : Scope) (n : ℕ) (inside : I
 unfolding constraint_behind
 local_constraint_behind bounded v n inside inner whole c = local_bind _ _ (local_non_literal bounded v) (λ d. local_bind _ _ (local_notes v whole) (λ _. local_give _))
 
-pub consumes_constraint_behind : (bounded : Bool) (v : Scope) (n : ℕ) (inside : Inside) (inner : AreLocal inside) (whole : Bool) (c : ShapeExpr) → Consumes (constraint_behind bounded v n inside whole c)
+pub consumes_constraint_behind : (bounded : Bool) (v : Scope) (n : ℕ) (inside : Inside) (inner : AreLocal inside) (whole : Bool) (c : ShapeExpr) →
+    Consumes (constraint_behind bounded v n inside whole c)
 unfolding constraint_behind
 consumes_constraint_behind bounded v n inside inner whole c = consumes_bind _ _ (consumes_non_literal bounded v) (λ d. local_bind _ _ (local_notes v whole) (λ _. local_give _))
 
 pub local_shape_first : (bounded : Bool) (v : Scope) (n : ℕ) (inside : Inside) (inner : AreLocal inside) (whole : Bool) → IsLocal (shape_first bounded v n inside whole)
 unfolding shape_first
-local_shape_first bounded v n inside inner whole = local_bind _ _ (local_shape_or_reference bounded v n inside inner whole) (λ s. local_either _ _ _ (local_constraint_behind bounded v n inside inner whole _) (local_give _))
+local_shape_first bounded v n inside inner whole = local_bind _ _ (local_shape_or_reference bounded v n inside inner whole)
+    (λ s. local_either _ _ _ (local_constraint_behind bounded v n inside inner whole _) (local_give _))
 
 pub consumes_shape_first : (bounded : Bool) (v : Scope) (n : ℕ) (inside : Inside) (inner : AreLocal inside) (whole : Bool) → Consumes (shape_first bounded v n inside whole)
 unfolding shape_first
-consumes_shape_first bounded v n inside inner whole = consumes_bind _ _ (consumes_shape_or_reference bounded v n inside inner whole) (λ s. local_either _ _ _ (local_constraint_behind bounded v n inside inner whole _) (local_give _))
+consumes_shape_first bounded v n inside inner whole = consumes_bind _ _ (consumes_shape_or_reference bounded v n inside inner whole)
+    (λ s. local_either _ _ _ (local_constraint_behind bounded v n inside inner whole _) (local_give _))
 
 pub local_parenthesised : (bounded : Bool) (v : Scope) (n : ℕ) (inside : Inside) (inner : AreLocal inside) → IsLocal (parenthesised bounded v n inside)
 unfolding parenthesised
@@ -155,19 +164,23 @@ consumes_dot bounded v n inside inner = consumes_bind _ _ (consumes_one _ _) (λ
 
 pub local_atom : (bounded : Bool) (v : Scope) (n : ℕ) (inside : Inside) (inner : AreLocal inside) (whole : Bool) → IsLocal (atom bounded v n inside whole)
 unfolding atom
-local_atom bounded v n inside inner whole = local_either _ _ _ (local_constraint_first bounded v n inside inner whole) (local_either _ _ _ (local_literal_only bounded v n inside inner whole) (local_either _ _ _ (local_shape_first bounded v n inside inner whole) (local_either _ _ _ (local_parenthesised bounded v n inside inner) (local_dot bounded v n inside inner))))
+local_atom bounded v n inside inner whole = local_either _ _ _ (local_constraint_first bounded v n inside inner whole)
+    (local_either _ _ _ (local_literal_only bounded v n inside inner whole) (local_either _ _ _ (local_shape_first bounded v n inside inner whole) (local_either _ _ _ (local_parenthesised bounded v n inside inner) (local_dot bounded v n inside inner))))
 
 pub consumes_atom : (bounded : Bool) (v : Scope) (n : ℕ) (inside : Inside) (inner : AreLocal inside) (whole : Bool) → Consumes (atom bounded v n inside whole)
 unfolding atom
-consumes_atom bounded v n inside inner whole = consumes_either _ _ _ (consumes_constraint_first bounded v n inside inner whole) (consumes_either _ _ _ (consumes_literal_only bounded v n inside inner whole) (consumes_either _ _ _ (consumes_shape_first bounded v n inside inner whole) (consumes_either _ _ _ (consumes_parenthesised bounded v n inside inner) (consumes_dot bounded v n inside inner))))
+consumes_atom bounded v n inside inner whole = consumes_either _ _ _ (consumes_constraint_first bounded v n inside inner whole)
+    (consumes_either _ _ _ (consumes_literal_only bounded v n inside inner whole) (consumes_either _ _ _ (consumes_shape_first bounded v n inside inner whole) (consumes_either _ _ _ (consumes_parenthesised bounded v n inside inner) (consumes_dot bounded v n inside inner))))
 
 pub local_negated : (bounded : Bool) (v : Scope) (n : ℕ) (inside : Inside) (inner : AreLocal inside) (whole : Bool) → IsLocal (negated bounded v n inside whole)
 unfolding negated
-local_negated bounded v n inside inner whole = local_either _ _ _ (local_bind _ _ (local_one _ _) (λ _. local_bind _ _ (local_atom bounded v n inside inner whole) (λ x. local_give _))) (local_atom bounded v n inside inner whole)
+local_negated bounded v n inside inner whole =
+    local_either _ _ _ (local_bind _ _ (local_one _ _) (λ _. local_bind _ _ (local_atom bounded v n inside inner whole) (λ x. local_give _))) (local_atom bounded v n inside inner whole)
 
 pub consumes_negated : (bounded : Bool) (v : Scope) (n : ℕ) (inside : Inside) (inner : AreLocal inside) (whole : Bool) → Consumes (negated bounded v n inside whole)
 unfolding negated
-consumes_negated bounded v n inside inner whole = consumes_either _ _ _ (consumes_bind _ _ (consumes_one _ _) (λ _. local_bind _ _ (local_atom bounded v n inside inner whole) (λ x. local_give _))) (consumes_atom bounded v n inside inner whole)
+consumes_negated bounded v n inside inner whole =
+    consumes_either _ _ _ (consumes_bind _ _ (consumes_one _ _) (λ _. local_bind _ _ (local_atom bounded v n inside inner whole) (λ x. local_give _))) (consumes_atom bounded v n inside inner whole)
 
 pub local_and_behind : (bounded : Bool) (v : Scope) (n : ℕ) (inside : Inside) (inner : AreLocal inside) (whole : Bool) (a : List ShapeExpr × Bool) → IsLocal (and_behind bounded v n inside whole a)
 unfolding and_behind
@@ -177,9 +190,11 @@ pub consumes_and_behind : (bounded : Bool) (v : Scope) (n : ℕ) (inside : Insid
 unfolding and_behind
 consumes_and_behind bounded v n inside inner whole a = consumes_bind _ _ (consumes_one _ _) (λ _. local_bind _ _ (local_negated bounded v n inside inner whole) (λ x. local_give _))
 
-pub local_conjunction_from : (bounded : Bool) (v : Scope) (n : ℕ) (inside : Inside) (inner : AreLocal inside) (whole : Bool) (x : ShapeExpr × Bool) → IsLocal (conjunction_from bounded v n inside whole x)
+pub local_conjunction_from : (bounded : Bool) (v : Scope) (n : ℕ) (inside : Inside) (inner : AreLocal inside) (whole : Bool) (x : ShapeExpr × Bool) →
+    IsLocal (conjunction_from bounded v n inside whole x)
 unfolding conjunction_from
-local_conjunction_from bounded v n inside inner whole x = local_bind _ _ (local_loop _ _ (consumes_and_behind bounded v n inside inner whole) (local_and_behind bounded v n inside inner whole) _) (λ a. local_give _)
+local_conjunction_from bounded v n inside inner whole x =
+    local_bind _ _ (local_loop _ _ (consumes_and_behind bounded v n inside inner whole) (local_and_behind bounded v n inside inner whole) _) (λ a. local_give _)
 
 pub local_conjunction : (bounded : Bool) (v : Scope) (n : ℕ) (inside : Inside) (inner : AreLocal inside) (whole : Bool) → IsLocal (conjunction bounded v n inside whole)
 unfolding conjunction
@@ -197,9 +212,11 @@ pub consumes_or_behind : (bounded : Bool) (v : Scope) (n : ℕ) (inside : Inside
 unfolding or_behind
 consumes_or_behind bounded v n inside inner whole a = consumes_bind _ _ (consumes_one _ _) (λ _. local_bind _ _ (local_conjunction bounded v n inside inner whole) (λ x. local_give _))
 
-pub local_disjunction_from : (bounded : Bool) (v : Scope) (n : ℕ) (inside : Inside) (inner : AreLocal inside) (whole : Bool) (x : ShapeExpr × Bool) → IsLocal (disjunction_from bounded v n inside whole x)
+pub local_disjunction_from : (bounded : Bool) (v : Scope) (n : ℕ) (inside : Inside) (inner : AreLocal inside) (whole : Bool) (x : ShapeExpr × Bool) →
+    IsLocal (disjunction_from bounded v n inside whole x)
 unfolding disjunction_from
-local_disjunction_from bounded v n inside inner whole x = local_bind _ _ (local_loop _ _ (consumes_or_behind bounded v n inside inner whole) (local_or_behind bounded v n inside inner whole) _) (λ a. local_give _)
+local_disjunction_from bounded v n inside inner whole x =
+    local_bind _ _ (local_loop _ _ (consumes_or_behind bounded v n inside inner whole) (local_or_behind bounded v n inside inner whole) _) (λ a. local_give _)
 
 pub local_expression : (bounded : Bool) (v : Scope) (n : ℕ) (inside : Inside) (inner : AreLocal inside) (whole : Bool) → IsLocal (expression bounded v n inside whole)
 unfolding expression
@@ -211,19 +228,23 @@ consumes_expression bounded v n inside inner whole = consumes_bind _ _ (consumes
 
 pub local_most : (bounded : Bool) (v : Scope) (n : ℕ) (inside : Inside) (inner : AreLocal inside) (least : ℕ) → IsLocal (most bounded v n inside least)
 unfolding most
-local_most bounded v n inside inner least = local_bind _ _ (local_one _ _) (λ _. local_either _ _ _ (local_bind _ _ (local_one _ _) (λ _. local_give _)) (local_either _ _ _ (local_bind _ _ (local_one _ _) (λ m. local_give _)) (local_give _)))
+local_most bounded v n inside inner least = local_bind _ _ (local_one _ _)
+    (λ _. local_either _ _ _ (local_bind _ _ (local_one _ _) (λ _. local_give _)) (local_either _ _ _ (local_bind _ _ (local_one _ _) (λ m. local_give _)) (local_give _)))
 
 pub consumes_most : (bounded : Bool) (v : Scope) (n : ℕ) (inside : Inside) (inner : AreLocal inside) (least : ℕ) → Consumes (most bounded v n inside least)
 unfolding most
-consumes_most bounded v n inside inner least = consumes_bind _ _ (consumes_one _ _) (λ _. local_either _ _ _ (local_bind _ _ (local_one _ _) (λ _. local_give _)) (local_either _ _ _ (local_bind _ _ (local_one _ _) (λ m. local_give _)) (local_give _)))
+consumes_most bounded v n inside inner least = consumes_bind _ _ (consumes_one _ _)
+    (λ _. local_either _ _ _ (local_bind _ _ (local_one _ _) (λ _. local_give _)) (local_either _ _ _ (local_bind _ _ (local_one _ _) (λ m. local_give _)) (local_give _)))
 
 pub local_limits : (bounded : Bool) (v : Scope) (n : ℕ) (inside : Inside) (inner : AreLocal inside) → IsLocal (limits bounded v n inside)
 unfolding limits
-local_limits bounded v n inside inner = local_bind _ _ (local_one _ _) (λ least. local_bind _ _ (local_either _ _ _ (local_most bounded v n inside inner _) (local_give _)) (λ b. local_bind _ _ (local_one _ _) (λ _. local_give _)))
+local_limits bounded v n inside inner = local_bind _ _ (local_one _ _)
+    (λ least. local_bind _ _ (local_either _ _ _ (local_most bounded v n inside inner _) (local_give _)) (λ b. local_bind _ _ (local_one _ _) (λ _. local_give _)))
 
 pub consumes_limits : (bounded : Bool) (v : Scope) (n : ℕ) (inside : Inside) (inner : AreLocal inside) → Consumes (limits bounded v n inside)
 unfolding limits
-consumes_limits bounded v n inside inner = consumes_bind _ _ (consumes_one _ _) (λ least. local_bind _ _ (local_either _ _ _ (local_most bounded v n inside inner _) (local_give _)) (λ b. local_bind _ _ (local_one _ _) (λ _. local_give _)))
+consumes_limits bounded v n inside inner = consumes_bind _ _ (consumes_one _ _)
+    (λ least. local_bind _ _ (local_either _ _ _ (local_most bounded v n inside inner _) (local_give _)) (λ b. local_bind _ _ (local_one _ _) (λ _. local_give _)))
 
 pub local_short : (bounded : Bool) (v : Scope) (n : ℕ) (inside : Inside) (inner : AreLocal inside) (a : Symbol) (c : Cardinality) → IsLocal (short bounded v n inside a c)
 unfolding short
@@ -235,7 +256,8 @@ consumes_short bounded v n inside inner a c = consumes_bind _ _ (consumes_one _ 
 
 pub local_cardinality : (bounded : Bool) (v : Scope) (n : ℕ) (inside : Inside) (inner : AreLocal inside) → IsLocal (cardinality bounded v n inside)
 unfolding cardinality
-local_cardinality bounded v n inside inner = local_either _ _ _ (local_short bounded v n inside inner _ _) (local_either _ _ _ (local_short bounded v n inside inner _ _) (local_either _ _ _ (local_short bounded v n inside inner _ _) (local_either _ _ _ (local_bind _ _ (local_opens _ n) (λ _. local_bind _ _ (local_limits bounded v n inside inner) (λ c. local_give _))) (local_give _))))
+local_cardinality bounded v n inside inner = local_either _ _ _ (local_short bounded v n inside inner _ _)
+    (local_either _ _ _ (local_short bounded v n inside inner _ _) (local_either _ _ _ (local_short bounded v n inside inner _ _) (local_either _ _ _ (local_bind _ _ (local_opens _ n) (λ _. local_bind _ _ (local_limits bounded v n inside inner) (λ c. local_give _))) (local_give _))))
 
 pub local_further_from : (bounded : Bool) (v : Scope) (n : ℕ) (inside : Inside) (inner : AreLocal inside) (x : ShapeExpr × Bool) → IsLocal (further_from bounded v n inside x)
 unfolding further_from
@@ -259,7 +281,8 @@ local_arc_value bounded v n inside inner = local_either _ _ _ (local_dot_value b
 
 pub consumes_arc_value : (bounded : Bool) (v : Scope) (n : ℕ) (inside : Inside) (inner : AreLocal inside) → Consumes (arc_value bounded v n inside)
 unfolding arc_value
-consumes_arc_value bounded v n inside inner = consumes_either _ _ _ (consumes_dot_value bounded v n inside inner) (consumes_bind _ _ (consumes_expression bounded v n inside inner false) (λ y. local_give _))
+consumes_arc_value bounded v n inside inner = consumes_either _ _ _ (consumes_dot_value bounded v n inside inner)
+    (consumes_bind _ _ (consumes_expression bounded v n inside inner false) (λ y. local_give _))
 
 pub local_cardinality_behind : (bounded : Bool) (v : Scope) (n : ℕ) (inside : Inside) (inner : AreLocal inside) (flag : Bool) → IsLocal (cardinality_behind bounded v n inside flag)
 unfolding cardinality_behind
@@ -272,19 +295,23 @@ local_direction bounded v n inside inner = local_either _ _ _ (local_bind _ _ (l
 
 pub local_an_arc : (bounded : Bool) (v : Scope) (n : ℕ) (inside : Inside) (inner : AreLocal inside) (l : Option Label) → IsLocal (an_arc bounded v n inside l)
 unfolding an_arc
-local_an_arc bounded v n inside inner l = local_bind _ _ (local_direction bounded v n inside inner) (λ inverse. local_bind _ _ (local_predicate v) (λ p. local_bind _ _ (local_arc_value bounded v n inside inner) (λ x. local_bind _ _ (local_cardinality_behind bounded v n inside inner _) (λ c. local_bind _ _ (local_annotations v) (λ _. local_give _)))))
+local_an_arc bounded v n inside inner l = local_bind _ _ (local_direction bounded v n inside inner)
+    (λ inverse. local_bind _ _ (local_predicate v) (λ p. local_bind _ _ (local_arc_value bounded v n inside inner) (λ x. local_bind _ _ (local_cardinality_behind bounded v n inside inner _) (λ c. local_bind _ _ (local_annotations v) (λ _. local_give _)))))
 
 pub consumes_an_arc : (bounded : Bool) (v : Scope) (n : ℕ) (inside : Inside) (inner : AreLocal inside) (l : Option Label) → Consumes (an_arc bounded v n inside l)
 unfolding an_arc
-consumes_an_arc bounded v n inside inner l = consumes_then _ _ (local_direction bounded v n inside inner) (λ inverse. consumes_bind _ _ (consumes_predicate v) (λ p. local_bind _ _ (local_arc_value bounded v n inside inner) (λ x. local_bind _ _ (local_cardinality_behind bounded v n inside inner _) (λ c. local_bind _ _ (local_annotations v) (λ _. local_give _)))))
+consumes_an_arc bounded v n inside inner l = consumes_then _ _ (local_direction bounded v n inside inner)
+    (λ inverse. consumes_bind _ _ (consumes_predicate v) (λ p. local_bind _ _ (local_arc_value bounded v n inside inner) (λ x. local_bind _ _ (local_cardinality_behind bounded v n inside inner _) (λ c. local_bind _ _ (local_annotations v) (λ _. local_give _)))))
 
 pub local_grouped : (bounded : Bool) (v : Scope) (n : ℕ) (inside : Inside) (inner : AreLocal inside) (l : Option Label) → IsLocal (grouped bounded v n inside l)
 unfolding grouped
-local_grouped bounded v n inside inner l = local_bind _ _ (local_opens _ n) (λ _. local_bind _ _ (inner.triple_expr) (λ t. local_bind _ _ (local_one _ _) (λ _. local_bind _ _ (local_cardinality bounded v n inside inner) (λ c. local_bind _ _ (local_annotations v) (λ _. local_give _)))))
+local_grouped bounded v n inside inner l = local_bind _ _ (local_opens _ n)
+    (λ _. local_bind _ _ (inner.triple_expr) (λ t. local_bind _ _ (local_one _ _) (λ _. local_bind _ _ (local_cardinality bounded v n inside inner) (λ c. local_bind _ _ (local_annotations v) (λ _. local_give _)))))
 
 pub consumes_grouped : (bounded : Bool) (v : Scope) (n : ℕ) (inside : Inside) (inner : AreLocal inside) (l : Option Label) → Consumes (grouped bounded v n inside l)
 unfolding grouped
-consumes_grouped bounded v n inside inner l = consumes_bind _ _ (consumes_opens _ n) (λ _. local_bind _ _ (inner.triple_expr) (λ t. local_bind _ _ (local_one _ _) (λ _. local_bind _ _ (local_cardinality bounded v n inside inner) (λ c. local_bind _ _ (local_annotations v) (λ _. local_give _)))))
+consumes_grouped bounded v n inside inner l = consumes_bind _ _ (consumes_opens _ n)
+    (λ _. local_bind _ _ (inner.triple_expr) (λ t. local_bind _ _ (local_one _ _) (λ _. local_bind _ _ (local_cardinality bounded v n inside inner) (λ c. local_bind _ _ (local_annotations v) (λ _. local_give _)))))
 
 pub local_unlabelled : (bounded : Bool) (v : Scope) (n : ℕ) (inside : Inside) (inner : AreLocal inside) (l : Option Label) → IsLocal (unlabelled bounded v n inside l)
 unfolding unlabelled
@@ -304,29 +331,35 @@ consumes_inclusion bounded v n inside inner = consumes_bind _ _ (consumes_one _ 
 
 pub local_unary : (bounded : Bool) (v : Scope) (n : ℕ) (inside : Inside) (inner : AreLocal inside) → IsLocal (unary bounded v n inside)
 unfolding unary
-local_unary bounded v n inside inner = local_either _ _ _ (local_inclusion bounded v n inside inner) (local_either _ _ _ (local_bind _ _ (local_one _ _) (λ _. local_bind _ _ (local_label v) (λ l. local_unlabelled bounded v n inside inner _))) (local_unlabelled bounded v n inside inner None))
+local_unary bounded v n inside inner = local_either _ _ _ (local_inclusion bounded v n inside inner)
+    (local_either _ _ _ (local_bind _ _ (local_one _ _) (λ _. local_bind _ _ (local_label v) (λ l. local_unlabelled bounded v n inside inner _))) (local_unlabelled bounded v n inside inner None))
 
 pub consumes_unary : (bounded : Bool) (v : Scope) (n : ℕ) (inside : Inside) (inner : AreLocal inside) → Consumes (unary bounded v n inside)
 unfolding unary
-consumes_unary bounded v n inside inner = consumes_either _ _ _ (consumes_inclusion bounded v n inside inner) (consumes_either _ _ _ (consumes_bind _ _ (consumes_one _ _) (λ _. local_bind _ _ (local_label v) (λ l. local_unlabelled bounded v n inside inner _))) (consumes_unlabelled bounded v n inside inner None))
+consumes_unary bounded v n inside inner = consumes_either _ _ _ (consumes_inclusion bounded v n inside inner)
+    (consumes_either _ _ _ (consumes_bind _ _ (consumes_one _ _) (λ _. local_bind _ _ (local_label v) (λ l. local_unlabelled bounded v n inside inner _))) (consumes_unlabelled bounded v n inside inner None))
 
 pub local_semicolon : (bounded : Bool) (v : Scope) (n : ℕ) (inside : Inside) (inner : AreLocal inside) (a : List TripleExpr × Bool) → IsLocal (semicolon bounded v n inside a)
 unfolding semicolon
 local_semicolon bounded v n inside inner (us, true) = local_refuse _
-local_semicolon bounded v n inside inner (us, false) = local_bind _ _ (local_one _ _) (λ _. local_either _ _ _ (local_bind _ _ (local_unary bounded v n inside inner) (λ t. local_give _)) (local_give _))
+local_semicolon bounded v n inside inner (us, false) = local_bind _ _ (local_one _ _)
+    (λ _. local_either _ _ _ (local_bind _ _ (local_unary bounded v n inside inner) (λ t. local_give _)) (local_give _))
 
 pub consumes_semicolon : (bounded : Bool) (v : Scope) (n : ℕ) (inside : Inside) (inner : AreLocal inside) (a : List TripleExpr × Bool) → Consumes (semicolon bounded v n inside a)
 unfolding semicolon
 consumes_semicolon bounded v n inside inner (us, true) = consumes_refuse _
-consumes_semicolon bounded v n inside inner (us, false) = consumes_bind _ _ (consumes_one _ _) (λ _. local_either _ _ _ (local_bind _ _ (local_unary bounded v n inside inner) (λ t. local_give _)) (local_give _))
+consumes_semicolon bounded v n inside inner (us, false) = consumes_bind _ _ (consumes_one _ _)
+    (λ _. local_either _ _ _ (local_bind _ _ (local_unary bounded v n inside inner) (λ t. local_give _)) (local_give _))
 
 pub local_group : (bounded : Bool) (v : Scope) (n : ℕ) (inside : Inside) (inner : AreLocal inside) → IsLocal (group bounded v n inside)
 unfolding group
-local_group bounded v n inside inner = local_bind _ _ (local_unary bounded v n inside inner) (λ t. local_bind _ _ (local_loop _ _ (consumes_semicolon bounded v n inside inner) (local_semicolon bounded v n inside inner) _) (λ a. local_give _))
+local_group bounded v n inside inner = local_bind _ _ (local_unary bounded v n inside inner)
+    (λ t. local_bind _ _ (local_loop _ _ (consumes_semicolon bounded v n inside inner) (local_semicolon bounded v n inside inner) _) (λ a. local_give _))
 
 pub consumes_group : (bounded : Bool) (v : Scope) (n : ℕ) (inside : Inside) (inner : AreLocal inside) → Consumes (group bounded v n inside)
 unfolding group
-consumes_group bounded v n inside inner = consumes_bind _ _ (consumes_unary bounded v n inside inner) (λ t. local_bind _ _ (local_loop _ _ (consumes_semicolon bounded v n inside inner) (local_semicolon bounded v n inside inner) _) (λ a. local_give _))
+consumes_group bounded v n inside inner = consumes_bind _ _ (consumes_unary bounded v n inside inner)
+    (λ t. local_bind _ _ (local_loop _ _ (consumes_semicolon bounded v n inside inner) (local_semicolon bounded v n inside inner) _) (λ a. local_give _))
 
 pub local_bar : (bounded : Bool) (v : Scope) (n : ℕ) (inside : Inside) (inner : AreLocal inside) (us : List TripleExpr) → IsLocal (bar bounded v n inside us)
 unfolding bar
@@ -338,11 +371,13 @@ consumes_bar bounded v n inside inner us = consumes_bind _ _ (consumes_one _ _) 
 
 pub local_alternatives : (bounded : Bool) (v : Scope) (n : ℕ) (inside : Inside) (inner : AreLocal inside) → IsLocal (alternatives bounded v n inside)
 unfolding alternatives
-local_alternatives bounded v n inside inner = local_bind _ _ (local_group bounded v n inside inner) (λ t. local_bind _ _ (local_loop _ _ (consumes_bar bounded v n inside inner) (local_bar bounded v n inside inner) _) (λ us. local_give _))
+local_alternatives bounded v n inside inner = local_bind _ _ (local_group bounded v n inside inner)
+    (λ t. local_bind _ _ (local_loop _ _ (consumes_bar bounded v n inside inner) (local_bar bounded v n inside inner) _) (λ us. local_give _))
 
 pub consumes_alternatives : (bounded : Bool) (v : Scope) (n : ℕ) (inside : Inside) (inner : AreLocal inside) → Consumes (alternatives bounded v n inside)
 unfolding alternatives
-consumes_alternatives bounded v n inside inner = consumes_bind _ _ (consumes_group bounded v n inside inner) (λ t. local_bind _ _ (local_loop _ _ (consumes_bar bounded v n inside inner) (local_bar bounded v n inside inner) _) (λ us. local_give _))
+consumes_alternatives bounded v n inside inner = consumes_bind _ _ (consumes_group bounded v n inside inner)
+    (λ t. local_bind _ _ (local_loop _ _ (consumes_bar bounded v n inside inner) (local_bar bounded v n inside inner) _) (λ us. local_give _))
 
 -- at each depth
 pub local_level : (bounded : Bool) (v : Scope) (d : ℕ) → AreLocal (level bounded v d)
@@ -419,7 +454,8 @@ module _ (bounded : Bool) (d : ℕ) where
 
   pub consumes_statement : (a : State) → Consumes (statement bounded d a)
   unfolding statement
-  consumes_statement a = consumes_either _ _ _ (consumes_base a) (consumes_either _ _ _ (consumes_prefix a) (consumes_either _ _ _ (consumes_import a) (consumes_either _ _ _ (consumes_start a) (consumes_declaration a))))
+  consumes_statement a = consumes_either _ _ _ (consumes_base a)
+      (consumes_either _ _ _ (consumes_prefix a) (consumes_either _ _ _ (consumes_import a) (consumes_either _ _ _ (consumes_start a) (consumes_declaration a))))
 
   pub local_document : (a : State) → IsLocal (document bounded d a)
   unfolding document

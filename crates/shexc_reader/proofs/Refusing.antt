@@ -27,13 +27,15 @@ module _ (rest : Ahead Spelled) (at : ℕ) where
   second_word e p q r (inl is) = inl is
   second_word e p q r (inr is) = inr (is ∙ rw (p, q, r) refl)
 
-  pub third_word : (e : SchemaError) → next_is (is_symbol symbol.Percent) rest ≡ false → next_is (is_symbol symbol.Abstract) rest ≡ false → next_is (is_symbol symbol.Extends) rest ≡ false → next_is (is_symbol symbol.Restricts) rest ≡ true
+  pub third_word : (e : SchemaError) → next_is (is_symbol symbol.Percent) rest ≡ false → next_is (is_symbol symbol.Abstract) rest ≡ false →
+      next_is (is_symbol symbol.Extends) rest ≡ false → next_is (is_symbol symbol.Restricts) rest ≡ true
       → (e ≡ errors.Memory) ⊎ (e ≡ errors.Form (chars (codes "RESTRICTS"))) → (e ≡ errors.Memory) ⊎ (e ≡ refusal_at rest at)
   unfolding refusal_at
   third_word e p q r s (inl is) = inl is
   third_word e p q r s (inr is) = inr (is ∙ rw (p, q, r, s) refl)
 
-  pub syntax : next_is (is_symbol symbol.Percent) rest ≡ false → next_is (is_symbol symbol.Abstract) rest ≡ false → next_is (is_symbol symbol.Extends) rest ≡ false → next_is (is_symbol symbol.Restricts) rest ≡ false
+  pub syntax : next_is (is_symbol symbol.Percent) rest ≡ false → next_is (is_symbol symbol.Abstract) rest ≡ false →
+      next_is (is_symbol symbol.Extends) rest ≡ false → next_is (is_symbol symbol.Restricts) rest ≡ false
       → errors.Syntax at ≡ refusal_at rest at
   unfolding refusal_at
   syntax p q r s = rw (p, q, r, s) refl

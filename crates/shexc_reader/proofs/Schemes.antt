@@ -38,13 +38,13 @@ use Rattle.shexc_reader.specs.States.{State, declared}
 use Rattle.shexc_reader.proofs.Ordered.{many_keep}
 
 -- a text that begins with a scheme and `:`
-record IsLed (text : List ℕ) : Type 0 where
-  name : List ℕ
-  rest : List ℕ
-  named : is_scheme name ≡ true
-  whole : text ≡ name ++ codes ":" ++ rest
+pub record IsLed (text : List ℕ) : Type 0 where
+  pub name : List ℕ
+  pub rest : List ℕ
+  pub named : is_scheme name ≡ true
+  pub whole : text ≡ name ++ codes ":" ++ rest
 
-led : (text : List ℕ) → IsSome (scheme_of text) → IsLed text
+pub led : (text : List ℕ) → IsSome (scheme_of text) → IsLed text
 led text some = by (scheme_of text) refl some (decomposition text).scheme
   where
     by : (o : Option (List ℕ)) → scheme_of text ≡ o → IsSome o → IfSome o (λ name. IsTrue (is_scheme name)) → IsLed text
@@ -82,7 +82,7 @@ letter_low b e = grind (arith, nat_tests)
 byte_low : (b : ℕ) → is_scheme_byte b ≡ true → b < 128
 byte_low b e = grind (arith, nat_tests)
 
-scheme_low : (name : List ℕ) → is_scheme name ≡ true → IsAscii name
+pub scheme_low : (name : List ℕ) → is_scheme name ≡ true → IsAscii name
 scheme_low [] e = IsAscii-nil
 scheme_low (b ∷ bs) e =
     let w = both (is_ascii_alphabetic b) (list_all is_scheme_byte bs) e in
@@ -104,7 +104,7 @@ record AreAbsolute (v : Scope) : Type 0 where
   base : IsSome (scheme_of v.base)
   prefixes : (prefix iri : List ℕ) → v.prefixes prefix ≡ Some iri → IsSome (scheme_of iri)
 
--- so has each IRI that a token stands for
+-- one of two is there where the second is
 either_some : (a b : Option (List ℕ)) → IsSome b → IsSome (option_or a b)
 either_some None b h = h
 either_some (Some name) b h = refl

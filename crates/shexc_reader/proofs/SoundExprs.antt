@@ -39,8 +39,9 @@ or_apart : (ts : Ahead Spelled) → next_is (is_symbol symbol.Or) ts ≡ true �
 or_apart ts e f = apart symbol.Or symbol.Integer (λ is. omega (arith, is)) ts e f
 
 module _ (bounded : Bool) (v : Scope) (n : ℕ) (inside : Inside) (spelled : g.Inside) (sound : AreSound inside spelled) where
-  -- the same phrase by another, under any flag
-  pub mapped : (whole b : Bool) (P Q : Phrase Spelled) (ts us r : Ahead Spelled) → ((m : Ahead Spelled) → P ts m → Q us m) → Flagged bounded v n inside spelled sound whole P b ts r → Flagged bounded v n inside spelled sound whole Q b us r
+  -- what a flagged phrase gives, another gives that has all of it
+  pub mapped : (whole b : Bool) (P Q : Phrase Spelled) (ts us r : Ahead Spelled) → ((m : Ahead Spelled) → P ts m → Q us m) →
+      Flagged bounded v n inside spelled sound whole P b ts r → Flagged bounded v n inside spelled sound whole Q b us r
   mapped whole false P Q ts us r f h = f r h
   mapped true true P Q ts us r f h = absurd h
   mapped false true P Q ts us r f (m, h, o, e) = (m, f m h, o, e)
@@ -58,7 +59,8 @@ module _ (bounded : Bool) (v : Scope) (n : ℕ) (inside : Inside) (spelled : g.I
     stops y (xs, false) ts e = subst (λ (z : (List ShapeExpr × Bool) × Ahead Spelled). Flagged bounded v n inside spelled sound whole (Many One xs z.0.0) z.0.1 ts z.1) e none
     stops y (xs, true) ts e = λ int. subst (λ (z : (List ShapeExpr × Bool) × Ahead Spelled). (xs ≡ z.0.0) × (z.0.1 ≡ true) × (ts ≡ z.1)) e (refl, refl, refl)
 
-    onward : (w : Bool) (y : (List ShapeExpr × Bool) × Ahead Spelled) (xs : List ShapeExpr) (x : List ShapeExpr × Bool) (ts r : Ahead Spelled) → w ≡ whole → Flagged bounded v n inside spelled sound w (One xs x.0) x.1 ts r → Comes y x r → Comes y (xs, false) ts
+    onward : (w : Bool) (y : (List ShapeExpr × Bool) × Ahead Spelled) (xs : List ShapeExpr) (x : List ShapeExpr × Bool) (ts r : Ahead Spelled) → w ≡ whole →
+        Flagged bounded v n inside spelled sound w (One xs x.0) x.1 ts r → Comes y x r → Comes y (xs, false) ts
     onward w y xs (zs, false) ts r same h p = mapped whole y.0.1 (Many One zs y.0.0) (Many One xs y.0.0) r ts y.1 (λ m k. more h k) p
     onward true y xs (zs, true) ts r same h p = absurd h
     onward false y xs (zs, true) ts r same (m, h, o, e) p =
@@ -69,7 +71,8 @@ module _ (bounded : Bool) (v : Scope) (n : ℕ) (inside : Inside) (spelled : g.I
         (subst (λ (q : Ahead Spelled). Flagged bounded v n inside spelled sound false (Many One xs y.0.0) true ts q) c (m, k, o, e)))
 
     module _ (each : (s : List ShapeExpr × Bool) (ts : Ahead Spelled) → Meets (step s) (λ b r. Flagged bounded v n inside spelled sound whole (One s.0 b.0) b.1 ts r) ts) where
-      goes : (y : (List ShapeExpr × Bool) × Ahead Spelled) (s : List ShapeExpr × Bool) (ts : Ahead Spelled) (x : List ShapeExpr × Bool) (r : Ahead Spelled) → next_is (is_symbol a) ts ≡ true → step s ts ≡ Ok (x, r) → Comes y x r → Comes y s ts
+      goes : (y : (List ShapeExpr × Bool) × Ahead Spelled) (s : List ShapeExpr × Bool) (ts : Ahead Spelled) (x : List ShapeExpr × Bool) (r : Ahead Spelled) →
+          next_is (is_symbol a) ts ≡ true → step s ts ≡ Ok (x, r) → Comes y x r → Comes y s ts
       goes y (xs, false) ts x r e is p = onward whole y xs x ts r refl ((each (xs, false) ts).holds (x, r) is) p
       goes y (xs, true) ts x r e is p = λ int. absurd (alone ts e int)
 
@@ -77,7 +80,8 @@ module _ (bounded : Bool) (v : Scope) (n : ℕ) (inside : Inside) (spelled : g.I
       all_come s ts y is = loop_rule (is_symbol a) step consumes (Comes y) y s ts (λ s ts e k. stops y s ts k) (λ s ts x r e k p. goes y s ts x r e k p) is
 
       -- behind the first member
-      first : (w : Bool) (x : ShapeExpr × Bool) (ts m : Ahead Spelled) (y : (List ShapeExpr × Bool) × Ahead Spelled) → w ≡ whole → Flagged bounded v n inside spelled sound w (Member x.0) x.1 ts m → Comes y (x.0 ∷ [], x.1) m
+      first : (w : Bool) (x : ShapeExpr × Bool) (ts m : Ahead Spelled) (y : (List ShapeExpr × Bool) × Ahead Spelled) → w ≡ whole →
+          Flagged bounded v n inside spelled sound w (Member x.0) x.1 ts m → Comes y (x.0 ∷ [], x.1) m
           → Flagged bounded v n inside spelled sound whole (g.Separated a Member y.0.0) y.0.1 ts y.1
       first w (x, false) ts m y same h p = mapped whole y.0.1 (Many One (x ∷ []) y.0.0) (g.Separated a Member y.0.0) m ts y.1 (λ r k. (x ∷ [], (m, (x, refl, h), k))) p
       first true (x, true) ts m y same h p = absurd h
@@ -93,7 +97,8 @@ module _ (bounded : Bool) (v : Scope) (n : ℕ) (inside : Inside) (spelled : g.I
       separated_meets x ts m h = record { holds = λ y is. first whole x ts m y refl h (all_come (x.0 ∷ [], x.1) m y is) }
 
   module _ (local : AreLocal inside) where
-    negated_meets : (whole : Bool) (ts : Ahead Spelled) → Meets (negated bounded v n inside whole) (λ x r. Flagged bounded v n inside spelled sound whole (g.Negated bounded v n spelled whole x.0) x.1 ts r) ts
+    negated_meets : (whole : Bool) (ts : Ahead Spelled) →
+        Meets (negated bounded v n inside whole) (λ x r. Flagged bounded v n inside spelled sound whole (g.Negated bounded v n spelled whole x.0) x.1 ts r) ts
     unfolding negated
     negated_meets whole ts = meets_either
         (meets_bind (meets_one (λ t m c. meets_bind (meets_rule (atom_meets bounded v n inside spelled sound whole m) (λ x r h.
@@ -113,7 +118,8 @@ module _ (bounded : Bool) (v : Scope) (n : ℕ) (inside : Inside) (spelled : g.I
         meets_bind (meets_rule (separated_meets whole symbol.And and_apart (g.Negated bounded v n spelled whole) (and_behind bounded v n inside whole) (consumes_and_behind bounded v n inside local whole) (and_meets whole) x ts m h)
         (λ b r k. meets_give (mapped whole b.1 (g.Separated symbol.And (g.Negated bounded v n spelled whole) b.0) (g.Conjunction bounded v n spelled whole (all_of b.0)) ts ts r (λ q j. (b.0, refl, j)) k)))
 
-    pub conjunction_meets : (whole : Bool) (ts : Ahead Spelled) → Meets (conjunction bounded v n inside whole) (λ x r. Flagged bounded v n inside spelled sound whole (g.Conjunction bounded v n spelled whole x.0) x.1 ts r) ts
+    pub conjunction_meets : (whole : Bool) (ts : Ahead Spelled) →
+        Meets (conjunction bounded v n inside whole) (λ x r. Flagged bounded v n inside spelled sound whole (g.Conjunction bounded v n spelled whole x.0) x.1 ts r) ts
     unfolding conjunction
     conjunction_meets whole ts = meets_bind (meets_rule (negated_meets whole ts) (λ x m h. conjunction_from_meets whole x ts m h))
 
@@ -130,6 +136,7 @@ module _ (bounded : Bool) (v : Scope) (n : ℕ) (inside : Inside) (spelled : g.I
         meets_bind (meets_rule (separated_meets whole symbol.Or or_apart (g.Conjunction bounded v n spelled whole) (or_behind bounded v n inside whole) (consumes_or_behind bounded v n inside local whole) (or_meets whole) x ts m h)
         (λ b r k. meets_give (mapped whole b.1 (g.Separated symbol.Or (g.Conjunction bounded v n spelled whole) b.0) (g.Expression bounded v n spelled whole (any_of b.0)) ts ts r (λ q j. (b.0, refl, j)) k)))
 
-    pub expression_meets : (whole : Bool) (ts : Ahead Spelled) → Meets (expression bounded v n inside whole) (λ x r. Flagged bounded v n inside spelled sound whole (g.Expression bounded v n spelled whole x.0) x.1 ts r) ts
+    pub expression_meets : (whole : Bool) (ts : Ahead Spelled) →
+        Meets (expression bounded v n inside whole) (λ x r. Flagged bounded v n inside spelled sound whole (g.Expression bounded v n spelled whole x.0) x.1 ts r) ts
     unfolding expression
     expression_meets whole ts = meets_bind (meets_rule (conjunction_meets whole ts) (λ x m h. disjunction_from_meets whole x ts m h))

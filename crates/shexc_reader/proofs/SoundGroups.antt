@@ -51,7 +51,8 @@ module _ (bounded : Bool) (v : Scope) (n : ℕ) (inside : Inside) (spelled : g.I
   further_meets : (x : ShapeExpr × Bool) (ts m : Ahead Spelled) → Flagged bounded v n inside spelled sound false (g.Negated bounded v n spelled false x.0) x.1 ts m
       → Meets (further_from bounded v n inside x) (λ y r. Flagged bounded v n inside spelled sound false (g.Expression bounded v n spelled false y.0) y.1 ts r) m
   unfolding further_from
-  further_meets x ts m h = meets_bind (meets_rule (conjunction_from_meets bounded v n inside spelled sound local false x ts m h) (λ y r k. disjunction_from_meets bounded v n inside spelled sound local false y ts r k))
+  further_meets x ts m h =
+      meets_bind (meets_rule (conjunction_from_meets bounded v n inside spelled sound local false x ts m h) (λ y r k. disjunction_from_meets bounded v n inside spelled sound local false y ts r k))
 
   -- the value of an arc
   dot_value_meets : (ts : Ahead Spelled) → Meets (dot_value bounded v n inside) (λ x r. Flagged bounded v n inside spelled sound false (g.ArcValue bounded v n spelled x.0) x.1 ts r) ts
@@ -120,11 +121,13 @@ module _ (bounded : Bool) (v : Scope) (n : ℕ) (inside : Inside) (spelled : g.I
   onward y us (vs, true) ts r (same, last) (a, b) =
       (ts, subst (λ (z : List TripleExpr). Many Next us z ts ts) (same ∙ a) none, inl (subst (λ (q : Ahead Spelled). Mark symbol.Semicolon ts q) b last))
 
-  goes : (y : (List TripleExpr × Bool) × Ahead Spelled) (s : List TripleExpr × Bool) (ts : Ahead Spelled) (a : List TripleExpr × Bool) (r : Ahead Spelled) → semicolon bounded v n inside s ts ≡ Ok (a, r) → Comes y a r → Comes y s ts
+  goes : (y : (List TripleExpr × Bool) × Ahead Spelled) (s : List TripleExpr × Bool) (ts : Ahead Spelled) (a : List TripleExpr × Bool) (r : Ahead Spelled) →
+      semicolon bounded v n inside s ts ≡ Ok (a, r) → Comes y a r → Comes y s ts
   goes y (us, false) ts a r is p = onward y us a ts r ((semicolon_meets us ts).holds (a, r) is) p
   goes y (us, true) ts a r is p = absurd ((refused us ts).holds (a, r) is)
 
-  semicolons_meet : (t : TripleExpr) (m : Ahead Spelled) → Meets (loop (is_symbol symbol.Semicolon) (semicolon bounded v n inside) (t ∷ [], false)) (λ a r. (Many Next (t ∷ []) a.0 ⨾ g.Maybe (Mark symbol.Semicolon)) m r) m
+  semicolons_meet : (t : TripleExpr) (m : Ahead Spelled) →
+      Meets (loop (is_symbol symbol.Semicolon) (semicolon bounded v n inside) (t ∷ [], false)) (λ a r. (Many Next (t ∷ []) a.0 ⨾ g.Maybe (Mark symbol.Semicolon)) m r) m
   semicolons_meet t m = record {
     holds = λ y is. loop_rule (is_symbol symbol.Semicolon) (semicolon bounded v n inside) (consumes_semicolon bounded v n inside local) (Comes y) y (t ∷ [], false) m
         (λ s ts e k. stops y s ts k) (λ s ts x r e k p. goes y s ts x r k p) is;

@@ -20,12 +20,14 @@ use Rattle.shexc_constraints.specs.Grammar as low
 use Rattle.shexc_constraints.specs.Symbols.{Mark}
 
 -- either reader, with what is known of the next token
-by_class : {T F A : Type 0} (class : T → Bool) (p q : Reader T F A) (P : A → Ahead T → Type 0) (ts : Ahead T) (b : Bool) → next_is class ts ≡ b → (next_is class ts ≡ true → Meets p P ts) → Meets q P ts
+by_class : {T F A : Type 0} (class : T → Bool) (p q : Reader T F A) (P : A → Ahead T → Type 0) (ts : Ahead T) (b : Bool) → next_is class ts ≡ b →
+    (next_is class ts ≡ true → Meets p P ts) → Meets q P ts
     → (y : A × Ahead T) → cond b (p ts) (q ts) ≡ Ok y → P y.0 y.1
 by_class class p q P ts true e h k y is = (h e).holds y is
 by_class class p q P ts false e h k y is = k.holds y is
 
-meets_where : {T F A : Type 0} (class : T → Bool) (p q : Reader T F A) (P : A → Ahead T → Type 0) (ts : Ahead T) → (next_is class ts ≡ true → Meets p P ts) → Meets q P ts → Meets (either class p q) P ts
+meets_where : {T F A : Type 0} (class : T → Bool) (p q : Reader T F A) (P : A → Ahead T → Type 0) (ts : Ahead T) → (next_is class ts ≡ true → Meets p P ts) →
+    Meets q P ts → Meets (either class p q) P ts
 meets_where class p q P ts h k = record { holds = λ y is. by_class class p q P ts (next_is class ts) refl h k y is }
 
 -- a bracket
@@ -71,7 +73,8 @@ module _ (bounded : Bool) (v : Scope) (n : ℕ) (inside : Inside) (spelled : g.I
   unfolding maybe_triple
   maybe_triple_meets ts = meets_either (meets_give (inl (refl, refl))) (meets_bind (meets_rule (sound.triple_expr ts) (λ u r h. meets_give (inr (u, refl, h)))))
 
-  shape_behind_meets : (q : Bool × List (List ℕ)) (ts : Ahead Spelled) → Meets (shape_behind bounded v n inside q) (λ e r. (t : MaybeTripleExpr) × (shape q.0 q.1 t ≡ e) × (InBraces t ⨾ Mark symbol.CloseBrace) ts r) ts
+  shape_behind_meets : (q : Bool × List (List ℕ)) (ts : Ahead Spelled) → Meets (shape_behind bounded v n inside q) (λ e r. (t : MaybeTripleExpr) ×
+      (shape q.0 q.1 t ≡ e) × (InBraces t ⨾ Mark symbol.CloseBrace) ts r) ts
   unfolding shape_behind
   shape_behind_meets q ts = meets_bind (meets_rule (maybe_triple_meets ts) (λ t m h. meets_bind (meets_one (λ w r c. meets_give (t, refl, (m, h, (w, c)))))))
 
@@ -88,7 +91,8 @@ module _ (bounded : Bool) (v : Scope) (n : ℕ) (inside : Inside) (spelled : g.I
   behind_meets : (whole : Bool) (c : ShapeExpr) (ts m k : Ahead Spelled) → low.NonLiteral bounded v c ts m → low.Notes v whole m k
       → Meets (behind_constraint bounded v n inside whole c) (λ x r. Flagged whole (g.Atom bounded v n spelled whole x.0) x.1 ts r) k
   unfolding behind_constraint joined_with braced
-  behind_meets true c ts m k h i = meets_either (meets_bind (meets_rule (shape_or_reference_meets true k) (λ s r j. meets_give (inl (inr (c, s, refl, (m, h, (k, i, j)))))))) (meets_give (inl (inl (m, h, i))))
+  behind_meets true c ts m k h i =
+      meets_either (meets_bind (meets_rule (shape_or_reference_meets true k) (λ s r j. meets_give (inl (inr (c, s, refl, (m, h, (k, i, j)))))))) (meets_give (inl (inl (m, h, i))))
   behind_meets false c ts m k h i = meets_either
       (meets_bind (meets_rule (opens_meets symbol.OpenBrace n k) (λ u l o. meets_where _ _ _ _ l (λ e. meets_give (k, inl (inl (m, h, i)), o, e))
       (meets_bind (meets_rule (shape_behind_meets (false, []) l) (λ s r b. meets_give (inl (inr (c, s, refl, (m, h, (k, i, inl ((false, []), b.0, b.1, (k, none, (r, (l, o, b.2), refl))))))))))))))
@@ -119,4 +123,5 @@ module _ (bounded : Bool) (v : Scope) (n : ℕ) (inside : Inside) (spelled : g.I
 
   pub atom_meets : (whole : Bool) (ts : Ahead Spelled) → Meets (atom bounded v n inside whole) (λ x r. Flagged whole (g.Atom bounded v n spelled whole x.0) x.1 ts r) ts
   unfolding atom
-  atom_meets whole ts = meets_either (constraint_first_meets whole ts) (meets_either (literal_only_meets whole ts) (meets_either (shape_first_meets whole ts) (meets_either (parenthesised_meets whole ts) (dot_meets whole ts))))
+  atom_meets whole ts = meets_either (constraint_first_meets whole ts)
+      (meets_either (literal_only_meets whole ts) (meets_either (shape_first_meets whole ts) (meets_either (parenthesised_meets whole ts) (dot_meets whole ts))))

@@ -30,11 +30,11 @@ at_first base = begun (record { base = base; prefixes = λ prefix. None })
 abbrev pub Spells : List ℕ → State → List Spelled → Type 0
 Spells base x ts = ShExC true max_depth (at_first base) x (prepend ts finished)
 
--- the same of any depth and with patterns of any size
+-- the tokens are a document with this base, of any depth and with patterns of any size
 abbrev pub SpellsAny : List ℕ → State → List Spelled → Type 0
 SpellsAny base x ts = (d : ℕ) × ShExC false d (at_first base) x (prepend ts finished)
 
--- the same with brackets within their limit and with patterns of any size
+-- the tokens are a document with this base, with brackets within their limit and patterns of any size
 abbrev pub SpellsWithin : List ℕ → State → List Spelled → Type 0
 SpellsWithin base x ts = ShExC false max_depth (at_first base) x (prepend ts finished)
 

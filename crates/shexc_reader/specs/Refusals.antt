@@ -67,7 +67,7 @@ IsRefusedAt base source Thing at = IsFaultPlace (SpellsAny base) Schema source a
 abbrev pub IsRefused : List ℕ → List ℕ → (State → List Spelled → Spelled → Type 0) → Type 0
 IsRefused base source Thing = (at : ℕ) × IsRefusedAt base source Thing at
 
--- the same where no document within the limits goes on so
+-- from the place on no document within the limits goes on as the text does, and there the thing stands
 abbrev pub IsBeyond : List ℕ → List ℕ → (State → List Spelled → Spelled → Type 0) → Type 0
 IsBeyond base source Thing = (at : ℕ) × IsFaultPlace (Spells base) Schema source at × StandsAt base source Thing at
 

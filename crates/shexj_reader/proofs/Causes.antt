@@ -30,8 +30,9 @@ pub handed : {T : Type 0} (P Q : Fault → Type 0) (r : Result T SchemaError) �
 handed P Q (Ok x) w h = tt
 handed P Q (Err x) w h = because P Q x w h
 
--- so is that of a call whose value is made into another
-pub made : {T U : Type 0} (P Q : Fault → Type 0) (made_of : T → U → Type 0) (r : Result T SchemaError) (s : Result U SchemaError) → MatchResult r (λ x. IsOkAnd s (made_of x)) (λ e. s ≡ Err e) → ((f : Fault) → P f → Q f) → IfErr r (Because P) → IfErr s (Because Q)
+-- the refusal of a call whose value is made into another is that of the whole
+pub made : {T U : Type 0} (P Q : Fault → Type 0) (made_of : T → U → Type 0) (r : Result T SchemaError) (s : Result U SchemaError) →
+    MatchResult r (λ x. IsOkAnd s (made_of x)) (λ e. s ≡ Err e) → ((f : Fault) → P f → Q f) → IfErr r (Because P) → IfErr s (Because Q)
 made P Q made_of (Ok x) (Ok y) m w h = tt
 made P Q made_of (Ok x) (Err e) m w h = absurd m
 made P Q made_of (Err e) (Ok y) m w h = tt

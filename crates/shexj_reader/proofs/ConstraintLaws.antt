@@ -152,7 +152,8 @@ no_parts_fault : (datatype : Option (List ℕ)) (facets : List Facet) (f : Fault
 no_parts_fault datatype facets f (on_floats is h) sound = sound.no_float h
 no_parts_fault datatype facets f (refused e is first h) sound = h sound
 
-no_refusal : (datatype : Option (List ℕ)) (facets : List Facet) (f : Fault) (d : Data) → HasRefusedParts f d → text_if_any (get (codes "datatype") d) ≡ Some datatype → facets_of d ≡ Some facets → IsSound datatype facets → ⊥
+no_refusal : (datatype : Option (List ℕ)) (facets : List Facet) (f : Fault) (d : Data) → HasRefusedParts f d →
+    text_if_any (get (codes "datatype") d) ≡ Some datatype → facets_of d ≡ Some facets → IsSound datatype facets → ⊥
 no_refusal datatype facets f d h has_datatype has_facets sound =
     let same = one (text_if_any (get (codes "datatype") d)) datatype h.datatype has_datatype h.has_datatype in
     let alike = one (facets_of d) facets h.facets has_facets h.has_facets in

@@ -39,7 +39,8 @@ no_declaration_fault decl f d (DeclarationFault.in_decl t h) (inr s) w = labelle
 no_declaration_fault decl f d (DeclarationFault.in_expr other h) (inl s) w = other s.object.type
 no_declaration_fault decl f d (DeclarationFault.in_expr other h) (inr s) w = no_expr_fault f h decl.expr s.has_expr w
 
-no_item_fault : (decls : List Declaration) (f : Fault) (ds : Items) (k : ℕ) (v : Data) → SpellsDeclarations decls ds → decls_nesting decls ≤ max_nesting → get_item k ds ≡ Some v → DeclarationFault f v → ⊥
+no_item_fault : (decls : List Declaration) (f : Fault) (ds : Items) (k : ℕ) (v : Data) → SpellsDeclarations decls ds → decls_nesting decls ≤ max_nesting →
+    get_item k ds ≡ Some v → DeclarationFault f v → ⊥
 no_item_fault [] f no_items k v s w there h = cc
 no_item_fault [] f (item d ds) k v s w there h = absurd s
 no_item_fault (decl ∷ decls) f no_items k v s w there h = absurd s

@@ -25,32 +25,41 @@ back_up n h = omega arith
 
 -- ---- a fault of the object itself, passed on by a `?`
 
-pub join_passed : {T : Type 0} (P : Fault → Type 0) (labelled : Bool) (n : ℕ) (d : Data) (r : Result T SchemaError) (e : SchemaError) → IsErrAnd r (λ x. x ≡ e) → IsJoin d → ((f : Fault) → P f → JoinFault labelled f d) → Because P e → IfErr r (Because (λ f. ExprObjectFault f labelled n d))
+pub join_passed : {T : Type 0} (P : Fault → Type 0) (labelled : Bool) (n : ℕ) (d : Data) (r : Result T SchemaError) (e : SchemaError) →
+    IsErrAnd r (λ x. x ≡ e) → IsJoin d → ((f : Fault) → P f → JoinFault labelled f d) → Because P e → IfErr r (Because (λ f. ExprObjectFault f labelled n d))
 join_passed P labelled n d r e same t w h = passed P (λ f. ExprObjectFault f labelled n d) r e same (λ f k. faults.bad_join t (w f k)) h
 
-pub negation_passed : {T : Type 0} (P : Fault → Type 0) (labelled : Bool) (n : ℕ) (d : Data) (r : Result T SchemaError) (e : SchemaError) → IsErrAnd r (λ x. x ≡ e) → type_of d ≡ Some (codes "ShapeNot") → ((f : Fault) → P f → NegationFault labelled f d) → Because P e → IfErr r (Because (λ f. ExprObjectFault f labelled n d))
+pub negation_passed : {T : Type 0} (P : Fault → Type 0) (labelled : Bool) (n : ℕ) (d : Data) (r : Result T SchemaError) (e : SchemaError) →
+    IsErrAnd r (λ x. x ≡ e) → type_of d ≡ Some (codes "ShapeNot") → ((f : Fault) → P f → NegationFault labelled f d) → Because P e → IfErr r (Because (λ f. ExprObjectFault f labelled n d))
 negation_passed P labelled n d r e same t w h = passed P (λ f. ExprObjectFault f labelled n d) r e same (λ f k. faults.bad_negation t (w f k)) h
 
-pub shape_passed : {T : Type 0} (P : Fault → Type 0) (labelled : Bool) (n : ℕ) (d : Data) (r : Result T SchemaError) (e : SchemaError) → IsErrAnd r (λ x. x ≡ e) → type_of d ≡ Some (codes "Shape") → ((f : Fault) → P f → ShapeFault labelled f d) → Because P e → IfErr r (Because (λ f. ExprObjectFault f labelled n d))
+pub shape_passed : {T : Type 0} (P : Fault → Type 0) (labelled : Bool) (n : ℕ) (d : Data) (r : Result T SchemaError) (e : SchemaError) →
+    IsErrAnd r (λ x. x ≡ e) → type_of d ≡ Some (codes "Shape") → ((f : Fault) → P f → ShapeFault labelled f d) → Because P e → IfErr r (Because (λ f. ExprObjectFault f labelled n d))
 shape_passed P labelled n d r e same t w h = passed P (λ f. ExprObjectFault f labelled n d) r e same (λ f k. faults.bad_shape t (w f k)) h
 
-pub group_passed : {T : Type 0} (P : Fault → Type 0) (n : ℕ) (d : Data) (r : Result T SchemaError) (e : SchemaError) → IsErrAnd r (λ x. x ≡ e) → IsGroupType d → ((f : Fault) → P f → GroupFault f d) → Because P e → IfErr r (Because (λ f. TripleObjectFault f n d))
+pub group_passed : {T : Type 0} (P : Fault → Type 0) (n : ℕ) (d : Data) (r : Result T SchemaError) (e : SchemaError) → IsErrAnd r (λ x. x ≡ e) → IsGroupType d →
+    ((f : Fault) → P f → GroupFault f d) → Because P e → IfErr r (Because (λ f. TripleObjectFault f n d))
 group_passed P n d r e same t w h = passed P (λ f. TripleObjectFault f n d) r e same (λ f k. faults.bad_group t (w f k)) h
 
-pub arc_passed : {T : Type 0} (P : Fault → Type 0) (n : ℕ) (d : Data) (r : Result T SchemaError) (e : SchemaError) → IsErrAnd r (λ x. x ≡ e) → type_of d ≡ Some (codes "TripleConstraint") → ((f : Fault) → P f → ArcFault f d) → Because P e → IfErr r (Because (λ f. TripleObjectFault f n d))
+pub arc_passed : {T : Type 0} (P : Fault → Type 0) (n : ℕ) (d : Data) (r : Result T SchemaError) (e : SchemaError) → IsErrAnd r (λ x. x ≡ e) →
+    type_of d ≡ Some (codes "TripleConstraint") → ((f : Fault) → P f → ArcFault f d) → Because P e → IfErr r (Because (λ f. TripleObjectFault f n d))
 arc_passed P n d r e same t w h = passed P (λ f. TripleObjectFault f n d) r e same (λ f k. faults.bad_arc t (w f k)) h
 
 -- ---- a fault of the object itself, at the last step
 
-pub shape_made : {T U : Type 0} (labelled : Bool) (n : ℕ) (d : Data) (made_of : T → U → Type 0) (r : Result T SchemaError) (s : Result U SchemaError) → MatchResult r (λ x. IsOkAnd s (made_of x)) (λ e. s ≡ Err e) → type_of d ≡ Some (codes "Shape") → IfErr r (Because (λ f. PlainFault f d)) → IfErr s (Because (λ f. ExprObjectFault f labelled n d))
+pub shape_made : {T U : Type 0} (labelled : Bool) (n : ℕ) (d : Data) (made_of : T → U → Type 0) (r : Result T SchemaError) (s : Result U SchemaError) →
+    MatchResult r (λ x. IsOkAnd s (made_of x)) (λ e. s ≡ Err e) → type_of d ≡ Some (codes "Shape") → IfErr r (Because (λ f. PlainFault f d)) → IfErr s (Because (λ f. ExprObjectFault f labelled n d))
 shape_made labelled n d made_of r s m t h =
     made (λ f. PlainFault f d) (λ f. ExprObjectFault f labelled n d) made_of r s m (λ f k. faults.bad_shape t (ShapeFault.not_plain k)) h
 
-pub group_made : {T U : Type 0} (n : ℕ) (d : Data) (made_of : T → U → Type 0) (r : Result T SchemaError) (s : Result U SchemaError) → MatchResult r (λ x. IsOkAnd s (made_of x)) (λ e. s ≡ Err e) → IsGroupType d → IfErr r (Because (λ f. PlainFault f d)) → IfErr s (Because (λ f. TripleObjectFault f n d))
+pub group_made : {T U : Type 0} (n : ℕ) (d : Data) (made_of : T → U → Type 0) (r : Result T SchemaError) (s : Result U SchemaError) →
+    MatchResult r (λ x. IsOkAnd s (made_of x)) (λ e. s ≡ Err e) → IsGroupType d → IfErr r (Because (λ f. PlainFault f d)) → IfErr s (Because (λ f. TripleObjectFault f n d))
 group_made n d made_of r s m t h =
     made (λ f. PlainFault f d) (λ f. TripleObjectFault f n d) made_of r s m (λ f k. faults.bad_group t (GroupFault.not_plain k)) h
 
-pub arc_made : {T U : Type 0} (n : ℕ) (d : Data) (made_of : T → U → Type 0) (r : Result T SchemaError) (s : Result U SchemaError) → MatchResult r (λ x. IsOkAnd s (made_of x)) (λ e. s ≡ Err e) → type_of d ≡ Some (codes "TripleConstraint") → IfErr r (Because (λ f. PlainFault f d)) → IfErr s (Because (λ f. TripleObjectFault f n d))
+pub arc_made : {T U : Type 0} (n : ℕ) (d : Data) (made_of : T → U → Type 0) (r : Result T SchemaError) (s : Result U SchemaError) →
+    MatchResult r (λ x. IsOkAnd s (made_of x)) (λ e. s ≡ Err e) → type_of d ≡ Some (codes "TripleConstraint") → IfErr r (Because (λ f. PlainFault f d)) →
+    IfErr s (Because (λ f. TripleObjectFault f n d))
 arc_made n d made_of r s m t h =
     made (λ f. PlainFault f d) (λ f. TripleObjectFault f n d) made_of r s m (λ f k. faults.bad_arc t (ArcFault.not_plain k)) h
 
@@ -59,39 +68,53 @@ arc_made n d made_of r s m t h =
 item_of : (key : List ℕ) (d : Data) (vs : List Value) (i : ℕ) (v : Value) → members (get key d) ≡ Some (items_view vs) → i < length vs → v ≡ get_or vs i v → IsItem key (view v) d
 item_of key d vs i v found lt is = record { items = items_view vs; listed = found; place = i; there = item_at vs i v lt is }
 
-pub member_passed : {T : Type 0} (labelled : Bool) (n : ℕ) (d : Data) (vs : List Value) (i : ℕ) (v : Value) (r : Result T SchemaError) (e : SchemaError) → IsErrAnd r (λ x. x ≡ e) → IsJoin d → members (get (codes "shapeExprs") d) ≡ Some (items_view vs) → i < length vs → v ≡ get_or vs i v → Because (λ f. ExprFault f (codes "shapeExprs") false n (view v)) e → IfErr r (Because (λ f. ExprObjectFault f labelled (n + 1) d))
+pub member_passed : {T : Type 0} (labelled : Bool) (n : ℕ) (d : Data) (vs : List Value) (i : ℕ) (v : Value) (r : Result T SchemaError) (e : SchemaError) →
+    IsErrAnd r (λ x. x ≡ e) → IsJoin d → members (get (codes "shapeExprs") d) ≡ Some (items_view vs) → i < length vs → v ≡ get_or vs i v →
+    Because (λ f. ExprFault f (codes "shapeExprs") false n (view v)) e → IfErr r (Because (λ f. ExprObjectFault f labelled (n + 1) d))
 member_passed labelled n d vs i v r e same t found lt is h =
-    passed (λ f. ExprFault f (codes "shapeExprs") false n (view v)) (λ f. ExprObjectFault f labelled (n + 1) d) r e same (λ f k. faults.in_join n (view v) (one_up n) t (item_of (codes "shapeExprs") d vs i v found lt is) k) h
+    passed (λ f. ExprFault f (codes "shapeExprs") false n (view v))
+    (λ f. ExprObjectFault f labelled (n + 1) d) r e same (λ f k. faults.in_join n (view v) (one_up n) t (item_of (codes "shapeExprs") d vs i v found lt is) k) h
 
-pub negated_passed : {T : Type 0} (labelled : Bool) (n : ℕ) (d v : Data) (r : Result T SchemaError) (e : SchemaError) → IsErrAnd r (λ x. x ≡ e) → type_of d ≡ Some (codes "ShapeNot") → get (codes "shapeExpr") d ≡ Some v → Because (λ f. ExprFault f (codes "shapeExpr") false n v) e → IfErr r (Because (λ f. ExprObjectFault f labelled (n + 1) d))
+pub negated_passed : {T : Type 0} (labelled : Bool) (n : ℕ) (d v : Data) (r : Result T SchemaError) (e : SchemaError) → IsErrAnd r (λ x. x ≡ e) →
+    type_of d ≡ Some (codes "ShapeNot") → get (codes "shapeExpr") d ≡ Some v → Because (λ f. ExprFault f (codes "shapeExpr") false n v) e →
+    IfErr r (Because (λ f. ExprObjectFault f labelled (n + 1) d))
 negated_passed labelled n d v r e same t there h =
     passed (λ f. ExprFault f (codes "shapeExpr") false n v) (λ f. ExprObjectFault f labelled (n + 1) d) r e same (λ f k. faults.in_negation n v (one_up n) t there k) h
 
-pub expression_passed : {T : Type 0} (labelled : Bool) (n : ℕ) (d v : Data) (r : Result T SchemaError) (e : SchemaError) → IsErrAnd r (λ x. x ≡ e) → type_of d ≡ Some (codes "Shape") → get (codes "expression") d ≡ Some v → Because (λ f. TripleFault f (codes "expression") n v) e → IfErr r (Because (λ f. ExprObjectFault f labelled (n + 1) d))
+pub expression_passed : {T : Type 0} (labelled : Bool) (n : ℕ) (d v : Data) (r : Result T SchemaError) (e : SchemaError) → IsErrAnd r (λ x. x ≡ e) →
+    type_of d ≡ Some (codes "Shape") → get (codes "expression") d ≡ Some v → Because (λ f. TripleFault f (codes "expression") n v) e → IfErr r (Because (λ f. ExprObjectFault f labelled (n + 1) d))
 expression_passed labelled n d v r e same t there h =
     passed (λ f. TripleFault f (codes "expression") n v) (λ f. ExprObjectFault f labelled (n + 1) d) r e same (λ f k. faults.in_shape n v (one_up n) t there k) h
 
-pub triple_passed : {T : Type 0} (n : ℕ) (d : Data) (vs : List Value) (i : ℕ) (v : Value) (r : Result T SchemaError) (e : SchemaError) → IsErrAnd r (λ x. x ≡ e) → IsGroupType d → members (get (codes "expressions") d) ≡ Some (items_view vs) → i < length vs → v ≡ get_or vs i v → Because (λ f. TripleFault f (codes "expressions") n (view v)) e → IfErr r (Because (λ f. TripleObjectFault f (n + 1) d))
+pub triple_passed : {T : Type 0} (n : ℕ) (d : Data) (vs : List Value) (i : ℕ) (v : Value) (r : Result T SchemaError) (e : SchemaError) →
+    IsErrAnd r (λ x. x ≡ e) → IsGroupType d → members (get (codes "expressions") d) ≡ Some (items_view vs) → i < length vs → v ≡ get_or vs i v →
+    Because (λ f. TripleFault f (codes "expressions") n (view v)) e → IfErr r (Because (λ f. TripleObjectFault f (n + 1) d))
 triple_passed n d vs i v r e same t found lt is h =
-    passed (λ f. TripleFault f (codes "expressions") n (view v)) (λ f. TripleObjectFault f (n + 1) d) r e same (λ f k. faults.in_group n (view v) (one_up n) t (item_of (codes "expressions") d vs i v found lt is) k) h
+    passed (λ f. TripleFault f (codes "expressions") n (view v))
+    (λ f. TripleObjectFault f (n + 1) d) r e same (λ f k. faults.in_group n (view v) (one_up n) t (item_of (codes "expressions") d vs i v found lt is) k) h
 
-pub value_passed : {T : Type 0} (n : ℕ) (d v : Data) (r : Result T SchemaError) (e : SchemaError) → IsErrAnd r (λ x. x ≡ e) → type_of d ≡ Some (codes "TripleConstraint") → get (codes "valueExpr") d ≡ Some v → Because (λ f. ExprFault f (codes "valueExpr") false n v) e → IfErr r (Because (λ f. TripleObjectFault f (n + 1) d))
+pub value_passed : {T : Type 0} (n : ℕ) (d v : Data) (r : Result T SchemaError) (e : SchemaError) → IsErrAnd r (λ x. x ≡ e) →
+    type_of d ≡ Some (codes "TripleConstraint") → get (codes "valueExpr") d ≡ Some v → Because (λ f. ExprFault f (codes "valueExpr") false n v) e →
+    IfErr r (Because (λ f. TripleObjectFault f (n + 1) d))
 value_passed n d v r e same t there h =
     passed (λ f. ExprFault f (codes "valueExpr") false n v) (λ f. TripleObjectFault f (n + 1) d) r e same (λ f k. faults.in_arc n v (one_up n) t there k) h
 
 -- ---- what a reader of one type hands to the reader of all
 
-pub expr_handed : {T : Type 0} (labelled : Bool) (n : ℕ) (d : Data) (r : Result T SchemaError) → n ≢ 0 → IfErr r (Because (λ f. ExprObjectFault f labelled ((n - 1) + 1) d)) → IfErr r (Because (λ f. ExprObjectFault f labelled n d))
+pub expr_handed : {T : Type 0} (labelled : Bool) (n : ℕ) (d : Data) (r : Result T SchemaError) → n ≢ 0 →
+    IfErr r (Because (λ f. ExprObjectFault f labelled ((n - 1) + 1) d)) → IfErr r (Because (λ f. ExprObjectFault f labelled n d))
 expr_handed labelled n d r up h = subst (λ (k : ℕ). IfErr r (Because (λ f. ExprObjectFault f labelled k d))) (back_up n up) h
 
-pub expr_made : {T U : Type 0} (labelled : Bool) (n : ℕ) (d : Data) (made_of : T → U → Type 0) (r : Result T SchemaError) (s : Result U SchemaError) → MatchResult r (λ x. IsOkAnd s (made_of x)) (λ e. s ≡ Err e) → n ≢ 0 → IfErr r (Because (λ f. ExprObjectFault f labelled ((n - 1) + 1) d)) → IfErr s (Because (λ f. ExprObjectFault f labelled n d))
+pub expr_made : {T U : Type 0} (labelled : Bool) (n : ℕ) (d : Data) (made_of : T → U → Type 0) (r : Result T SchemaError) (s : Result U SchemaError) →
+    MatchResult r (λ x. IsOkAnd s (made_of x)) (λ e. s ≡ Err e) → n ≢ 0 → IfErr r (Because (λ f. ExprObjectFault f labelled ((n - 1) + 1) d)) → IfErr s (Because (λ f. ExprObjectFault f labelled n d))
 expr_made labelled n d made_of r s m up h =
     made (λ f. ExprObjectFault f labelled ((n - 1) + 1) d) (λ f. ExprObjectFault f labelled n d) made_of r s m (λ f k. subst (λ (j : ℕ). ExprObjectFault f labelled j d) (back_up n up) k) h
 
 pub triple_handed : {T : Type 0} (n : ℕ) (d : Data) (r : Result T SchemaError) → n ≢ 0 → IfErr r (Because (λ f. TripleObjectFault f ((n - 1) + 1) d)) → IfErr r (Because (λ f. TripleObjectFault f n d))
 triple_handed n d r up h = subst (λ (k : ℕ). IfErr r (Because (λ f. TripleObjectFault f k d))) (back_up n up) h
 
-pub triple_made : {T U : Type 0} (n : ℕ) (d : Data) (made_of : T → U → Type 0) (r : Result T SchemaError) (s : Result U SchemaError) → MatchResult r (λ x. IsOkAnd s (made_of x)) (λ e. s ≡ Err e) → n ≢ 0 → IfErr r (Because (λ f. TripleObjectFault f ((n - 1) + 1) d)) → IfErr s (Because (λ f. TripleObjectFault f n d))
+pub triple_made : {T U : Type 0} (n : ℕ) (d : Data) (made_of : T → U → Type 0) (r : Result T SchemaError) (s : Result U SchemaError) →
+    MatchResult r (λ x. IsOkAnd s (made_of x)) (λ e. s ≡ Err e) → n ≢ 0 → IfErr r (Because (λ f. TripleObjectFault f ((n - 1) + 1) d)) → IfErr s (Because (λ f. TripleObjectFault f n d))
 triple_made n d made_of r s m up h =
     made (λ f. TripleObjectFault f ((n - 1) + 1) d) (λ f. TripleObjectFault f n d) made_of r s m (λ f k. subst (λ (j : ℕ). TripleObjectFault f j d) (back_up n up) k) h
 

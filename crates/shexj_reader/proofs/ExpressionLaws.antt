@@ -114,7 +114,8 @@ no_group_fault type spelled name low high f d (GroupFault.no_members h) s = let 
 no_group_fault type spelled name low high f d (GroupFault.bad_count h) s = no_cardinality_fault low high f d h s.counted
 no_group_fault type spelled name low high f d (GroupFault.not_plain h) s = no_plain_fault f d h s.plain
 
-no_arc_fault : (inverse : Bool) (predicate : List ℕ) (spelled : Option Data → Type 0) (name : Option Label) (low : ℕ) (high : Bound) (f : Fault) (d : Data) → ArcFault f d → IsArc inverse predicate spelled name low high d → ⊥
+no_arc_fault : (inverse : Bool) (predicate : List ℕ) (spelled : Option Data → Type 0) (name : Option Label) (low : ℕ) (high : Bound) (f : Fault) (d : Data) →
+    ArcFault f d → IsArc inverse predicate spelled name low high d → ⊥
 no_arc_fault inverse predicate spelled name low high f d (ArcFault.unknown_key h) s = known_keys arc_keys f d h s.object.only
 no_arc_fault inverse predicate spelled name low high f d (ArcFault.bad_label h) s = let own = s.has_label in let wrong = h.wrong in cc
 no_arc_fault inverse predicate spelled name low high f d (ArcFault.bad_inverse h) s = let own = s.has_inverse in let wrong = h.wrong in cc

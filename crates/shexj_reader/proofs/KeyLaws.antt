@@ -16,7 +16,8 @@ same_bytes k l e = (bytes_eq-Decides k l).0 e
 pub differ : (a b : List ℕ) → bytes_eq a b ≡ false → Some a ≡ Some b → ⊥
 differ a b apart e = let same : a ≡ b = cc in let is : bytes_eq a b ≡ true = (bytes_eq-Decides a b).1 same in cc
 
-within_step : (k l : List ℕ) (keys : List (List ℕ)) (rest : Bool) (more : Bool) → ((rest ≡ true) → (more ≡ true) → ⊥) → (b c : Bool) → bytes_eq l k ≡ b → list_any (bytes_eq l) keys ≡ c → (b || more) ≡ true → list_any (bytes_eq k) keys ≡ false → (c && rest) ≡ true → ⊥
+within_step : (k l : List ℕ) (keys : List (List ℕ)) (rest : Bool) (more : Bool) → ((rest ≡ true) → (more ≡ true) → ⊥) → (b c : Bool) → bytes_eq l k ≡ b →
+    list_any (bytes_eq l) keys ≡ c → (b || more) ≡ true → list_any (bytes_eq k) keys ≡ false → (c && rest) ≡ true → ⊥
 within_step k l keys rest more next true true e h there unknown within =
     let known : list_any (bytes_eq l) keys ≡ false = ap (λ (x : List ℕ). list_any (bytes_eq x) keys) (same_bytes l k e) ∙ unknown in cc
 within_step k l keys rest more next b false e h there unknown within = cc

@@ -26,7 +26,8 @@ record SameCounts (l m : Option Label) (low least : ℕ) (high most : Bound) : T
   lows : low ≡ least
   highs : high ≡ most
 
-counts_of : (l m : Option Label) (low least : ℕ) (high most : Bound) (d : Data) → label_if_any (get (codes "id") d) ≡ Some l → label_if_any (get (codes "id") d) ≡ Some m → IsCardinality low high d → IsCardinality least most d → SameCounts l m low least high most
+counts_of : (l m : Option Label) (low least : ℕ) (high most : Bound) (d : Data) → label_if_any (get (codes "id") d) ≡ Some l →
+    label_if_any (get (codes "id") d) ≡ Some m → IsCardinality low high d → IsCardinality least most d → SameCounts l m low least high most
 counts_of l m low least high most d own other h k = record {
   labels = one_of (label_if_any (get (codes "id") d)) l m own other;
   lows = one_of _ low least h.min k.min;
@@ -36,7 +37,8 @@ counts_of l m low least high most d own other h k = record {
 same_triple : (l m : Option Label) (low least : ℕ) (high most : Bound) (b c : TripleBody) → SameCounts l m low least high most → b ≡ c → triple l low high b ≡ triple m least most c
 same_triple l m low least high most b c h e = λ i. triple (h.labels i) (h.lows i) (h.highs i) (e i)
 
-apart_body : (b c : TripleBody) (l m : Option Label) (low least : ℕ) (high most : Bound) (d : Data) → same_type (body_type b) (body_type c) ≡ false → SpellsBody b l low high d → SpellsBody c m least most d → ⊥
+apart_body : (b c : TripleBody) (l m : Option Label) (low least : ℕ) (high most : Bound) (d : Data) → same_type (body_type b) (body_type c) ≡ false →
+    SpellsBody b l low high d → SpellsBody c m least most d → ⊥
 apart_body b c l m low least high most d apart h k = other_type (body_type b) (body_type c) (type_of d) apart (has_body_type b l low high d h) (has_body_type c m least most d k)
 
 mutual
@@ -111,7 +113,8 @@ mutual
   pub one_triple_only : (t u : TripleExpr) (d : Data) → SpellsTripleExpr t d → SpellsTripleExpr u d → t ≡ u
   one_triple_only (triple l low high b) (triple m least most c) d h k = body_only b c l m low least high most d h k
 
-  body_only : (b c : TripleBody) (l m : Option Label) (low least : ℕ) (high most : Bound) (d : Data) → SpellsBody b l low high d → SpellsBody c m least most d → triple l low high b ≡ triple m least most c
+  body_only : (b c : TripleBody) (l m : Option Label) (low least : ℕ) (high most : Bound) (d : Data) → SpellsBody b l low high d → SpellsBody c m least most d →
+      triple l low high b ≡ triple m least most c
   body_only (each ts) (each us) l m low least high most d h k =
       let counts = counts_of l m low least high most d h.has_label k.has_label h.counted k.counted in
       let items = one_of _ k.has_members.items h.has_members.items k.has_members.found h.has_members.found in

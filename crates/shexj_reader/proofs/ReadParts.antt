@@ -22,13 +22,15 @@ one_more vs i v lt is = ap (λ (u : Value). take i vs ++ u ∷ []) is ∙ sym (t
 
 -- ---- shape expressions
 
-exprs_push : (es : List DocExpr) (vs : List Value) (e : DocExpr) (v : Value) → SpellsExprs (exprs (map expr_of es)) (items_view vs) → SpellsExpr false (expr_of e) (view v) → SpellsExprs (exprs (map expr_of (es ++ e ∷ []))) (items_view (vs ++ v ∷ []))
+exprs_push : (es : List DocExpr) (vs : List Value) (e : DocExpr) (v : Value) → SpellsExprs (exprs (map expr_of es)) (items_view vs) →
+    SpellsExpr false (expr_of e) (view v) → SpellsExprs (exprs (map expr_of (es ++ e ∷ []))) (items_view (vs ++ v ∷ []))
 exprs_push [] [] e v h s = (s, tt)
 exprs_push [] (w ∷ ws) e v h s = absurd h
 exprs_push (x ∷ es) [] e v h s = absurd h
 exprs_push (x ∷ es) (w ∷ ws) e v h s = (h.0, exprs_push es ws e v h.1 s)
 
-pub exprs_more : (es : List DocExpr) (vs : List Value) (i : ℕ) (e : DocExpr) (v : Value) → i < length vs → v ≡ get_or vs i v → SpellsExprs (exprs (map expr_of es)) (items_view (take i vs)) → SpellsExpr false (expr_of e) (view v) → SpellsExprs (exprs (map expr_of (es ++ e ∷ []))) (items_view (take (i + 1) vs))
+pub exprs_more : (es : List DocExpr) (vs : List Value) (i : ℕ) (e : DocExpr) (v : Value) → i < length vs → v ≡ get_or vs i v →
+    SpellsExprs (exprs (map expr_of es)) (items_view (take i vs)) → SpellsExpr false (expr_of e) (view v) → SpellsExprs (exprs (map expr_of (es ++ e ∷ []))) (items_view (take (i + 1) vs))
 exprs_more es vs i e v lt is h s = subst (λ (ws : List Value). SpellsExprs (exprs (map expr_of (es ++ e ∷ []))) (items_view ws)) (one_more vs i v lt is) (exprs_push es (take i vs) e v h s)
 
 pub exprs_within : (es : List DocExpr) (e : DocExpr) (n : ℕ) → exprs_nesting (exprs (map expr_of es)) ≤ n → nesting (expr_of e) ≤ n → exprs_nesting (exprs (map expr_of (es ++ e ∷ []))) ≤ n
@@ -47,16 +49,21 @@ members_read labelled n d es vs i only found end spelled within = record {
 
 -- ---- triple expressions
 
-triples_push : (ts : List DocTriple) (vs : List Value) (t : DocTriple) (v : Value) → SpellsTripleExprs (triples (map triple_of ts)) (items_view vs) → SpellsTripleExpr (triple_of t) (view v) → SpellsTripleExprs (triples (map triple_of (ts ++ t ∷ []))) (items_view (vs ++ v ∷ []))
+triples_push : (ts : List DocTriple) (vs : List Value) (t : DocTriple) (v : Value) → SpellsTripleExprs (triples (map triple_of ts)) (items_view vs) →
+    SpellsTripleExpr (triple_of t) (view v) → SpellsTripleExprs (triples (map triple_of (ts ++ t ∷ []))) (items_view (vs ++ v ∷ []))
 triples_push [] [] t v h s = (s, tt)
 triples_push [] (w ∷ ws) t v h s = absurd h
 triples_push (x ∷ ts) [] t v h s = absurd h
 triples_push (x ∷ ts) (w ∷ ws) t v h s = (h.0, triples_push ts ws t v h.1 s)
 
-pub triples_more : (ts : List DocTriple) (vs : List Value) (i : ℕ) (t : DocTriple) (v : Value) → i < length vs → v ≡ get_or vs i v → SpellsTripleExprs (triples (map triple_of ts)) (items_view (take i vs)) → SpellsTripleExpr (triple_of t) (view v) → SpellsTripleExprs (triples (map triple_of (ts ++ t ∷ []))) (items_view (take (i + 1) vs))
-triples_more ts vs i t v lt is h s = subst (λ (ws : List Value). SpellsTripleExprs (triples (map triple_of (ts ++ t ∷ []))) (items_view ws)) (one_more vs i v lt is) (triples_push ts (take i vs) t v h s)
+pub triples_more : (ts : List DocTriple) (vs : List Value) (i : ℕ) (t : DocTriple) (v : Value) → i < length vs → v ≡ get_or vs i v →
+    SpellsTripleExprs (triples (map triple_of ts)) (items_view (take i vs)) → SpellsTripleExpr (triple_of t) (view v) →
+    SpellsTripleExprs (triples (map triple_of (ts ++ t ∷ []))) (items_view (take (i + 1) vs))
+triples_more ts vs i t v lt is h s = subst (λ (ws : List Value). SpellsTripleExprs (triples (map triple_of (ts ++ t ∷ []))) (items_view ws))
+    (one_more vs i v lt is) (triples_push ts (take i vs) t v h s)
 
-pub triples_within : (ts : List DocTriple) (t : DocTriple) (n : ℕ) → triples_nesting (triples (map triple_of ts)) ≤ n → triple_nesting (triple_of t) ≤ n → triples_nesting (triples (map triple_of (ts ++ t ∷ []))) ≤ n
+pub triples_within : (ts : List DocTriple) (t : DocTriple) (n : ℕ) → triples_nesting (triples (map triple_of ts)) ≤ n → triple_nesting (triple_of t) ≤ n →
+    triples_nesting (triples (map triple_of (ts ++ t ∷ []))) ≤ n
 triples_within [] t n h s = omega arith
 triples_within (x ∷ ts) t n h s = let rest = triples_within ts t n (omega arith) s in omega arith
 
@@ -71,13 +78,15 @@ triples_read n d ts vs i found end spelled within = record {
 
 -- ---- declarations
 
-decls_push : (xs : List Decl) (vs : List Value) (x : Decl) (v : Value) → SpellsDeclarations (map decl_of xs) (items_view vs) → SpellsDeclaration (decl_of x) (view v) → SpellsDeclarations (map decl_of (xs ++ x ∷ [])) (items_view (vs ++ v ∷ []))
+decls_push : (xs : List Decl) (vs : List Value) (x : Decl) (v : Value) → SpellsDeclarations (map decl_of xs) (items_view vs) →
+    SpellsDeclaration (decl_of x) (view v) → SpellsDeclarations (map decl_of (xs ++ x ∷ [])) (items_view (vs ++ v ∷ []))
 decls_push [] [] x v h s = (s, tt)
 decls_push [] (w ∷ ws) x v h s = absurd h
 decls_push (y ∷ xs) [] x v h s = absurd h
 decls_push (y ∷ xs) (w ∷ ws) x v h s = (h.0, decls_push xs ws x v h.1 s)
 
-pub decls_more : (xs : List Decl) (vs : List Value) (i : ℕ) (x : Decl) (v : Value) → i < length vs → v ≡ get_or vs i v → SpellsDeclarations (map decl_of xs) (items_view (take i vs)) → SpellsDeclaration (decl_of x) (view v) → SpellsDeclarations (map decl_of (xs ++ x ∷ [])) (items_view (take (i + 1) vs))
+pub decls_more : (xs : List Decl) (vs : List Value) (i : ℕ) (x : Decl) (v : Value) → i < length vs → v ≡ get_or vs i v →
+    SpellsDeclarations (map decl_of xs) (items_view (take i vs)) → SpellsDeclaration (decl_of x) (view v) → SpellsDeclarations (map decl_of (xs ++ x ∷ [])) (items_view (take (i + 1) vs))
 decls_more xs vs i x v lt is h s = subst (λ (ws : List Value). SpellsDeclarations (map decl_of (xs ++ x ∷ [])) (items_view ws)) (one_more vs i v lt is) (decls_push xs (take i vs) x v h s)
 
 pub decls_within : (xs : List Decl) (x : Decl) (n : ℕ) → decls_nesting (map decl_of xs) ≤ n → nesting (expr_of x.expr) ≤ n → decls_nesting (map decl_of (xs ++ x ∷ [])) ≤ n

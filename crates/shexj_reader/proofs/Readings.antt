@@ -76,6 +76,7 @@ pub none_refused : (bytes : List ℕ) (e : SchemaError) (doc : Document) → e �
 none_refused bytes e doc other h s = other (only_memory bytes doc e h s)
 
 -- a refusal that a `?` passes on
-pub refused_exactly : (bytes : List ℕ) (doc : Document) (d : Data) (r : Result Doc SchemaError) (e : SchemaError) → IsErrAnd r (λ x. x ≡ e) → Because (λ f. DocumentFault f d) e → IsUtf8 bytes → read bytes ≡ Some d → IsDocumentText doc bytes → MatchResult r (λ x. document_of x ≡ doc) (λ x. x ≡ Errors.Memory)
+pub refused_exactly : (bytes : List ℕ) (doc : Document) (d : Data) (r : Result Doc SchemaError) (e : SchemaError) → IsErrAnd r (λ x. x ≡ e) →
+    Because (λ f. DocumentFault f d) e → IsUtf8 bytes → read bytes ≡ Some d → IsDocumentText doc bytes → MatchResult r (λ x. document_of x ≡ doc) (λ x. x ≡ Errors.Memory)
 refused_exactly bytes doc d (Ok x) e same h utf json s = absurd same
 refused_exactly bytes doc d (Err x) e same h utf json s = same ∙ only_memory bytes doc e (caused bytes d e utf json h) s

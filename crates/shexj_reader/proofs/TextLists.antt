@@ -23,20 +23,23 @@ joined_none : (o : Option (List ℕ)) → joined o None ≡ None
 joined_none None = refl
 joined_none (Some s) = refl
 
-joined_push : (o : Option (List ℕ)) (r next : Option (List (List ℕ))) (ss : List (List ℕ)) (s : List ℕ) → joined o r ≡ Some ss → ((ts : List (List ℕ)) → r ≡ Some ts → next ≡ Some (ts ++ s ∷ [])) → joined o next ≡ Some (ss ++ s ∷ [])
+joined_push : (o : Option (List ℕ)) (r next : Option (List (List ℕ))) (ss : List (List ℕ)) (s : List ℕ) → joined o r ≡ Some ss →
+    ((ts : List (List ℕ)) → r ≡ Some ts → next ≡ Some (ts ++ s ∷ [])) → joined o next ≡ Some (ss ++ s ∷ [])
 joined_push None r next ss s h k = cc
 joined_push (Some t) None next ss s h k = cc
 joined_push (Some t) (Some ts) next ss s h k =
     let is : t ∷ ts ≡ ss = cc in
     ap (option_map (λ (us : List (List ℕ)). t ∷ us)) (k ts refl) ∙ ap (λ (us : List (List ℕ)). Some (us ++ s ∷ [])) is
 
-texts_push : (vs : List Value) (v : Value) (ss : List (List ℕ)) (s : List ℕ) → texts_in (items_view vs) ≡ Some ss → text (Some (view v)) ≡ Some s → texts_in (items_view (vs ++ v ∷ [])) ≡ Some (ss ++ s ∷ [])
+texts_push : (vs : List Value) (v : Value) (ss : List (List ℕ)) (s : List ℕ) → texts_in (items_view vs) ≡ Some ss → text (Some (view v)) ≡ Some s →
+    texts_in (items_view (vs ++ v ∷ [])) ≡ Some (ss ++ s ∷ [])
 texts_push [] v ss s h e =
     let is : [] ≡ ss = cc in
     ap (λ (o : Option (List ℕ)). joined o (Some [])) e ∙ ap (λ (us : List (List ℕ)). Some (us ++ s ∷ [])) is
 texts_push (w ∷ vs) v ss s h e = joined_push (text (Some (view w))) _ _ ss s h (λ ts r. texts_push vs v ts s r e)
 
-pub texts_more : (vs : List Value) (i : ℕ) (v : Value) (ss : List (List ℕ)) (s : List ℕ) → i < length vs → v ≡ get_or vs i v → texts_in (items_view (take i vs)) ≡ Some ss → text (Some (view v)) ≡ Some s → texts_in (items_view (take (i + 1) vs)) ≡ Some (ss ++ s ∷ [])
+pub texts_more : (vs : List Value) (i : ℕ) (v : Value) (ss : List (List ℕ)) (s : List ℕ) → i < length vs → v ≡ get_or vs i v →
+    texts_in (items_view (take i vs)) ≡ Some ss → text (Some (view v)) ≡ Some s → texts_in (items_view (take (i + 1) vs)) ≡ Some (ss ++ s ∷ [])
 texts_more vs i v ss s lt is h e =
     ap (λ (us : List Value). texts_in (items_view us)) (take_more vs i v lt ∙ ap (λ (u : Value). take i vs ++ u ∷ []) (sym is)) ∙ texts_push (take i vs) v ss s h e
 

@@ -28,15 +28,18 @@ item_at (w ∷ vs) (suc i) v lt is = item_at vs i v (omega arith) is
 pub stem_missed : (f : Fault) (o : Option Data) (d : Data) → o ≡ Some d → None ≡ as_str d → is_object d ≡ false → f ≡ form (codes "stem") → RangeStemFault f o
 stem_missed f o d at none no_object is = RangeStemFault.no_stem d is at (ap word at ∙ sym none) no_object
 
-exclusions_push : (kind : StemKind) (es : List Except) (vs : List Value) (e : Except) (v : Value) → AreExclusions kind es (items_view vs) → IsExclusion kind e (view v) → AreExclusions kind (es ++ e ∷ []) (items_view (vs ++ v ∷ []))
+exclusions_push : (kind : StemKind) (es : List Except) (vs : List Value) (e : Except) (v : Value) → AreExclusions kind es (items_view vs) →
+    IsExclusion kind e (view v) → AreExclusions kind (es ++ e ∷ []) (items_view (vs ++ v ∷ []))
 exclusions_push kind [] [] e v h s = (s, tt)
 exclusions_push kind [] (w ∷ ws) e v h s = absurd h
 exclusions_push kind (x ∷ es) [] e v h s = absurd h
 exclusions_push kind (x ∷ es) (w ∷ ws) e v h s = (h.0, exclusions_push kind es ws e v h.1 s)
 
-pub exclusions_more : (kind : StemKind) (es : List Except) (vs : List Value) (i : ℕ) (e : Except) (v : Value) → i < length vs → v ≡ get_or vs i v → AreExclusions kind es (items_view (take i vs)) → IsExclusion kind e (view v) → AreExclusions kind (es ++ e ∷ []) (items_view (take (i + 1) vs))
+pub exclusions_more : (kind : StemKind) (es : List Except) (vs : List Value) (i : ℕ) (e : Except) (v : Value) → i < length vs → v ≡ get_or vs i v →
+    AreExclusions kind es (items_view (take i vs)) → IsExclusion kind e (view v) → AreExclusions kind (es ++ e ∷ []) (items_view (take (i + 1) vs))
 exclusions_more kind es vs i e v lt is h s =
-    subst (λ (ws : List Value). AreExclusions kind (es ++ e ∷ []) (items_view ws)) (ap (λ (u : Value). take i vs ++ u ∷ []) is ∙ sym (take_more vs i v lt)) (exclusions_push kind es (take i vs) e v h s)
+    subst (λ (ws : List Value). AreExclusions kind (es ++ e ∷ []) (items_view ws)) (ap (λ (u : Value). take i vs ++ u ∷ []) is ∙ sym (take_more vs i v lt))
+    (exclusions_push kind es (take i vs) e v h s)
 
 values_push : (es : List SetValue) (vs : List Value) (e : SetValue) (v : Value) → SpellsValues es (items_view vs) → SpellsValue e (view v) → SpellsValues (es ++ e ∷ []) (items_view (vs ++ v ∷ []))
 values_push [] [] e v h s = (s, tt)
@@ -44,7 +47,8 @@ values_push [] (w ∷ ws) e v h s = absurd h
 values_push (x ∷ es) [] e v h s = absurd h
 values_push (x ∷ es) (w ∷ ws) e v h s = (h.0, values_push es ws e v h.1 s)
 
-pub values_more : (es : List SetValue) (vs : List Value) (i : ℕ) (e : SetValue) (v : Value) → i < length vs → v ≡ get_or vs i v → SpellsValues es (items_view (take i vs)) → SpellsValue e (view v) → SpellsValues (es ++ e ∷ []) (items_view (take (i + 1) vs))
+pub values_more : (es : List SetValue) (vs : List Value) (i : ℕ) (e : SetValue) (v : Value) → i < length vs → v ≡ get_or vs i v →
+    SpellsValues es (items_view (take i vs)) → SpellsValue e (view v) → SpellsValues (es ++ e ∷ []) (items_view (take (i + 1) vs))
 values_more es vs i e v lt is h s =
     subst (λ (ws : List Value). SpellsValues (es ++ e ∷ []) (items_view ws)) (ap (λ (u : Value). take i vs ++ u ∷ []) is ∙ sym (take_more vs i v lt)) (values_push es (take i vs) e v h s)
 
@@ -72,7 +76,8 @@ no_length : {A : Type 0} (xs : List A) → eqb (length xs) 0 ≡ true → xs ≡
 no_length [] e = refl
 no_length (x ∷ xs) e = let none : length (x ∷ xs) ≡ 0 = eqb-true (length (x ∷ xs)) 0 e in absurd (omega arith)
 
-pub unlimited_range : (kind : StemKind) (f : Fault) (d : Data) (es : List Except) → IsRangeStem kind None (get (codes "stem") d) → HasExclusions kind es (get (codes "exclusions") d) → eqb (length es) 0 ≡ true → f ≡ form (codes "exclusions") → RangeFault kind f d
+pub unlimited_range : (kind : StemKind) (f : Fault) (d : Data) (es : List Except) → IsRangeStem kind None (get (codes "stem") d) →
+    HasExclusions kind es (get (codes "exclusions") d) → eqb (length es) 0 ≡ true → f ≡ form (codes "exclusions") → RangeFault kind f d
 unlimited_range kind f d es stem listed none is =
     let w = wildcard_there kind _ stem in
     let none_listed : HasExclusions kind [] (get (codes "exclusions") d) = subst (λ (xs : List Except). HasExclusions kind xs (get (codes "exclusions") d)) (no_length es none) listed in

@@ -37,7 +37,7 @@ abbrev mutual
   body_nesting (arc inverse p e) = suc (maybe_expr_nesting e)
   body_nesting (include l) = 0
 
--- the same of declarations and of a document; a ShapeDecl does not count
+-- how deep declarations nest, and a document; a ShapeDecl does not count
 abbrev pub decls_nesting : List Declaration → ℕ
 decls_nesting [] = 0
 decls_nesting (decl ∷ decls) = max (nesting decl.expr) (decls_nesting decls)

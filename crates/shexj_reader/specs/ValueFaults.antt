@@ -30,7 +30,8 @@ pub data LiteralFault (f : Fault) (d : Data) : Type 0 where
   unknown_key : IsUnknownKey (codes "language" ∷ codes "type" ∷ codes "value" ∷ []) f d → LiteralFault f d
   bad_value : IsBad (codes "value") text f d → LiteralFault f d
   bad_language : IsBad (codes "language") text_if_any f d → LiteralFault f d
-  mistyped : (type tag : Option (List ℕ)) → f ≡ form (codes "type") → text_if_any (get (codes "type") d) ≡ Some type → text_if_any (get (codes "language") d) ≡ Some tag → AreApart type tag → LiteralFault f d
+  mistyped : (type tag : Option (List ℕ)) → f ≡ form (codes "type") → text_if_any (get (codes "type") d) ≡ Some type →
+      text_if_any (get (codes "language") d) ≡ Some tag → AreApart type tag → LiteralFault f d
 
 -- the stem of a range is missing, is neither a text nor an object, is an object that is not the wildcard, or the wildcard has another key
 pub data RangeStemFault (f : Fault) (o : Option Data) : Type 0 where

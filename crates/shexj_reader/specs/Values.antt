@@ -86,7 +86,7 @@ AreExclusions kind [] (item d ds) = ⊥
 AreExclusions kind (e ∷ es) no_items = ⊥
 AreExclusions kind (e ∷ es) (item d ds) = IsExclusion kind e d × AreExclusions kind es ds
 
--- the same where the key may be absent
+-- exclusions in their order, and none where the key is absent
 abbrev pub HasExclusions : StemKind → List Except → Option Data → Type 0
 HasExclusions kind es None = es ≡ []
 HasExclusions kind es (Some (array ds)) = AreExclusions kind es ds

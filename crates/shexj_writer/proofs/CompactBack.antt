@@ -124,7 +124,8 @@ pub compact_back : (d : Data) → IsWritable d → depth d ≤ max_depth → rea
 compact_back d h shallow =
     let ts = tree.json_tokens (outline d) in
     let same : tokens (compact_text d) ≡ ts ++ [] = ap tokens (sym (print-outline d)) ∙ tokens-print ts (ArePrintable-json_tokens (outline d) (has_numbers d h)) ∙ sym (append-nil ts) in
-    let parsed : json.value max_depth (tokens (compact_text d)) ≡ Some (outline d, []) = ap (json.value max_depth) same ∙ value-json_tokens (outline d) max_depth [] (subst (λ (n : ℕ). n ≤ max_depth) (sym (same_depth d)) shallow) in
+    let parsed : json.value max_depth (tokens (compact_text d)) ≡ Some (outline d, []) = ap (json.value max_depth) same
+    ∙ value-json_tokens (outline d) max_depth [] (subst (λ (n : ℕ). n ≤ max_depth) (sym (same_depth d)) shallow) in
     ap (λ (r : Option (json.Json × List Token)). option_and_then of_json (option_and_then (λ p. json.if_last p.0 p.1) r)) parsed ∙ value_back d h
 
 -- ---- the text is UTF-8

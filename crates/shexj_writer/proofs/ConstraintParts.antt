@@ -24,7 +24,8 @@ pub record HasParts (c : Constraint) (kind : Option Kind4) (datatype : Option (L
 abbrev constraint_of : Option Kind4 → Option (List ℕ) → List Facet → Option ValueList → Constraint
 constraint_of kind datatype facets values = record { kind = kind; datatype = datatype; facets = facets; values = values }
 
-pub parts_written : (c : Constraint) (id : Option Data) (kind : Option Kind4) (datatype : Option (List ℕ)) (facets : List Facet) (values : Option ValueList) (pattern : Option Facet) (flags : Option Data) (m0 m1 m2 m3 m4 m5 m6 : Members) (d : Data) →
+pub parts_written : (c : Constraint) (id : Option Data) (kind : Option Kind4) (datatype : Option (List ℕ)) (facets : List Facet) (values : Option ValueList) (pattern : Option Facet)
+    (flags : Option Data) (m0 m1 m2 m3 m4 m5 m6 : Members) (d : Data) →
     HasParts c kind datatype facets values → pattern ≡ facet_under (codes "pattern") facets → flags ≡ option_and_then flags_data pattern →
     m0 ≡ no_members → m1 ≡ put_all (last_fields kind facets values) m0 → m2 ≡ put_all (bound_fields facets) m1 → m3 ≡ put_if (codes "id") id m2 →
     m4 ≡ put_if (codes "fractiondigits") (under (codes "fractiondigits") facets) m3 → m5 ≡ put_if (codes "flags") flags m4 → m6 ≡ put_if (codes "datatype") (option_map text_data datatype) m5 →
@@ -36,14 +37,16 @@ parts_written c id kind datatype facets values pattern flags m0 m1 m2 m3 m4 m5 m
     let w2 = q2 ∙ ap (λ (m : Members). put_all (bound_fields facets) m) w1 in
     let w3 = q3 ∙ ap (λ (m : Members). put_if (codes "id") id m) w2 in
     let w4 = q4 ∙ ap (λ (m : Members). put_if (codes "fractiondigits") (under (codes "fractiondigits") facets) m) w3 in
-    let w5 = q5 ∙ (ap (λ (o : Option Data). put_if (codes "flags") o m4) flags_are ∙ ap (λ (m : Members). put_if (codes "flags") (option_and_then flags_data (facet_under (codes "pattern") facets)) m) w4) in
+    let w5 = q5 ∙ (ap (λ (o : Option Data). put_if (codes "flags") o m4) flags_are
+    ∙ ap (λ (m : Members). put_if (codes "flags") (option_and_then flags_data (facet_under (codes "pattern") facets)) m) w4) in
     let w6 = q6 ∙ ap (λ (m : Members). put_if (codes "datatype") (option_map text_data datatype) m) w5 in
     let same : constraint_of kind datatype facets values ≡ c = λ i. record { kind = parts.kinds i; datatype = parts.datatypes i; facets = parts.lists i; values = parts.sets i } in
     q ∙ (ap (λ (m : Members). object m) w6 ∙ ap (λ (x : Constraint). constraint_data id x) same)
 
 pub parts_held : (c : Constraint) (kind : Option Kind4) (datatype : Option (List ℕ)) (facets : List Facet) (values : Option ValueList) (pattern : Option Facet) →
     HasParts c kind datatype facets values → pattern ≡ facet_under (codes "pattern") facets →
-    AreHeldValuesIfAny values → IsHeldUnder facets (codes "totaldigits") → IsHeldUnder facets (codes "pattern") → AllByRecursion (IsHeldUnder facets) bound_keys → IsHeldUnder facets (codes "fractiondigits") →
+    AreHeldValuesIfAny values → IsHeldUnder facets (codes "totaldigits") → IsHeldUnder facets (codes "pattern") →
+    AllByRecursion (IsHeldUnder facets) bound_keys → IsHeldUnder facets (codes "fractiondigits") →
     IfSome pattern HasTextFlags → IsTextIfAny datatype → IsHeldConstraint c
 parts_held c kind datatype facets values pattern parts p held_values digits patterns bounds fraction flags text =
     let flags_held : IfSome (facet_under (codes "pattern") facets) HasTextFlags = subst (λ (o : Option Facet). IfSome o HasTextFlags) p flags in

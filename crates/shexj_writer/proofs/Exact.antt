@@ -216,7 +216,8 @@ mutual
   expr_exact id (disj es) own = object_exact (join_fields id (codes "ShapeOr") (exprs_items es)) (own, (exprs_exact es, (refl, tt)))
   expr_exact id (neg e) own = object_exact (not_fields id (expr_data None e)) (own, (expr_exact None e tt, (refl, tt)))
   expr_exact id (node c) own = constraint_exact id c own
-  expr_exact id (shape closed extra t) own = object_exact (shape_fields id closed (texts_items extra) (expression_data t)) (flag_exact closed, (expression_exact t, (list_exact (texts_items extra) (texts_exact extra), (own, (refl, tt)))))
+  expr_exact id (shape closed extra t) own = object_exact (shape_fields id closed (texts_items extra) (expression_data t))
+      (flag_exact closed, (expression_exact t, (list_exact (texts_items extra) (texts_exact extra), (own, (refl, tt)))))
   expr_exact id (refer l) own = label_exact l
 
   exprs_exact : (es : ShapeExprs) → items_have_float (exprs_items es) ≡ false
@@ -261,4 +262,5 @@ decls_exact (decl ∷ decls) = neither_is _ _ (declared_exact decl.label decl.ex
 
 pub document_exact : (doc : Document) → has_float (document_data doc) ≡ false
 unfolding document_data
-document_exact doc = object_exact (schema_fields doc) (refl, (list_exact (texts_items doc.imports) (texts_exact doc.imports), (list_exact (decls_items doc.decls) (decls_exact doc.decls), (value_expr_exact doc.start, (refl, tt)))))
+document_exact doc = object_exact (schema_fields doc)
+    (refl, (list_exact (texts_items doc.imports) (texts_exact doc.imports), (list_exact (decls_items doc.decls) (decls_exact doc.decls), (value_expr_exact doc.start, (refl, tt)))))

@@ -63,7 +63,8 @@ kind_back (Some kind) o e = ap word e
 plain_back : (d : Data) → get (codes "semActs") d ≡ None → get (codes "annotations") d ≡ None → IsPlain d
 plain_back d no_acts no_notes = record { acts = ap is_empty_list no_acts; notes = ap is_list no_notes }
 
-constraint_back : (id : Option Data) (c : Constraint) → Held.IsHeldConstraint c → IsExpressibleConstraint c → is_whole_constraint c ≡ true → IsConstraint (with_id (is_some id) constraint_keys) (plain_constraint c) (constraint_data id c)
+constraint_back : (id : Option Data) (c : Constraint) → Held.IsHeldConstraint c → IsExpressibleConstraint c → is_whole_constraint c ≡ true →
+    IsConstraint (with_id (is_some id) constraint_keys) (plain_constraint c) (constraint_data id c)
 constraint_back id c held is whole =
     let parts = has_parts id c in
     record {
@@ -109,7 +110,8 @@ shape_only : (id : Option Data) (closed : Bool) (extra : Items) (o : Option Data
 shape_only None closed extra o = only_listed shape_keys (shape_fields None closed extra o) refl
 shape_only (Some d) closed extra o = only_listed (codes "id" ∷ shape_keys) (shape_fields (Some d) closed extra o) refl
 
-shape_back : (id : Option Data) (closed : Bool) (extra : List (List ℕ)) (o : Option Data) (spelled : Option Data → Type 0) → Held.AreTexts extra → spelled o → IsShape (is_some id) closed extra spelled (shape_data id closed (texts_items extra) o)
+shape_back : (id : Option Data) (closed : Bool) (extra : List (List ℕ)) (o : Option Data) (spelled : Option Data → Type 0) → Held.AreTexts extra → spelled o →
+    IsShape (is_some id) closed extra spelled (shape_data id closed (texts_items extra) o)
 shape_back id closed extra o spelled held own =
     let fs = shape_fields id closed (texts_items extra) o in
     let d = shape_data id closed (texts_items extra) o in
@@ -133,7 +135,8 @@ record HasCount (name : Option Label) (low : ℕ) (high : Bound) : Type 0 where
   few : low < 2 ^ 32
   bounded : Held.IsBound high
 
-group_back : (type : List ℕ) (ds : Items) (spelled : Items → Type 0) (name : Option Label) (low : ℕ) (high : Bound) → some_items ds ≡ Some ds → spelled ds → HasCount name low high → IsGroup type spelled name low high (group_data type ds name low high)
+group_back : (type : List ℕ) (ds : Items) (spelled : Items → Type 0) (name : Option Label) (low : ℕ) (high : Bound) → some_items ds ≡ Some ds → spelled ds →
+    HasCount name low high → IsGroup type spelled name low high (group_data type ds name low high)
 group_back type ds spelled name low high some all count =
     let fs = group_fields type ds name low high in
     let d = group_data type ds name low high in
@@ -150,7 +153,8 @@ group_back type ds spelled name low high some all count =
       plain = plain_back d (field_is (codes "semActs") fs refl) (field_is (codes "annotations") fs refl);
     }
 
-arc_back : (inverse : Bool) (predicate : List ℕ) (o : Option Data) (spelled : Option Data → Type 0) (name : Option Label) (low : ℕ) (high : Bound) → Held.IsText predicate → spelled o → HasCount name low high → IsArc inverse predicate spelled name low high (arc_data inverse predicate o name low high)
+arc_back : (inverse : Bool) (predicate : List ℕ) (o : Option Data) (spelled : Option Data → Type 0) (name : Option Label) (low : ℕ) (high : Bound) →
+    Held.IsText predicate → spelled o → HasCount name low high → IsArc inverse predicate spelled name low high (arc_data inverse predicate o name low high)
 arc_back inverse predicate o spelled name low high held own count =
     let fs = arc_fields inverse predicate o name low high in
     let d = arc_data inverse predicate o name low high in
@@ -217,7 +221,8 @@ mutual
   triple_back : (t : TripleExpr) → Held.IsHeldTriple t → IsExpressibleTriple t → is_whole_triple t ≡ true → SpellsTripleExpr (plain_triple t) (triple_data t)
   triple_back (triple name low high b) held is whole = body_back b name low high held is.0 is.1.0 is.1.1 whole
 
-  body_back : (b : TripleBody) (name : Option Label) (low : ℕ) (high : Bound) → Held.IsHeldBody b name low high → Expressible.IsLabelIfAny name → IsOrdered low high → IsExpressibleBody b name low high → is_whole_body b ≡ true → SpellsBody (plain_body b) name low high (body_data b name low high)
+  body_back : (b : TripleBody) (name : Option Label) (low : ℕ) (high : Bound) → Held.IsHeldBody b name low high → Expressible.IsLabelIfAny name →
+      IsOrdered low high → IsExpressibleBody b name low high → is_whole_body b ≡ true → SpellsBody (plain_body b) name low high (body_data b name low high)
   body_back (each ts) name low high held labelled ordered is whole =
       group_back (codes "EachOf") (triples_items ts) (SpellsTripleExprs (plain_triples ts)) name low high (some_triples ts is.0) (triples_back ts held.1.1.1 is.1 whole)
       (record { expressible = labelled; held = held.0; ordered = ordered; few = held.1.0; bounded = held.1.1.0 })

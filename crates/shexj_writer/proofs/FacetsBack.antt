@@ -47,17 +47,20 @@ length_entry None k h = refl
 length_entry (Some (Facets.Length n)) k h = ap (λ (x : Option ℕ). option_map (option_map Facets.Length) (option_map (λ (y : ℕ). Some y) x)) (small_is n h)
 length_entry (Some facet) k h = absurd (true≢false (sym k))
 
-minlength_entry : (o : Option Facet) → HasKey (codes "minlength") o → IfSome o IsHeldFacet → option_map (option_map Facets.MinLength) (count (option_map facet_data o)) ≡ Some (option_map plain_facet o)
+minlength_entry : (o : Option Facet) → HasKey (codes "minlength") o → IfSome o IsHeldFacet →
+    option_map (option_map Facets.MinLength) (count (option_map facet_data o)) ≡ Some (option_map plain_facet o)
 minlength_entry None k h = refl
 minlength_entry (Some (Facets.MinLength n)) k h = ap (λ (x : Option ℕ). option_map (option_map Facets.MinLength) (option_map (λ (y : ℕ). Some y) x)) (small_is n h)
 minlength_entry (Some facet) k h = absurd (true≢false (sym k))
 
-maxlength_entry : (o : Option Facet) → HasKey (codes "maxlength") o → IfSome o IsHeldFacet → option_map (option_map Facets.MaxLength) (count (option_map facet_data o)) ≡ Some (option_map plain_facet o)
+maxlength_entry : (o : Option Facet) → HasKey (codes "maxlength") o → IfSome o IsHeldFacet →
+    option_map (option_map Facets.MaxLength) (count (option_map facet_data o)) ≡ Some (option_map plain_facet o)
 maxlength_entry None k h = refl
 maxlength_entry (Some (Facets.MaxLength n)) k h = ap (λ (x : Option ℕ). option_map (option_map Facets.MaxLength) (option_map (λ (y : ℕ). Some y) x)) (small_is n h)
 maxlength_entry (Some facet) k h = absurd (true≢false (sym k))
 
-flags_at : (bs pattern flags : List ℕ) → bs ≡ encode_utf8_all flags → chars bs ≡ flags → option_and_then (with_flags (Some pattern)) (text_if_any (bytes_if_some bs)) ≡ Some (Some (Facets.Pattern pattern flags))
+flags_at : (bs pattern flags : List ℕ) → bs ≡ encode_utf8_all flags → chars bs ≡ flags →
+    option_and_then (with_flags (Some pattern)) (text_if_any (bytes_if_some bs)) ≡ Some (Some (Facets.Pattern pattern flags))
 flags_at [] pattern flags is own = ap (λ (x : List ℕ). Some (Some (Facets.Pattern pattern x))) (sym chars-nil ∙ own)
 flags_at (b ∷ bs) pattern flags is own = ap (λ (x : List ℕ). Some (Some (Facets.Pattern pattern x))) own
 
@@ -69,32 +72,38 @@ pattern_entry (Some (Facets.Pattern pattern flags)) k h f =
     ∙ flags_at (encode_utf8_all flags) pattern flags refl (chars-encodes flags f)
 pattern_entry (Some facet) k h f = absurd (true≢false (sym k))
 
-mininclusive_entry : (o : Option Facet) → HasKey (codes "mininclusive") o → IsWholeIfAny o → option_map (option_map Facets.MinInclusive) (bound (option_map facet_data o)) ≡ Some (option_map plain_facet o)
+mininclusive_entry : (o : Option Facet) → HasKey (codes "mininclusive") o → IsWholeIfAny o →
+    option_map (option_map Facets.MinInclusive) (bound (option_map facet_data o)) ≡ Some (option_map plain_facet o)
 mininclusive_entry None k h = refl
 mininclusive_entry (Some (Facets.MinInclusive t)) k h = ap (option_map (option_map Facets.MinInclusive)) (bound_is t h)
 mininclusive_entry (Some facet) k h = absurd (true≢false (sym k))
 
-minexclusive_entry : (o : Option Facet) → HasKey (codes "minexclusive") o → IsWholeIfAny o → option_map (option_map Facets.MinExclusive) (bound (option_map facet_data o)) ≡ Some (option_map plain_facet o)
+minexclusive_entry : (o : Option Facet) → HasKey (codes "minexclusive") o → IsWholeIfAny o →
+    option_map (option_map Facets.MinExclusive) (bound (option_map facet_data o)) ≡ Some (option_map plain_facet o)
 minexclusive_entry None k h = refl
 minexclusive_entry (Some (Facets.MinExclusive t)) k h = ap (option_map (option_map Facets.MinExclusive)) (bound_is t h)
 minexclusive_entry (Some facet) k h = absurd (true≢false (sym k))
 
-maxinclusive_entry : (o : Option Facet) → HasKey (codes "maxinclusive") o → IsWholeIfAny o → option_map (option_map Facets.MaxInclusive) (bound (option_map facet_data o)) ≡ Some (option_map plain_facet o)
+maxinclusive_entry : (o : Option Facet) → HasKey (codes "maxinclusive") o → IsWholeIfAny o →
+    option_map (option_map Facets.MaxInclusive) (bound (option_map facet_data o)) ≡ Some (option_map plain_facet o)
 maxinclusive_entry None k h = refl
 maxinclusive_entry (Some (Facets.MaxInclusive t)) k h = ap (option_map (option_map Facets.MaxInclusive)) (bound_is t h)
 maxinclusive_entry (Some facet) k h = absurd (true≢false (sym k))
 
-maxexclusive_entry : (o : Option Facet) → HasKey (codes "maxexclusive") o → IsWholeIfAny o → option_map (option_map Facets.MaxExclusive) (bound (option_map facet_data o)) ≡ Some (option_map plain_facet o)
+maxexclusive_entry : (o : Option Facet) → HasKey (codes "maxexclusive") o → IsWholeIfAny o →
+    option_map (option_map Facets.MaxExclusive) (bound (option_map facet_data o)) ≡ Some (option_map plain_facet o)
 maxexclusive_entry None k h = refl
 maxexclusive_entry (Some (Facets.MaxExclusive t)) k h = ap (option_map (option_map Facets.MaxExclusive)) (bound_is t h)
 maxexclusive_entry (Some facet) k h = absurd (true≢false (sym k))
 
-totaldigits_entry : (o : Option Facet) → HasKey (codes "totaldigits") o → IfSome o IsHeldFacet → option_map (option_map Facets.TotalDigits) (count (option_map facet_data o)) ≡ Some (option_map plain_facet o)
+totaldigits_entry : (o : Option Facet) → HasKey (codes "totaldigits") o → IfSome o IsHeldFacet →
+    option_map (option_map Facets.TotalDigits) (count (option_map facet_data o)) ≡ Some (option_map plain_facet o)
 totaldigits_entry None k h = refl
 totaldigits_entry (Some (Facets.TotalDigits n)) k h = ap (λ (x : Option ℕ). option_map (option_map Facets.TotalDigits) (option_map (λ (y : ℕ). Some y) x)) (small_is n h)
 totaldigits_entry (Some facet) k h = absurd (true≢false (sym k))
 
-fractiondigits_entry : (o : Option Facet) → HasKey (codes "fractiondigits") o → IfSome o IsHeldFacet → option_map (option_map Facets.FractionDigits) (count (option_map facet_data o)) ≡ Some (option_map plain_facet o)
+fractiondigits_entry : (o : Option Facet) → HasKey (codes "fractiondigits") o → IfSome o IsHeldFacet →
+    option_map (option_map Facets.FractionDigits) (count (option_map facet_data o)) ≡ Some (option_map plain_facet o)
 fractiondigits_entry None k h = refl
 fractiondigits_entry (Some (Facets.FractionDigits n)) k h = ap (λ (x : Option ℕ). option_map (option_map Facets.FractionDigits) (option_map (λ (y : ℕ). Some y) x)) (small_is n h)
 fractiondigits_entry (Some facet) k h = absurd (true≢false (sym k))
@@ -153,7 +162,8 @@ all_tests p (x ∷ xs) h = let parts = both (p x) (list_all p xs) h in (parts.0,
 abbrev first_of : List Facet → List ℕ → Option Facet
 first_of facets key = option_map plain_facet (facet_under key facets)
 
-by_keys : (facets : List Facet) (keys : List (List ℕ)) → AllByRecursion (λ key. length (all_under key facets) ≤ 1) keys → listed_all (map (first_of facets) keys) ≡ flat_map (λ key. map plain_facet (all_under key facets)) keys
+by_keys : (facets : List Facet) (keys : List (List ℕ)) → AllByRecursion (λ key. length (all_under key facets) ≤ 1) keys →
+    listed_all (map (first_of facets) keys) ≡ flat_map (λ key. map plain_facet (all_under key facets)) keys
 by_keys facets [] h = refl
 by_keys facets (key ∷ keys) h =
     let own = single (λ facet. bytes_eq (facet_key facet) key) facets h.0 in
@@ -174,24 +184,35 @@ record AreEntries (facets : List Facet) (d : Data) : Type 0 where
   has_fractiondigits : get (codes "fractiondigits") d ≡ option_map facet_data (facet_under (codes "fractiondigits") facets)
   has_flags : get (codes "flags") d ≡ option_and_then flags_data (facet_under (codes "pattern") facets)
 
-facets_at : (facets : List Facet) (d : Data) → AreEntries facets d → AreHeldFacets facets → IfSome (facet_under (codes "pattern") facets) HasTextFlags → AreOnce facets → list_all is_whole_facet facets ≡ true → facets_of d ≡ Some (plain_facets facets)
+facets_at : (facets : List Facet) (d : Data) → AreEntries facets d → AreHeldFacets facets → IfSome (facet_under (codes "pattern") facets) HasTextFlags →
+    AreOnce facets → list_all is_whole_facet facets ≡ true → facets_of d ≡ Some (plain_facets facets)
 unfolding facets_of
 facets_at facets d e held flags once whole =
     let all = all_tests is_whole_facet facets whole in
     let whole_under : (key : List ℕ) → IsWholeIfAny (facet_under key facets) = λ key. found_holds (λ facet. is_whole_facet facet ≡ true) (λ facet. bytes_eq (facet_key facet) key) facets all in
-    let e_length = ap (λ (o : Option Data). option_map (option_map Facets.Length) (count o)) e.has_length ∙ length_entry (facet_under (codes "length") facets) (key_is (codes "length") facets) held.0 in
-    let e_minlength = ap (λ (o : Option Data). option_map (option_map Facets.MinLength) (count o)) e.has_minlength ∙ minlength_entry (facet_under (codes "minlength") facets) (key_is (codes "minlength") facets) held.1.0 in
-    let e_maxlength = ap (λ (o : Option Data). option_map (option_map Facets.MaxLength) (count o)) e.has_maxlength ∙ maxlength_entry (facet_under (codes "maxlength") facets) (key_is (codes "maxlength") facets) held.1.1.0 in
+    let e_length = ap (λ (o : Option Data). option_map (option_map Facets.Length) (count o)) e.has_length ∙ length_entry (facet_under (codes "length") facets)
+    (key_is (codes "length") facets) held.0 in
+    let e_minlength = ap (λ (o : Option Data). option_map (option_map Facets.MinLength) (count o)) e.has_minlength
+    ∙ minlength_entry (facet_under (codes "minlength") facets) (key_is (codes "minlength") facets) held.1.0 in
+    let e_maxlength = ap (λ (o : Option Data). option_map (option_map Facets.MaxLength) (count o)) e.has_maxlength
+    ∙ maxlength_entry (facet_under (codes "maxlength") facets) (key_is (codes "maxlength") facets) held.1.1.0 in
     let e_pattern = ap (λ (o : Option Data). option_and_then (λ pattern. option_and_then (with_flags pattern) (text_if_any (get (codes "flags") d))) (text_if_any o)) e.has_pattern
     ∙ ap (λ (o : Option Data). option_and_then (λ pattern. option_and_then (with_flags pattern) (text_if_any o)) (text_if_any (option_map facet_data (facet_under (codes "pattern") facets)))) e.has_flags
     ∙ pattern_entry (facet_under (codes "pattern") facets) (key_is (codes "pattern") facets) held.1.1.1.0 flags in
-    let e_mininclusive = ap (λ (o : Option Data). option_map (option_map Facets.MinInclusive) (bound o)) e.has_mininclusive ∙ mininclusive_entry (facet_under (codes "mininclusive") facets) (key_is (codes "mininclusive") facets) (whole_under (codes "mininclusive")) in
-    let e_minexclusive = ap (λ (o : Option Data). option_map (option_map Facets.MinExclusive) (bound o)) e.has_minexclusive ∙ minexclusive_entry (facet_under (codes "minexclusive") facets) (key_is (codes "minexclusive") facets) (whole_under (codes "minexclusive")) in
-    let e_maxinclusive = ap (λ (o : Option Data). option_map (option_map Facets.MaxInclusive) (bound o)) e.has_maxinclusive ∙ maxinclusive_entry (facet_under (codes "maxinclusive") facets) (key_is (codes "maxinclusive") facets) (whole_under (codes "maxinclusive")) in
-    let e_maxexclusive = ap (λ (o : Option Data). option_map (option_map Facets.MaxExclusive) (bound o)) e.has_maxexclusive ∙ maxexclusive_entry (facet_under (codes "maxexclusive") facets) (key_is (codes "maxexclusive") facets) (whole_under (codes "maxexclusive")) in
-    let e_totaldigits = ap (λ (o : Option Data). option_map (option_map Facets.TotalDigits) (count o)) e.has_totaldigits ∙ totaldigits_entry (facet_under (codes "totaldigits") facets) (key_is (codes "totaldigits") facets) held.1.1.1.1.1.1.1.1.0 in
-    let e_fractiondigits = ap (λ (o : Option Data). option_map (option_map Facets.FractionDigits) (count o)) e.has_fractiondigits ∙ fractiondigits_entry (facet_under (codes "fractiondigits") facets) (key_is (codes "fractiondigits") facets) held.1.1.1.1.1.1.1.1.1.0 in
-    let values : facet_values d ≡ map Some (map (first_of facets) facet_keys) = λ i. e_length i ∷ e_minlength i ∷ e_maxlength i ∷ e_pattern i ∷ e_mininclusive i ∷ e_minexclusive i ∷ e_maxinclusive i ∷ e_maxexclusive i ∷ e_totaldigits i ∷ e_fractiondigits i ∷ [] in
+    let e_mininclusive = ap (λ (o : Option Data). option_map (option_map Facets.MinInclusive) (bound o)) e.has_mininclusive
+    ∙ mininclusive_entry (facet_under (codes "mininclusive") facets) (key_is (codes "mininclusive") facets) (whole_under (codes "mininclusive")) in
+    let e_minexclusive = ap (λ (o : Option Data). option_map (option_map Facets.MinExclusive) (bound o)) e.has_minexclusive
+    ∙ minexclusive_entry (facet_under (codes "minexclusive") facets) (key_is (codes "minexclusive") facets) (whole_under (codes "minexclusive")) in
+    let e_maxinclusive = ap (λ (o : Option Data). option_map (option_map Facets.MaxInclusive) (bound o)) e.has_maxinclusive
+    ∙ maxinclusive_entry (facet_under (codes "maxinclusive") facets) (key_is (codes "maxinclusive") facets) (whole_under (codes "maxinclusive")) in
+    let e_maxexclusive = ap (λ (o : Option Data). option_map (option_map Facets.MaxExclusive) (bound o)) e.has_maxexclusive
+    ∙ maxexclusive_entry (facet_under (codes "maxexclusive") facets) (key_is (codes "maxexclusive") facets) (whole_under (codes "maxexclusive")) in
+    let e_totaldigits = ap (λ (o : Option Data). option_map (option_map Facets.TotalDigits) (count o)) e.has_totaldigits
+    ∙ totaldigits_entry (facet_under (codes "totaldigits") facets) (key_is (codes "totaldigits") facets) held.1.1.1.1.1.1.1.1.0 in
+    let e_fractiondigits = ap (λ (o : Option Data). option_map (option_map Facets.FractionDigits) (count o)) e.has_fractiondigits
+    ∙ fractiondigits_entry (facet_under (codes "fractiondigits") facets) (key_is (codes "fractiondigits") facets) held.1.1.1.1.1.1.1.1.1.0 in
+    let values : facet_values d ≡ map Some (map (first_of facets) facet_keys) =
+    λ i. e_length i ∷ e_minlength i ∷ e_maxlength i ∷ e_pattern i ∷ e_mininclusive i ∷ e_minexclusive i ∷ e_maxinclusive i ∷ e_maxexclusive i ∷ e_totaldigits i ∷ e_fractiondigits i ∷ [] in
     ap all_of values ∙ all_listed (map (first_of facets) facet_keys) ∙ ap (λ (xs : List Facet). Some xs) (by_keys facets facet_keys once)
 
 entries : (id : Option Data) (c : Constraint) → AreEntries c.facets (constraint_data id c)

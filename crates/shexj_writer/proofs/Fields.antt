@@ -77,7 +77,8 @@ both_are : (a b : Bool) → a ≡ true → b ≡ true → (a && b) ≡ true
 both_are true b p q = q
 both_are false b p q = p
 
-within_at : (o : Ordering) (keys : List (List ℕ)) (k l : List ℕ) (d e : Data) (ms : Members) → list_any (bytes_eq k) keys ≡ true → list_any (bytes_eq l) keys ≡ true → members_within keys ms ≡ true → members_within keys (put k d ms) ≡ true
+within_at : (o : Ordering) (keys : List (List ℕ)) (k l : List ℕ) (d e : Data) (ms : Members) → list_any (bytes_eq k) keys ≡ true →
+    list_any (bytes_eq l) keys ≡ true → members_within keys ms ≡ true → members_within keys (put k d ms) ≡ true
     → members_within keys (match_ordering o (member k d (member l e ms)) (member l d ms) (member l e (put k d ms))) ≡ true
 within_at Less keys k l d e ms known own rest more = both_are _ _ known (both_are _ _ own rest)
 within_at Equal keys k l d e ms known own rest more = both_are _ _ own rest
@@ -101,7 +102,8 @@ either_known : (a b : Bool) → b ≡ false → (a || b) ≡ true → a ≡ true
 either_known true b none e = refl
 either_known false b none e = sym none ∙ e
 
-within_if : (keys : List (List ℕ)) (k : List ℕ) (o : Option Data) (ms : Members) → (list_any (bytes_eq k) keys || is_none o) ≡ true → members_within keys ms ≡ true → members_within keys (put_if k o ms) ≡ true
+within_if : (keys : List (List ℕ)) (k : List ℕ) (o : Option Data) (ms : Members) → (list_any (bytes_eq k) keys || is_none o) ≡ true →
+    members_within keys ms ≡ true → members_within keys (put_if k o ms) ≡ true
 within_if keys k None ms listed rest = rest
 within_if keys k (Some d) ms listed rest = within_put keys k d ms (either_known (list_any (bytes_eq k) keys) false refl listed) rest
 

@@ -77,7 +77,8 @@ high_character c high = high_all (encode_utf8 c) at
   where
     at : (k : ℕ) → k < length (encode_utf8 c) → 128 ≤ get_or (encode_utf8 c) k 0
     at k l = elim (cases_lt (get_or (encode_utf8 c) k 0) 128) [
-      | inl low ↦ let same : c ≡ get_or (encode_utf8 c ++ []) k 0 = inside_one c [] (encode_utf8 c ++ []) k refl l (subst (λ (n : ℕ). n < 128) (sym (left_at (encode_utf8 c) [] k l)) low) in let own = left_at (encode_utf8 c) [] k l in absurd (omega arith)
+      | inl low ↦ let same : c ≡ get_or (encode_utf8 c ++ []) k 0 =
+          inside_one c [] (encode_utf8 c ++ []) k refl l (subst (λ (n : ℕ). n < 128) (sym (left_at (encode_utf8 c) [] k l)) low) in let own = left_at (encode_utf8 c) [] k l in absurd (omega arith)
       | inr fine ↦ fine
     ]
 
@@ -97,7 +98,8 @@ record IsUnit (a b c d u : ℕ) : Type 0 where
   fourth : d < 128
   small : u < 65536
 
-unit_from : (p : Bool) (a b c d u : ℕ) → (is_digit a 16 && is_digit b 16 && is_digit c 16 && is_digit d 16) ≡ p → cond p (Some (digit_value a * 4096 + digit_value b * 256 + digit_value c * 16 + digit_value d)) None ≡ Some u → IsUnit a b c d u
+unit_from : (p : Bool) (a b c d u : ℕ) → (is_digit a 16 && is_digit b 16 && is_digit c 16 && is_digit d 16) ≡ p →
+    cond p (Some (digit_value a * 4096 + digit_value b * 256 + digit_value c * 16 + digit_value d)) None ≡ Some u → IsUnit a b c d u
 unit_from false a b c d u h e = absurd (cc)
 unit_from true a b c d u h e =
     let three = both (is_digit a 16 && is_digit b 16 && is_digit c 16) (is_digit d 16) h in
@@ -141,7 +143,8 @@ pair_unit (Some l) a b c d h xs s n ih is high few utf8 e =
     let own = unit_is a b c d l is in
     low_at (is_low_surrogate l) h l 0 (content plain xs) s refl high (λ t r. ih xs t few (past_unit a b c d l xs own utf8) r) e
 
-pair_at : (p : Bool) (x y a b c d h : ℕ) (xs s : List ℕ) (n : ℕ) → ContentHolds n → ((x == ascii.backslash) && (y == ascii.lower_u)) ≡ p → is_high_surrogate h ≡ true → length xs ≤ n → IsUtf8 (x ∷ y ∷ a ∷ b ∷ c ∷ d ∷ xs)
+pair_at : (p : Bool) (x y a b c d h : ℕ) (xs s : List ℕ) (n : ℕ) → ContentHolds n → ((x == ascii.backslash) && (y == ascii.lower_u)) ≡ p →
+    is_high_surrogate h ≡ true → length xs ≤ n → IsUtf8 (x ∷ y ∷ a ∷ b ∷ c ∷ d ∷ xs)
     → cond p (option_and_then (λ l. cond (is_low_surrogate l) (prepend (encode_utf8 (surrogate_pair h l)) (content plain xs)) None) (code_unit a b c d)) None ≡ Some s → IsUtf8 s
 pair_at false x y a b c d h xs s n ih is high few utf8 e = absurd (cc)
 pair_at true x y a b c d h xs s n ih is high few utf8 e =
@@ -185,7 +188,8 @@ unit_holds n ih (a ∷ b ∷ []) s few utf8 e = absurd (cc)
 unit_holds n ih (a ∷ b ∷ c ∷ []) s few utf8 e = absurd (cc)
 unit_holds n ih (a ∷ b ∷ c ∷ d ∷ xs) s few utf8 e = unit_at (code_unit a b c d) a b c d xs s n ih refl (omega arith) utf8 e
 
-short_at : (o : Option ℕ) (x : ℕ) (xs s : List ℕ) (n : ℕ) → ContentHolds n → short_escape x ≡ o → length xs ≤ n → IsUtf8 (x ∷ xs) → option_and_then (λ c. prepend (c ∷ []) (content plain xs)) o ≡ Some s → IsUtf8 s
+short_at : (o : Option ℕ) (x : ℕ) (xs s : List ℕ) (n : ℕ) → ContentHolds n → short_escape x ≡ o → length xs ≤ n → IsUtf8 (x ∷ xs) →
+    option_and_then (λ c. prepend (c ∷ []) (content plain xs)) o ≡ Some s → IsUtf8 s
 short_at None x xs s n ih is few utf8 e = absurd (cc)
 short_at (Some c) x xs s n ih is few utf8 e =
     let low = short_ascii x c is in
@@ -242,7 +246,8 @@ high_at : (x : ℕ) (xs s : List ℕ) (n : ℕ) → ContentHolds n → length xs
 high_at x xs s n ih few b e =
     let size : suc (length xs) ≡ length (encode_utf8 b.c) + length b.rest = ap length b.is ∙ length-append (encode_utf8 b.c) b.rest in
     let some : 1 ≤ length (encode_utf8 b.c) = omega (arith, length-encode b.c, (len_utf8_bounds b.c).0) in
-    before (encode_utf8 b.c) (content plain b.rest) s b.own (λ t r. ih b.rest t (omega arith) b.utf8 r) (sym (ap (content plain) b.is ∙ high_content (encode_utf8 b.c) b.rest (high_character b.c b.high)) ∙ e)
+    before (encode_utf8 b.c) (content plain b.rest) s b.own (λ t r. ih b.rest t (omega arith) b.utf8 r)
+    (sym (ap (content plain) b.is ∙ high_content (encode_utf8 b.c) b.rest (high_character b.c b.high)) ∙ e)
 
 pub content_holds : (n : ℕ) → ContentHolds n
 unfolding content

@@ -108,7 +108,8 @@ other_class false true d e = cc
 other_class false false true e = cc
 other_class false false false e = cc
 
-quote_at : (b : Bool) (x : ℕ) → (x == ascii.quote) ≡ b → cond b lexed.quote (cond (x == ascii.backslash) lexed.backslash (cond (is_operator x) lexed.operator (cond (is_space x) lexed.space lexed.other))) ≡ lexed.quote → x < 128
+quote_at : (b : Bool) (x : ℕ) → (x == ascii.quote) ≡ b →
+    cond b lexed.quote (cond (x == ascii.backslash) lexed.backslash (cond (is_operator x) lexed.operator (cond (is_space x) lexed.space lexed.other))) ≡ lexed.quote → x < 128
 quote_at true x is e = grind (arith, nat_tests)
 quote_at false x is e = absurd (other_class (x == ascii.backslash) (is_operator x) (is_space x) e)
 
@@ -201,7 +202,8 @@ mapped : {A B : Type 0} (P : A → Type 0) (Q : B → Type 0) (f : A → B) (r :
 mapped P Q f None h p = tt
 mapped P Q f (Some r) h p = (h r.0 p.0, p.1)
 
-item_parsed : (value : json.Parse json.Json) (more : json.Parse json.Items) (r : Option (json.Json × List Token)) → Parses AreTextItems more → Parsed IsTextJson r → Parsed AreTextItems (option_and_then (λ p. json.parse_map (json.item p.0) (more p.1)) r)
+item_parsed : (value : json.Parse json.Json) (more : json.Parse json.Items) (r : Option (json.Json × List Token)) → Parses AreTextItems more →
+    Parsed IsTextJson r → Parsed AreTextItems (option_and_then (λ p. json.parse_map (json.item p.0) (more p.1)) r)
 item_parsed value more None m p = tt
 item_parsed value more (Some r) m p = mapped AreTextItems AreTextItems (json.item r.0) (more r.1) (λ js h. (p.0, h)) (m r.1 p.1)
 
@@ -218,7 +220,8 @@ end_left (tok.boolean b ∷ ts) rest h e = absurd (cc)
 end_left (tok.null ∷ ts) rest h e = absurd (cc)
 end_left (tok.bad ∷ ts) rest h e = absurd (cc)
 
-items_at : (value : json.Parse json.Json) (more : json.Parse json.Items) (ts : List Token) (o : Option (List Token)) → json.after_end_array ts ≡ o → Parses IsTextJson value → Parses AreTextItems more → AreTextTokens ts → Parsed AreTextItems (json.items_step value more ts o)
+items_at : (value : json.Parse json.Json) (more : json.Parse json.Items) (ts : List Token) (o : Option (List Token)) → json.after_end_array ts ≡ o →
+    Parses IsTextJson value → Parses AreTextItems more → AreTextTokens ts → Parsed AreTextItems (json.items_step value more ts o)
 items_at value more ts (Some rest) e v m h = (tt, end_left ts rest h e)
 items_at value more ts None e v m h = item_parsed value more (value ts) m (v ts h)
 
@@ -240,15 +243,18 @@ key_parsed (tok.boolean b ∷ ts) h = tt
 key_parsed (tok.null ∷ ts) h = tt
 key_parsed (tok.bad ∷ ts) h = tt
 
-member_parsed : (more : json.Parse json.Members) (k : List ℕ) (r : Option (json.Json × List Token)) → Parses AreTextMembers more → Parsed IsTextJson r → Parsed AreTextMembers (option_and_then (λ p. json.parse_map (json.member k p.0) (more p.1)) r)
+member_parsed : (more : json.Parse json.Members) (k : List ℕ) (r : Option (json.Json × List Token)) → Parses AreTextMembers more → Parsed IsTextJson r →
+    Parsed AreTextMembers (option_and_then (λ p. json.parse_map (json.member k p.0) (more p.1)) r)
 member_parsed more k None m p = tt
 member_parsed more k (Some r) m p = mapped AreTextMembers AreTextMembers (json.member k r.0) (more r.1) (λ ms h. (p.0, h)) (m r.1 p.1)
 
-members_at : (value : json.Parse json.Json) (more : json.Parse json.Members) (o : Option (List ℕ)) (ts : List Token) → Parses IsTextJson value → Parses AreTextMembers more → AreTextTokens ts → Parsed AreTextMembers (json.members_step value more o ts)
+members_at : (value : json.Parse json.Json) (more : json.Parse json.Members) (o : Option (List ℕ)) (ts : List Token) → Parses IsTextJson value →
+    Parses AreTextMembers more → AreTextTokens ts → Parsed AreTextMembers (json.members_step value more o ts)
 members_at value more None ts v m h = (tt, h)
 members_at value more (Some k) ts v m h = member_parsed more k (value ts) m (v ts h)
 
-members_from : (value : json.Parse json.Json) (more : json.Parse json.Members) (r : Option (Option (List ℕ) × List Token)) → Parses IsTextJson value → Parses AreTextMembers more → Parsed (λ (o : Option (List ℕ)). ⊤) r → Parsed AreTextMembers (option_and_then (λ p. json.members_step value more p.0 p.1) r)
+members_from : (value : json.Parse json.Json) (more : json.Parse json.Members) (r : Option (Option (List ℕ) × List Token)) → Parses IsTextJson value →
+    Parses AreTextMembers more → Parsed (λ (o : Option (List ℕ)). ⊤) r → Parsed AreTextMembers (option_and_then (λ p. json.members_step value more p.0 p.1) r)
 members_from value more None v m p = tt
 members_from value more (Some r) v m p = members_at value more r.0 r.1 v m p.1
 
@@ -273,11 +279,13 @@ value_at a o p q (tok.bad ∷ ts) h = tt
 value_parsed : (n : ℕ) → Parses IsTextJson (json.value n)
 unfolding json.value
 value_parsed zero ts h = value_at (λ ts. None) (λ ts. None) (λ ts h. tt) (λ ts h. tt) ts h
-value_parsed (suc n) ts h = value_at (λ ts. json.items (json.value n) (length ts) ts) (λ ts. json.members (json.value n) (length ts) ts) (λ ts h. items_parsed (json.value n) (length ts) (value_parsed n) ts h) (λ ts h. members_parsed (json.value n) (length ts) (value_parsed n) ts h) ts h
+value_parsed (suc n) ts h = value_at (λ ts. json.items (json.value n) (length ts) ts) (λ ts. json.members (json.value n) (length ts) ts)
+    (λ ts h. items_parsed (json.value n) (length ts) (value_parsed n) ts h) (λ ts h. members_parsed (json.value n) (length ts) (value_parsed n) ts h) ts h
 
 -- ---- what the value is
 
-put_at : (o : Ordering) (k l : List ℕ) (d e : Data) (ms : kept.Members) → HasTexts d → HasTexts e → MembersHaveTexts ms → MembersHaveTexts (put k d ms) → MembersHaveTexts (match_ordering o (kept.member k d (kept.member l e ms)) (kept.member l d ms) (kept.member l e (put k d ms)))
+put_at : (o : Ordering) (k l : List ℕ) (d e : Data) (ms : kept.Members) → HasTexts d → HasTexts e → MembersHaveTexts ms → MembersHaveTexts (put k d ms) →
+    MembersHaveTexts (match_ordering o (kept.member k d (kept.member l e ms)) (kept.member l d ms) (kept.member l e (put k d ms)))
 put_at Less k l d e ms p q r s = (p, (q, r))
 put_at Equal k l d e ms p q r s = (p, r)
 put_at Greater k l d e ms p q r s = (q, s)
@@ -314,11 +322,13 @@ mutual
 
   items_texts : (js : json.Items) → AreTextItems js → If HaveTexts (of_items js)
   items_texts json.no_items h = tt
-  items_texts (json.item j js) h = if_then HasTexts HaveTexts (λ d. option_map (kept.item d) (of_items js)) (of_json j) (λ d t. if_map HaveTexts HaveTexts (kept.item d) (of_items js) (λ ds r. (t, r)) (items_texts js h.1)) (json_texts j h.0)
+  items_texts (json.item j js) h = if_then HasTexts HaveTexts (λ d. option_map (kept.item d) (of_items js)) (of_json j)
+      (λ d t. if_map HaveTexts HaveTexts (kept.item d) (of_items js) (λ ds r. (t, r)) (items_texts js h.1)) (json_texts j h.0)
 
   members_texts : (ms : json.Members) (found : kept.Members) → AreTextMembers ms → MembersHaveTexts found → If MembersHaveTexts (of_members ms found)
   members_texts json.no_members found h own = own
-  members_texts (json.member k j ms) found h own = if_then HasTexts MembersHaveTexts (λ d. of_members ms (put k d found)) (of_json j) (λ d t. members_texts ms (put k d found) h.1 (put_texts k d found t own)) (json_texts j h.0)
+  members_texts (json.member k j ms) found h own = if_then HasTexts MembersHaveTexts (λ d. of_members ms (put k d found)) (of_json j)
+      (λ d t. members_texts ms (put k d found) h.1 (put_texts k d found t own)) (json_texts j h.0)
 
 last_text : (j : json.Json) (ts : List Token) → IsTextJson j → If IsTextJson (json.if_last j ts)
 last_text j [] h = h

@@ -299,7 +299,8 @@ count_held : (o : Option Data) (r : Option ℕ) (m : ℕ) → count o ≡ Some r
 count_held None r m e is = absurd (cc)
 count_held (Some d) r m e is = in_count (option_and_then small (option_and_then as_u64 (as_number d))) r m (λ n f. small_then (option_and_then as_u64 (as_number d)) n f) e is
 
-counted_good : (facet : ℕ → Facet) → ((n : ℕ) → n < 2 ^ 32 → IsWhole (facet n)) → (o : Option (Option ℕ)) → ((r : Option ℕ) (m : ℕ) → o ≡ Some r → r ≡ Some m → m < 2 ^ 32) → IsGood (option_map (option_map facet) o)
+counted_good : (facet : ℕ → Facet) → ((n : ℕ) → n < 2 ^ 32 → IsWhole (facet n)) → (o : Option (Option ℕ)) →
+    ((r : Option ℕ) (m : ℕ) → o ≡ Some r → r ≡ Some m → m < 2 ^ 32) → IsGood (option_map (option_map facet) o)
 counted_good facet h None few f e = absurd (cc)
 counted_good facet h (Some None) few f e = absurd (cc)
 counted_good facet h (Some (Some n)) few f e = let same : facet n ≡ f = cc in subst IsWhole same (h n (few (Some n) n refl refl))
@@ -325,8 +326,10 @@ pattern_good (Some (Some pattern)) (Some flags) h k f e =
 
 facets_good : (d : Data) → HasTexts d → AreGood (facet_values d)
 facets_good d h =
-    let number_at : (facet : ℕ → Facet) (key : List ℕ) → ((n : ℕ) → n < 2 ^ 32 → IsWhole (facet n)) → IsGood (option_map (option_map facet) (count (get key d))) = λ facet key own. counted_good facet own (count (get key d)) (λ r m. count_held (get key d) r m) in
-    let bound_at : (facet : List ℕ → Facet) (key : List ℕ) → ((t : List ℕ) → IsWhole (facet t)) → IsGood (option_map (option_map facet) (bound (get key d))) = λ facet key own. bounded_good facet own (bound (get key d)) in
+    let number_at : (facet : ℕ → Facet) (key : List ℕ) → ((n : ℕ) → n < 2 ^ 32 → IsWhole (facet n)) →
+    IsGood (option_map (option_map facet) (count (get key d))) = λ facet key own. counted_good facet own (count (get key d)) (λ r m. count_held (get key d) r m) in
+    let bound_at : (facet : List ℕ → Facet) (key : List ℕ) → ((t : List ℕ) → IsWhole (facet t)) → IsGood (option_map (option_map facet) (bound (get key d))) =
+    λ facet key own. bounded_good facet own (bound (get key d)) in
     let text_at : (key : List ℕ) (t : Option (List ℕ)) → text_if_any (get key d) ≡ Some t → IsTextIfAny t = λ key t. text_if_held (get key d) t (texts_at key d h) in (
       number_at Facets.Length (codes "length") (λ n k. (k, tt)),
       (
@@ -410,8 +413,10 @@ refer_held false d l h e = label_held (Some d) l h e
 
 mutual
   expr_held : (labelled : Bool) (e : ShapeExpr) (d : Data) → HasTexts d → SpellsExpr labelled e d → IsHeldExpr e
-  expr_held labelled (disj es) d h is = exprs_held es is.has_members.items (items_are (get (codes "shapeExprs") d) is.has_members.items (texts_at (codes "shapeExprs") d h) is.has_members.found) is.has_members.all
-  expr_held labelled (conj es) d h is = exprs_held es is.has_members.items (items_are (get (codes "shapeExprs") d) is.has_members.items (texts_at (codes "shapeExprs") d h) is.has_members.found) is.has_members.all
+  expr_held labelled (disj es) d h is =
+      exprs_held es is.has_members.items (items_are (get (codes "shapeExprs") d) is.has_members.items (texts_at (codes "shapeExprs") d h) is.has_members.found) is.has_members.all
+  expr_held labelled (conj es) d h is =
+      exprs_held es is.has_members.items (items_are (get (codes "shapeExprs") d) is.has_members.items (texts_at (codes "shapeExprs") d h) is.has_members.found) is.has_members.all
   expr_held labelled (neg e) d h is = expr_held false e is.has_child.child (texts_there (codes "shapeExpr") d is.has_child.child h is.has_child.found) is.has_child.one
   expr_held labelled (node c) d h is = constraint_held _ c d h is
   expr_held labelled (shape closed extra t) d h is =

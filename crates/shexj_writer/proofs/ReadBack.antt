@@ -39,13 +39,15 @@ id_at id (node c) own = field_is (codes "id") (constraint_fields (Some id) c) re
 id_at id (shape closed extra t) own = field_is (codes "id") (shape_fields (Some id) closed (texts_items extra) (expression_data t)) refl
 id_at id (refer l) own = absurd (cc)
 
-labelled_back : (l : Label) (e : ShapeExpr) → IsUnlabelled (Some (label_data l)) e → IsTextLabel l → IsLabel l → IsHeldExpr e → IsExpressible e → is_whole_expr e ≡ true → IsLabelled (record { label = l; expr = plain_expr e }) (expr_data (Some (label_data l)) e)
+labelled_back : (l : Label) (e : ShapeExpr) → IsUnlabelled (Some (label_data l)) e → IsTextLabel l → IsLabel l → IsHeldExpr e → IsExpressible e →
+    is_whole_expr e ≡ true → IsLabelled (record { label = l; expr = plain_expr e }) (expr_data (Some (label_data l)) e)
 labelled_back l e own text named held is whole = record {
   has_label = ap (λ (o : Option Data). label o) (id_at (label_data l) e own) ∙ label_back l named text;
   has_expr = expr_back (Some (label_data l)) e own held is whole;
 }
 
-shape_decl_back : (l target : Label) → IsTextLabel l → IsLabel l → IsTextLabel target → IsLabel target → IsShapeDecl (record { label = l; expr = refer target }) (shape_decl_data (label_data l) (label_data target))
+shape_decl_back : (l target : Label) → IsTextLabel l → IsLabel l → IsTextLabel target → IsLabel target →
+    IsShapeDecl (record { label = l; expr = refer target }) (shape_decl_data (label_data l) (label_data target))
 shape_decl_back l target text named held is =
     let fs = shape_decl_fields (label_data l) (label_data target) in
     let d = shape_decl_data (label_data l) (label_data target) in
@@ -59,7 +61,8 @@ shape_decl_back l target text named held is =
       concrete = ap flag no_abstract;
     }
 
-declared_back : (l : Label) (e : ShapeExpr) → IsTextLabel l → IsLabel l → IsHeldExpr e → IsExpressible e → is_whole_expr e ≡ true → SpellsDeclaration (record { label = l; expr = plain_expr e }) (declared_data l e)
+declared_back : (l : Label) (e : ShapeExpr) → IsTextLabel l → IsLabel l → IsHeldExpr e → IsExpressible e → is_whole_expr e ≡ true →
+    SpellsDeclaration (record { label = l; expr = plain_expr e }) (declared_data l e)
 declared_back l (conj es) text named held is whole = inr (labelled_back l (conj es) tt text named held is whole)
 declared_back l (disj es) text named held is whole = inr (labelled_back l (disj es) tt text named held is whole)
 declared_back l (neg e) text named held is whole = inr (labelled_back l (neg e) tt text named held is whole)
@@ -142,7 +145,8 @@ same_document : (doc : Document) → document_nesting (plain_document doc) ≡ d
 same_document doc = let a = same_value doc.start in let b = same_decls doc.decls in λ i. max (a i) (b i)
 
 -- the text of a document, if it reads as its value
-pub text_back : (doc : Document) (bytes : List ℕ) → IsUtf8 bytes → read bytes ≡ Some (document_data doc) → document_nesting doc ≤ max_nesting → IsHeldDocument doc → is_whole_document doc ≡ true → IsExpressibleDocument doc → IsDocumentText (plain_document doc) bytes
+pub text_back : (doc : Document) (bytes : List ℕ) → IsUtf8 bytes → read bytes ≡ Some (document_data doc) → document_nesting doc ≤ max_nesting →
+    IsHeldDocument doc → is_whole_document doc ≡ true → IsExpressibleDocument doc → IsDocumentText (plain_document doc) bytes
 text_back doc bytes utf8 json within held whole is = record {
   utf8 = utf8;
   value = document_data doc;

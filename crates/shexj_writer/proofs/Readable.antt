@@ -110,7 +110,8 @@ typed_at (Some (object ms)) type h other e = absurd (cc)
 abbrev IsWritten : Option (List ℕ) → List ℕ → Type 0
 IsWritten lang datatype = IsOfLiteral (word (datatype_data lang datatype))
 
-literal_at : (type language : Option (List ℕ)) (l : LiteralParts) (o : Option Data) → HasTextsIfAny o → IsOfLiteral (word o) → text_if_any o ≡ Some type → IsTyped type language l → IsWritten l.lang l.datatype
+literal_at : (type language : Option (List ℕ)) (l : LiteralParts) (o : Option Data) → HasTextsIfAny o → IsOfLiteral (word o) → text_if_any o ≡ Some type →
+    IsTyped type language l → IsWritten l.lang l.datatype
 literal_at None None l o h other e typed = subst (λ (x : Option (List ℕ)). IsWritten x l.datatype) (sym typed.1) (untyped l.datatype typed.0)
 literal_at (Some type) None l o h other e typed =
     subst (λ (x : Option (List ℕ)). IsWritten x l.datatype) (sym typed.1.1) (subst (IsWritten None) (sym typed.1.0) (typed_at o type h other e))
@@ -211,12 +212,14 @@ fewer_at : (c : Bool) (n : ℕ) (key : List ℕ) (keys : List (List ℕ)) → n 
 fewer_at true n key keys h = omega arith
 fewer_at false n key keys h = h
 
-once_listed : (k key : List ℕ) (keys : List (List ℕ)) (o : Option Facet) (gs : List Facet) → IsKeyed key (Some o) → length (all_under k gs) ≤ times k keys → length (all_under k (listed o ++ gs)) ≤ times k (key ∷ keys)
+once_listed : (k key : List ℕ) (keys : List (List ℕ)) (o : Option Facet) (gs : List Facet) → IsKeyed key (Some o) → length (all_under k gs) ≤ times k keys →
+    length (all_under k (listed o ++ gs)) ≤ times k (key ∷ keys)
 once_listed k key keys None gs own rest = fewer_at (bytes_eq key k) (length (all_under k gs)) key (filter (λ x. bytes_eq x k) keys) rest
 once_listed k key keys (Some f) gs own rest =
     same_at (bytes_eq (facet_key f) k) (bytes_eq key k) f (all_under k gs) key (filter (λ x. bytes_eq x k) keys) (ap (λ (x : List ℕ). bytes_eq x k) (own f refl)) rest
 
-once_step : (k key : List ℕ) (keys : List (List ℕ)) (o : Option (Option Facet)) (r : Option (List Facet)) (fs : List Facet) → IsKeyed key o → ((gs : List Facet) → r ≡ Some gs → length (all_under k gs) ≤ times k keys)
+once_step : (k key : List ℕ) (keys : List (List ℕ)) (o : Option (Option Facet)) (r : Option (List Facet)) (fs : List Facet) → IsKeyed key o →
+    ((gs : List Facet) → r ≡ Some gs → length (all_under k gs) ≤ times k keys)
     → option_and_then (λ facet. option_map (λ facets. listed facet ++ facets) r) o ≡ Some fs → length (all_under k fs) ≤ times k (key ∷ keys)
 once_step k key keys None r fs own rest e = absurd (cc)
 once_step k key keys (Some o) None fs own rest e = absurd (cc)
@@ -283,7 +286,8 @@ keyed d = (
 once_form : (d : Data) (fs : List Facet) → facets_of d ≡ Some fs → AreOnce fs
 unfolding facets_of
 once_form d fs e =
-    let at : (k : List ℕ) → times k facet_keys ≡ 1 → length (all_under k fs) ≤ 1 = λ k one. subst (λ (n : ℕ). length (all_under k fs) ≤ n) one (once_all k facet_keys (facet_values d) fs (keyed d) e) in (
+    let at : (k : List ℕ) → times k facet_keys ≡ 1 → length (all_under k fs) ≤ 1 =
+    λ k one. subst (λ (n : ℕ). length (all_under k fs) ≤ n) one (once_all k facet_keys (facet_values d) fs (keyed d) e) in (
       at (codes "length") refl,
       (
         at (codes "minlength") refl,
@@ -352,7 +356,8 @@ mutual
   triple_form : (t : TripleExpr) (d : Data) → HasTexts d → SpellsTripleExpr t d → IsExpressibleTriple t
   triple_form (triple name low high b) d h is = body_form b name low high d h is
 
-  body_form : (b : TripleBody) (name : Option Label) (low : ℕ) (high : Bound) (d : Data) → HasTexts d → SpellsBody b name low high d → IsLabelIfAny name × (IsOrdered low high × IsExpressibleBody b name low high)
+  body_form : (b : TripleBody) (name : Option Label) (low : ℕ) (high : Bound) (d : Data) → HasTexts d → SpellsBody b name low high d → IsLabelIfAny name ×
+      (IsOrdered low high × IsExpressibleBody b name low high)
   body_form (each ts) name low high d h is =
       let found = members_are (get (codes "expressions") d) is.has_members.items is.has_members.found in
       (label_if_form (get (codes "id") d) name is.has_label, (is.counted.ordered, (some_triples ts is.has_members.items found.1 is.has_members.all, triples_form ts is.has_members.items (texts_there (codes "expressions") d (array is.has_members.items) h found.0) is.has_members.all)))
@@ -382,7 +387,8 @@ mutual
 -- ---- documents
 
 decl_form : (decl : Declaration) (d : Data) → HasTexts d → SpellsDeclaration decl d → IsLabel decl.label × IsExpressible decl.expr
-decl_form decl d h (inl is) = (label_form (get (codes "id") d) decl.label is.has_label, expr_form false decl.expr is.has_expr.child (texts_there (codes "shapeExpr") d is.has_expr.child h is.has_expr.found) is.has_expr.one)
+decl_form decl d h (inl is) =
+    (label_form (get (codes "id") d) decl.label is.has_label, expr_form false decl.expr is.has_expr.child (texts_there (codes "shapeExpr") d is.has_expr.child h is.has_expr.found) is.has_expr.one)
 decl_form decl d h (inr is) = (label_form (get (codes "id") d) decl.label is.has_label, expr_form true decl.expr d h is.has_expr)
 
 decls_form : (decls : List Declaration) (ds : Items) → HaveTexts ds → SpellsDeclarations decls ds → AreExpressibleDecls decls

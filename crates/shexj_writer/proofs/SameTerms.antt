@@ -70,10 +70,14 @@ facet_same : (facet : Facet) (text : List ℕ) (o : Option (List ℕ)) → is_wh
 facet_same (Facets.Length n) text o h = ((λ x. x), λ x. x)
 facet_same (Facets.MinLength n) text o h = ((λ x. x), λ x. x)
 facet_same (Facets.MaxLength n) text o h = ((λ x. x), λ x. x)
-facet_same (Facets.MinInclusive t) text o h = some_same o (λ d. IsAtMost (encode_utf8_all (plain_digits t)) d) (λ d. IsAtMost (encode_utf8_all t) d) (λ d. most_same (encode_utf8_all t) (encode_utf8_all (plain_digits t)) d (plain_value t h))
-facet_same (Facets.MinExclusive t) text o h = some_same o (λ d. IsBelow (encode_utf8_all (plain_digits t)) d) (λ d. IsBelow (encode_utf8_all t) d) (λ d. below_same (encode_utf8_all t) (encode_utf8_all (plain_digits t)) d (plain_value t h))
-facet_same (Facets.MaxInclusive t) text o h = some_same o (λ d. IsAtMost d (encode_utf8_all (plain_digits t))) (λ d. IsAtMost d (encode_utf8_all t)) (λ d. least_same (encode_utf8_all t) (encode_utf8_all (plain_digits t)) d (plain_value t h))
-facet_same (Facets.MaxExclusive t) text o h = some_same o (λ d. IsBelow d (encode_utf8_all (plain_digits t))) (λ d. IsBelow d (encode_utf8_all t)) (λ d. above_same (encode_utf8_all t) (encode_utf8_all (plain_digits t)) d (plain_value t h))
+facet_same (Facets.MinInclusive t) text o h = some_same o (λ d. IsAtMost (encode_utf8_all (plain_digits t)) d) (λ d. IsAtMost (encode_utf8_all t) d)
+    (λ d. most_same (encode_utf8_all t) (encode_utf8_all (plain_digits t)) d (plain_value t h))
+facet_same (Facets.MinExclusive t) text o h = some_same o (λ d. IsBelow (encode_utf8_all (plain_digits t)) d) (λ d. IsBelow (encode_utf8_all t) d)
+    (λ d. below_same (encode_utf8_all t) (encode_utf8_all (plain_digits t)) d (plain_value t h))
+facet_same (Facets.MaxInclusive t) text o h = some_same o (λ d. IsAtMost d (encode_utf8_all (plain_digits t))) (λ d. IsAtMost d (encode_utf8_all t))
+    (λ d. least_same (encode_utf8_all t) (encode_utf8_all (plain_digits t)) d (plain_value t h))
+facet_same (Facets.MaxExclusive t) text o h = some_same o (λ d. IsBelow d (encode_utf8_all (plain_digits t))) (λ d. IsBelow d (encode_utf8_all t))
+    (λ d. above_same (encode_utf8_all t) (encode_utf8_all (plain_digits t)) d (plain_value t h))
 facet_same (Facets.TotalDigits n) text o h = ((λ x. x), λ x. x)
 facet_same (Facets.FractionDigits n) text o h = ((λ x. x), λ x. x)
 facet_same (Facets.Pattern pattern flags) text o h = ((λ x. x), λ x. x)
@@ -87,7 +91,8 @@ all_cut P (x ∷ xs) ys h = let rest = all_cut P xs ys h.1 in ((h.0, rest.0), re
 abbrev IsUnder : (Facet → Type 0) → List ℕ → Facet → Type 0
 IsUnder P key facet = bytes_eq (facet_key facet) key ≡ true → P (plain_facet facet)
 
-under_at : (P : Facet → Type 0) (b : Bool) (key : List ℕ) (x : Facet) (ys : List Facet) → bytes_eq (facet_key x) key ≡ b → AllByRecursion P (map plain_facet (cond b (x ∷ ys) ys)) → IsUnder P key x × AllByRecursion P (map plain_facet ys)
+under_at : (P : Facet → Type 0) (b : Bool) (key : List ℕ) (x : Facet) (ys : List Facet) → bytes_eq (facet_key x) key ≡ b →
+    AllByRecursion P (map plain_facet (cond b (x ∷ ys) ys)) → IsUnder P key x × AllByRecursion P (map plain_facet ys)
 under_at P true key x ys e h = ((λ _. h.0), h.1)
 under_at P false key x ys e h = ((λ passes. absurd (true≢false (sym passes ∙ e))), h)
 
@@ -100,11 +105,13 @@ all_of_key P key (x ∷ xs) h =
 abbrev IsUnderOne : (Facet → Type 0) → List (List ℕ) → Facet → Type 0
 IsUnderOne P keys facet = list_any (bytes_eq (facet_key facet)) keys ≡ true → P (plain_facet facet)
 
-one_key : (P : Facet → Type 0) (key : List ℕ) (keys : List (List ℕ)) (facet : Facet) → IsUnder P key facet → IsUnderOne P keys facet → (b : Bool) → bytes_eq (facet_key facet) key ≡ b → (b || list_any (bytes_eq (facet_key facet)) keys) ≡ true → P (plain_facet facet)
+one_key : (P : Facet → Type 0) (key : List ℕ) (keys : List (List ℕ)) (facet : Facet) → IsUnder P key facet → IsUnderOne P keys facet → (b : Bool) →
+    bytes_eq (facet_key facet) key ≡ b → (b || list_any (bytes_eq (facet_key facet)) keys) ≡ true → P (plain_facet facet)
 one_key P key keys facet own rest true e h = own e
 one_key P key keys facet own rest false e h = rest h
 
-both_keys : (P : Facet → Type 0) (key : List ℕ) (keys : List (List ℕ)) (xs : List Facet) → AllByRecursion (IsUnder P key) xs → AllByRecursion (IsUnderOne P keys) xs → AllByRecursion (IsUnderOne P (key ∷ keys)) xs
+both_keys : (P : Facet → Type 0) (key : List ℕ) (keys : List (List ℕ)) (xs : List Facet) → AllByRecursion (IsUnder P key) xs →
+    AllByRecursion (IsUnderOne P keys) xs → AllByRecursion (IsUnderOne P (key ∷ keys)) xs
 both_keys P key keys [] h k = tt
 both_keys P key keys (x ∷ xs) h k = ((λ known. one_key P key keys x h.0 k.0 (bytes_eq (facet_key x) key) refl known), both_keys P key keys xs h.1 k.1)
 
@@ -140,7 +147,8 @@ all_from_plain P facets h = each_known P facets (all_of_keys P facet_keys facets
 
 -- ---- constraints
 
-all_both : (P Q : Facet → Type 0) (xs : List Facet) → ((x : Facet) → is_whole_facet x ≡ true → P x → Q x) → AllByRecursion (λ facet. is_whole_facet facet ≡ true) xs → AllByRecursion P xs → AllByRecursion Q xs
+all_both : (P Q : Facet → Type 0) (xs : List Facet) → ((x : Facet) → is_whole_facet x ≡ true → P x → Q x) →
+    AllByRecursion (λ facet. is_whole_facet facet ≡ true) xs → AllByRecursion P xs → AllByRecursion Q xs
 all_both P Q [] step w h = tt
 all_both P Q (x ∷ xs) step w h = (step x w.0 h.0, all_both P Q xs step w.1 h.1)
 

@@ -33,10 +33,12 @@ all_kept : (P : Facet → Type 0) (p : Facet → Bool) (xs : List Facet) → All
 all_kept P p [] h = tt
 all_kept P p (x ∷ xs) h = kept_at P (p x) x (filter p xs) h.0 (all_kept P p xs h.1)
 
-all_keys : (P : Facet → Type 0) (facets : List Facet) (keys : List (List ℕ)) → AllByRecursion (λ facet. P (plain_facet facet)) facets → AllByRecursion P (flat_map (λ key. map plain_facet (all_under key facets)) keys)
+all_keys : (P : Facet → Type 0) (facets : List Facet) (keys : List (List ℕ)) → AllByRecursion (λ facet. P (plain_facet facet)) facets →
+    AllByRecursion P (flat_map (λ key. map plain_facet (all_under key facets)) keys)
 all_keys P facets [] h = tt
 all_keys P facets (key ∷ keys) h =
-    all_joined P (map plain_facet (all_under key facets)) (flat_map (λ k. map plain_facet (all_under k facets)) keys) (all_kept P (λ facet. bytes_eq (facet_key facet) key) facets h) (all_keys P facets keys h)
+    all_joined P (map plain_facet (all_under key facets)) (flat_map (λ k. map plain_facet (all_under k facets)) keys)
+    (all_kept P (λ facet. bytes_eq (facet_key facet) key) facets h) (all_keys P facets keys h)
 
 -- what holds of each facet in plain form holds of all plain facets
 pub all_plain : (P : Facet → Type 0) (facets : List Facet) → AllByRecursion (λ facet. P (plain_facet facet)) facets → AllByRecursion P (plain_facets facets)
@@ -197,7 +199,8 @@ from_facets P (f ∷ fs) h = all_joined P (pattern_in f) (patterns_in fs) h.0 (f
 -- the facets of a constraint that can be made can be made in plain form
 pub plain_sound : (datatype : Option (List ℕ)) (facets : List Facet) → IsSound datatype facets → IsSound datatype (plain_facets facets)
 plain_sound datatype facets sound = record {
-  no_float = not_any (IsFloatFacet datatype) (plain_facets facets) (all_plain (λ facet. ¬ IsFloatFacet datatype facet) facets (all_turned (λ facet. ¬ IsFloatFacet datatype facet) (λ facet. ¬ IsFloatFacet datatype (plain_facet facet)) facets (not_float datatype) (none_all (IsFloatFacet datatype) facets sound.no_float)));
+  no_float = not_any (IsFloatFacet datatype) (plain_facets facets)
+      (all_plain (λ facet. ¬ IsFloatFacet datatype facet) facets (all_turned (λ facet. ¬ IsFloatFacet datatype facet) (λ facet. ¬ IsFloatFacet datatype (plain_facet facet)) facets (not_float datatype) (none_all (IsFloatFacet datatype) facets sound.no_float)));
   decimal = not_any IsOtherNumber (plain_facets facets) (all_plain (λ facet. ¬ IsOtherNumber facet) facets (all_so (λ facet. ¬ IsOtherNumber (plain_facet facet)) facets plain_decimal));
   readable = from_facets IsReadable (plain_facets facets) (all_plain (λ facet. AllByRecursion IsReadable (pattern_in facet)) facets
       (all_turned (λ facet. AllByRecursion IsReadable (pattern_in facet)) (λ facet. AllByRecursion IsReadable (pattern_in (plain_facet facet))) facets (λ facet h. subst (AllByRecursion IsReadable) (sym (same_pattern facet)) h) (by_facet IsReadable facets sound.readable)));

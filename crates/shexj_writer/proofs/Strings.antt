@@ -25,7 +25,7 @@ abbrev mutual
   MembersHaveTexts no_members = ⊤
   MembersHaveTexts (member k d ms) = HasTexts d × MembersHaveTexts ms
 
--- the same of a value that may be there
+-- a value that may be there has texts of Unicode scalar values alone
 abbrev pub HasTextsIfAny : Option Data → Type 0
 HasTextsIfAny None = ⊤
 HasTextsIfAny (Some d) = HasTexts d

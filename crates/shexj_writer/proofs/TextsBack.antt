@@ -98,7 +98,8 @@ max_at true low high e h = ap (λ (x : Bound). Some x) (sym (once_is low high e)
 max_at false low high e h = bound_back high h
 
 -- an object with this minimum and this maximum
-pub counted_back : (low : ℕ) (high : Bound) (d : Data) → get (codes "min") d ≡ min_data low high → get (codes "max") d ≡ max_data low high → IsOrdered low high → low < 2 ^ 32 → Held.IsBound high → IsCardinality low high d
+pub counted_back : (low : ℕ) (high : Bound) (d : Data) → get (codes "min") d ≡ min_data low high → get (codes "max") d ≡ max_data low high →
+    IsOrdered low high → low < 2 ^ 32 → Held.IsBound high → IsCardinality low high d
 counted_back low high d has_min has_max ordered few bounded = record {
   min = ap least has_min ∙ min_at (is_once low high) low high refl few;
   max = ap most has_max ∙ max_at (is_once low high) low high refl bounded;

@@ -101,9 +101,11 @@ back text dec w =
     let fs = (both (are_digits (whole_part text)) (are_digits (fraction_part text)) all.0).1 in
     let s = has_minus text in
     let k = 10 ^ scale text in
-    let parts : value (whole_part text ++ fraction_part text) ≡ value (whole_part text) * k + value (fraction_part text) = append_after 0 (whole_part text) (fraction_part text) ∙ value_after (value (whole_part text)) (fraction_part text) in
+    let parts : value (whole_part text ++ fraction_part text) ≡ value (whole_part text) * k + value (fraction_part text) = append_after 0 (whole_part text)
+    (fraction_part text) ∙ value_after (value (whole_part text)) (fraction_part text) in
     let scaled : unscaled_value text ≡ w.number *ℤ pos k =
-    sym (times_one s (value (whole_part text ++ fraction_part text))) ∙ sym (ap (λ (n : ℕ). unscaled_value text *ℤ pos (10 ^ n)) (scale_digits w.number)) ∙ w.same ∙ ap (λ (x : ℤ). x *ℤ pos k) (unscaled_digits w.number w.within) in
+    sym (times_one s (value (whole_part text ++ fraction_part text))) ∙ sym (ap (λ (n : ℕ). unscaled_value text *ℤ pos (10 ^ n)) (scale_digits w.number))
+    ∙ w.same ∙ ap (λ (x : ℤ). x *ℤ pos k) (unscaled_digits w.number w.within) in
     let m = multiple s (value (whole_part text ++ fraction_part text)) k w.number (one-le-pow (scale text) 10 (omega arith)) scaled in
     let halves = split (value (whole_part text)) m.times (value (fraction_part text)) k (value_lt (fraction_part text) fs) (sym parts ∙ m.is) in
     let number : whole_value text ≡ w.number = ap (signed s) halves.0 ∙ m.back in

@@ -82,7 +82,11 @@ at_tag (Some tag) l some h =
     record {
       own = None;
       has_own = refl;
-      typed = subst (λ (o : Option (List ℕ)). IsTyped None o l) (sym some) (h.parts.tagged.0 (ap (λ (o : Option (List ℕ)). is_some o) some), some ∙ ap (λ (x : List ℕ). Some x) (sym (lowered_same tag low)));
+      typed = subst (λ (o : Option (List ℕ)). IsTyped None o l) (sym some) (
+        h.parts.tagged.0 (ap (λ (o : Option (List ℕ)). is_some o) some),
+        some
+            ∙ ap (λ (x : List ℕ). Some x) (sym (lowered_same tag low)),
+      );
     }
 
 literal_back : (l : LiteralParts) → IsHeldLiteral l → IsOfLiteral (word (datatype_data l.lang l.datatype)) → IsLiteral l (literal_data l)
@@ -155,11 +159,13 @@ exclusion_back : (kind : StemKind) (k : _) (e : Except) → stem_type kind ≡ R
 exclusion_back kind k (Exact t) same h fixed = fixed_back (taken k) t h fixed
 exclusion_back kind k (Stem t) same h fixed = stem_back kind k t same h fixed
 
-exclusions_back : (kind : StemKind) (k : _) (es : List Except) → stem_type kind ≡ Read.stem_type k → AllByRecursion IsHeldExcept es → AllByRecursion (IsFixedExcept (taken k)) es → AreExclusions k es (exclusions_items kind es)
+exclusions_back : (kind : StemKind) (k : _) (es : List Except) → stem_type kind ≡ Read.stem_type k → AllByRecursion IsHeldExcept es →
+    AllByRecursion (IsFixedExcept (taken k)) es → AreExclusions k es (exclusions_items kind es)
 exclusions_back kind k [] same h fixed = tt
 exclusions_back kind k (e ∷ es) same h fixed = (exclusion_back kind k e same h.0 fixed.0, exclusions_back kind k es same h.1 fixed.1)
 
-has_exclusions : (kind : StemKind) (k : _) (es : List Except) → stem_type kind ≡ Read.stem_type k → AllByRecursion IsHeldExcept es → AllByRecursion (IsFixedExcept (taken k)) es → HasExclusions k es (list_if_any (exclusions_items kind es))
+has_exclusions : (kind : StemKind) (k : _) (es : List Except) → stem_type kind ≡ Read.stem_type k → AllByRecursion IsHeldExcept es →
+    AllByRecursion (IsFixedExcept (taken k)) es → HasExclusions k es (list_if_any (exclusions_items kind es))
 has_exclusions kind k [] same h fixed = refl
 has_exclusions kind k (e ∷ es) same h fixed = exclusions_back kind k (e ∷ es) same h fixed
 

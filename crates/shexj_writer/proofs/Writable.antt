@@ -212,7 +212,8 @@ constraint_writable : (id : Option Data) (c : Constraint) → IsHeldConstraint c
 unfolding constraint_data
 constraint_writable id c held own =
     let fs : AreHeldFacets c.facets = held.facets in
-    let at : (key : List ℕ) → IfSome (facet_under key c.facets) IsHeldFacet → IsWritableIfAny (option_map facet_data (facet_under key c.facets)) = λ key h. facet_writable (facet_under key c.facets) h in
+    let at : (key : List ℕ) → IfSome (facet_under key c.facets) IsHeldFacet → IsWritableIfAny (option_map facet_data (facet_under key c.facets)) =
+    λ key h. facet_writable (facet_under key c.facets) h in
     object_writable (constraint_fields id c) refl (
       text_if_writable c.datatype held.datatype,
       (
@@ -256,7 +257,8 @@ constraint_writable id c held own =
 
 -- ---- expressions
 
-group_writable : (type : List ℕ) (ds : Items) (name : Option Label) (low : ℕ) (high : Bound) → IsUtf8 type → AreWritable ds → IsLabelIfAny name → low < 2 ^ 32 → IsBound high → IsWritable (group_data type ds name low high)
+group_writable : (type : List ℕ) (ds : Items) (name : Option Label) (low : ℕ) (high : Bound) → IsUtf8 type → AreWritable ds → IsLabelIfAny name → low < 2 ^ 32 →
+    IsBound high → IsWritable (group_data type ds name low high)
 group_writable type ds name low high word h l few bounded =
     object_writable (group_fields type ds name low high) refl (h, (label_if_writable name l, (max_at (is_once low high) high bounded, (min_at (is_once low high) low few, (word, tt)))))
 

@@ -30,7 +30,7 @@ is_whole text = is_decimal text && (are_zeros (fraction_part text) && is_in_rang
 abbrev pub whole_number : List ℕ → Option Num
 whole_number text = if is_whole text then Some (of_integer (whole_value text)) else None
 
--- the same in terms of values: the text stands for the same number as the digits of a whole number from -2^63 to 2^64 - 1
+-- the text stands for the number that the digits of a whole number from -2^63 to 2^64 - 1 stand for
 pub record IsWholeNumber (text : List ℕ) : Type 0 where
   pub decimal : is_decimal text ≡ true
   pub number : ℤ

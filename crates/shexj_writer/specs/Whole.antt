@@ -18,7 +18,7 @@ is_whole_facet facet = is_whole_if_any (range_value facet)
 abbrev pub is_whole_constraint : Constraint → Bool
 is_whole_constraint c = list_all is_whole_facet c.facets
 
--- so is that of each range facet in it
+-- the value of each range facet in an expression is such a number
 abbrev mutual
   pub is_whole_expr : ShapeExpr → Bool
   is_whole_expr (conj es) = are_whole_exprs es

@@ -1,17 +1,16 @@
 //! The numbers of range facets (ShEx 2.1, section 5.4, XML Schema Numeric Facet Constraints).
 
-ghost use Rattle.std.specs.Prelude.{◌≡◌, ◌==◌, ◌≤◌, ◌^◌, IfSome, IsNone, None, Some, if◌then◌else◌, option_map, true};
-ghost use Rattle.std.specs.List.{position};
+ghost use Rattle.std.specs.Prelude.{◌≡◌, ◌≤◌, ◌^◌, IfSome, IsNone, None, Some, if◌then◌else◌, option_map, true};
 ghost use Rattle.std.specs.Str.Parse.{digits_value};
 ghost use Rattle.serde_json.specs.Find.{of_integer};
 ghost use Rattle.serde_json.specs.View.{number_view};
-ghost use Rattle.xs_text.specs.Decimal.{fraction_part, is_decimal, whole_part};
-ghost use Rattle.xs_text.specs.Digits.{are_digits, has_minus, point, signed, unsigned_part};
+ghost use Rattle.xs_text.specs.Decimal.{is_decimal};
+ghost use Rattle.xs_text.specs.Digits.{are_digits, signed};
 ghost use Rattle.shexj_writer.specs.Numbers.{are_zeros, is_in_range, whole_number};
 
 use rdf_terms::vocabulary::XSD_DECIMAL;
 use serde_json::Number;
-use xs_text::lexical_ok;
+use xs_text::{has_minus, lexical_ok, whole_and_fraction};
 
 /// The greatest number of which the negative one is a number of 64 bits.
 const MOST_NEGATED: u64 = 9223372036854775808;
@@ -21,42 +20,6 @@ fn is_decimal(text: &str) -> bool
     ensures { result ≡ is_decimal text.now }
 {
     lexical_ok(XSD_DECIMAL, text)
-}
-
-/// Whether the text begins with a minus.
-fn has_minus(text: &[u8]) -> bool
-    ensures { result ≡ has_minus text.now }
-{
-    matches!(text, [b'-', ..])
-}
-
-/// The text without one sign at its front.
-fn unsigned_part(text: &[u8]) -> &[u8]
-    ensures { result.now ≡ unsigned_part text.now }
-{
-    match text {
-        [b'+' | b'-', rest @ ..] => rest,
-        _ => text,
-    }
-}
-
-/// The first place of the point.
-fn point_in(digits: &[u8]) -> Option<usize>
-    ensures { result ≡ position (λ c. c == point) digits.now }
-{
-    digits.iter().position(|c| *c == b'.')
-}
-
-/// The digits before the point, and those behind it.
-fn parts(text: &[u8]) -> (&[u8], &[u8])
-    ensures whole { result.0.now ≡ whole_part text.now }
-    ensures fraction { result.1.now ≡ fraction_part text.now }
-{
-    let digits = unsigned_part(text);
-    match point_in(digits) {
-        Some(at) => (&digits[..at], &digits[at + 1..]),
-        None => (digits, &[]),
-    }
 }
 
 /// Whether each digit is 0.
@@ -102,7 +65,7 @@ pub(crate) fn whole_number(text: &str) -> Option<Number>
         return None;
     }
     let bytes = text.as_bytes();
-    let (whole, fraction) = parts(bytes);
+    let (whole, fraction) = whole_and_fraction(bytes);
     if !are_zeros(fraction) {
         return None;
     }

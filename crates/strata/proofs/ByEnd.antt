@@ -44,7 +44,7 @@ one_more xs x a = (
   ]),
 )
 
--- the same at a number that is not that of a Shape
+-- one list gets an arc more, at a number that need not be that of a Shape
 abbrev Goes : List (List Arc) → ℕ → Arc → List (List Arc) → Type 0
 Goes old at x new = (i : ℕ) (a : Arc) → IsAmong (slice_get new i) a ↔ (IsAmong (slice_get old i) a ⊎ ((at ≡ i) × (x ≡ a)))
 

@@ -52,7 +52,8 @@ or_second false b e = e
 
 module _ (s : Schema) where
   -- one more Shape
-  pub grow_shape : (k : ℕ) (i : ShapeId) (sh : Shape) → i.0 ≡ k → shape_at s i ≡ Some sh → (xs ys : List Arc) → Grows (FromFirst s k) [] xs → Grows (FromShape s i sh.extra sh.occs) xs ys → Grows (FromFirst s (k + 1)) [] ys
+  pub grow_shape : (k : ℕ) (i : ShapeId) (sh : Shape) → i.0 ≡ k → shape_at s i ≡ Some sh → (xs ys : List Arc) → Grows (FromFirst s k) [] xs →
+      Grows (FromShape s i sh.extra sh.occs) xs ys → Grows (FromFirst s (k + 1)) [] ys
   grow_shape k i sh at is xs ys g h = grow_same _ _ to back [] ys (grow_join (FromFirst s k) (FromShape s i sh.extra sh.occs) [] xs ys g h)
     where
       to : (a : Arc) → FromFirst s k a ⊎ FromShape s i sh.extra sh.occs a → FromFirst s (k + 1) a

@@ -72,14 +72,16 @@ module _ (s : Schema) (from : ShapeId) where
     (λ x. elim x [ inl (d, b, p) ↦ (d, (h d.0).1 (inl b), p) | inr (d, y, p) ↦ (d, (h d.0).1 (inr y), p) ]),
   )
 
-  pub of_taken : (n : Bool) (old middle : List ℕ) (e : ExprId) → ((q : ℕ) → Contains old q ↔ (Contains middle q ⊎ (q ≡ e.0))) → (a : Arc) → FromSome s from n old a ↔ (FromEntry s from n e a ⊎ FromSome s from n middle a)
+  pub of_taken : (n : Bool) (old middle : List ℕ) (e : ExprId) → ((q : ℕ) → Contains old q ↔ (Contains middle q ⊎ (q ≡ e.0))) → (a : Arc) →
+      FromSome s from n old a ↔ (FromEntry s from n e a ⊎ FromSome s from n middle a)
   of_taken n old middle e h a = (
     (λ (d, c, p). elim ((h d.0).0 c) [ inl m ↦ inr (d, m, p) | inr is ↦ inl (subst (λ u. FromEntry s from n u a) (number_is d e is) p) ]),
     (λ x. elim x [ inl p ↦ (e, (h e.0).1 (inr refl), p) | inr (d, m, p) ↦ (d, (h d.0).1 (inl m), p) ]),
   )
 
   -- what comes of an expression is its own, or comes of a member, or negatively of what it negates
-  to_parts : (n : Bool) (e : ExprId) (x : Option Expr) → entry s e ≡ x → (a : Arc) → FromEntry s from n e a → FromOwn from n x a ⊎ (FromSome s from n (members_of x) a ⊎ FromSome s from true (negated_of x) a)
+  to_parts : (n : Bool) (e : ExprId) (x : Option Expr) → entry s e ≡ x → (a : Arc) → FromEntry s from n e a → FromOwn from n x a ⊎
+      (FromSome s from n (members_of x) a ⊎ FromSome s from true (negated_of x) a)
   to_parts n e None is a (f, (sign, st, m)) = absurd (stands_none s a.to e sign is st)
   to_parts n e (Some (Exprs.And es)) is a (f, (sign, st, m)) =
       let (d, c, inner) = stands_and s a.to e sign es is st in inr (inl (d, in_map (λ u. u.0) es d c, (f, (sign, inner, m))))
@@ -119,7 +121,8 @@ module _ (s : Schema) (from : ShapeId) where
   from_negated n e (Some (Exprs.Node k)) is a (d, c, p) = absurd (not_in_none d.0 c)
   from_negated n e (Some (Exprs.Shape t)) is a (d, c, p) = absurd (not_in_none d.0 c)
 
-  from_parts : (n : Bool) (e : ExprId) (x : Option Expr) → entry s e ≡ x → (a : Arc) → FromOwn from n x a ⊎ (FromSome s from n (members_of x) a ⊎ FromSome s from true (negated_of x) a) → FromEntry s from n e a
+  from_parts : (n : Bool) (e : ExprId) (x : Option Expr) → entry s e ≡ x → (a : Arc) → FromOwn from n x a ⊎
+      (FromSome s from n (members_of x) a ⊎ FromSome s from true (negated_of x) a) → FromEntry s from n e a
   from_parts n e x is a (inl h) = from_own n e x is a h
   from_parts n e x is a (inr (inl h)) = from_member n e x is a h
   from_parts n e x is a (inr (inr h)) = from_negated n e x is a h
@@ -139,7 +142,8 @@ module _ (s : Schema) (from : ShapeId) where
       below : FromSome s from true more a ↔ (FromSome s from true negated a ⊎ FromSome s from true (negated_of x) a)
       below = of_put true negated (negated_of x) more behind a
 
-      opened : FromOwn from false x a ⊎ (FromSome s from false (members_of x) a ⊎ FromSome s from true (negated_of x) a) → FromOwn from false x a ⊎ (FromSome s from false new a ⊎ FromSome s from true more a)
+      opened : FromOwn from false x a ⊎ (FromSome s from false (members_of x) a ⊎ FromSome s from true (negated_of x) a) → FromOwn from false x a ⊎
+          (FromSome s from false new a ⊎ FromSome s from true more a)
       opened (inl o) = inl o
       opened (inr (inl m)) = inr (inl (members.1 (inr m)))
       opened (inr (inr m)) = inr (inr (below.1 (inr m)))

@@ -100,7 +100,8 @@ module _ (s : Schema) (arcs : List Arc) (goal : ShapeId) where
     -- it gets the next rank
     pub found_more : Contains arcs a → 0 < level r a.to → AreFound s arcs goal (set r a.from.0 (length found + 1)) (found ++ a.from ∷ [])
     found_more held some = record {
-      ranked = subst (λ n. AreRanked s arcs goal (set r a.from.0 (length found + 1)) (n + 1)) (sym (length-append found (a.from ∷ []))) (ranked_more s arcs goal r (length found + 1) h.ranked a held (none, some) there);
+      ranked = subst (λ n. AreRanked s arcs goal (set r a.from.0 (length found + 1)) (n + 1)) (sym (length-append found (a.from ∷ [])))
+          (ranked_more s arcs goal r (length found + 1) h.ranked a held (none, some) there);
       listed = λ i k. (listed_to i k, listed_from i k);
     }
 

@@ -82,8 +82,8 @@ pub(crate) fn stands_for_itself(local: &str) -> bool
     local.chars().all(|ch| ch != '\\')
 }
 
-/// What stands behind `@`.
-pub(crate) fn after_at(text: &str) -> &str
+/// What stands behind the first `@` of a text, and nothing where it has none.
+pub fn after_at(text: &str) -> &str
     ensures { result.now ≡ after_first is_at text.now }
 {
     match text.split_once('@') {

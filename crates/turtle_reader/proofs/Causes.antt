@@ -31,11 +31,13 @@ use Rattle.rdf_cursor.proofs.Tells.{Tells, tells_give, tells_refuse, tells_one, 
 syntax_only : (v : DocumentScope) (t : Spelled) (rest : Ahead Spelled) (f : Fault) → faults.Syntax ≡ f → Causes v f (token t rest)
 syntax_only v t rest f e = subst (λ (g : Fault). Causes v g (token t rest)) e tt
 
-limited_cause : {A : Type 0} (v : DocumentScope) (t : Spelled) (rest : Ahead Spelled) (bytes : List ℕ) (x : A) (b : Bool) (f : Fault) → nat_lt max_text (length bytes) ≡ b → (max_text < length bytes → IsLong v t) → cond b (Err faults.Long) (Ok x) ≡ Err f → Causes v f (token t rest)
+limited_cause : {A : Type 0} (v : DocumentScope) (t : Spelled) (rest : Ahead Spelled) (bytes : List ℕ) (x : A) (b : Bool) (f : Fault) →
+    nat_lt max_text (length bytes) ≡ b → (max_text < length bytes → IsLong v t) → cond b (Err faults.Long) (Ok x) ≡ Err f → Causes v f (token t rest)
 limited_cause v t rest bytes x true f l long e = subst (λ (g : Fault). Causes v g (token t rest)) (err_is faults.Long f e) (t, rest, refl, long (ltb-true max_text (length bytes) l))
 limited_cause v t rest bytes x false f l long e = absurd (apart x f e)
 
-cond_cause : {A : Type 0} (v : DocumentScope) (t : Spelled) (rest : Ahead Spelled) (b c : Bool) (x : Result A Fault) (f : Fault) → b ≡ c → (b ≡ true → x ≡ Err f → Causes v f (token t rest)) → cond c x (Err faults.Syntax) ≡ Err f → Causes v f (token t rest)
+cond_cause : {A : Type 0} (v : DocumentScope) (t : Spelled) (rest : Ahead Spelled) (b c : Bool) (x : Result A Fault) (f : Fault) → b ≡ c →
+    (b ≡ true → x ≡ Err f → Causes v f (token t rest)) → cond c x (Err faults.Syntax) ≡ Err f → Causes v f (token t rest)
 cond_cause v t rest b true x f is h e = h is e
 cond_cause v t rest b false x f is h e = syntax_only v t rest f (err_is faults.Syntax f e)
 
@@ -46,10 +48,12 @@ module _ (v : DocumentScope) where
   abbrev P : Fault → Ahead Spelled → Type 0
   P f ts = Causes (bare v) f ts
 
-  class_tells : {A : Type 0} {class : Spelled → Result A Fault} {ts : Ahead Spelled} → ((t : Spelled) (rest : Ahead Spelled) (f : Fault) → class t ≡ Err f → P f (token t rest)) → Tells (one faults.Syntax class) (λ _ r. Unit {0}) P ts
+  class_tells : {A : Type 0} {class : Spelled → Result A Fault} {ts : Ahead Spelled} →
+      ((t : Spelled) (rest : Ahead Spelled) (f : Fault) → class t ≡ Err f → P f (token t rest)) → Tells (one faults.Syntax class) (λ _ r. Unit {0}) P ts
   class_tells h = tells_one tt (λ t rest x is e. tt) (λ t rest f is e. h t rest f e)
 
-  resolved_cause : (t : Spelled) (rest : Ahead Spelled) (f : Fault) (o : Option (List ℕ)) → text_of t ≡ o → ((iri : List ℕ) → resolved false (names_in v) o ≡ Ok iri → max_text < length iri → IsLong (bare v) t) → resolved true (names_in v) o ≡ Err f → P f (token t rest)
+  resolved_cause : (t : Spelled) (rest : Ahead Spelled) (f : Fault) (o : Option (List ℕ)) → text_of t ≡ o →
+      ((iri : List ℕ) → resolved false (names_in v) o ≡ Ok iri → max_text < length iri → IsLong (bare v) t) → resolved true (names_in v) o ≡ Err f → P f (token t rest)
   resolved_cause t rest f None e long is = syntax_only (bare v) t rest f (err_is faults.Syntax f is)
   resolved_cause t rest f (Some text) e long is =
       let iri = resolved_text v.base (encode_utf8_all text) in limited_cause (bare v) t rest iri iri (nat_lt max_text (length iri)) f refl (long iri refl) is
@@ -74,7 +78,8 @@ module _ (v : DocumentScope) where
   joined_cause t rest f (Some local) (Some iri) n e long is =
       let whole = iri ++ encode_utf8_all local in limited_cause (bare v) t rest whole whole (nat_lt max_text (length whole)) f refl (long whole refl) is
 
-  iri_by_cause : (t : Spelled) (rest : Ahead Spelled) (f : Fault) (b : Bool) → is_among names t ≡ b → cond b (joined true (text_of t) (v.prefixes (prefix_of t))) (iri_ref_of true (names_in v) t) ≡ Err f → P f (token t rest)
+  iri_by_cause : (t : Spelled) (rest : Ahead Spelled) (f : Fault) (b : Bool) → is_among names t ≡ b →
+      cond b (joined true (text_of t) (v.prefixes (prefix_of t))) (iri_ref_of true (names_in v) t) ≡ Err f → P f (token t rest)
   unfolding iri_of
   iri_by_cause t rest f true n e = joined_cause t rest f (text_of t) (v.prefixes (prefix_of t)) n refl (λ iri got l. by_iri iri (cond_true (is_among names t) _ _ n ∙ got) l) e
   iri_by_cause t rest f false n e = iri_ref_cause t rest f n e
@@ -165,10 +170,12 @@ module _ (v : DocumentScope) where
   verb_tells ts = tells_either (λ _. tells_bind (mark_tells symbol.A ts) (λ w m u. tells_give tt)) (λ _. iri_tells ts)
 
 -- from the scope that stays
-kept_moved : {A : Type 0} (p : R (A × DocumentScope)) (v w : DocumentScope) (ts : Ahead Spelled) → bare w ≡ bare v → Tells p (λ y r. bare y.1 ≡ bare w) (λ f r. Causes (bare w) f r) ts → Tells p (λ y r. bare y.1 ≡ bare v) (λ f r. Causes (bare v) f r) ts
+kept_moved : {A : Type 0} (p : R (A × DocumentScope)) (v w : DocumentScope) (ts : Ahead Spelled) → bare w ≡ bare v →
+    Tells p (λ y r. bare y.1 ≡ bare w) (λ f r. Causes (bare w) f r) ts → Tells p (λ y r. bare y.1 ≡ bare v) (λ f r. Causes (bare v) f r) ts
 kept_moved p v w ts e t = subst (λ (u : DocumentScope). Tells p (λ y r. bare y.1 ≡ u) (λ f r. Causes u f r) ts) e t
 
-stay : (p : R DocumentScope) (v w : DocumentScope) (ts : Ahead Spelled) → bare w ≡ bare v → Tells p (λ y r. bare y ≡ bare w) (λ f r. Causes (bare w) f r) ts → Tells p (λ y r. bare y ≡ bare v) (λ f r. Causes (bare v) f r) ts
+stay : (p : R DocumentScope) (v w : DocumentScope) (ts : Ahead Spelled) → bare w ≡ bare v → Tells p (λ y r. bare y ≡ bare w) (λ f r. Causes (bare w) f r) ts →
+    Tells p (λ y r. bare y ≡ bare v) (λ f r. Causes (bare v) f r) ts
 stay p v w ts e t = subst (λ (u : DocumentScope). Tells p (λ y r. bare y ≡ u) (λ f r. Causes u f r) ts) e t
 
 any_value : {A : Type 0} {p : R A} {Q : A → Ahead Spelled → Type 0} {P : Fault → Ahead Spelled → Type 0} {ts : Ahead Spelled} → Tells p Q P ts → Tells p (λ _ r. Unit {0}) P ts
@@ -208,7 +215,8 @@ module _ (obj : Terms) (each : (v : DocumentScope) (ts : Ahead Spelled) → Find
   node_tells : (v : DocumentScope) (ts : Ahead Spelled) → Finds (node true obj v) v ts
   unfolding node
   node_tells v ts = tells_bind (mark_tells v symbol.OpenBracket ts) (λ w m u. tells_bind (next_tells v m) (λ x n q.
-      tells_bind {Q = λ y r. bare y ≡ bare v} (tells_either (λ _. tells_give q) (λ _. stay _ v x.1 n q (predicates_tells x.0 x.1 n))) (λ y l k. tells_bind (mark_tells v symbol.CloseBracket l) (λ z r i. tells_give k))))
+      tells_bind {Q = λ y r. bare y ≡ bare v} (tells_either (λ _. tells_give q) (λ _. stay _ v x.1 n q (predicates_tells x.0 x.1 n)))
+      (λ y l k. tells_bind (mark_tells v symbol.CloseBracket l) (λ z r i. tells_give k))))
 
   cell_tells : (cell : Term) (v : DocumentScope) (ts : Ahead Spelled) → Finds (in_cell true obj cell v) v ts
   unfolding in_cell
@@ -224,12 +232,14 @@ module _ (obj : Terms) (each : (v : DocumentScope) (ts : Ahead Spelled) → Find
 
   cells_tells : (v : DocumentScope) (ts : Ahead Spelled) → Finds (cells true obj v) v ts
   unfolding cells
-  cells_tells v ts = tells_bind (member_tells v ts) (λ f m q. tells_bind (tells_loop _ (next_member true obj) (λ a r. bare a.1 ≡ bare v) _ (λ a r k. kept_moved _ v a.1 r k (next_member_tells a r)) f m q) (λ l n k.
+  cells_tells v ts = tells_bind (member_tells v ts) (λ f m q. tells_bind (tells_loop _ (next_member true obj) (λ a r. bare a.1 ≡
+      bare v) _ (λ a r k. kept_moved _ v a.1 r k (next_member_tells a r)) f m q) (λ l n k.
       tells_bind (mark_tells v symbol.CloseParenthesis n) (λ z r i. tells_give k)))
 
   collection_tells : (v : DocumentScope) (ts : Ahead Spelled) → Finds (collection true obj v) v ts
   unfolding collection
-  collection_tells v ts = tells_bind (mark_tells v symbol.OpenParenthesis ts) (λ w m u. tells_either (λ _. tells_bind (mark_tells v symbol.CloseParenthesis m) (λ z r i. tells_give refl)) (λ _. cells_tells v m))
+  collection_tells v ts = tells_bind (mark_tells v symbol.OpenParenthesis ts)
+      (λ w m u. tells_either (λ _. tells_bind (mark_tells v symbol.CloseParenthesis m) (λ z r i. tells_give refl)) (λ _. cells_tells v m))
 
 object_tells : (d : ℕ) (v : DocumentScope) (ts : Ahead Spelled) → Finds (object true d v) v ts
 unfolding object
@@ -255,7 +265,8 @@ module _ (d : ℕ) where
 
   listed_tells : (s : Term) (v : DocumentScope) (ts : Ahead Spelled) → Goes (listed true d s v) v ts
   unfolding listed
-  listed_tells s v ts = tells_bind (within_tells s v ts) (λ w m q. tells_bind (mark_tells v symbol.CloseBracket m) (λ z n u. tells_either (λ _. stay _ v w n q (outside_tells s w n)) (λ _. tells_give q)))
+  listed_tells s v ts = tells_bind (within_tells s v ts)
+      (λ w m q. tells_bind (mark_tells v symbol.CloseBracket m) (λ z n u. tells_either (λ _. stay _ v w n q (outside_tells s w n)) (λ _. tells_give q)))
 
   about_node_tells : (v : DocumentScope) (ts : Ahead Spelled) → Goes (about_node true d v) v ts
   unfolding about_node

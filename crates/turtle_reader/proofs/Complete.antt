@@ -135,7 +135,8 @@ module _ (k : Bool) where
     semicolon_then : (ts : Ahead Spelled) → next_is (is_symbol symbol.Semicolon) ts ≡ true → Next after_objects ts
     semicolon_then ts h = nexts (symbol.Semicolon ∷ []) after_objects ts refl (first_of symbol.Semicolon ts h)
 
-    predicates_read : (s : Term) (v w : DocumentScope) (ts r : Ahead Spelled) → g.Predicates k (g.Object k d) s v w ts r → Next closing r → (predicates k (object k d) s v ts ≡ Ok (w, r)) × Next verbs ts
+    predicates_read : (s : Term) (v w : DocumentScope) (ts r : Ahead Spelled) → g.Predicates k (g.Object k d) s v w ts r → Next closing r →
+        (predicates k (object k d) s v ts ≡ Ok (w, r)) × Next verbs ts
     unfolding predicates
     predicates_read s v w ts r (u, (m, h, i)) f =
         let g1 : Next after_objects r = nexts closing after_objects r refl f in
@@ -185,7 +186,8 @@ module _ (k : Bool) where
         let m1 : Next after_object m = elements_follow (g.Following k (g.Object k d)) (Next after_object) following_then f l m n i g1 in (
           rw (
             member_read v f.0 f.1 ts m h m1,
-            elements_read (is_other symbol.CloseParenthesis) (next_member k (object k d)) (g.Following k (g.Object k d)) (Next after_object) (consumes_next_member k (object k d) (local_object k d) (consumes_object k d)) following_read following_starts following_then f l m n i g1
+            elements_read (is_other symbol.CloseParenthesis) (next_member k (object k d)) (g.Following k (g.Object k d)) (Next after_object)
+                (consumes_next_member k (object k d) (local_object k d) (consumes_object k d)) following_read following_starts following_then f l m n i g1
                 (same_next symbol.CloseParenthesis n (begins symbol.CloseParenthesis z n r c)),
             took symbol.CloseParenthesis z n r c,
             e,
@@ -215,13 +217,15 @@ module _ (k : Bool) where
       let n = simple_begins v x ts r h in rw (no_symbol simples symbol.OpenBracket ts refl n, no_symbol simples symbol.OpenParenthesis ts refl n, simple_read v x ts r h f, e) refl
   object_read (suc d) v x w ts r (inr (inl (u, n, (m, (z, o), i)))) f = rw (begins symbol.OpenBracket z ts m o) (node_read d (object_begins d) (object_read d) v x w ts r (u, n, (m, (z, o), i)))
   object_read (suc d) v x w ts r (inr (inr (m, (z, o), i))) f =
-      rw (no_symbol (symbol.OpenParenthesis ∷ []) symbol.OpenBracket ts refl (first symbol.OpenParenthesis z ts m o), begins symbol.OpenParenthesis z ts m o) (collection_read d (object_begins d) (object_read d) v x w ts r (m, (z, o), i))
+      rw (no_symbol (symbol.OpenParenthesis ∷ []) symbol.OpenBracket ts refl (first symbol.OpenParenthesis z ts m o), begins symbol.OpenParenthesis z ts m o)
+      (collection_read d (object_begins d) (object_read d) v x w ts r (m, (z, o), i))
 
   module _ (d : ℕ) where
     within_read : (s : Term) (v w : DocumentScope) (ts r : Ahead Spelled) → g.Predicates k (g.Object k d) s v w ts r → Next closing r → (predicates k (object k d) s v ts ≡ Ok (w, r)) × Next verbs ts
     within_read s v w ts r h f = predicates_read d (object_begins d) (object_read d) s v w ts r h f
 
-    outside_read : (s : Term) (v w : DocumentScope) (ts r : Ahead Spelled) → g.Predicates k (g.Object k (suc d)) s v w ts r → Next closing r → (predicates k (object k (suc d)) s v ts ≡ Ok (w, r)) × Next verbs ts
+    outside_read : (s : Term) (v w : DocumentScope) (ts r : Ahead Spelled) → g.Predicates k (g.Object k (suc d)) s v w ts r → Next closing r →
+        (predicates k (object k (suc d)) s v ts ≡ Ok (w, r)) × Next verbs ts
     outside_read s v w ts r h f = predicates_read (suc d) (object_begins (suc d)) (object_read (suc d)) s v w ts r h f
 
     subject_read : (v : DocumentScope) (x : Term) (w : DocumentScope) (ts r : Ahead Spelled) → g.Subject k d v x w ts r → (subject k d v ts ≡ Ok ((x, w), r)) × Next subjects ts
@@ -275,7 +279,8 @@ module _ (k : Bool) where
   unfolding ended
   ended_read p v w ts m r z e c = rw (e, took symbol.Dot z m r c) refl
 
-  behind_read : (a : Symbol) (p : DocumentScope → R DocumentScope) (v w : DocumentScope) (ts m r : Ahead Spelled) (z : Spelled) → Is (of_symbol a) z ts m → p v m ≡ Ok (w, r) → behind k a p v ts ≡ Ok (w, r)
+  behind_read : (a : Symbol) (p : DocumentScope → R DocumentScope) (v w : DocumentScope) (ts m r : Ahead Spelled) (z : Spelled) → Is (of_symbol a) z ts m →
+      p v m ≡ Ok (w, r) → behind k a p v ts ≡ Ok (w, r)
   unfolding behind
   behind_read a p v w ts m r z c e = rw (took a z ts m c, e) refl
 

@@ -179,12 +179,14 @@ module _ (whole : Ahead Spelled) (first : DocumentScope) where
       }
 
   -- one token
-  goes_one : {A : Type 0} (n m k : ℕ) (class : Spelled → Result A Fault) → ((t : Spelled) (x : A) → class t ≡ Ok x → (front : List Spelled) → AreOpen n front → AreOpen m (front ++ t ∷ [])) → ((t : Spelled) → Shallow (class t))
+  goes_one : {A : Type 0} (n m k : ℕ) (class : Spelled → Result A Fault) → ((t : Spelled) (x : A) → class t ≡ Ok x → (front : List Spelled) → AreOpen n front →
+      AreOpen m (front ++ t ∷ [])) → ((t : Spelled) → Shallow (class t))
       → Goes n k m (λ _. suc k) (one faults.Syntax class)
   goes_one n m k class h shallow ts a = tells_one (fails_at n k faults.Syntax ts tt a)
       (λ t r x is e. passes n m k t r (h t x e) (subst (At whole first n k) is a)) (λ t r f is e. fails_at n k f (token t r) (shallow_err (class t) f (shallow t) e) (subst (At whole first n k) is a))
 
-  goes_plain : {A : Type 0} (n k : ℕ) (ks : List Symbol) (class : Spelled → Result A Fault) → outside ks brackets ≡ true → outside ks closing_brackets ≡ true → ((x : A) (ts r : Ahead Spelled) → Is class x ts r → Next ks ts)
+  goes_plain : {A : Type 0} (n k : ℕ) (ks : List Symbol) (class : Spelled → Result A Fault) → outside ks brackets ≡ true → outside ks closing_brackets ≡ true →
+      ((x : A) (ts r : Ahead Spelled) → Is class x ts r → Next ks ts)
       → ((t : Spelled) → Shallow (class t)) → Goes n k n (λ _. suc k) (one faults.Syntax class)
   goes_plain n k ks class o c b shallow = goes_one n n k class
       (λ t x e front h. let is = b x (token t finished) finished (t, refl, e) in kept n front t (no_next ks brackets (token t finished) o is) (no_next ks closing_brackets (token t finished) c is) h) shallow
@@ -302,7 +304,8 @@ module _ (whole : Ahead Spelled) (first : DocumentScope) where
     goes_node : (v : DocumentScope) → Goes n v.next n spare_in (node true obj v)
     unfolding node
     goes_node v = goes_bind (goes_open symbol.OpenBracket n v.next refl refl) (λ _. goes_bind (goes_next (suc n) v) (λ x.
-        goes_bind {mid = λ w. w.next} (goes_either (gives (omega arith)) (goes_predicates obj (suc n) each x.0 x.1)) (λ w. goes_bind (goes_close symbol.CloseBracket n w.next refl refl) (λ _. gives (omega arith)))))
+        goes_bind {mid = λ w. w.next} (goes_either (gives (omega arith)) (goes_predicates obj (suc n) each x.0 x.1))
+        (λ w. goes_bind (goes_close symbol.CloseBracket n w.next refl refl) (λ _. gives (omega arith)))))
 
     goes_cells : (v : DocumentScope) → Goes (suc n) (suc v.next) n spare_in (cells true obj v)
     unfolding cells

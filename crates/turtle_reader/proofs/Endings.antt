@@ -72,7 +72,8 @@ module _ (base source : List ℕ) (u : IsUtf8 source) where
   document_ahead : (x : DocumentScope × List TermTriple) → IsDocument base source x → Document true inner_depth v x ahead
   document_ahead x (ts, utf8, tokens, h) = subst (λ (ts : Ahead Spelled). Document true inner_depth v x ts) (sym (from_tokens Turtle source u ts tokens)) h
 
-  any_place : (f : Fault) (rest : Ahead Spelled) (at : ℕ) → Common f → r.document true inner_depth v ahead ≡ Err (f, rest) → Stands Turtle source rest at → IsFaultPlace (SpellsAny base) Turtle source at
+  any_place : (f : Fault) (rest : Ahead Spelled) (at : ℕ) → Common f → r.document true inner_depth v ahead ≡ Err (f, rest) → Stands Turtle source rest at →
+      IsFaultPlace (SpellsAny base) Turtle source at
   any_place f rest at c e s = fault_place Turtle source u (AnyDocument v) rest at (blocked_any v ahead f rest c e) s
 
   limit_place : (f : Fault) (rest : Ahead Spelled) (at : ℕ) → r.document true inner_depth v ahead ≡ Err (f, rest) → Stands Turtle source rest at → IsLimitPlace base source at
@@ -121,7 +122,8 @@ module _ (base source : List ℕ) (u : IsUtf8 source) where
         limit = h.limit;
       }
 
-  pub explains : (e : Refusal) (at : ℕ) (w : DocumentScope) (rest : Ahead Spelled) (terms new_terms : List Term) (graph new_graph : List Triple) → Ends (Err e) v ahead w rest terms graph new_terms new_graph → Stands Turtle source rest at
+  pub explains : (e : Refusal) (at : ℕ) (w : DocumentScope) (rest : Ahead Spelled) (terms new_terms : List Term) (graph new_graph : List Triple) →
+      Ends (Err e) v ahead w rest terms graph new_terms new_graph → Stands Turtle source rest at
       → Explains base (error_of e at) source terms graph
   explains refusal.Memory at w rest terms new_terms graph new_graph h s = tt
   explains refusal.Full at w rest terms new_terms graph new_graph h s = inl (overfull terms graph h)
@@ -131,7 +133,8 @@ module _ (base source : List ℕ) (u : IsUtf8 source) where
   explains (refusal.Fault faults.Long) at w rest terms new_terms graph new_graph h s = (limit_place faults.Long rest at h.refused s, caused faults.Long rest at h s)
   explains (refusal.Fault faults.Full) at w rest terms new_terms graph new_graph h s = inr (at, limit_place faults.Full rest at h.refused s, caused faults.Full rest at h s)
 
-  not_full : (terms a : List Term) (graph b : List Triple) (x : DocumentScope × List TermTriple) → AreDistinct terms → IsDocument base source x → Loads terms graph x.1 a b → IsWithin a b → Overflows v ahead terms graph → ⊥
+  not_full : (terms a : List Term) (graph b : List Triple) (x : DocumentScope × List TermTriple) → AreDistinct terms → IsDocument base source x →
+      Loads terms graph x.1 a b → IsWithin a b → Overflows v ahead terms graph → ⊥
   not_full terms a graph b x dis doc loads within o =
       let all = further_loop_read true inner_depth (v, []) x ahead (document_ahead x doc) in
       let rest = (meets_loop is_any (r.further true inner_depth) (Behind true inner_depth) (consumes_further true inner_depth) (further_meets true inner_depth) (o.scope, o.so_far) o.rest).holds (x, finished) (o.goes ∙ all) in
@@ -143,12 +146,14 @@ module _ (base source : List ℕ) (u : IsUtf8 source) where
 
   same_document : (x y : DocumentScope × List TermTriple) → Document true inner_depth v x ahead → IsDocument base source y → x ≡ y
   same_document x y h doc =
-      ap (λ (z : (DocumentScope × List TermTriple) × Ahead Spelled). z.0) (ok_is (x, finished) (y, finished) (sym (document_read true inner_depth v x ahead h) ∙ document_read true inner_depth v y ahead (document_ahead y doc)))
+      ap (λ (z : (DocumentScope × List TermTriple) × Ahead Spelled). z.0) (ok_is (x, finished) (y, finished) (sym (document_read true inner_depth v x ahead h)
+      ∙ document_read true inner_depth v y ahead (document_ahead y doc)))
 
   no_fault : (x : DocumentScope × List TermTriple) (f : Fault) (rest : Ahead Spelled) → IsDocument base source x → r.document true inner_depth v ahead ≡ Err (f, rest) → ⊥
   no_fault x f rest doc e = apart (x, finished) (f, rest) (sym (document_read true inner_depth v x ahead (document_ahead x doc)) ∙ e)
 
-  pub reads_err : (e : Refusal) (at : ℕ) (w z : DocumentScope) (rest : Ahead Spelled) (terms new_terms a left_terms : List Term) (graph new_graph b left_graph : List Triple) (ts : List TermTriple) → AreDistinct terms → IsDocument base source (z, ts)
+  pub reads_err : (e : Refusal) (at : ℕ) (w z : DocumentScope) (rest : Ahead Spelled) (terms new_terms a left_terms : List Term) (graph new_graph b left_graph : List Triple) (ts : List TermTriple) →
+      AreDistinct terms → IsDocument base source (z, ts)
       → Loads terms graph ts a b → IsWithin a b → Ends (Err e) v ahead w rest terms graph new_terms new_graph → ReadsTo (Err (error_of e at)) z a b left_terms left_graph
   reads_err refusal.Memory at w z rest terms new_terms a left_terms graph new_graph b left_graph ts dis doc loads within h = tt
   reads_err refusal.Full at w z rest terms new_terms a left_terms graph new_graph b left_graph ts dis doc loads within h = not_full terms a graph b (z, ts) dis doc loads within h
@@ -158,14 +163,16 @@ module _ (base source : List ℕ) (u : IsUtf8 source) where
   reads_err (refusal.Fault faults.Long) at w z rest terms new_terms a left_terms graph new_graph b left_graph ts dis doc loads within h = no_fault (z, ts) faults.Long rest doc h.refused
   reads_err (refusal.Fault faults.Full) at w z rest terms new_terms a left_terms graph new_graph b left_graph ts dis doc loads within h = no_fault (z, ts) faults.Full rest doc h.refused
 
-  pub reads_ok : (p : Prefixes) (w z : DocumentScope) (rest : Ahead Spelled) (terms new_terms a : List Term) (graph new_graph b : List Triple) (ts : List TermTriple) → AreDistinct terms → IsDocument base source (z, ts) → Loads terms graph ts a b
+  pub reads_ok : (p : Prefixes) (w z : DocumentScope) (rest : Ahead Spelled) (terms new_terms a : List Term) (graph new_graph b : List Triple) (ts : List TermTriple) → AreDistinct terms →
+      IsDocument base source (z, ts) → Loads terms graph ts a b
       → Ends (Ok tt) v ahead w rest terms graph new_terms new_graph → AreLast p w → ReadsTo (Ok p) z a b new_terms new_graph
   reads_ok p w z rest terms new_terms a graph new_graph b ts dis doc loads (us, h, own) last =
       let same = same_document (w, us) (z, ts) h doc in
       let one = loads_one terms new_terms a graph new_graph b ts dis (subst (λ (x : DocumentScope × List TermTriple). Loads terms graph x.1 new_terms new_graph) same own) loads in
       (subst (λ (x : DocumentScope × List TermTriple). AreLast p x.0) same last, one.0, one.1)
 
-  pub is_read : (p : Prefixes) (w : DocumentScope) (rest : Ahead Spelled) (terms new_terms : List Term) (graph new_graph : List Triple) → Ends (Ok tt) v ahead w rest terms graph new_terms new_graph → AreLast p w
+  pub is_read : (p : Prefixes) (w : DocumentScope) (rest : Ahead Spelled) (terms new_terms : List Term) (graph new_graph : List Triple) →
+      Ends (Ok tt) v ahead w rest terms graph new_terms new_graph → AreLast p w
       → IsRead base source p terms graph new_terms new_graph
   is_read p w rest terms new_terms graph new_graph (ts, h, own) last = record { scope = w; triples = ts; document = found_document (w, ts) h; loaded = own; last = last }
 
@@ -181,28 +188,33 @@ module _ (base source : List ℕ) (u : IsUtf8 source) where
 
 -- from what lies ahead of the tokens at first, and the scope at first
 module _ (base source : List ℕ) (u : IsUtf8 source) (first : Ahead Spelled) (begins : first ≡ stream_from Turtle source 0) (at_first : DocumentScope) (starts : at_first ≡ states.start base) where
-  moved : (res : Result (Unit {0}) Refusal) (w : DocumentScope) (rest : Ahead Spelled) (terms new_terms : List Term) (graph new_graph : List Triple) → Ends res at_first first w rest terms graph new_terms new_graph
+  moved : (res : Result (Unit {0}) Refusal) (w : DocumentScope) (rest : Ahead Spelled) (terms new_terms : List Term) (graph new_graph : List Triple) →
+      Ends res at_first first w rest terms graph new_terms new_graph
       → Ends res (states.start base) (stream_from Turtle source 0) w rest terms graph new_terms new_graph
   moved res w rest terms new_terms graph new_graph h =
       subst (λ (ts : Ahead Spelled). Ends res (states.start base) ts w rest terms graph new_terms new_graph) begins
       (subst (λ (s : DocumentScope). Ends res s first w rest terms graph new_terms new_graph) starts h)
 
-  pub found_from : (p : Prefixes) (w : DocumentScope) (rest : Ahead Spelled) (terms new_terms : List Term) (graph new_graph : List Triple) → Ends (Ok tt) at_first first w rest terms graph new_terms new_graph → AreLast p w
+  pub found_from : (p : Prefixes) (w : DocumentScope) (rest : Ahead Spelled) (terms new_terms : List Term) (graph new_graph : List Triple) →
+      Ends (Ok tt) at_first first w rest terms graph new_terms new_graph → AreLast p w
       → IsRead base source p terms graph new_terms new_graph
   found_from p w rest terms new_terms graph new_graph h last = is_read base source u p w rest terms new_terms graph new_graph (moved (Ok tt) w rest terms new_terms graph new_graph h) last
 
-  pub ok_from : (p : Prefixes) (w z : DocumentScope) (rest : Ahead Spelled) (terms new_terms a : List Term) (graph new_graph b : List Triple) (ts : List TermTriple) → AreDistinct terms → IsDocument base source (z, ts) → Loads terms graph ts a b
+  pub ok_from : (p : Prefixes) (w z : DocumentScope) (rest : Ahead Spelled) (terms new_terms a : List Term) (graph new_graph b : List Triple) (ts : List TermTriple) → AreDistinct terms →
+      IsDocument base source (z, ts) → Loads terms graph ts a b
       → Ends (Ok tt) at_first first w rest terms graph new_terms new_graph → AreLast p w → ReadsTo (Ok p) z a b new_terms new_graph
   ok_from p w z rest terms new_terms a graph new_graph b ts dis doc loads h last =
       reads_ok base source u p w z rest terms new_terms a graph new_graph b ts dis doc loads (moved (Ok tt) w rest terms new_terms graph new_graph h) last
 
-  pub err_from : (e : Refusal) (x : ReadError) (at : ℕ) (w z : DocumentScope) (rest : Ahead Spelled) (terms new_terms a left_terms : List Term) (graph new_graph b left_graph : List Triple) (ts : List TermTriple) → AreDistinct terms → IsDocument base source (z, ts)
+  pub err_from : (e : Refusal) (x : ReadError) (at : ℕ) (w z : DocumentScope) (rest : Ahead Spelled) (terms new_terms a left_terms : List Term) (graph new_graph b left_graph : List Triple)
+      (ts : List TermTriple) → AreDistinct terms → IsDocument base source (z, ts)
       → Loads terms graph ts a b → IsWithin a b → Ends (Err e) at_first first w rest terms graph new_terms new_graph → x ≡ error_of e at → ReadsTo (Err x) z a b left_terms left_graph
   err_from e x at w z rest terms new_terms a left_terms graph new_graph b left_graph ts dis doc loads within h is =
       subst (λ (y : ReadError). ReadsTo (Err y) z a b left_terms left_graph) (sym is)
       (reads_err base source u e at w z rest terms new_terms a left_terms graph new_graph b left_graph ts dis doc loads within (moved (Err e) w rest terms new_terms graph new_graph h))
 
-  pub cause_from : (e : Refusal) (x : ReadError) (at : ℕ) (w : DocumentScope) (rest : Ahead Spelled) (text : Source) (terms new_terms : List Term) (graph new_graph : List Triple) → Ends (Err e) at_first first w rest terms graph new_terms new_graph
+  pub cause_from : (e : Refusal) (x : ReadError) (at : ℕ) (w : DocumentScope) (rest : Ahead Spelled) (text : Source) (terms new_terms : List Term) (graph new_graph : List Triple) →
+      Ends (Err e) at_first first w rest terms graph new_terms new_graph
       → text ≡ record { mode = Turtle; text = source } → Stands text.mode text.text rest at → x ≡ error_of e at → Explains base x source terms graph
   cause_from e x at w rest text terms new_terms graph new_graph h same s is =
       subst (λ (y : ReadError). Explains base y source terms graph) (sym is)

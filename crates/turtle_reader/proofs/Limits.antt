@@ -122,7 +122,8 @@ module _ (j : Bool) where
 
   same_resource : (v : DocumentScope) → Same (resource j v) (resource false v)
   unfolding resource
-  same_resource v = agrees_either Common IsLimit _ _ _ _ _ (agrees_one Common IsLimit faults.Syntax _ _ tt blank_agrees) (agrees_bind Common IsLimit _ _ _ _ (same_iri v) (λ i. agrees_give Common IsLimit _))
+  same_resource v = agrees_either Common IsLimit _ _ _ _ _ (agrees_one Common IsLimit faults.Syntax _ _ tt blank_agrees)
+      (agrees_bind Common IsLimit _ _ _ _ (same_iri v) (λ i. agrees_give Common IsLimit _))
 
   same_simple : (v : DocumentScope) → Same (simple j v) (simple false v)
   unfolding simple
@@ -152,12 +153,14 @@ module _ (j : Bool) where
 
     same_semicolon : (s : Term) (v : DocumentScope) → Same (semicolon j (object j d) s v) (semicolon false (object false e) s v)
     unfolding semicolon
-    same_semicolon s v = agrees_bind Common IsLimit _ _ _ _ (agrees_mark Common IsLimit tt symbol.Semicolon) (λ _. agrees_either Common IsLimit _ _ _ _ _ (same_pair s v) (agrees_give Common IsLimit _))
+    same_semicolon s v = agrees_bind Common IsLimit _ _ _ _ (agrees_mark Common IsLimit tt symbol.Semicolon)
+        (λ _. agrees_either Common IsLimit _ _ _ _ _ (same_pair s v) (agrees_give Common IsLimit _))
 
     same_predicates : (s : Term) (v : DocumentScope) → Same (predicates j (object j d) s v) (predicates false (object false e) s v)
     unfolding predicates
     same_predicates s v = agrees_bind Common IsLimit _ _ _ _ (same_pair s v) (λ u. agrees_loop Common IsLimit _ _ _
-        (consumes_semicolon j (object j d) (local_object j d) (consumes_object j d) s) (consumes_semicolon false (object false e) (local_object false e) (consumes_object false e) s) (same_semicolon s) u)
+        (consumes_semicolon j (object j d) (local_object j d) (consumes_object j d) s)
+        (consumes_semicolon false (object false e) (local_object false e) (consumes_object false e) s) (same_semicolon s) u)
 
     same_node : (v : DocumentScope) → Same (node j (object j d) v) (node false (object false e) v)
     unfolding node
@@ -180,7 +183,8 @@ module _ (j : Bool) where
     same_cells : (v : DocumentScope) → Same (cells j (object j d) v) (cells false (object false e) v)
     unfolding cells
     same_cells v = agrees_bind Common IsLimit _ _ _ _ (same_member v) (λ f. agrees_bind Common IsLimit _ _ _ _ (agrees_loop Common IsLimit _ _ _
-        (consumes_next_member j (object j d) (local_object j d) (consumes_object j d)) (consumes_next_member false (object false e) (local_object false e) (consumes_object false e)) same_next_member f) (λ l.
+        (consumes_next_member j (object j d) (local_object j d) (consumes_object j d))
+        (consumes_next_member false (object false e) (local_object false e) (consumes_object false e)) same_next_member f) (λ l.
         agrees_bind Common IsLimit _ _ _ _ (agrees_mark Common IsLimit tt symbol.CloseParenthesis) (λ _. agrees_give Common IsLimit _)))
 
     same_collection : (v : DocumentScope) → Same (collection j (object j d) v) (collection false (object false e) v)
@@ -193,8 +197,10 @@ module _ (j : Bool) where
 
   same_object : (d e : ℕ) → d ≤ e → (v : DocumentScope) → Same (object j d v) (object false e v)
   unfolding object
-  same_object zero zero le v = agrees_either Common IsLimit _ _ _ _ _ (deep_agrees _) (agrees_either Common IsLimit _ _ _ _ _ (deep_agrees _) (agrees_bind Common IsLimit _ _ _ _ (same_simple v) (λ x. agrees_give Common IsLimit _)))
-  same_object zero (suc e) le v = agrees_either Common IsLimit _ _ _ _ _ (deep_agrees _) (agrees_either Common IsLimit _ _ _ _ _ (deep_agrees _) (agrees_bind Common IsLimit _ _ _ _ (same_simple v) (λ x. agrees_give Common IsLimit _)))
+  same_object zero zero le v = agrees_either Common IsLimit _ _ _ _ _ (deep_agrees _)
+      (agrees_either Common IsLimit _ _ _ _ _ (deep_agrees _) (agrees_bind Common IsLimit _ _ _ _ (same_simple v) (λ x. agrees_give Common IsLimit _)))
+  same_object zero (suc e) le v = agrees_either Common IsLimit _ _ _ _ _ (deep_agrees _)
+      (agrees_either Common IsLimit _ _ _ _ _ (deep_agrees _) (agrees_bind Common IsLimit _ _ _ _ (same_simple v) (λ x. agrees_give Common IsLimit _)))
   same_object (suc d) zero le v = absurd (omega arith)
   same_object (suc d) (suc e) le v =
       agrees_either Common IsLimit _ _ _ _ _ (same_node d e (λ u. same_object d e (omega arith) u) v)

@@ -82,7 +82,8 @@ last_put : (old new : List Term) (x : Term) → AddsAll old (x ∷ []) new → A
 last_put old new x (more a none) = a
 
 -- an object that finds no room in the table
-pub no_object : (e : LoadError) (old terms new : List Term) (graph new_graph : List Triple) (s p o : Term) (i j : ℕ) → Begins old terms s p i j → (e ≡ load.Full → (¬ Contains terms o) × (length terms ≡ max_terms))
+pub no_object : (e : LoadError) (old terms new : List Term) (graph new_graph : List Triple) (s p o : Term) (i j : ℕ) → Begins old terms s p i j →
+    (e ≡ load.Full → (¬ Contains terms o) × (length terms ≡ max_terms))
     → LoadsAll (Err e) old graph (triple_with s p o ∷ []) new new_graph
 no_object load.Memory old terms new graph new_graph s p o i j b full = tt
 no_object load.Full old terms new graph new_graph s p o i j b full =
@@ -104,7 +105,8 @@ module _ (old terms new : List Term) (graph : List Triple) (s p o : Term) (n : T
       (graph_full old new graph (triple_with s p o) n distinct (one_put old terms new (s ∷ p ∷ []) o b.added add) numbered full)
 
 -- a subject and a predicate that find no room before objects
-pub no_list : (e : LoadError) (old new : List Term) (graph new_graph : List Triple) (s p : Term) (xs : List Term) (last : Term) → (e ≡ load.Full → (o : Term) (all : List Term) → AddsAll old (s ∷ p ∷ o ∷ []) all → ¬ (length all ≤ max_terms))
+pub no_list : (e : LoadError) (old new : List Term) (graph new_graph : List Triple) (s p : Term) (xs : List Term) (last : Term) →
+    (e ≡ load.Full → (o : Term) (all : List Term) → AddsAll old (s ∷ p ∷ o ∷ []) all → ¬ (length all ≤ max_terms))
     → LoadsAll (Err e) old graph (map (triple_with s p) (xs ++ last ∷ [])) new new_graph
 no_list load.Memory old new graph new_graph s p xs last full = tt
 no_list load.Full old new graph new_graph s p [] last full =
@@ -127,7 +129,8 @@ abbrev pub Comes : Result (Unit {0}) LoadError → ℕ → ℕ → List Term →
 Comes r i j now now_graph x new new_graph = (old : List Term) (s p : Term) → Begins old now s p i j → LoadsAll r old now_graph (triple_with s p x ∷ []) new new_graph
 
 module _ (i j : ℕ) (start now new : List Term) (graph now_graph new_graph : List Triple) (xs : List Term) (g : Goes i j start graph xs now now_graph) where
-  pub goes_on : (x : Term) → Comes (Ok tt) i j now now_graph x new new_graph → ((behind : List Term) × (new ≡ now ++ behind)) → ((behind : List Triple) × (new_graph ≡ now_graph ++ behind)) → Goes i j start graph (xs ++ x ∷ []) new new_graph
+  pub goes_on : (x : Term) → Comes (Ok tt) i j now now_graph x new new_graph → ((behind : List Term) × (new ≡ now ++ behind)) →
+      ((behind : List Triple) × (new_graph ≡ now_graph ++ behind)) → Goes i j start graph (xs ++ x ∷ []) new new_graph
   goes_on x one more_terms more_triples = record {
     grown = grown_on start now new g.grown more_terms;
     appended = grown_on graph now_graph new_graph g.appended more_triples;
@@ -145,7 +148,8 @@ module _ (i j : ℕ) (start now new : List Term) (graph now_graph new_graph : Li
   goes_wrong before rest x last e parts one old s p b =
       let (mid, m, l) = g.loaded old s p b in
       stops_at old mid new graph now_graph new_graph (map (triple_with s p) (before ++ last ∷ [])) (map (triple_with s p) xs) (triple_with s p x ∷ []) (map (triple_with s p) (rest ++ last ∷ [])) e
-      (ap (λ (v : List Term). map (triple_with s p) (v ++ last ∷ [])) parts ∙ ap (map (triple_with s p)) (append_assoc xs (x ∷ rest) (last ∷ [])) ∙ map-append (triple_with s p) xs (x ∷ (rest ++ last ∷ []))) l (one mid s p m)
+      (ap (λ (v : List Term). map (triple_with s p) (v ++ last ∷ [])) parts ∙ ap (map (triple_with s p)) (append_assoc xs (x ∷ rest) (last ∷ []))
+      ∙ map-append (triple_with s p) xs (x ∷ (rest ++ last ∷ []))) l (one mid s p m)
 
   pub goes_to_last : (r : Result (Unit {0}) LoadError) (before rest : List Term) (x last : Term) → before ≡ xs ++ rest → rest ≡ [] → x ≡ last → Comes r i j now now_graph x new new_graph
       → (old : List Term) (s p : Term) → Begins old start s p i j → LoadsAll r old graph (map (triple_with s p) (before ++ last ∷ [])) new new_graph

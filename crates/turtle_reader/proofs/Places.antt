@@ -115,11 +115,13 @@ module _ (k : Bool) where
 
     local_node : (v : DocumentScope) → IsLocal (node k obj v)
     unfolding node
-    local_node v = local_bind _ _ (local_one _ _) (λ _. local_bind _ _ (local_next v) (λ x. local_bind _ _ (local_either _ _ _ (local_give _) (local_predicates _ _)) (λ w. local_bind _ _ (local_one _ _) (λ _. local_give _))))
+    local_node v = local_bind _ _ (local_one _ _)
+        (λ _. local_bind _ _ (local_next v) (λ x. local_bind _ _ (local_either _ _ _ (local_give _) (local_predicates _ _)) (λ w. local_bind _ _ (local_one _ _) (λ _. local_give _))))
 
     consumes_node : (v : DocumentScope) → Consumes (node k obj v)
     unfolding node
-    consumes_node v = consumes_bind _ _ (consumes_one _ _) (λ _. local_bind _ _ (local_next v) (λ x. local_bind _ _ (local_either _ _ _ (local_give _) (local_predicates _ _)) (λ w. local_bind _ _ (local_one _ _) (λ _. local_give _))))
+    consumes_node v = consumes_bind _ _ (consumes_one _ _)
+        (λ _. local_bind _ _ (local_next v) (λ x. local_bind _ _ (local_either _ _ _ (local_give _) (local_predicates _ _)) (λ w. local_bind _ _ (local_one _ _) (λ _. local_give _))))
 
     local_in_cell : (cell : Term) (v : DocumentScope) → IsLocal (in_cell k obj cell v)
     unfolding in_cell
@@ -158,11 +160,13 @@ module _ (k : Bool) where
 
     pub local_object : (d : ℕ) (v : DocumentScope) → IsLocal (object k d v)
     local_object zero v = local_either _ _ _ (local_refuse _) (local_either _ _ _ (local_refuse _) (local_bind _ _ (local_simple v) (λ x. local_give _)))
-    local_object (suc d) v = local_either _ _ _ (local_node (object k d) (local_object d) (consumes_object d) v) (local_either _ _ _ (local_collection (object k d) (local_object d) (consumes_object d) v) (local_bind _ _ (local_simple v) (λ x. local_give _)))
+    local_object (suc d) v = local_either _ _ _ (local_node (object k d) (local_object d) (consumes_object d) v)
+        (local_either _ _ _ (local_collection (object k d) (local_object d) (consumes_object d) v) (local_bind _ _ (local_simple v) (λ x. local_give _)))
 
     pub consumes_object : (d : ℕ) (v : DocumentScope) → Consumes (object k d v)
     consumes_object zero v = consumes_either _ _ _ (consumes_refuse _) (consumes_either _ _ _ (consumes_refuse _) (consumes_bind _ _ (consumes_simple v) (λ x. local_give _)))
-    consumes_object (suc d) v = consumes_either _ _ _ (consumes_node (object k d) (local_object d) (consumes_object d) v) (consumes_either _ _ _ (consumes_collection (object k d) (local_object d) (consumes_object d) v) (consumes_bind _ _ (consumes_simple v) (λ x. local_give _)))
+    consumes_object (suc d) v = consumes_either _ _ _ (consumes_node (object k d) (local_object d) (consumes_object d) v)
+        (consumes_either _ _ _ (consumes_collection (object k d) (local_object d) (consumes_object d) v) (consumes_bind _ _ (consumes_simple v) (λ x. local_give _)))
 
   module _ (d : ℕ) where
     local_within : (s : Term) (v : DocumentScope) → IsLocal (predicates k (object k d) s v)
@@ -197,7 +201,8 @@ module _ (k : Bool) where
 
     consumes_about_node : (v : DocumentScope) → Consumes (about_node k d v)
     unfolding about_node
-    consumes_about_node v = consumes_bind _ _ (consumes_one _ _) (λ _. local_bind _ _ (local_next v) (λ x. local_either _ _ _ (local_bind _ _ (local_one _ _) (λ _. local_outside _ _)) (local_listed _ _)))
+    consumes_about_node v = consumes_bind _ _ (consumes_one _ _)
+        (λ _. local_bind _ _ (local_next v) (λ x. local_either _ _ _ (local_bind _ _ (local_one _ _) (λ _. local_outside _ _)) (local_listed _ _)))
 
     local_triples : (v : DocumentScope) → IsLocal (triples k d v)
     unfolding triples

@@ -31,11 +31,13 @@ names_plain v h = record { base = h.base; prefixes = h.prefixes }
 one_more : (n : ℕ) → 1 ≤ n + 1
 one_more n = omega arith
 
-numbered_by : (v : DocumentScope) (x : Term) (w : DocumentScope) (b : Bool) → PlainScope v → nat_lt max_anonymous v.next ≡ b → cond {A = Result (Term × DocumentScope) Fault} b (Err Full) (Ok (anonymous v.next, counted v)) ≡ Ok (x, w) → PlainTerm x × PlainScope w
+numbered_by : (v : DocumentScope) (x : Term) (w : DocumentScope) (b : Bool) → PlainScope v → nat_lt max_anonymous v.next ≡ b →
+    cond {A = Result (Term × DocumentScope) Fault} b (Err Full) (Ok (anonymous v.next, counted v)) ≡ Ok (x, w) → PlainTerm x × PlainScope w
 numbered_by v x w true h f e = absurd (err_is_not_ok Full (x, w) e)
 numbered_by v x w false h f e =
     let n : v.next ≤ 4294967295 = grind (arith, nat_tests) in
-    subst (λ (p : Term × DocumentScope). PlainTerm p.0 × PlainScope p.1) (ok_same (anonymous v.next, counted v) (x, w) e) ((h.from_one, n), record { base = h.base; prefixes = h.prefixes; from_one = one_more v.next; triples = h.triples })
+    subst (λ (p : Term × DocumentScope). PlainTerm p.0 × PlainScope p.1) (ok_same (anonymous v.next, counted v) (x, w) e)
+    ((h.from_one, n), record { base = h.base; prefixes = h.prefixes; from_one = one_more v.next; triples = h.triples })
 
 pub numbered_plain : (v : DocumentScope) (x : Term) (w : DocumentScope) → PlainScope v → numbered true v ≡ Ok (x, w) → PlainTerm x × PlainScope w
 unfolding numbered

@@ -77,7 +77,8 @@ module _ (k : Bool) where
     predicates_meets s v ts = meets_bind (meets_rule (pair_meets s v ts) (λ u m h.
         meets_rule (meets_loop _ _ (g.Further k (g.Object k d) s) (consumes_semicolon k (object k d) (local_object k d) (consumes_object k d) s) (semicolon_meets s) u m) (λ w r i. (u, (m, h, i)))))
 
-    inside_meets : (x : Term) (v : DocumentScope) (ts : Ahead Spelled) → Meets (either (is_symbol symbol.CloseBracket) (give v) (predicates k (object k d) x v)) (λ u r. g.Inside k (g.Object k d) x v u ts r) ts
+    inside_meets : (x : Term) (v : DocumentScope) (ts : Ahead Spelled) →
+        Meets (either (is_symbol symbol.CloseBracket) (give v) (predicates k (object k d) x v)) (λ u r. g.Inside k (g.Object k d) x v u ts r) ts
     inside_meets x v ts = meets_either (meets_give (inl (refl, refl))) (meets_rule (predicates_meets x v ts) (λ u r h. inr h))
 
     node_meets : (v : DocumentScope) (ts : Ahead Spelled) → Meets (node k (object k d) v) (λ x r. g.Node k (g.Object k d) v x.0 x.1 ts r) ts
@@ -113,7 +114,8 @@ module _ (k : Bool) where
 
     collection_meets : (v : DocumentScope) (ts : Ahead Spelled) → Meets (collection k (object k d) v) (λ x r. g.Collection k (g.Object k d) v x.0 x.1 ts r) ts
     unfolding collection
-    collection_meets v ts = meets_bind (meets_one (λ w m o. meets_either (meets_bind (meets_one (λ z r c. meets_give (m, (w, o), inl (refl, refl, (z, c)))))) (meets_rule (cells_meets v m) (λ x r h. (m, (w, o), inr h)))))
+    collection_meets v ts =
+        meets_bind (meets_one (λ w m o. meets_either (meets_bind (meets_one (λ z r c. meets_give (m, (w, o), inl (refl, refl, (z, c)))))) (meets_rule (cells_meets v m) (λ x r h. (m, (w, o), inr h)))))
 
   object_meets : (d : ℕ) (v : DocumentScope) (ts : Ahead Spelled) → Meets (object k d v) (λ x r. g.Object k d v x.0 x.1 ts r) ts
   unfolding object g.Object
@@ -165,7 +167,8 @@ module _ (k : Bool) where
   unfolding base_declaration iri_ref
   base_meets v ts = meets_bind (meets_one (λ i r e. meets_give (i, refl, e)))
 
-  behind_meets : (a : Symbol) (p : DocumentScope → R DocumentScope) (P : g.Steps) → ((v : DocumentScope) (ts : Ahead Spelled) → Meets (p v) (λ w r. P v w ts r) ts) → (v : DocumentScope) (ts : Ahead Spelled)
+  behind_meets : (a : Symbol) (p : DocumentScope → R DocumentScope) (P : g.Steps) →
+      ((v : DocumentScope) (ts : Ahead Spelled) → Meets (p v) (λ w r. P v w ts r) ts) → (v : DocumentScope) (ts : Ahead Spelled)
       → Meets (behind k a p v) (λ w r. (m : Ahead Spelled) × Mark a ts m × P v w m r) ts
   unfolding behind
   behind_meets a p P each v ts = meets_bind (meets_one (λ z m h. meets_rule (each v m) (λ w r i. (m, (z, h), i))))

@@ -41,7 +41,8 @@ pub many_more : {S : Type 0} (One : S → S → Phrase Spelled) (a b c : S) (ts 
 many_more One a b c ts mid rest none h = more h none
 many_more One a b c ts mid rest (more {x = x} {mid = m} o others) h = more o (many_more One x b c m mid rest others h)
 
-step_ok : (v u : DocumentScope) (before : List TermTriple) (ts rest : Ahead Spelled) → statement true inner_depth v ts ≡ Ok (u, rest) → further true inner_depth (v, before) ts ≡ Ok ((begun u, before ++ u.triples), rest)
+step_ok : (v u : DocumentScope) (before : List TermTriple) (ts rest : Ahead Spelled) → statement true inner_depth v ts ≡ Ok (u, rest) →
+    further true inner_depth (v, before) ts ≡ Ok ((begun u, before ++ u.triples), rest)
 unfolding further
 step_ok v u before ts rest e = rw e refl
 
@@ -52,7 +53,8 @@ step_err v before ts f e = rw e refl
 pub begins : (v : DocumentScope) (ahead : Ahead Spelled) (terms : List Term) (graph : List Triple) → Comes v ahead terms graph v ahead terms graph
 begins v ahead terms graph = record { so_far = []; goes = refl; statements = none; loaded = nothing }
 
-pub smaller : (v w : DocumentScope) (ts rest : Ahead Spelled) (terms new_terms : List Term) (graph new_graph : List Triple) → Steps (Ok tt) v ts w rest terms graph new_terms new_graph → (u : DocumentScope) × (statement true inner_depth v ts ≡ Ok (u, rest))
+pub smaller : (v w : DocumentScope) (ts rest : Ahead Spelled) (terms new_terms : List Term) (graph new_graph : List Triple) →
+    Steps (Ok tt) v ts w rest terms graph new_terms new_graph → (u : DocumentScope) × (statement true inner_depth v ts ≡ Ok (u, rest))
 smaller v w ts rest terms new_terms graph new_graph (u, e, s, l) = (u, e)
 
 module _ (v : DocumentScope) (ahead : Ahead Spelled) (terms : List Term) (graph : List Triple) where
@@ -60,14 +62,18 @@ module _ (v : DocumentScope) (ahead : Ahead Spelled) (terms : List Term) (graph 
       → loop is_any (further true inner_depth) (w, so) rest ≡ loop is_any (further true inner_depth) (v, []) ahead
       → loop is_any (further true inner_depth) (begun u, so ++ u.triples) mid ≡ loop is_any (further true inner_depth) (v, []) ahead
   one_more w u rest mid so n e goes =
-      loop_goes is_any (further true inner_depth) (consumes_further true inner_depth) (w, so) rest (begun u, so ++ u.triples) mid (loop is_any (further true inner_depth) (v, []) ahead) n (step_ok w u so rest mid e) goes
+      loop_goes is_any (further true inner_depth) (consumes_further true inner_depth)
+      (w, so) rest (begun u, so ++ u.triples) mid (loop is_any (further true inner_depth) (v, []) ahead) n (step_ok w u so rest mid e) goes
 
-  more_statements : (w u : DocumentScope) (rest mid : Ahead Spelled) (so : List TermTriple) → statement true inner_depth w rest ≡ Ok (u, mid) → Many (Behind true inner_depth) (v, []) (w, so) ahead rest
+  more_statements : (w u : DocumentScope) (rest mid : Ahead Spelled) (so : List TermTriple) → statement true inner_depth w rest ≡ Ok (u, mid) →
+      Many (Behind true inner_depth) (v, []) (w, so) ahead rest
       → Many (Behind true inner_depth) (v, []) (begun u, so ++ u.triples) ahead mid
   more_statements w u rest mid so e m =
-      many_more (Behind true inner_depth) (v, []) (w, so) (begun u, so ++ u.triples) ahead rest mid m ((further_meets true inner_depth (w, so) rest).holds ((begun u, so ++ u.triples), mid) (step_ok w u so rest mid e))
+      many_more (Behind true inner_depth) (v, []) (w, so)
+      (begun u, so ++ u.triples) ahead rest mid m ((further_meets true inner_depth (w, so) rest).holds ((begun u, so ++ u.triples), mid) (step_ok w u so rest mid e))
 
-  pub comes_on : (w x : DocumentScope) (rest mid : Ahead Spelled) (now_terms new_terms : List Term) (now_graph new_graph : List Triple) → Comes v ahead terms graph w rest now_terms now_graph → next_is is_any rest ≡ true
+  pub comes_on : (w x : DocumentScope) (rest mid : Ahead Spelled) (now_terms new_terms : List Term) (now_graph new_graph : List Triple) →
+      Comes v ahead terms graph w rest now_terms now_graph → next_is is_any rest ≡ true
       → Steps (Ok tt) w rest x mid now_terms now_graph new_terms new_graph → Comes v ahead terms graph x mid new_terms new_graph
   comes_on w x rest mid now_terms new_terms now_graph new_graph c n (u, e, is, l) =
       subst (λ (s : DocumentScope). Comes v ahead terms graph s mid new_terms new_graph) (sym is) (record {
@@ -81,7 +87,8 @@ module _ (v : DocumentScope) (ahead : Ahead Spelled) (terms : List Term) (graph 
   unfolding document
   fault_ends f e = rw e refl
 
-  pub stops : (w x y : DocumentScope) (rest mid : Ahead Spelled) (now_terms new_terms : List Term) (now_graph new_graph : List Triple) (e : Refusal) → Comes v ahead terms graph w rest now_terms now_graph → next_is is_any rest ≡ true
+  pub stops : (w x y : DocumentScope) (rest mid : Ahead Spelled) (now_terms new_terms : List Term) (now_graph new_graph : List Triple) (e : Refusal) →
+      Comes v ahead terms graph w rest now_terms now_graph → next_is is_any rest ≡ true
       → Steps (Err e) w rest x mid now_terms now_graph new_terms new_graph → Ends (Err e) v ahead y mid terms graph new_terms new_graph
   stops w x y rest mid now_terms new_terms now_graph new_graph refusal.Memory c n s = tt
   stops w x y rest mid now_terms new_terms now_graph new_graph refusal.Full c n (u, e, f) = record {
@@ -95,7 +102,8 @@ module _ (v : DocumentScope) (ahead : Ahead Spelled) (terms : List Term) (graph 
   stops w x y rest mid now_terms new_terms now_graph new_graph (refusal.Fault f) c n s =
       let fails = statement_fails inner_depth refl w rest mid f s in
       record {
-        refused = fault_ends (f, mid) (loop_fails is_any (further true inner_depth) (consumes_further true inner_depth) (w, c.so_far) rest (f, mid) (loop is_any (further true inner_depth) (v, []) ahead) n (step_err w c.so_far rest (f, mid) s) c.goes);
+        refused = fault_ends (f, mid)
+            (loop_fails is_any (further true inner_depth) (consumes_further true inner_depth) (w, c.so_far) rest (f, mid) (loop is_any (further true inner_depth) (v, []) ahead) n (step_err w c.so_far rest (f, mid) s) c.goes);
         so_far = c.so_far;
         scope = w;
         mid = rest;
@@ -111,7 +119,8 @@ module _ (v : DocumentScope) (ahead : Ahead Spelled) (terms : List Term) (graph 
   finish_syntax broken f e = ap (λ (z : Fault × Ahead Spelled). z.0) (err_is (Syntax, broken) f e)
   finish_syntax (token t ts) f e = ap (λ (z : Fault × Ahead Spelled). z.0) (err_is (Syntax, token t ts) f e)
 
-  finish_same : {A : Type 0} (x : A) (rest : Ahead Spelled) (f : Fault × Ahead Spelled) → Path (Answer Spelled Fault (Unit {0})) (finish Syntax tt rest) (Err f) → Path (Answer Spelled Fault A) (finish Syntax x rest) (Err f)
+  finish_same : {A : Type 0} (x : A) (rest : Ahead Spelled) (f : Fault × Ahead Spelled) →
+      Path (Answer Spelled Fault (Unit {0})) (finish Syntax tt rest) (Err f) → Path (Answer Spelled Fault A) (finish Syntax x rest) (Err f)
   finish_same x finished f e = absurd cc
   finish_same x broken f e = ap Err (err_same (Syntax, broken) f e)
     where
@@ -122,16 +131,20 @@ module _ (v : DocumentScope) (ahead : Ahead Spelled) (terms : List Term) (graph 
       err_same : (a b : Fault × Ahead Spelled) → Path (Answer Spelled Fault (Unit {0})) (Err a) (Err b) → a ≡ b
       err_same a b e = cc
 
-  end_fault : (x : DocumentScope × List TermTriple) (rest : Ahead Spelled) (f : Fault × Ahead Spelled) → loop is_any (further true inner_depth) (v, []) ahead ≡ Ok (x, rest) → finish Syntax x rest ≡ Err f → document true inner_depth v ahead ≡ Err f
+  end_fault : (x : DocumentScope × List TermTriple) (rest : Ahead Spelled) (f : Fault × Ahead Spelled) →
+      loop is_any (further true inner_depth) (v, []) ahead ≡ Ok (x, rest) → finish Syntax x rest ≡ Err f → document true inner_depth v ahead ≡ Err f
   unfolding document
   end_fault x rest f e g = rw e g
 
-  pub ends_badly : (w y : DocumentScope) (rest : Ahead Spelled) (e : Stop) (r : Refusal) (new_terms : List Term) (new_graph : List Triple) → Comes v ahead terms graph w rest new_terms new_graph → next_is is_any rest ≡ false
+  pub ends_badly : (w y : DocumentScope) (rest : Ahead Spelled) (e : Stop) (r : Refusal) (new_terms : List Term) (new_graph : List Triple) →
+      Comes v ahead terms graph w rest new_terms new_graph → next_is is_any rest ≡ false
       → StopsAs {Y = Unit {0}} e rest (finish Syntax tt rest) → r ≡ from_stop e → Ends (Err r) v ahead y rest terms graph new_terms new_graph
   ends_badly w y rest stop.Memory r new_terms new_graph c n s is = subst (λ (z : Refusal). Ends (Err z) v ahead y rest terms graph new_terms new_graph) (sym is) tt
   ends_badly w y rest (stop.Fault f) r new_terms new_graph c n s is =
       subst (λ (z : Refusal). Ends (Err z) v ahead y rest terms graph new_terms new_graph) (sym is) (record {
-        refused = end_fault (w, c.so_far) rest (f, rest) (loop_ends is_any (further true inner_depth) (consumes_further true inner_depth) (w, c.so_far) rest (loop is_any (further true inner_depth) (v, []) ahead) n c.goes) (finish_same (w, c.so_far) rest (f, rest) s);
+        refused = end_fault (w, c.so_far) rest (f, rest)
+            (loop_ends is_any (further true inner_depth) (consumes_further true inner_depth) (w, c.so_far) rest (loop is_any (further true inner_depth) (v, []) ahead) n c.goes)
+            (finish_same (w, c.so_far) rest (f, rest) s);
         so_far = c.so_far;
         scope = w;
         mid = rest;
@@ -143,17 +156,20 @@ module _ (v : DocumentScope) (ahead : Ahead Spelled) (terms : List Term) (graph 
       })
 
 -- one statement
-pub statement_stops : (v w : DocumentScope) (ahead rest : Ahead Spelled) (e : Stop) (r : Refusal) (terms : List Term) (graph : List Triple) → StopsAs e rest (statement true inner_depth v ahead) → r ≡ from_stop e → Steps (Err r) v ahead w rest terms graph terms graph
+pub statement_stops : (v w : DocumentScope) (ahead rest : Ahead Spelled) (e : Stop) (r : Refusal) (terms : List Term) (graph : List Triple) →
+    StopsAs e rest (statement true inner_depth v ahead) → r ≡ from_stop e → Steps (Err r) v ahead w rest terms graph terms graph
 statement_stops v w ahead rest stop.Memory r terms graph s is = subst (λ (z : Refusal). Steps (Err z) v ahead w rest terms graph terms graph) (sym is) tt
 statement_stops v w ahead rest (stop.Fault f) r terms graph s is = subst (λ (z : Refusal). Steps (Err z) v ahead w rest terms graph terms graph) (sym is) s
 
-pub loads_stop : (v u w : DocumentScope) (ahead rest : Ahead Spelled) (ts : List TermTriple) (e : LoadError) (r : Refusal) (terms new_terms : List Term) (graph new_graph : List Triple) → statement true inner_depth v ahead ≡ Ok (u, rest) → ts ≡ u.triples
+pub loads_stop : (v u w : DocumentScope) (ahead rest : Ahead Spelled) (ts : List TermTriple) (e : LoadError) (r : Refusal) (terms new_terms : List Term) (graph new_graph : List Triple) →
+    statement true inner_depth v ahead ≡ Ok (u, rest) → ts ≡ u.triples
     → LoadsAll (Err e) terms graph ts new_terms new_graph → r ≡ from_load e → Steps (Err r) v ahead w rest terms graph new_terms new_graph
 loads_stop v u w ahead rest ts load.Memory r terms new_terms graph new_graph s same l is = subst (λ (z : Refusal). Steps (Err z) v ahead w rest terms graph new_terms new_graph) (sym is) tt
 loads_stop v u w ahead rest ts load.Full r terms new_terms graph new_graph s same l is =
     subst (λ (z : Refusal). Steps (Err z) v ahead w rest terms graph new_terms new_graph) (sym is) (u, s, subst (Fills terms graph) same l)
 
-pub statement_steps : (v u w : DocumentScope) (ahead rest : Ahead Spelled) (ts : List TermTriple) (terms new_terms : List Term) (graph new_graph : List Triple) → statement true inner_depth v ahead ≡ Ok (u, rest) → ts ≡ u.triples → w ≡ begun u
+pub statement_steps : (v u w : DocumentScope) (ahead rest : Ahead Spelled) (ts : List TermTriple) (terms new_terms : List Term) (graph new_graph : List Triple) → statement true inner_depth v ahead ≡
+    Ok (u, rest) → ts ≡ u.triples → w ≡ begun u
     → Loads terms graph ts new_terms new_graph → Steps (Ok tt) v ahead w rest terms graph new_terms new_graph
 statement_steps v u w ahead rest ts terms new_terms graph new_graph s same is l = (u, s, is, subst (λ (z : List TermTriple). Loads terms graph z new_terms new_graph) same l)
 

@@ -30,7 +30,7 @@ inner_depth = 63
 abbrev pub Spells : List ℕ → DocumentScope × List TermTriple → List Spelled → Type 0
 Spells base x ts = Document true inner_depth (start base) x (prepend ts finished)
 
--- the same without these limits
+-- the tokens are a document with this base and these triples, of any depth and length
 abbrev pub SpellsAny : List ℕ → DocumentScope × List TermTriple → List Spelled → Type 0
 SpellsAny base x ts = (d : ℕ) × (inner_depth ≤ d) × Document false d (start base) x (prepend ts finished)
 

@@ -21,13 +21,15 @@ use Rattle.rdf_cursor.specs.Symbols.{is_any}
 
 -- one statement, with the scope, what lies ahead, the table and the graph before and behind it
 abbrev pub Steps : Result (Unit {0}) Refusal → DocumentScope → Ahead Spelled → DocumentScope → Ahead Spelled → List Term → List Triple → List Term → List Triple → Type 0
-Steps (Ok x) v ahead w rest terms graph new_terms new_graph = (u : DocumentScope) × (statement true inner_depth v ahead ≡ Ok (u, rest)) × (w ≡ begun u) × Loads terms graph u.triples new_terms new_graph
+Steps (Ok x) v ahead w rest terms graph new_terms new_graph = (u : DocumentScope) × (statement true inner_depth v ahead ≡ Ok (u, rest)) × (w ≡ begun u) ×
+    Loads terms graph u.triples new_terms new_graph
 Steps (Err Memory) v ahead w rest terms graph new_terms new_graph = Unit {0}
 Steps (Err Full) v ahead w rest terms graph new_terms new_graph = (u : DocumentScope) × (statement true inner_depth v ahead ≡ Ok (u, rest)) × Fills terms graph u.triples
 Steps (Err (Fault f)) v ahead w rest terms graph new_terms new_graph = statement true inner_depth v ahead ≡ Err (f, rest)
 
 -- some statements so far
-pub record Comes (v : DocumentScope) (ahead : Ahead Spelled) (terms : List Term) (graph : List Triple) (w : DocumentScope) (rest : Ahead Spelled) (new_terms : List Term) (new_graph : List Triple) : Type 0 where
+pub record Comes (v : DocumentScope) (ahead : Ahead Spelled) (terms : List Term) (graph : List Triple) (w : DocumentScope) (rest : Ahead Spelled)
+    (new_terms : List Term) (new_graph : List Triple) : Type 0 where
   pub so_far : List TermTriple
   pub goes : loop is_any (further true inner_depth) (w, so_far) rest ≡ loop is_any (further true inner_depth) (v, []) ahead
   pub statements : Many (Behind true inner_depth) (v, []) (w, so_far) ahead rest

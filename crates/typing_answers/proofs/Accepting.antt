@@ -58,7 +58,8 @@ module _ (f : List ℕ) (s : Schema) (terms : List Term) (g : List Triple) (node
       sure : IsSure s terms whole x.node can.expr (verdict_of c.holds)
       sure = subst (λ b. IsSure s terms whole x.node can.expr (verdict_of b)) (sym claim.holds) own
 
-  pub are_accepted : (answers : List Answer) → ((k : ℕ) (r : Record) → IsListed p.sections k r → IsAccepted setting p (in_section k r)) → ((x : Answer) → Contains answers x → CanBeClaimed s terms verdicts x) →
+  pub are_accepted : (answers : List Answer) → ((k : ℕ) (r : Record) → IsListed p.sections k r → IsAccepted setting p (in_section k r)) →
+      ((x : Answer) → Contains answers x → CanBeClaimed s terms verdicts x) →
       AllZip (IsClaimOf nodes) answers p.claims → AreAccepted setting p
   are_accepted answers records can claimed =
       all_append (IsAccepted setting p) (flat_map (λ (x : Section). map (λ (r : Record). in_section x.stratum r) x.records) p.sections) (map (λ c. is_claim c) p.claims)

@@ -15,7 +15,8 @@ module _ {Left : Association → Type 0} {Given : Association → Answer → Typ
   one_left (b ∷ asked) (x ∷ answers) a (given k more) h = given k (one_left asked answers a more h)
 
   -- one more is answered
-  pub one_given : (asked : List Association) (answers : List Answer) (a : Association) (x : Answer) → AreGiven Left Given asked answers → Given a x → AreGiven Left Given (asked ++ a ∷ []) (answers ++ x ∷ [])
+  pub one_given : (asked : List Association) (answers : List Answer) (a : Association) (x : Answer) → AreGiven Left Given asked answers → Given a x →
+      AreGiven Left Given (asked ++ a ∷ []) (answers ++ x ∷ [])
   one_given [] [] a x none h = given h none
   one_given [] (y ∷ answers) a x k h = elim k [ ]
   one_given (b ∷ asked) answers a x (left k more) h = left k (one_given asked answers a x more h)
@@ -23,7 +24,8 @@ module _ {Left : Association → Type 0} {Given : Association → Answer → Typ
 
 -- what is so of each association is so of what they are given
 pub given_to : {Left Left' : Association → Type 0} {Given Given' : Association → Answer → Type 0} (asked : List Association) (answers : List Answer) →
-    ((a : Association) → Contains asked a → Left a → Left' a) → ((a : Association) (x : Answer) → Contains asked a → Given a x → Given' a x) → AreGiven Left Given asked answers → AreGiven Left' Given' asked answers
+    ((a : Association) → Contains asked a → Left a → Left' a) → ((a : Association) (x : Answer) → Contains asked a → Given a x → Given' a x) →
+    AreGiven Left Given asked answers → AreGiven Left' Given' asked answers
 given_to [] [] l g none = none
 given_to [] (x ∷ answers) l g k = elim k [ ]
 given_to (a ∷ asked) answers l g (left h more) = left (l a (is_first a asked) h) (given_to asked answers (λ b c. l b (is_later a asked b c)) (λ b x c. g b x (is_later a asked b c)) more)

@@ -61,7 +61,8 @@ module _ (terms : List Term) (distinct : AreDistinct terms) (law : TextsAreDisti
           let tied : nat_cmp n.0 m.0 ≡ Equal = ap (λ k. nat_cmp k m.0) number ∙ tied_itself nat_cmp_total m.0 in
           absurd (cc)
 
-  lines_rise_from : (n : TermId) (t : Term) (nodes : List TermId) (lines : List Term) → slice_get terms n.0 ≡ Some t → IsTerm t → IsStrictlySortedBy (compare_at terms) (n ∷ nodes) → AreNumbers terms lines nodes → AllByRecursion IsTerm lines →
+  lines_rise_from : (n : TermId) (t : Term) (nodes : List TermId) (lines : List Term) → slice_get terms n.0 ≡ Some t → IsTerm t →
+      IsStrictlySortedBy (compare_at terms) (n ∷ nodes) → AreNumbers terms lines nodes → AllByRecursion IsTerm lines →
       RisesFrom IsTermBefore t lines
   lines_rise_from n t nodes [] at good up numbers whole = tt
   lines_rise_from n t [] (u ∷ lines) at good up numbers whole = cc
@@ -94,7 +95,7 @@ not_both e = cc
 some_one : (n m : TermId) → Some n ≡ Some m → n ≡ m
 some_one n m e = cc
 
--- so it is at a lower place of any other list in order
+-- what stands before another in a list in order does so in any other list in order
 lower : (terms : List Term) (own lines : List TermId) → IsStrictlySortedBy (compare_at terms) own → IsStrictlySortedBy (compare_at terms) lines → (i j a b : ℕ) (n m : TermId) →
     slice_get own i ≡ Some n → slice_get own j ≡ Some m → slice_get lines a ≡ Some n → slice_get lines b ≡ Some m → i < j → a < b
 lower terms own lines own_up lines_up i j a b n m own_n own_m line_n line_m less = elim (ordered a b) [
@@ -130,7 +131,8 @@ module _ (terms : List Term) (own lines : List TermId) (own_up : IsStrictlySorte
   records_rise (r ∷ rs) [] zip up = absurd zip
   records_rise (r ∷ rs) (q ∷ qs) zip up = rise_from r q rs qs zip.0 zip.1 up
 
-  pub all_records_rise : (xs ys : List Section) → AreRenumbered own xs lines ys → ((x : Section) → Contains xs x → Rises IsRecordBefore x.records) → AllByRecursion (λ (y : Section). Rises IsRecordBefore y.records) ys
+  pub all_records_rise : (xs ys : List Section) → AreRenumbered own xs lines ys → ((x : Section) → Contains xs x → Rises IsRecordBefore x.records) →
+      AllByRecursion (λ (y : Section). Rises IsRecordBefore y.records) ys
   all_records_rise xs ys same up = all_of (λ (y : Section). Rises IsRecordBefore y.records) ys (λ y c.
       let (x, held, alike) = beside_back (λ (a b : Section). (a.stratum ≡ b.stratum) × AllZip (IsSameRecord own lines) a.records b.records) xs ys same y c in
       records_rise x.records y.records alike.1 (up x held))
@@ -152,14 +154,16 @@ module _ (terms : List Term) (own lines : List TermId) (own_up : IsStrictlySorte
 -- the lines of a head have no term and no target
 head_clean : (head : Option Head) → AllByRecursion HasNoFeed (head_lines head)
 head_clean None = tt
-head_clean (Some h) = (tt, all_append HasNoFeed (map (λ d. Lines.Digest Parts.Import d) h.files.imports) (Lines.Digest Parts.Data h.files.graph ∷ Lines.Strata h.strata ∷ []) (imports h.files.imports) (tt, (tt, tt)))
+head_clean (Some h) =
+    (tt, all_append HasNoFeed (map (λ d. Lines.Digest Parts.Import d) h.files.imports) (Lines.Digest Parts.Data h.files.graph ∷ Lines.Strata h.strata ∷ []) (imports h.files.imports) (tt, (tt, tt)))
   where
     imports : (ds : List Digest256) → AllByRecursion HasNoFeed (map (λ d. Lines.Digest Parts.Import d) ds)
     imports [] = tt
     imports (d ∷ ds) = (tt, imports ds)
 
 -- what holds of each kind of line holds of all lines
-all_lines : (P : Line → Type 0) (p : Proof) → AllByRecursion P (head_lines p.head) → ((t : Term) → Contains p.nodes t → P (Lines.Node t)) → ((x : Section) → Contains p.sections x → P (Lines.Section x.stratum)) →
+all_lines : (P : Line → Type 0) (p : Proof) → AllByRecursion P (head_lines p.head) → ((t : Term) → Contains p.nodes t → P (Lines.Node t)) →
+    ((x : Section) → Contains p.sections x → P (Lines.Section x.stratum)) →
     ((k : ℕ) (r : Record) → IsListed p.sections k r → P (Lines.Record r)) → ((c : Claim) → Contains p.claims c → P (Lines.Claim c)) → AllByRecursion P (lines_of p)
 all_lines P p of_head of_node of_section of_record of_claim =
     all_append P (head_lines p.head) (body_lines p) of_head
@@ -218,7 +222,8 @@ module _ (terms : List Term) (nodes : List TermId) (p : Proof) (fit : AreLinesFi
       let as_many : length (map (λ (i : TermId). slice_get terms i.0) nodes) ≡ length (map (λ (t : Term). Some t) p.nodes) = ap length fit.numbers in
       omega (arith, as_many, length-map nodes (λ (i : TermId). slice_get terms i.0), length-map p.nodes (λ (t : Term). Some t), fit.few)
 
-  pub keeps : AreDistinct terms → TextsAreDistinct → IsStrictlySortedBy (compare_at terms) nodes → Rises IsSectionBefore p.sections → AllByRecursion (λ (x : Section). Rises IsRecordBefore x.records) p.sections → Keeps p
+  pub keeps : AreDistinct terms → TextsAreDistinct → IsStrictlySortedBy (compare_at terms) nodes → Rises IsSectionBefore p.sections →
+      AllByRecursion (λ (x : Section). Rises IsRecordBefore x.records) p.sections → Keeps p
   keeps distinct law up sections_up records_up = record {
     nodes = lines_rise terms distinct law nodes p.nodes up fit.numbers whole_terms;
     few = few_lines;

@@ -50,7 +50,8 @@ module _ (s : Schema) (terms : List Term) (g : List Triple) (f : List ℕ) (pair
   pub apart : (k : ℕ) (known : Known) (all : List Removal) → AreRemovals s terms g f pairs budget k known all → (p : Pair) → Contains known.yes p → ¬ Contains known.no p
   apart zero known all h p c d = absurd (not_in_none p (subst (λ xs. Contains xs p) h.0 c))
   apart (suc k) known all (lower, low, gone, kept, before, at, turn, yes_is, no_is, whole) p c d =
-      cases (Contains-append_cases lower.yes kept p (subst (λ xs. Contains xs p) yes_is c)) (Contains-append_cases lower.no (pairs_removed gone) p (subst (λ xs. Contains xs p) no_is d)) (apart k lower low before p)
+      cases (Contains-append_cases lower.yes kept p (subst (λ xs. Contains xs p) yes_is c))
+      (Contains-append_cases lower.no (pairs_removed gone) p (subst (λ xs. Contains xs p) no_is d)) (apart k lower low before p)
     where
       cases : Contains lower.yes p ⊎ Contains kept p → Contains lower.no p ⊎ Contains (pairs_removed gone) p → (Contains lower.yes p → ¬ Contains lower.no p) → ⊥
       cases (inl a) (inl b) deeper = deeper a b

@@ -42,7 +42,8 @@ use Rattle.typing_answers.proofs.Proving.{is_record, of_pair}
 
 -- ---- what is shown is in range
 
-pub in_range : (s : Schema) (terms : List Term) (g : List Triple) (f : List ℕ) (pairs : List Pair) (budget : ℕ) (verdicts : Known) (own : List TermId) (sections : List Section) (answers : List Answer) →
+pub in_range : (s : Schema) (terms : List Term) (g : List Triple) (f : List ℕ) (pairs : List Pair) (budget : ℕ) (verdicts : Known) (own : List TermId) (sections : List Section)
+    (answers : List Answer) →
     AreShownFor s terms g f pairs budget verdicts own sections answers → AreInRange terms own sections answers
 in_range s terms g f pairs budget verdicts own sections answers h = record {
   counted = λ x r c d. (let of = is_record s terms g f pairs budget verdicts own sections answers h x.stratum r (x, c, refl, d) in slice_get_within own r.node of.pair.node of.of.0);
@@ -69,7 +70,8 @@ module _ (s : Schema) (terms : List Term) (verdicts : Known) where
     sure = subst (λ (n : TermId). IsSure s terms verdicts n a.expr (verdict_of x.holds)) (sym reply.node) reply.sure;
   }
 
-  pub can_be_claimed : (asked : List Association) (answers : List Answer) → ((a : Association) → Contains asked a → IsAsked s terms a × HasLines terms a) → AreSureAnswers s terms verdicts asked answers → (x : Answer) → Contains answers x → CanBeClaimed s terms verdicts x
+  pub can_be_claimed : (asked : List Association) (answers : List Answer) → ((a : Association) → Contains asked a → IsAsked s terms a × HasLines terms a) →
+      AreSureAnswers s terms verdicts asked answers → (x : Answer) → Contains answers x → CanBeClaimed s terms verdicts x
   can_be_claimed [] [] fine none x c = absurd (omega (arith, c.1))
   can_be_claimed [] (y ∷ answers) fine k x c = elim k [ ]
   can_be_claimed (a ∷ asked) answers fine (left u more) x c = can_be_claimed asked answers (λ b held. fine b (is_later a asked b held)) more x c
@@ -101,23 +103,27 @@ module _ (s : Schema) (g : List Triple) (loaded : IsLoaded s) where
 
     leads_to : (p q : Pair) → Fine p → Leads s g p q → Fine q
     leads_to p q fine here = fine
-    leads_to p q fine (step r needs more) = leads_to r q (subst P (sym needs.end) (end_is P ends needs.occ.inverse needs.triple needs.held), in_value r.shape needs.occ.value needs.sign needs.stands) more
+    leads_to p q fine (step r needs more) =
+        leads_to r q (subst P (sym needs.end) (end_is P ends needs.occ.inverse needs.triple needs.held), in_value r.shape needs.occ.value needs.sign needs.stands) more
 
     -- is on the node, or on an end of a triple, and has a Shape of the schema
     pub reached : (n : TermId) (e : ExprId) (q : Pair) → P n → Reaches s g n e q → P q.node × (q.shape.0 < length s.shapes)
     reached n e q fine (i, sign, stands, leads) = leads_to (record { node = n; shape = i }) q (fine, stands_there s loaded i e sign stands) leads
 
-    -- so do the pairs that are asked for
-    pub asked_fit : (terms : List Term) (roots : List Root) (pairs : List Pair) → ((r : Root) → Contains roots r → P r.node) → AreAsked s terms g roots pairs → (p : Pair) → Contains pairs p → P p.node × (p.shape.0 < length s.shapes)
+    -- each pair that is asked for is on such a node, and has a Shape of the schema
+    pub asked_fit : (terms : List Term) (roots : List Root) (pairs : List Pair) → ((r : Root) → Contains roots r → P r.node) → AreAsked s terms g roots pairs →
+        (p : Pair) → Contains pairs p → P p.node × (p.shape.0 < length s.shapes)
     asked_fit terms roots pairs fine asked p c = let (r, held, reaches) = (asked.exactly p).0 c in reached r.node r.expr p (fine r held) reaches
 
 -- ---- what answers rest on
 
-pub shown_for : (s : Schema) (terms : List Term) (g : List Triple) (f : List ℕ) (pairs : List Pair) (budget : ℕ) (verdicts : Known) (own : List TermId) (sections : List Section) (roots : List Root) (asked : List Association) (answers : List Answer) →
+pub shown_for : (s : Schema) (terms : List Term) (g : List Triple) (f : List ℕ) (pairs : List Pair) (budget : ℕ) (verdicts : Known) (own : List TermId) (sections : List Section) (roots : List Root)
+    (asked : List Association) (answers : List Answer) →
     IsLoaded s → IsStratum s f → ((t : Triple) → Contains g t → (t.s.0 < length terms) × (t.o.0 < length terms)) → AreAsked s terms g roots pairs → length pairs ≤ max_pairs →
     ((r : Root) → Contains roots r → (a : Association) × Contains asked a × (a.node ≡ r.node)) → ((p : Pair) (t : Term) → Contains pairs p → slice_get terms p.node.0 ≡ Some t → HasOneLine t) →
     ((a : Association) → Contains asked a → IsAsked s terms a × HasLines terms a) → length asked ≤ max_associations →
-    AreShownBy s terms g f pairs budget verdicts own sections → IsStrictlySortedBy (compare_at terms) own → ((k : ℕ) (r : Record) → IsListed sections k r → IsKind r.kind) → AcceptsAll s terms g f pairs own sections → AreSureAnswers s terms verdicts asked answers →
+    AreShownBy s terms g f pairs budget verdicts own sections → IsStrictlySortedBy (compare_at terms) own →
+    ((k : ℕ) (r : Record) → IsListed sections k r → IsKind r.kind) → AcceptsAll s terms g f pairs own sections → AreSureAnswers s terms verdicts asked answers →
     AreShownFor s terms g f pairs budget verdicts own sections answers
 shown_for s terms g f pairs budget verdicts own sections roots asked answers loaded strata ends are few_pairs of_asked lines fine few shown sorted kinds records sure =
     let fit : (p : Pair) → Contains pairs p → (p.node.0 < length terms) × (p.shape.0 < length s.shapes) =

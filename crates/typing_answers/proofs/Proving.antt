@@ -48,14 +48,16 @@ pub record AreMade (terms : List Term) (own : List TermId) (sections : List Sect
   pub claimed : AllZip (IsClaimOf nodes) answers p.claims
 
 -- the places are as many as the nodes, so each record has one
-pub counted_by : (terms : List Term) (own recorded nodes : List TermId) (sections : List Section) (answers : List Answer) (places numbers : List ℕ) → recorded ≡ own → numbers ≡ places → AreInRange terms own sections answers → AllZip (IsPlace nodes) recorded places →
+pub counted_by : (terms : List Term) (own recorded nodes : List TermId) (sections : List Section) (answers : List Answer) (places numbers : List ℕ) →
+    recorded ≡ own → numbers ≡ places → AreInRange terms own sections answers → AllZip (IsPlace nodes) recorded places →
     (x : Section) (r : Record) → Contains sections x → Contains x.records r → r.node < length numbers
 counted_by terms own recorded nodes sections answers places numbers lent made range zip x r held in_x =
     let inside = range.counted x r held in_x in
     omega (arith, inside, ap length lent, ap length made, same_length (IsPlace nodes) recorded places zip)
 
 -- the parts as they are lent and made
-pub made_of : (terms : List Term) (head : Option Head) (own recorded distinct nodes : List TermId) (sections moved : List Section) (answers : List Answer) (places numbers : List ℕ) (lines a : List Term) (b : List Section) (claims d : List Claim) →
+pub made_of : (terms : List Term) (head : Option Head) (own recorded distinct nodes : List TermId) (sections moved : List Section) (answers : List Answer) (places numbers : List ℕ)
+    (lines a : List Term) (b : List Section) (claims d : List Claim) →
     AllByRecursion IsLine (head_lines head) → recorded ≡ own → nodes ≡ distinct → numbers ≡ places → AreInRange terms own sections answers →
     IsStrictlySortedBy (compare_at terms) distinct → ((n : TermId) → Contains distinct n ↔ (Contains recorded n ⊎ IsAnswered answers n)) → length distinct ≤ length recorded + length answers →
     AllZip (IsPlace nodes) recorded places → moved ≡ map (moved_section numbers) sections → AreNumbers terms lines nodes → AllByRecursion IsValue lines → AllZip (IsClaimOf nodes) answers claims →

@@ -54,7 +54,8 @@ module _ (nodes others : List TermId) (places : List ℕ) (are : AllZip (IsPlace
 pair_is : (lines : List TermId) (node shape : ℕ) (p : Pair) → slice_get lines node ≡ Some p.node → shape ≡ p.shape.0 → pair_at lines node shape ≡ Some p
 pair_is lines node shape p at same = ap (option_map (pair_with shape)) at ∙ (λ i. Some (record { node = p.node; shape = record { 0 = same i } }))
 
-module _ (s : Schema) (terms : List Term) (g : List Triple) (f : List ℕ) (pairs : List Pair) (budget : ℕ) (known : Known) (all : List Removal) (went : AreRemovals s terms g f pairs budget (suc (top_of f)) known all) where
+module _ (s : Schema) (terms : List Term) (g : List Triple) (f : List ℕ) (pairs : List Pair) (budget : ℕ) (known : Known) (all : List Removal)
+    (went : AreRemovals s terms g f pairs budget (suc (top_of f)) known all) where
   -- a pair that went is one with No
   is_gone : (x : Removal) → Contains all x → Contains known.no x.pair
   is_gone x c = subst (λ xs. Contains xs x.pair) (gone_are s terms g f pairs budget (suc (top_of f)) known all went) (in_map (λ (r : Removal). r.pair) all x c)
@@ -81,7 +82,8 @@ module _ (s : Schema) (terms : List Term) (g : List Triple) (f : List ℕ) (pair
   no_minus p (Plus places) h c = absurd (apart s terms g f pairs budget (suc (top_of f)) known all went p h.0 c)
   no_minus p (Minus rank states) h c = (record { pair = p; rank = rank }, is_first (record { pair = p; rank = rank }) [], refl)
 
-  module _ (own : List TermId) (sections : List Section) (are : AreRecordsOf s terms g f pairs budget known all own sections) (lines : List TermId) (others : List Section) (same : AreRenumbered own sections lines others) where
+  module _ (own : List TermId) (sections : List Section) (are : AreRecordsOf s terms g f pairs budget known all own sections) (lines : List TermId)
+      (others : List Section) (same : AreRenumbered own sections lines others) where
     abbrev records : List Record
     records = flat_map (λ (x : Section). x.records) others
 

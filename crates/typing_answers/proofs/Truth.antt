@@ -74,9 +74,11 @@ module _ (laws : AreLaws) (s : Schema) (terms : List Term) (g : List Triple) (f 
     exact = λ h U T ends in_u typing.
         let V : List TermId = widened U in
         let (W, whole) = laws.exist s terms g f V loaded stratified in
-        let agrees : Agrees W verdicts = laws.refined s terms g f V W loaded whole pairs budget (λ p c. Contains-append_right U (map (λ (q : Pair). q.node) pairs) p.node (in_map (λ (q : Pair). q.node) pairs p c)) verdicts refined in
+        let agrees : Agrees W verdicts =
+        laws.refined s terms g f V W loaded whole pairs budget (λ p c. Contains-append_right U (map (λ (q : Pair). q.node) pairs) p.node (in_map (λ (q : Pair). q.node) pairs p c)) verdicts refined in
         let ends' : HoldsEnds V g = λ t c. (Contains-append_left U (map (λ (q : Pair). q.node) pairs) _ (ends t c).0, Contains-append_left U (map (λ (q : Pair). q.node) pairs) _ (ends t c).1) in
-        let same : Sat s terms T n e ↔ Sat s terms W n e = laws.alike s terms g h f U V T W (laws.stratified s h typing.strata) stratified ends ends' typing.complete whole n e in_u (Contains-append_left U (map (λ (q : Pair). q.node) pairs) n in_u) in
+        let same : Sat s terms T n e ↔ Sat s terms W n e =
+        laws.alike s terms g h f U V T W (laws.stratified s h typing.strata) stratified ends ends' typing.complete whole n e in_u (Contains-append_left U (map (λ (q : Pair). q.node) pairs) n in_u) in
         as_it_is holds (Sat s terms T n e) (Sat s terms W n e) same (sure_says n e holds sure V W agrees);
   }
 
@@ -89,7 +91,8 @@ module _ (laws : AreLaws) (s : Schema) (terms : List Term) (g : List Triple) (f 
         | inr fails ↦ no_yes (laws.one s terms verdicts n e No Unknown fails unsure)
       ])
 
-  pub replies : (view : Known) → ((p : Pair) (v : Verdict) → PairIs view p v ↔ PairIs verdicts p v) → (asked : List Association) (answers : List Answer) → ((a : Association) → Contains asked a → HoldRoots s pairs a.node a.expr) →
+  pub replies : (view : Known) → ((p : Pair) (v : Verdict) → PairIs view p v ↔ PairIs verdicts p v) → (asked : List Association) (answers : List Answer) →
+      ((a : Association) → Contains asked a → HoldRoots s pairs a.node a.expr) →
       AreSureAnswers s terms view asked answers → AreReplies s terms verdicts g budget asked answers
   replies view same asked answers roots sure = given_to asked answers
       (λ a c unsure. (let u = (laws.follows s terms view verdicts loaded same a.node a.expr Unknown).0 unsure in record { unsure = u; wide = unknown_wide a.node a.expr (roots a c) u }))

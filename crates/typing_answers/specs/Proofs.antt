@@ -66,7 +66,8 @@ HasNoMoreNodes nodes answers p = (n : TermId) → Contains nodes n ↔ (IsRecord
 
 -- verdicts on at most 4,194,304 pairs of the table's nodes and the schema's Shapes, the sections of records that show them,
 -- which are accepted and count these nodes in their order, and at most 1,000,000 answers by the verdicts
-pub record AreShownFor (s : Schema) (terms : List Term) (g : List Triple) (f : List ℕ) (pairs : List Pair) (budget : ℕ) (verdicts : Known) (own : List TermId) (sections : List Section) (answers : List Answer) : Type 0 where
+pub record AreShownFor (s : Schema) (terms : List Term) (g : List Triple) (f : List ℕ) (pairs : List Pair) (budget : ℕ) (verdicts : Known) (own : List TermId)
+    (sections : List Section) (answers : List Answer) : Type 0 where
   pub loaded : IsLoaded s
   pub strata : IsStratum s f
   pub shapes : HaveShapes s pairs

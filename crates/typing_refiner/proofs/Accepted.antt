@@ -49,7 +49,8 @@ module _ (x : Setting) (p : Proof) (strat : IsStratified x.schema x.strata) (nod
       (λ t o elsewhere of fit held. tt) (λ t o elsewhere extra of forward failed. tt) ts places (λ t c. tt) h
 
   by_value : (places : List Place) → AreAllowed (MayHold x.schema x.terms whole Impossible) (MayFail x.schema x.terms whole Impossible) sh n ts places →
-      AreAllowed (MayHold x.schema x.terms (plus_view x.strata (yes_of x p) (no_of x p) k) Impossible) (MayFail x.schema x.terms (plus_view x.strata (yes_of x p) (no_of x p) k) Impossible) sh n ts places
+      AreAllowed (MayHold x.schema x.terms (plus_view x.strata (yes_of x p) (no_of x p) k) Impossible)
+      (MayFail x.schema x.terms (plus_view x.strata (yes_of x p) (no_of x p) k) Impossible) sh n ts places
   by_value places h =
       places_hold x.schema x.terms x.graph x.strata strat pair sh shape_is whole (plus_view x.strata (yes_of x p) (no_of x p) k)
       (λ q le yes_. plus_yes x.strata k whole whole (λ u l. ((λ c. c), (λ c. c))) (λ u l. ((λ c. c), (λ c. c))) q le yes_)

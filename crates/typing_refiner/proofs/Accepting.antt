@@ -90,7 +90,8 @@ module _ (s : Schema) (terms : List Term) (g : List Triple) (f : List ℕ) (pair
   apart : (k : ℕ) (known : Known) (all : List Removal) → AreRemovals s terms g f pairs budget k known all → (q : Pair) → Contains known.yes q → ¬ Contains known.no q
   apart zero known all (a, b, c) q y n = not_in_none q (subst (λ xs. Contains xs q) a y)
   apart (suc k) known all (lower, low, gone, kept, before, r, turns, a, b, c) q y n =
-      go (Contains-append_cases lower.yes kept q (subst (λ xs. Contains xs q) a y)) (Contains-append_cases lower.no (pairs_removed gone) q (subst (λ xs. Contains xs q) b n)) (λ v w. apart k lower low before q v w)
+      go (Contains-append_cases lower.yes kept q (subst (λ xs. Contains xs q) a y))
+      (Contains-append_cases lower.no (pairs_removed gone) q (subst (λ xs. Contains xs q) b n)) (λ v w. apart k lower low before q v w)
     where
       go : Contains lower.yes q ⊎ Contains kept q → Contains lower.no q ⊎ Contains (pairs_removed gone) q → (Contains lower.yes q → Contains lower.no q → ⊥) → ⊥
       go (inl v) (inl w) deeper = deeper v w
@@ -142,7 +143,8 @@ module _ (s : Schema) (terms : List Term) (g : List Triple) (f : List ℕ) (pair
           by (inl l) =
               let (h, j, at, rank, states) = deeper lower low before l in
               let less = low_pairs top lower low before r.pair (inr (subst (λ xs. Contains xs r.pair) (removed_are top lower low before) (in_map (λ x. x.pair) low r l))) in (
-                below_top s terms g f pairs budget top known (ranks_of all) lower (ranks_of low) (pairs_removed gone) kept (ranked top lower low before) refined a b is_minus (level f r.pair.shape) less h,
+                below_top s terms g f pairs budget top known (ranks_of all) lower (ranks_of low)
+                    (pairs_removed gone) kept (ranked top lower low before) refined a b is_minus (level f r.pair.shape) less h,
                 j,
                 at,
                 rank,
@@ -307,7 +309,8 @@ module _ (s : Schema) (terms : List Term) (g : List Triple) (f : List ℕ) (pair
       in_flat_map (λ z. minus_of z.kind (pair_at lines z.node z.shape)) (records_of p) r u (in_records (level f o.pair.shape) r listed)
       (subst (λ z. Contains (minus_of r.kind z) u) (sym (is_pair lines r.node r.shape o.pair at is)) (by o held e r.kind (shows_it o.pair r (level f o.pair.shape) listed at is)))
     where
-      by : (o : Removal) → Contains all o → record { pair = o.pair; rank = o.rank } ≡ u → (kind : RecordKind) → Shows s terms g f pairs budget known all o.pair kind → Contains (minus_of kind (Some o.pair)) u
+      by : (o : Removal) → Contains all o → record { pair = o.pair; rank = o.rank } ≡ u → (kind : RecordKind) →
+          Shows s terms g f pairs budget known all o.pair kind → Contains (minus_of kind (Some o.pair)) u
       by o held e (Plus places) h = absurd (separate o.pair h.0 (gone_no o held))
       by o held e (Minus rank states) h =
           let same_rank : rank ≡ o.rank = one_rank (record { pair = o.pair; rank = rank; states = states }) o h held refl in
@@ -366,7 +369,8 @@ module _ (s : Schema) (terms : List Term) (g : List Triple) (f : List ℕ) (pair
           let here : slice_get s.shapes r.shape ≡ Some sh = ap (slice_get s.shapes) is ∙ there in
           let (h, j, at_j, rank_j, listed_states) = found s terms g f pairs budget (suc (top_of f)) known all refined (record { pair = q; rank = rank; states = states }) held in
           let level_is : level f (record { 0 = r.shape }) ≡ level f q.shape = ap (λ z. level f (record { 0 = z })) is in
-          let records = subst (λ z. AreRecordsAt x p z h.lower h.gone) (sym level_is) (told s terms g f pairs budget x p known (ranks_of all) (level f q.shape) refl yes_same (λ u. (has_no u, is_no u)) h) in
+          let records = subst (λ z. AreRecordsAt x p z h.lower h.gone) (sym level_is)
+          (told s terms g f pairs budget x p known (ranks_of all) (level f q.shape) refl yes_same (λ u. (has_no u, is_no u)) h) in
           subst (λ z. IsAccepted x p (in_section k z)) (the_record (Minus rank states) e)
           (subst (λ z. IsAccepted x p (in_section z (record { node = r.node; shape = r.shape; kind = Minus rank states }))) (level_is ∙ on)
           (subst (λ z. IsAccepted x p (in_section (level f (record { 0 = r.shape })) (record { node = r.node; shape = r.shape; kind = Minus z states }))) (sym rank_j)

@@ -121,5 +121,6 @@ module _ (h : Ground) (width count : Pair → ℕ) (narrow : h.narrow.now ≡ ma
         let a = strata_law (open_test h) (narrow_test h) opens (look_cost h width) (need_test h) (length h.table.now) strata in
         let b = total_le (λ k. 2 * phase_cost (open_cost h width k) (need_test h) (length h.table.now))
         (λ k. phase_cost (open_cost h width k) (need_test h) (length h.table.now) + phase_cost (open_cost h width k) (need_test h) (length h.table.now)) strata (λ k below. omega arith) in
-        let d = total_by (λ i. (2 * needs_count cost (need_test h) (length h.table.now) i + 3) * cost i) (most_at h.schema.now h.terms.now h.graph.now.triples h.budget width count) h.table.now (row needs_law counts) in
+        let d = total_by (λ i. (2 * needs_count cost (need_test h) (length h.table.now) i + 3) * cost i)
+        (most_at h.schema.now h.terms.now h.graph.now.triples h.budget width count) h.table.now (row needs_law counts) in
         omega (arith, a, b, d)

@@ -41,7 +41,8 @@ module _ (h : Ground) (ready : IsReady h) (elsewhere lower : Known) (k : ℕ) (m
         (λ c. elim c [ inl l ↦ (put i).1 (inl l) | inr t ↦ (put i).1 (inr (t.0, (t.1, t.2))) ]),
       ))
 
-  pub further_as : ((p : Pair) → slice_get h.table.now at ≡ Some p → ¬ CanMatch h (known_of h elsewhere marks) p) → ((i : ℕ) → Contains agenda i → at < i) → (marks' : List Verdict) → marks' ≡ slice_set marks at Unknown →
+  pub further_as : ((p : Pair) → slice_get h.table.now at ≡ Some p → ¬ CanMatch h (known_of h elsewhere marks) p) → ((i : ℕ) → Contains agenda i → at < i) →
+      (marks' : List Verdict) → marks' ≡ slice_set marks at Unknown →
       (next : List ℕ) → ((q : ℕ) → Contains next q ↔ (Contains agenda q ⊎ GoesBack h k at marks' Yes q)) → IsConfirming h elsewhere lower k marks' gone (λ i. Contains next i)
   further_as cannot least marks' marked next put =
       subst (λ ms. IsConfirming h elsewhere lower k ms gone (λ i. Contains next i)) (sym marked)

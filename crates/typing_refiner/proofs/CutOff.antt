@@ -183,7 +183,8 @@ module _ (h : Ground) (closed : HoldNeeds h.schema.now h.graph.now.triples h.tab
         };
       }
 
-  pub places_cut : (elsewhere : Known) (marks : List Verdict) (confirmed : List Confirmed) → HavePlaces h (known_of h elsewhere marks) confirmed → HavePlaces h (known_of h nothing_known marks) confirmed
+  pub places_cut : (elsewhere : Known) (marks : List Verdict) (confirmed : List Confirmed) → HavePlaces h (known_of h elsewhere marks) confirmed →
+      HavePlaces h (known_of h nothing_known marks) confirmed
   places_cut elsewhere marks confirmed all j c at p there =
       places_alike h.schema.now h.terms.now h.graph.now.triples (known_of h elsewhere marks) (known_of h nothing_known marks) p c.places
       (agree (known_of h elsewhere marks) (known_of h nothing_known marks) (same_marks elsewhere marks) p (got_in h.table.now c.at p there)) (all j c at p there)

@@ -145,7 +145,8 @@ module _ (terms : List Term) (f : List ℕ) (table : List Pair) (sorted : IsStri
     | inr n ↦ subst (λ z. Of new_nodes (at + 1) k z) n.1 (at, p, (let l : at < at + 1 = omega arith in l), there, (numbered.0, refl), sym n.0, said)
   ]
 
-  whole : (i : ℕ) (q : Pair) (kd : RecordKind) → i < at + 1 → slice_get table i ≡ Some q → slice_get kinds i ≡ Some (Some kd) → (r : Record) × HasRecord new_lists (level f q.shape) r × IsRecordOf new_nodes r q
+  whole : (i : ℕ) (q : Pair) (kd : RecordKind) → i < at + 1 → slice_get table i ≡ Some q → slice_get kinds i ≡ Some (Some kd) → (r : Record) ×
+      HasRecord new_lists (level f q.shape) r × IsRecordOf new_nodes r q
   whole i q kd lt at_q is = elim (cases_eq i at) [
     | inl e ↦ (let same : p ≡ q = one_of (slice_get table at) p q there (subst (λ j. slice_get table j ≡ Some q) e at_q) in
         subst (λ z. (r : Record) × HasRecord new_lists (level f z.shape) r × IsRecordOf new_nodes r z) same (r0, new_in, (numbered.0, refl)))
@@ -178,7 +179,8 @@ module _ (terms : List Term) (f : List ℕ) (table : List Pair) (sorted : IsStri
           elim (cases_eq r.node number) [
             | inl e ↦ (let node_is : q.node ≡ p.node = one_of (slice_get new_nodes number) q.node p.node (subst (λ j. slice_get new_nodes j ≡ Some q.node) e (grown r.node q.node is.0)) numbered.0 in
                 elim (then_less (compare_at terms q.node p.node) (nat_cmp q.shape.0 p.shape.0) (pair_below i q lt at_q)) [
-                  | inl l ↦ absurd (let z : compare_at terms p.node p.node ≡ Less = subst (λ n. compare_at terms n p.node ≡ Less) node_is l in let y : Equal ≡ Less = sym (id_itself terms p.node) ∙ z in cc)
+                  | inl l ↦ absurd (let z : compare_at terms p.node p.node ≡ Less = subst (λ n. compare_at terms n p.node ≡ Less) node_is l in let y : Equal ≡
+                      Less = sym (id_itself terms p.node) ∙ z in cc)
                   | inr m ↦ inr (e, (let s = less_numbers q.shape.0 p.shape.0 m.1 in let a = is.1 in let b : r.shape < p.shape.0 = omega (arith, s, a) in b))
                 ])
             | inr ne ↦ inl (let l : r.node < number = omega (arith, inside, len, ne) in l)
@@ -275,7 +277,8 @@ pushed_to f xs new at r d u v lt is same set = (
 )
 
 -- nothing is said at one more number
-pub none_pushed : (old new : List (Option RecordKind)) → new ≡ old ++ None ∷ [] → ((i : ℕ) (k : RecordKind) → slice_get old i ≢ Some (Some k)) → (i : ℕ) (k : RecordKind) → slice_get new i ≢ Some (Some k)
+pub none_pushed : (old new : List (Option RecordKind)) → new ≡ old ++ None ∷ [] → ((i : ℕ) (k : RecordKind) → slice_get old i ≢ Some (Some k)) →
+    (i : ℕ) (k : RecordKind) → slice_get new i ≢ Some (Some k)
 none_pushed old new is none i k e = elim (pushed old None i (Some k) (subst (λ xs. slice_get xs i ≡ Some (Some k)) is e)) [
   | inl o ↦ none i k o
   | inr l ↦ (let f : None ≡ Some k = l.1 in cc)

@@ -53,7 +53,8 @@ place_fine hold fail sh n few t (At i) a = go (slice_get sh.occs i) refl a
     go (Some o) e b = let w = slice_get_within sh.occs i o e in let l : i ≤ 65534 = omega (arith, w, few) in l
 place_fine hold fail sh n few t Rest a = tt
 
-places_fine : (hold fail : TermId → Option ExprId → Type 0) (sh : Shape) (n : TermId) → length sh.occs ≤ 256 → (ts : List Triple) (ps : List Place) → AreAllowed hold fail sh n ts ps → AllByRecursion IsPlace ps
+places_fine : (hold fail : TermId → Option ExprId → Type 0) (sh : Shape) (n : TermId) → length sh.occs ≤ 256 → (ts : List Triple) (ps : List Place) →
+    AreAllowed hold fail sh n ts ps → AllByRecursion IsPlace ps
 places_fine hold fail sh n few [] [] a = tt
 places_fine hold fail sh n few [] (p ∷ ps) a = absurd a
 places_fine hold fail sh n few (t ∷ ts) [] a = tt
@@ -72,7 +73,8 @@ rises P (x ∷ xs) up = rises_from P x xs up.0 up.1
 abbrev Fine : List State → Type 0
 Fine states = AllByRecursion IsState states × Rises IsStateBefore states
 
-states_fine : (hold fail : TermId → Option ExprId → Type 0) (g : List Triple) (sh : Shape) (n : TermId) (ts : List Triple) → length ts ≤ 4294967295 → (states : List State) → AreListed hold fail g sh n ts states → Fine states
+states_fine : (hold fail : TermId → Option ExprId → Type 0) (g : List Triple) (sh : Shape) (n : TermId) (ts : List Triple) → length ts ≤ 4294967295 →
+    (states : List State) → AreListed hold fail g sh n ts states → Fine states
 states_fine hold fail g sh n ts few states listed = by (decide_shut g sh n)
   where
     by : Decided (IsShut g sh n) → Fine states
@@ -89,7 +91,8 @@ states_fine hold fail g sh n ts few states listed = by (decide_shut g sh n)
 
 -- ---- ranks
 
-module _ (s : Schema) (terms : List Term) (g : List Triple) (f : List ℕ) (pairs : List Pair) (budget : ℕ) (loaded : IsLoaded s) (few_triples : length g ≤ 4294967295) (few_pairs : length pairs ≤ 4294967295)
+module _ (s : Schema) (terms : List Term) (g : List Triple) (f : List ℕ) (pairs : List Pair) (budget : ℕ) (loaded : IsLoaded s)
+    (few_triples : length g ≤ 4294967295) (few_pairs : length pairs ≤ 4294967295)
     (known : Known) (all : List Removal) (refined : AreRemovals s terms g f pairs budget (suc (top_of f)) known all) where
   gone_few : (k : ℕ) (h : HasRecordsAt s terms g f pairs budget known (ranks_of all) k) → length h.gone ≤ length pairs
   gone_few k h = few_among h.gone pairs once inside

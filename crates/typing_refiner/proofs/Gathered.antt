@@ -62,9 +62,11 @@ module _ (h : Ground) (wanted : h.wanted ≡ Wanteds.Records) (first : Known) (n
       let inside = slice_get_within gone j x there in
       let taken = length-take j (pairs_gone gone) in let all_long = length-map gone (λ y. y.pair) in
       let long : length (take j (pairs_gone gone)) ≡ j = omega (arith, taken, all_long, inside) in
-      subst (λ z. (z.rank ≡ suc j) × AreStatesFor h.schema.now h.terms.now h.graph.now.triples (known_without lower (take j (pairs_removed (removals_of gone)))) z.pair.node (shape_at h.schema.now z.pair.shape) z.states) is (
+      subst (λ z. (z.rank ≡ suc j) ×
+      AreStatesFor h.schema.now h.terms.now h.graph.now.triples (known_without lower (take j (pairs_removed (removals_of gone)))) z.pair.node (shape_at h.schema.now z.pair.shape) z.states) is (
         rank ∙ ap suc long,
-        subst (λ ps. AreStatesFor h.schema.now h.terms.now h.graph.now.triples (known_without lower (take j ps)) x.pair.node (shape_at h.schema.now x.pair.shape) x.states) (pairs_same gone) (listed wanted),
+        subst (λ ps. AreStatesFor h.schema.now h.terms.now h.graph.now.triples (known_without lower (take j ps)) x.pair.node (shape_at h.schema.now x.pair.shape) x.states) (pairs_same gone)
+            (listed wanted),
       )
 
   pub removals : (k : ℕ) (known : Known) (all : List (List Removed)) → AreShown h first k known all →

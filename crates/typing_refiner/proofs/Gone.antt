@@ -29,7 +29,8 @@ pub one_more_gone :
     (h : Ground) (elsewhere lower : Known) (k : ℕ) (marks : List Verdict) (gone new : List Removed) (Todo : ℕ → Type 0) (x : Removed) (f : Finding) →
     IsRemoving h elsewhere lower k marks (pairs_gone gone) Todo → HaveStates h lower gone → (at : ℕ) → x.at ≡ at →
     ((p : Pair) → slice_get h.table.now at ≡ Some p → IsFinding h (known_of h elsewhere marks) p f) →
-    slice_get h.table.now at ≡ Some x.pair → (states : List State) → f ≡ Goes states → ((h.wanted ≡ Wanteds.Records) → x.states ≡ states) → x.rank ≡ suc (length gone) → new ≡ gone ++ x ∷ [] → HaveStates h lower new
+    slice_get h.table.now at ≡ Some x.pair → (states : List State) → f ≡ Goes states → ((h.wanted ≡ Wanteds.Records) → x.states ≡ states) → x.rank ≡
+    suc (length gone) → new ≡ gone ++ x ∷ [] → HaveStates h lower new
 one_more_gone h elsewhere lower k marks gone new Todo x f removing all at there found here states goes held rank is =
     subst (HaveStates h lower) (sym is) (push_gone (λ ps y. HasStates h lower ps y) gone x all (
       rank ∙ ap suc (sym (length-map gone (λ y. y.pair))),

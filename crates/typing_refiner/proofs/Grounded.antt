@@ -28,7 +28,8 @@ width_by law s terms g p = (law s terms g p).0.0
 pub widths_by : (law : WidthIsOne) (s : Schema) (terms : List Term) (g : List Triple) → AreWidths s terms g (width_by law s terms g)
 widths_by law s terms g p = (law s terms g p).0.1
 
-narrow_of : (law : WidthIsOne) (s : Schema) (terms : List Term) (g : List Triple) (budget : ℕ) (width : Pair → ℕ) → AreWidths s terms g width → (pairs : List Pair) (narrow tests : List Bool) → tests ≡ narrow →
+narrow_of : (law : WidthIsOne) (s : Schema) (terms : List Term) (g : List Triple) (budget : ℕ) (width : Pair → ℕ) → AreWidths s terms g width →
+    (pairs : List Pair) (narrow tests : List Bool) → tests ≡ narrow →
     narrow ≡ map (is_within width budget) pairs → budget < 2 ^ 64 - 1 →
     (i : ℕ) (p : Pair) (b : Bool) → slice_get pairs i ≡ Some p → slice_get tests i ≡ Some b → IsTrue b ↔ IsWithinWidth s terms g budget p
 narrow_of law s terms g budget width widths pairs narrow tests same is lt i p b at test =
@@ -57,4 +58,5 @@ needing_at f s g pairs lists held same are i j p q at_i at_j needs =
 
 -- what is written back over a whole vector
 pub written_back : {X : Type 0} (new old : List X) (n : ℕ) → length new ≡ length old → n ≡ length old → take n (new ++ drop (length new) old) ≡ new
-written_back new old n same is = take-append-le n new (drop (length new) old) (let e : n ≤ length new = omega (arith, same, is) in e) ∙ take_all n new (let e : length new ≤ n = omega (arith, same, is) in e)
+written_back new old n same is = take-append-le n new (drop (length new) old) (let e : n ≤ length new = omega (arith, same, is) in e)
+    ∙ take_all n new (let e : length new ≤ n = omega (arith, same, is) in e)

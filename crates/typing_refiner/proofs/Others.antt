@@ -69,7 +69,8 @@ module _ (s : Schema) (terms : List Term) (g : List Triple) (f : List ℕ) (budg
 
 module _ {E : Type 0} (s : Schema) (terms : List Term) (g : List Triple) (f : List ℕ) (budget : ℕ) (pairs : List Pair) (loaded : IsLoaded s) (strat : IsStratified s f) where
   pub ok_verdicts : (elsewhere : Known) (result : Result Refinement E) → RefinementOverKeptIsLocal → AreKept s terms g f budget elsewhere pairs → AreDistinct pairs →
-      IfOk result (λ r. IsRefinedOn s terms g f pairs budget elsewhere (known_by elsewhere pairs r.marks)) → IfOk result (λ r. r.pairs ≡ pairs) → IfOk result (λ r. AreVerdictsOn s terms g f budget pairs (known_by_it r))
+      IfOk result (λ r. IsRefinedOn s terms g f pairs budget elsewhere (known_by elsewhere pairs r.marks)) → IfOk result (λ r. r.pairs ≡ pairs) →
+      IfOk result (λ r. AreVerdictsOn s terms g f budget pairs (known_by_it r))
   ok_verdicts elsewhere (Ok r) law kept distinct a b =
       subst (λ ps. AreVerdictsOn s terms g f budget pairs (verdicts_of ps r.marks)) (sym b) (are_verdicts s terms g f budget pairs elsewhere r.marks law strat kept distinct a)
   ok_verdicts elsewhere (Err e) law kept distinct a b = a
@@ -79,7 +80,8 @@ module _ {E : Type 0} (s : Schema) (terms : List Term) (g : List Triple) (f : Li
   ok_by_each (Ok r) law h = by_each s terms g f budget pairs (known_by_it r) h loaded strat law
   ok_by_each (Err e) law h = h
 
-  pub ok_unknown : (result : Result Refinement E) → UnknownIsWide → IfOk result (λ r. AreVerdictsOn s terms g f budget pairs (known_by_it r)) → IfOk result (λ r. IsUnknownOnlyWide s terms g f budget pairs (known_by_it r))
+  pub ok_unknown : (result : Result Refinement E) → UnknownIsWide → IfOk result (λ r. AreVerdictsOn s terms g f budget pairs (known_by_it r)) →
+      IfOk result (λ r. IsUnknownOnlyWide s terms g f budget pairs (known_by_it r))
   ok_unknown (Ok r) law h = unknown_only s terms g f budget pairs (known_by_it r) h loaded strat law
   ok_unknown (Err e) law h = h
 

@@ -76,7 +76,8 @@ gone_all (y ∷ ys) kinds x c lt = go (in_rest y ys x c) (λ d l. gone_all ys (s
     go (inl e) deeper =
         subst (λ z. IsSaid (put_gone (y ∷ ys) kinds) z.at) e
         (gone_kept ys (slice_set kinds y.at (Some (Minus y.rank y.states))) y.at (Minus y.rank y.states, set_in kinds y.at (Some (Minus y.rank y.states)) (subst (λ z. z.at < length kinds) (sym e) lt)))
-    go (inr later) deeper = deeper later (let l = set_long kinds y.at (Some (Minus y.rank y.states)) in let m : x.at < length (slice_set kinds y.at (Some (Minus y.rank y.states))) = omega (arith, l, lt) in m)
+    go (inr later) deeper =
+        deeper later (let l = set_long kinds y.at (Some (Minus y.rank y.states)) in let m : x.at < length (slice_set kinds y.at (Some (Minus y.rank y.states))) = omega (arith, l, lt) in m)
 
 gone_long : (xs : List Removed) (kinds : Kinds) → length (put_gone xs kinds) ≡ length kinds
 gone_long [] kinds = refl
@@ -134,7 +135,8 @@ confirmed_all : (cs : List Confirmed) (kinds : Kinds) (x : Confirmed) → Contai
 confirmed_all [] kinds x c lt = absurd (not_in_none x c)
 confirmed_all (y ∷ ys) kinds x c lt = go (in_rest y ys x c) (λ d l. confirmed_all ys (slice_set kinds y.at (Some (Plus y.places))) x d l)
   where
-    go : (y ≡ x) ⊎ Contains ys x → (Contains ys x → x.at < length (slice_set kinds y.at (Some (Plus y.places))) → IsSaid (put_confirmed (y ∷ ys) kinds) x.at) → IsSaid (put_confirmed (y ∷ ys) kinds) x.at
+    go : (y ≡ x) ⊎ Contains ys x → (Contains ys x → x.at < length (slice_set kinds y.at (Some (Plus y.places))) → IsSaid (put_confirmed (y ∷ ys) kinds) x.at) →
+        IsSaid (put_confirmed (y ∷ ys) kinds) x.at
     go (inl e) deeper =
         subst (λ z. IsSaid (put_confirmed (y ∷ ys) kinds) z.at) e
         (confirmed_kept ys (slice_set kinds y.at (Some (Plus y.places))) y.at (Plus y.places, set_in kinds y.at (Some (Plus y.places)) (subst (λ z. z.at < length kinds) (sym e) lt)))

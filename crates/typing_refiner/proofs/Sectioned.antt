@@ -25,7 +25,8 @@ section_in : (n : ℕ) (lists : List (List Record)) (x : Section) → Contains (
 section_in n [] x c = absurd (not_in_none x c)
 section_in n (rs ∷ lists) x c = go rs (Contains-append_cases (section_of n rs) (sections_from (suc n) lists) x c) (λ d. section_in (suc n) lists x d)
   where
-    go : (rs : List Record) → Contains (section_of n rs) x ⊎ Contains (sections_from (suc n) lists) x → (Contains (sections_from (suc n) lists) x → IsSectionOf (suc n) lists x) → IsSectionOf n (rs ∷ lists) x
+    go : (rs : List Record) → Contains (section_of n rs) x ⊎ Contains (sections_from (suc n) lists) x →
+        (Contains (sections_from (suc n) lists) x → IsSectionOf (suc n) lists x) → IsSectionOf n (rs ∷ lists) x
     go [] (inl h) deeper = absurd (not_in_none x h)
     go (r ∷ rs) (inl h) deeper =
         let e : record { stratum = n; records = r ∷ rs } ≡ x = in_one (record { stratum = n; records = r ∷ rs }) x h in
@@ -65,7 +66,8 @@ at_zero : (sections : List Section) (k : ℕ) (r : Record) → IsListed sections
 at_zero sections k r h = subst (λ j. IsListed sections j r) (let e : 0 + k ≡ k = omega arith in e) h
 
 -- all records are in their sections
-pub filed_end : (terms : List Term) (f : List ℕ) (table : List Pair) (kinds : List (Option RecordKind)) (nodes : List TermId) (lists : List (List Record)) (sections : List Section) → length kinds ≡ length table →
+pub filed_end : (terms : List Term) (f : List ℕ) (table : List Pair) (kinds : List (Option RecordKind)) (nodes : List TermId) (lists : List (List Record)) (sections : List Section) → length kinds ≡
+    length table →
     IsFiled terms f table kinds (length kinds) nodes lists → sections ≡ sections_from 0 lists → AreFiled terms f table kinds nodes sections
 filed_end terms f table kinds nodes lists sections same filed is = subst (AreFiled terms f table kinds nodes) (sym is) (record {
   each = λ k r h. (let (j, e, has) = listed_in 0 lists k r h in

@@ -81,7 +81,8 @@ all_match h ready elsewhere old marks same unknown r i mark p at =
 yes_within : (h : Ground) (first : Known) → ((q : Pair) → Contains first.yes q ⊎ Contains first.no q → ¬ Contains h.table.now q) → (k : ℕ) (known : Known) (all : List (List Removed)) →
     AreShown h first k known all → (p : Pair) → Contains h.table.now p → Contains known.yes p → IsWithinWidth h.schema.now h.terms.now h.graph.now.triples h.budget p
 yes_within h first out zero known all (a, b, e) p inside c = absurd (out p (inl (subst (λ xs. Contains xs p) a c)) inside)
-yes_within h first out (suc k) known all (lower, rest, gone, kept, before, r, states, a, b, e) p inside c = go (Contains-append_cases lower.yes kept p (subst (λ xs. Contains xs p) a c)) (λ l. yes_within h first out k lower rest before p inside l)
+yes_within h first out (suc k) known all (lower, rest, gone, kept, before, r, states, a, b, e) p inside c =
+    go (Contains-append_cases lower.yes kept p (subst (λ xs. Contains xs p) a c)) (λ l. yes_within h first out k lower rest before p inside l)
   where
     go : Contains lower.yes p ⊎ Contains kept p → (Contains lower.yes p → IsWithinWidth h.schema.now h.terms.now h.graph.now.triples h.budget p) →
         IsWithinWidth h.schema.now h.terms.now h.graph.now.triples h.budget p

@@ -37,7 +37,8 @@ among_true i None h = absurd h
 among_true i (Some js) h = on_true i js h
 
 -- the least number is taken off the agenda
-pub taken : (h : Ground) (width : Pair → ℕ) → IsReady h → (k : ℕ) (v : Verdict) (marks : List Verdict) (at : ℕ) (old new : List ℕ) → IsOpen h k at → ((q : ℕ) → Contains old q ↔ (Contains new q ⊎ (q ≡ at))) →
+pub taken : (h : Ground) (width : Pair → ℕ) → IsReady h → (k : ℕ) (v : Verdict) (marks : List Verdict) (at : ℕ) (old new : List ℕ) → IsOpen h k at →
+    ((q : ℕ) → Contains old q ↔ (Contains new q ⊎ (q ≡ at))) →
     ((q : ℕ) → Contains new q → at < q) → still_to_tick h width k v marks old ≡ still_to_tick h width k v marks new + look_cost h width at
 unfolding still_to_tick
 taken h width ready k v marks at old new o takes least =
@@ -45,7 +46,8 @@ taken h width ready k v marks at old new o takes least =
     ∙ ap (λ x. potential (open_cost h width k) (need_test h) (length h.table.now) v marks new + x) (open_cost_is h width ready k at o)
 
 -- a pair changes its mark
-pub changed : (h : Ground) (width : Pair → ℕ) (k : ℕ) (v w : Verdict) → v ≢ w → (marks : List Verdict) (at : ℕ) (agenda next : List ℕ) (marks' : List Verdict) → marks' ≡ slice_set marks at w → Waits h k marks v at →
+pub changed : (h : Ground) (width : Pair → ℕ) (k : ℕ) (v w : Verdict) → v ≢ w → (marks : List Verdict) (at : ℕ) (agenda next : List ℕ) (marks' : List Verdict) →
+    marks' ≡ slice_set marks at w → Waits h k marks v at →
     ((q : ℕ) → Contains next q → Contains agenda q ⊎ GoesBack h k at marks' v q) → still_to_tick h width k v marks' next ≤ still_to_tick h width k v marks agenda
 unfolding still_to_tick
 changed h width k v w ne marks at agenda next marks' marked waits put =

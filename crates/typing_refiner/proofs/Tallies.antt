@@ -302,7 +302,8 @@ found_place ts keys t None same is = tt
 found_place ts keys t (Some i) same is = subst (λ xs. slice_get xs i ≡ Some t) same (found_item same_triple triple_decides keys t i (sym is))
 
 -- the next triple is put into the table
-pub table_next : (xs : List Triple) (i : ℕ) (x : Triple) (old new : List Triple) (b : Bool) → b ≡ true → OnTrue b (new ≡ old ++ x ∷ []) → old ≡ take i xs → slice_get xs i ≡ Some x → new ≡ take (i + 1) xs
+pub table_next : (xs : List Triple) (i : ℕ) (x : Triple) (old new : List Triple) (b : Bool) → b ≡ true → OnTrue b (new ≡ old ++ x ∷ []) → old ≡ take i xs →
+    slice_get xs i ≡ Some x → new ≡ take (i + 1) xs
 table_next xs i x old new b fresh put is at =
     let within = slice_get_within xs i x at in
     let both : Some (get_or xs i x) ≡ Some x = sym (slice_get-get_or xs i x within) ∙ at in

@@ -69,5 +69,6 @@ module _ {E : Type 0} (s : Schema) (terms : List Term) (g : List Triple) (f : Li
   pub ok_fine : (result : Result Refinement E) → IsLoaded s → (held : ℕ) → held ≡ length g → held ≤ max_triples → length pairs ≤ max_pairs →
       IfOk result (λ r. AreShownBy s terms g f pairs budget (known_by_it r) r.nodes r.sections) → IfOk result (λ r. AreFine r.sections)
   ok_fine (Ok r) loaded held is few few_pairs (known, all, removals, same, are) =
-      fine s terms g f pairs budget loaded (let l : length g ≤ 4294967295 = omega (arith, is, few) in l) (let l : length pairs ≤ 4294967295 = omega (arith, few_pairs) in l) known all removals r.nodes r.sections are
+      fine s terms g f pairs budget loaded (let l : length g ≤ 4294967295 = omega (arith, is, few) in l)
+      (let l : length pairs ≤ 4294967295 = omega (arith, few_pairs) in l) known all removals r.nodes r.sections are
   ok_fine (Err e) loaded held is few few_pairs h = h

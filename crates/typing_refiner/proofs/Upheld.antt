@@ -262,7 +262,8 @@ module _ (h : Ground) (view : Known) (q : Pair) where
   )
 
   -- what is known of each witness before it is looked at again
-  pub but_at : (numbers : Option (List ℕ)) (held : List (ℕ × Box Witness)) → AllShowBut h view q numbers held → (i : ℕ) (w : Witness) (p : Pair) → Holds held i w → slice_get h.table.now i ≡ Some p → IsWitnessBut h view q p w
+  pub but_at : (numbers : Option (List ℕ)) (held : List (ℕ × Box Witness)) → AllShowBut h view q numbers held → (i : ℕ) (w : Witness) (p : Pair) →
+      Holds held i w → slice_get h.table.now i ≡ Some p → IsWitnessBut h view q p w
   but_at numbers held all i w p holds there = elim (all i w p holds there) [ inl s ↦ any_free p w s | inr t ↦ t.1 ]
 
   -- and once that of one number is
@@ -333,7 +334,8 @@ module _ (h : Ground) (view : Known) (k : ℕ) (marks : List Verdict) (numbers :
 
 -- a witness that stands shows it at its number
 pub can_at : (h : Ground) (view : Known) (i : ℕ) (p : Pair) (w : Witness) → slice_get h.table.now i ≡ Some p → IsWitnessOf h view p w → CanMatchAt h view i
-can_at h view i p w there shows u at = subst (λ z. PairCanMatch h.schema.now h.terms.now h.graph.now.triples view Possible z) (let both : Some p ≡ Some u = sym there ∙ at in cc) (shows_can h view p w shows)
+can_at h view i p w there shows u at = subst (λ z. PairCanMatch h.schema.now h.terms.now h.graph.now.triples view Possible z)
+    (let both : Some p ≡ Some u = sym there ∙ at in cc) (shows_can h view p w shows)
 
 -- what is held once a witness is put
 pub put_shows : (h : Ground) (view : Known) (old new : List (ℕ × Box Witness)) (at : ℕ) (x : Witness) → AllShow h view old →
@@ -346,7 +348,8 @@ put_shows h view old new at x all step p here shows i w u holds there = elim (st
 
 -- what is made of places shows it, if it is made
 pub shows_some : {E : Type 0} (h : Ground) (p : Pair) (sh : Shape) (places : List Place) → shape_at h.schema.now p.shape ≡ Some sh → (ts : List Triple) →
-    ts ≡ relevant_in_order h.terms.now h.graph.now.triples sh p.node → (r : Result (Option Witness) E) → IfOk r (λ o. IfSome o (λ w. w.triples ≡ ts)) → IfOk r (λ o. IfSome o (λ w. w.places.items ≡ places)) →
+    ts ≡ relevant_in_order h.terms.now h.graph.now.triples sh p.node → (r : Result (Option Witness) E) → IfOk r (λ o. IfSome o (λ w. w.triples ≡ ts)) →
+    IfOk r (λ o. IfSome o (λ w. w.places.items ≡ places)) →
     IfOk r (λ o. IfSome o (λ w. IsTally (length sh.occs) w)) →
     IfOk r (λ o. IfSome o (λ w. (view : Known) → IsOutcome h.schema.now h.terms.now h.graph.now.triples view Possible p (Placed places) → IsWitnessOf h view p w))
 shows_some h p sh places is ts order (Ok (Some w)) a b c = λ view outcome. shows_it h view p sh is places outcome w (a ∙ order) b c

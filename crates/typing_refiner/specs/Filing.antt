@@ -23,7 +23,7 @@ abbrev pub put_gone : List Removed → List (Option RecordKind) → List (Option
 put_gone [] kinds = kinds
 put_gone (x ∷ xs) kinds = put_gone xs (slice_set kinds x.at (Some (Minus x.rank x.states)))
 
--- the same on each stratum
+-- what is said of the pairs that went on each stratum takes its places
 abbrev pub put_strata : List (List Removed) → List (Option RecordKind) → List (Option RecordKind)
 put_strata [] kinds = kinds
 put_strata (v ∷ vs) kinds = put_strata vs (put_gone v kinds)

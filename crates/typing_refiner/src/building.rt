@@ -52,8 +52,8 @@ fn push_wide(
     Ok(())
 }
 
-/// The Width of a pair, as it is told.
-fn width_of_pair(
+/// The Width of a pair, or 18,446,744,073,709,551,615 where it is more. It fails for want of memory alone.
+pub fn width_of_pair(
     alloc: Global,
     schema: &Schema,
     graph: &Graph,

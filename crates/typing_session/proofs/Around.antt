@@ -43,7 +43,8 @@ module _ (more fewer : List Triple) (t : Triple) (edit : IsEdit more t fewer) (p
   back_at : (x : Option Shape) → HaveSameAt fewer more p.node x
   back_at x = same_turned more fewer p.node x (same_at x)
 
-  pub can_match_same : (s : Schema) (terms : List Term) → AreDistinct more → AreDistinct fewer → (view : Known) (lean : Lean) → PairCanMatch s terms more view lean p ↔ PairCanMatch s terms fewer view lean p
+  pub can_match_same : (s : Schema) (terms : List Term) → AreDistinct more → AreDistinct fewer → (view : Known) (lean : Lean) →
+      PairCanMatch s terms more view lean p ↔ PairCanMatch s terms fewer view lean p
   can_match_same s terms d e view lean = (
     match_same more fewer p.node d e s terms view lean (shape_at s p.shape) (same_at (shape_at s p.shape)),
     match_same fewer more p.node e d s terms view lean (shape_at s p.shape) (back_at (shape_at s p.shape)),

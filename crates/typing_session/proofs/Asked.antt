@@ -102,7 +102,8 @@ module _ (s : Schema) (terms : List Term) (g : List Triple) (n : TermId) (e : Ex
       (λ q c. (too.exactly q).1 ((are.exactly q).0 c)) (λ q c. (are.exactly q).1 ((too.exactly q).0 c))
 
 -- what they need is among them, or kept with its verdict
-pub fresh_kept : (s : Schema) (terms : List Term) (g : List Triple) (f : List ℕ) (budget : ℕ) (es : Entries) (pairs : List Pair) → HoldOrKeepNeeds s g (pairs_of es) pairs → HaveVerdicts s terms g f budget es →
+pub fresh_kept : (s : Schema) (terms : List Term) (g : List Triple) (f : List ℕ) (budget : ℕ) (es : Entries) (pairs : List Pair) →
+    HoldOrKeepNeeds s g (pairs_of es) pairs → HaveVerdicts s terms g f budget es →
     AreKept s terms g f budget (known_by_kept es) pairs
 fresh_kept s terms g f budget es pairs whole verdicts p q c need = elim (whole p q c need) [
   | inl f ↦ inl f
@@ -216,7 +217,7 @@ module _ (s : Schema) (terms : List Term) (g : List Triple) (f : List ℕ) (budg
     (λ c. elim c [ inl o ↦ (kept.pairs_are q).1 (inl o) | inr r ↦ reached_kept q r ]),
   )
 
-  -- the same of all that is asked for
+  -- all that a question asks for is kept
   kept_asked : (pairs : List Pair) → AreAsked s terms g (root_of n e) pairs → AreKeptFor s terms g f budget pairs old new
   kept_asked pairs asked = record {
     begins = kept.begins;
@@ -275,7 +276,8 @@ module _ (s : Schema) (terms : List Term) (g : List Triple) (loaded : IsLoaded s
   reached_of : (n : TermId) (e : ExprId) → n.0 < length terms → (q : Pair) → Reaches s g n e q → IsOfBoth s terms q
   reached_of n e lt q (i, sign, st, leads) = led_of (pair_of n i) q leads (record { node = lt; shape = stands_there s loaded i e sign st })
 
-pub sound_asked : (s : Schema) (terms : List Term) (g : Contents) (f : List ℕ) (budget : ℕ) (n : TermId) (e : ExprId) (fresh : List Pair) (old new : Entries) → IsLoaded s → All (IsOfTable terms) g.triples →
+pub sound_asked : (s : Schema) (terms : List Term) (g : Contents) (f : List ℕ) (budget : ℕ) (n : TermId) (e : ExprId) (fresh : List Pair) (old new : Entries) →
+    IsLoaded s → All (IsOfTable terms) g.triples →
     n.0 < length terms → AreFresh s terms g.triples (pairs_of old) n e fresh → AreSound s terms g f budget old → AreKeptFor s terms g.triples f budget fresh old new → AreSound s terms g f budget new
 sound_asked s terms g f budget n e fresh old new loaded ends lt are sound kept = record {
   of_both = λ p c. elim ((kept.pairs_are p).0 c) [
@@ -324,7 +326,8 @@ silent s terms g budget law n e es fresh old new are all bound =
 know_same : (a b : Known) → KnowSame a b → (p : Pair) (v : Verdict) → PairIs a p v ↔ PairIs b p v
 know_same a b same p = by_members a b p (same.0.0 p, same.0.1 p) (same.1.0 p, same.1.1 p)
 
-pub by_all : (s : Schema) (terms : List Term) (g : List Triple) (f : List ℕ) (budget : ℕ) (n : TermId) (e : ExprId) → RefinementExists → RefinementIsIndependent → SureFollowsAnswers → IsLoaded s → IsStratified s f →
+pub by_all : (s : Schema) (terms : List Term) (g : List Triple) (f : List ℕ) (budget : ℕ) (n : TermId) (e : ExprId) → RefinementExists →
+    RefinementIsIndependent → SureFollowsAnswers → IsLoaded s → IsStratified s f →
     (v : Verdict) → IsAnswer s terms g f budget n e v → IsAnswerByAll s terms g budget n e v
 by_all s terms g f budget n e exists law follows loaded strat v answer h strat_too others known asked refined =
     let (first, refined_first) = exists s terms g f others budget loaded (pairs_once terms others asked.sorted) in
@@ -335,7 +338,8 @@ by_all s terms g f budget n e exists law follows loaded strat v answer h strat_t
 
 pub bound_fresh : (s : Schema) (terms : List Term) (g : List Triple) (budget : ℕ) (n : TermId) (e : ExprId) (es : Entries) (own : List Pair) (old new : ℕ) → AreFresh s terms g (pairs_of es) n e own →
     ((width count : Pair → ℕ) → AreWidths s terms g width → CountNeeds s g own count → new ≤ old + most_of s terms g budget width count own) →
-    (fresh : List Pair) (width count : Pair → ℕ) → AreFresh s terms g (pairs_of es) n e fresh → AreWidths s terms g width → CountNeeds s g fresh count → new ≤ old + most_of s terms g budget width count fresh
+    (fresh : List Pair) (width count : Pair → ℕ) → AreFresh s terms g (pairs_of es) n e fresh → AreWidths s terms g width → CountNeeds s g fresh count →
+    new ≤ old + most_of s terms g budget width count fresh
 bound_fresh s terms g budget n e es own old new are bound fresh width count too widths needs =
     subst (λ xs. CountNeeds s g xs count → new ≤ old + most_of s terms g budget width count xs) (fresh_one s terms g n e es own are fresh too) (λ m. bound width count widths m) needs
 
@@ -346,7 +350,8 @@ pub peeked : (s : Schema) (terms : List Term) (g : List Triple) (f : List ℕ) (
 peeked s terms g f budget es q verdicts None e = tt
 peeked s terms g f budget es q verdicts (Some v) e = verdicts q v (sym e)
 
-pub peeked_by_all : (s : Schema) (terms : List Term) (g : List Triple) (f : List ℕ) (budget : ℕ) (es : Entries) (q : Pair) → HaveVerdicts s terms g f budget es → VerdictIsIndependent → IsLoaded s → IsStratified s f →
+pub peeked_by_all : (s : Schema) (terms : List Term) (g : List Triple) (f : List ℕ) (budget : ℕ) (es : Entries) (q : Pair) →
+    HaveVerdicts s terms g f budget es → VerdictIsIndependent → IsLoaded s → IsStratified s f →
     (o : Option Verdict) → o ≡ kept_on es q → IfSome o (IsVerdictByAll s terms g budget q)
 peeked_by_all s terms g f budget es q verdicts law loaded strat None e = tt
 peeked_by_all s terms g f budget es q verdicts law loaded strat (Some v) e = λ h strat_too. law s terms g f h budget loaded strat strat_too q v (verdicts q v (sym e))

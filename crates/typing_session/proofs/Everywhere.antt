@@ -22,7 +22,8 @@ use Rattle.typing_session.proofs.Edited.{closed_fewer, closed_more, reach_same, 
 use Rattle.typing_session.proofs.Sifting.{Sifted, not_not_sifted}
 
 module _ (s : Schema) (terms : List Term) (g h : List Triple) (t : Triple) (f : List ℕ) (budget : ℕ) (p : Pair) (v : Verdict) (away : ¬ ReachesEnd s h t p)
-    (stay : (pairs : List Pair) → AreDistinct pairs → ((q : Pair) → Contains pairs q → ¬ IsAtEnd t q) → HoldNeeds s h pairs → Contains pairs p → IsVerdict s terms g f budget p v → IsVerdict s terms h f budget p v) where
+    (stay : (pairs : List Pair) → AreDistinct pairs → ((q : Pair) → Contains pairs q → ¬ IsAtEnd t q) → HoldNeeds s h pairs → Contains pairs p →
+    IsVerdict s terms g f budget p v → IsVerdict s terms h f budget p v) where
   carried : IsVerdict s terms g f budget p v → IsVerdict s terms h f budget p v
   carried is all whole distinct closed held refined =
       let (w, said) = some_verdict whole p in

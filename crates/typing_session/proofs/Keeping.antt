@@ -35,7 +35,8 @@ pub key_kept : (es : Entries) (q : Pair) → Contains (pairs_of es) q → (v : V
 key_kept [] q c = absurd (not_in_none q c)
 key_kept (x ∷ es) q c = go (same_pair q x.0) refl (in_rest x.0 (pairs_of es) q c) (λ later. key_kept es q later)
   where
-    go : (b : Bool) → same_pair q x.0 ≡ b → (x.0 ≡ q) ⊎ Contains (pairs_of es) q → (Contains (pairs_of es) q → (v : Verdict) × (kept_on es q ≡ Some v)) → (v : Verdict) × (cond b (Some x.1) (kept_on es q) ≡ Some v)
+    go : (b : Bool) → same_pair q x.0 ≡ b → (x.0 ≡ q) ⊎ Contains (pairs_of es) q → (Contains (pairs_of es) q → (v : Verdict) × (kept_on es q ≡ Some v)) →
+        (v : Verdict) × (cond b (Some x.1) (kept_on es q) ≡ Some v)
     go true is h deeper = (x.1, refl)
     go false is (inl e) deeper = absurd (true≢false (sym (ap (same_pair q) e ∙ pair_same q) ∙ is))
     go false is (inr later) deeper = deeper later

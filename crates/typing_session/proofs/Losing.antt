@@ -61,7 +61,8 @@ module _ (s : Schema) (terms : List Term) (f : List ℕ) (budget : ℕ) (t : Tri
   pub sound_added : IsEdit h.triples t g.triples → AreSound s terms h f budget new
   sound_added edit = record {
     of_both = λ p c. sound.of_both p ((loses s t old new touched gone others g.triples are p).0 c).0;
-    closed = closed_more s terms h.triples g.triples t f budget dh dg edit (pairs_of new) (far s t old new touched gone others g.triples are) (closed s t old new touched gone others g.triples are sound.closed);
+    closed = closed_more s terms h.triples g.triples t f budget dh dg edit (pairs_of new) (far s t old new touched gone others g.triples are)
+        (closed s t old new touched gone others g.triples are sound.closed);
     verdicts = λ p v e. (stays s terms h.triples g.triples t f budget loaded dh dg edit (pairs_of new) distinct (far s t old new touched gone others g.triples are) p (kept_key new p v e) v).1
         (closed s t old new touched gone others g.triples are sound.closed) (sound.verdicts p v (still s t old new touched gone others g.triples are p v e).0);
   }
@@ -69,7 +70,8 @@ module _ (s : Schema) (terms : List Term) (f : List ℕ) (budget : ℕ) (t : Tri
   pub sound_removed : IsEdit g.triples t h.triples → AreSound s terms h f budget new
   sound_removed edit = record {
     of_both = λ p c. sound.of_both p ((loses s t old new touched gone others g.triples are p).0 c).0;
-    closed = closed_fewer s terms g.triples h.triples t f budget dg dh edit (pairs_of new) (far s t old new touched gone others g.triples are) (closed s t old new touched gone others g.triples are sound.closed);
+    closed = closed_fewer s terms g.triples h.triples t f budget dg dh edit (pairs_of new) (far s t old new touched gone others g.triples are)
+        (closed s t old new touched gone others g.triples are sound.closed);
     verdicts = λ p v e. (stays s terms g.triples h.triples t f budget loaded dg dh edit (pairs_of new) distinct (far s t old new touched gone others g.triples are) p (kept_key new p v e) v).0
         (closed s t old new touched gone others g.triples are sound.closed) (sound.verdicts p v (still s t old new touched gone others g.triples are p v e).0);
   }
@@ -92,4 +94,5 @@ pub held_added : (terms : List Term) (old new : Contents) (t : Triple) → IsHel
 held_added terms old new t held of sealed is = record { sealed = sealed; ends = subst (λ ts. All (IsOfTable terms) ts) (sym is) (All-push (IsOfTable terms) old.triples t held.ends of) }
 
 pub held_removed : (terms : List Term) (old new : Contents) (t : Triple) → IsHeld terms old → IsSealedWith terms new → IsPermutation old.triples (t ∷ new.triples) → IsHeld terms new
-held_removed terms old new t held sealed edit = record { sealed = sealed; ends = All-tail (IsOfTable terms) t new.triples (All-permutation (IsOfTable terms) old.triples (t ∷ new.triples) edit held.ends) }
+held_removed terms old new t held sealed edit =
+    record { sealed = sealed; ends = All-tail (IsOfTable terms) t new.triples (All-permutation (IsOfTable terms) old.triples (t ∷ new.triples) edit held.ends) }

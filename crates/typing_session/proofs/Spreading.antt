@@ -105,7 +105,8 @@ spread_all s g kept start at met le h p q c need key =
 
 -- ---- what was met
 
-pub met_exactly : (s : Schema) (g : List Triple) (kept : List Pair) (t : Triple) (start met : List Pair) → HoldNeeds s g kept → AreAtEnds kept t start → SpreadsFrom s g kept start met → HoldUsers s g kept met →
+pub met_exactly : (s : Schema) (g : List Triple) (kept : List Pair) (t : Triple) (start met : List Pair) → HoldNeeds s g kept → AreAtEnds kept t start →
+    SpreadsFrom s g kept start met → HoldUsers s g kept met →
     (q : Pair) → Contains met q ↔ (Contains kept q × ReachesEnd s g t q)
 met_exactly s g kept t start met closed starts from whole q = (
   (λ c. let (key, (u, began, leads)) = from.1 q c in (key, (u, leads, ((starts u).0 began).1))),

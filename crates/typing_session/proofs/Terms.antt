@@ -37,7 +37,7 @@ sound_more s terms behind g f budget es law loaded held distinct sound = record 
   verdicts = λ p v e. law s terms behind g f budget loaded held.sealed held.ends (pairs_of es) distinct sound.closed (λ q c. (sound.of_both q c).node) p (kept_key es p v e) v (sound.verdicts p v e);
 }
 
--- the same where a term was put
+-- what is held is so of the table to which a term was put
 module _ (terms new : List Term) (t : Term) (adds : Adds terms t new) (g : Contents) (outlives : SealingOutlivesGrowth) (held : IsHeld terms g) where
   pub held_put : IsHeld new g
   held_put = let (behind, is) = adds_grows terms new t adds in subst (λ ts. IsHeld ts g) (sym is) (held_more terms behind g outlives held)
@@ -48,7 +48,8 @@ module _ (terms new : List Term) (t : Term) (adds : Adds terms t new) (g : Conte
       subst (λ ts. AreSound s ts g f budget es) (sym is) (sound_more s terms behind g f budget es law loaded held distinct sound)
 
 -- and where it was put or refused
-module _ {X E : Type 0} (r : Result X E) (terms new : List Term) (t : Term) (added : OnOk r (Adds terms t new)) (same : OnErr r (new ≡ terms)) (g : Contents) (outlives : SealingOutlivesGrowth) (held : IsHeld terms g) where
+module _ {X E : Type 0} (r : Result X E) (terms new : List Term) (t : Term) (added : OnOk r (Adds terms t new)) (same : OnErr r (new ≡ terms)) (g : Contents)
+    (outlives : SealingOutlivesGrowth) (held : IsHeld terms g) where
   either_way : (Adds terms t new) ⊎ (new ≡ terms)
   either_way = by r added same
     where
@@ -59,7 +60,8 @@ module _ {X E : Type 0} (r : Result X E) (terms new : List Term) (t : Term) (add
   pub held_either : IsHeld new g
   held_either = elim either_way [ inl a ↦ held_put terms new t a g outlives held | inr e ↦ subst (λ ts. IsHeld ts g) (sym e) held ]
 
-  pub sound_either : (s : Schema) (f : List ℕ) (budget : ℕ) (es : Entries) → VerdictsOutliveGrowth → IsLoaded s → AreDistinct (pairs_of es) → AreSound s terms g f budget es → AreSound s new g f budget es
+  pub sound_either : (s : Schema) (f : List ℕ) (budget : ℕ) (es : Entries) → VerdictsOutliveGrowth → IsLoaded s → AreDistinct (pairs_of es) →
+      AreSound s terms g f budget es → AreSound s new g f budget es
   sound_either s f budget es law loaded distinct sound = elim either_way [
     | inl a ↦ sound_put terms new t a g outlives held s f budget es law loaded distinct sound
     | inr e ↦ subst (λ ts. AreSound s ts g f budget es) (sym e) sound

@@ -172,10 +172,12 @@ filed_more found i d old new inside same h files within j lt =
     by : (j ≡ one.value.0) ⊎ (j ≢ one.value.0) → slice_get new j ≡ Some (with_value j (take i found ++ one ∷ []))
     by (inl e) =
         ap (slice_get new) e ∙ files.own (with_value j (take i found)) (sym (ap (slice_get old) e) ∙ was)
-        ∙ ap (λ us. Some us) (sym (filter_last (λ u. nat_eq u.value.0 j) (take i found) one ∙ ap (λ b. cond b (with_value j (take i found) ++ one ∷ []) (with_value j (take i found))) (eq-eqb one.value.0 j (sym e))))
+        ∙ ap (λ us. Some us) (sym (filter_last (λ u. nat_eq u.value.0 j) (take i found) one
+        ∙ ap (λ b. cond b (with_value j (take i found) ++ one ∷ []) (with_value j (take i found))) (eq-eqb one.value.0 j (sym e))))
     by (inr ne) =
         files.others j ne ∙ was
-        ∙ ap (λ us. Some us) (sym (filter_last (λ u. nat_eq u.value.0 j) (take i found) one ∙ ap (λ b. cond b (with_value j (take i found) ++ one ∷ []) (with_value j (take i found))) (other (λ t. ne (sym (eqb-true one.value.0 j t))))))
+        ∙ ap (λ us. Some us) (sym (filter_last (λ u. nat_eq u.value.0 j) (take i found) one
+        ∙ ap (λ b. cond b (with_value j (take i found) ++ one ∷ []) (with_value j (take i found))) (other (λ t. ne (sym (eqb-true one.value.0 j t))))))
 
 pub empty_more : {V : Type 0} (f : V → List Use) (xs ys : List V) (v : V) → ys ≡ xs ++ v ∷ [] → f v ≡ [] → AreEmptyLists (map f xs) → AreEmptyLists (map f ys)
 empty_more {V} f xs ys v is none empty j lt = subst (λ zs. slice_get (map f zs) j ≡ Some []) (sym is) (go xs empty j (subst (λ zs. j < length (map f zs)) is lt))
@@ -255,7 +257,8 @@ module _ (s : Schema) (terms : List Term) (g : List Triple) (found : List Use) (
       (subst (λ z. Contains (users_by terms g q.node u) z) made (in_map (user_at u) (arcs_to terms g q.node need.occ) need.triple arc))
 
 -- by the uses of its Shape
-pub users_are : (s : Schema) (terms : List Term) (g : List Triple) (lists : List (List Use)) → AreUsesByValue s lists → (q : Pair) (own : List Use) → slice_get lists q.shape.0 ≡ Some own → (xs : List Pair) →
+pub users_are : (s : Schema) (terms : List Term) (g : List Triple) (lists : List (List Use)) → AreUsesByValue s lists → (q : Pair) (own : List Use) →
+    slice_get lists q.shape.0 ≡ Some own → (xs : List Pair) →
     xs ≡ flat_map (users_by terms g q.node) own → AreUsers s g q xs
 users_are s terms g lists by q own at xs is p =
     subst (λ ys. Contains ys p ↔ Needs s g p q) (sym (is ∙ ap (flat_map (users_by terms g q.node)) same)) (user_to s terms g by.found by.uses q p, user_from s terms g by.found by.uses q p)
@@ -264,7 +267,8 @@ users_are s terms g lists by q own at xs is p =
     same = some_is own (with_value q.shape.0 by.found) (sym at ∙ by.filed q.shape.0 (got_within lists q.shape.0 own at))
 
 -- no pair needs one whose Shape is none of the schema's
-pub no_users : (s : Schema) → IsLoaded s → (g : List Triple) (lists : List (List Use)) → AreUsesByValue s lists → (q : Pair) → slice_get lists q.shape.0 ≡ None → (xs : List Pair) → xs ≡ [] → AreUsers s g q xs
+pub no_users : (s : Schema) → IsLoaded s → (g : List Triple) (lists : List (List Use)) → AreUsesByValue s lists → (q : Pair) →
+    slice_get lists q.shape.0 ≡ None → (xs : List Pair) → xs ≡ [] → AreUsers s g q xs
 no_users s loaded g lists by q none xs is p = (
   (λ c. absurd (not_in_none p (subst (λ ys. Contains ys p) is c))),
   (λ need.

@@ -113,13 +113,15 @@ pub followed_few : (s : Schema) (g : List Triple) (kept start : List Pair) (at :
 followed_few s g kept start at met le h = let few = h.few in omega (arith, le, few)
 
 -- more are met than may be asked for
-pub followed_many : (s : Schema) (g : List Triple) (kept start : List Pair) (at : ℕ) (met : List Pair) → AreDistinct met → max_pairs < length met → Followed s g kept start at met → AreMany (IsLedTo s g start)
+pub followed_many : (s : Schema) (g : List Triple) (kept start : List Pair) (at : ℕ) (met : List Pair) → AreDistinct met → max_pairs < length met →
+    Followed s g kept start at met → AreMany (IsLedTo s g start)
 followed_many s g kept start at met distinct many h = record { pairs = met; distinct = distinct; many = many; all = λ q c. (h.from.1 q c).1 }
 
 -- ---- what was met
 
 -- what is needed through others and is not kept is met, since what a kept pair needs is kept
-led_met : (s : Schema) (g : List Triple) (kept met : List Pair) → HoldNeeds s g kept → HoldOrKeepNeeds s g kept met → (p q : Pair) → Leads s g p q → ((¬ Contains kept p) → Contains met p) → ¬ Contains kept q →
+led_met : (s : Schema) (g : List Triple) (kept met : List Pair) → HoldNeeds s g kept → HoldOrKeepNeeds s g kept met → (p q : Pair) → Leads s g p q →
+    ((¬ Contains kept p) → Contains met p) → ¬ Contains kept q →
     Contains met q
 led_met s g kept met closed whole p q here there none = there none
 led_met s g kept met closed whole p q (step u need rest) there none =
@@ -153,7 +155,8 @@ too_many s g kept n e start starts h = record {
 }
 
 -- kept and fresh ones leave no room for too many
-pub not_many : (s : Schema) (terms : List Term) (g : List Triple) (n : TermId) (e : ExprId) (es : Entries) (fresh : List Pair) → AreFresh s terms g (pairs_of es) n e fresh → length es + length fresh ≤ max_pairs →
+pub not_many : (s : Schema) (terms : List Term) (g : List Triple) (n : TermId) (e : ExprId) (es : Entries) (fresh : List Pair) →
+    AreFresh s terms g (pairs_of es) n e fresh → length es + length fresh ≤ max_pairs →
     ¬ ReachesTooMany s g n e
 not_many s terms g n e es fresh are le many =
     let among = few_among many.pairs (pairs_of es ++ fresh) many.distinct (λ q c. within q ((one_root s g n e q).0 (many.reached q c)) (kept_or_not es q)) in

@@ -56,6 +56,6 @@ IsUnknownOnlyWide s terms g budget n e v = v ≡ Unknown → ReachesWide s terms
 abbrev pub IsAnswerByAll : Schema → List Term → List Triple → ℕ → TermId → ExprId → Verdict → Type 0
 IsAnswerByAll s terms g budget n e v = (h : List ℕ) → IsStratified s h → IsAnswer s terms g h budget n e v
 
--- so is that on a pair
+-- the verdict on a pair is one by any stratification
 abbrev pub IsVerdictByAll : Schema → List Term → List Triple → ℕ → Pair → Verdict → Type 0
 IsVerdictByAll s terms g budget p v = (h : List ℕ) → IsStratified s h → IsVerdict s terms g h budget p v

@@ -15,14 +15,14 @@ pub record Seen : Type 0 where
   pub budget : ℕ
   pub kept : List Pair
 
--- the same with these terms
+-- what is seen, with these terms
 abbrev pub with_terms : List Term → Seen → Seen
 with_terms terms x = record { graph = x.graph; terms = terms; schema = x.schema; strata = x.strata; budget = x.budget; kept = x.kept }
 
--- the same with these pairs
+-- what is seen, with these pairs kept
 abbrev pub with_kept : List Pair → Seen → Seen
 with_kept kept x = record { graph = x.graph; terms = x.terms; schema = x.schema; strata = x.strata; budget = x.budget; kept = kept }
 
--- the same with this graph and these pairs
+-- what is seen, with this graph and these pairs kept
 abbrev pub with_graph : List Triple → List Pair → Seen → Seen
 with_graph graph kept x = record { graph = graph; terms = x.terms; schema = x.schema; strata = x.strata; budget = x.budget; kept = kept }

@@ -4,29 +4,13 @@ ghost use Rattle.std.specs.Prelude.{ℕ, ◌≡◌, ◌++◌, IfOk, OnOk};
 ghost use Rattle.graph_index.specs.Contents.{IsSealedWith};
 ghost use Rattle.schema_tree.specs.declared.schema.Pair.{Pair as Held};
 ghost use Rattle.schema_tree.specs.Loaded.{IsLoaded};
-ghost use Rattle.typing_refiner.specs.Building.{AreWidths, told_width, wide_of, wide_one};
+ghost use Rattle.typing_refiner.specs.Building.{AreWidths, wide_of, wide_one};
 
-use bag_match::width;
 use graph_index::graph::Graph;
 use rdf_terms::table::TermTable;
 use schema_tree::schema::{Pair, Schema};
 use std::alloc::{AllocError, Global};
-use typing_refiner::building::WidePair;
-
-/// The Width of a pair, or 18,446,744,073,709,551,615 where it is more.
-fn told(
-    alloc: Global,
-    schema: &Schema,
-    graph: &Graph,
-    terms: &TermTable,
-    pair: Pair,
-) -> Result<u64, AllocError>
-    requires loaded { IsLoaded schema.now }
-    requires sealed { IsSealedWith terms.now graph.now }
-    ensures { IfOk result (λ r. (width : Held → ℕ) → AreWidths schema.now terms.now graph.now.triples width → r ≡ told_width width pair) }
-{
-    width(alloc, schema, graph, terms, pair)
-}
+use typing_refiner::building::{WidePair, width_of_pair};
 
 /// Appends a pair with its Width where that is above the budget.
 fn push_wide(
@@ -59,7 +43,7 @@ pub(crate) fn wide_among(
 {
     let mut wide = Vec::new(alloc);
     for pair in pairs {
-        let width = told(alloc, schema, graph, terms, *pair)?;
+        let width = width_of_pair(alloc, schema, graph, terms, *pair)?;
         push_wide(*pair, width, budget, &mut wide)?;
     }
     Ok(wide)

@@ -46,5 +46,6 @@ no_line terms budget (w ∷ ws) e = absurd (begun (none_of_both (codes "wide ") 
 pub none_wide : WidthIsOne → NoneIsWide
 none_wide one s terms g budget pairs wide few are nothing p c =
     let width : Pair → ℕ = λ q. (one s terms g q).0.0 in
-    let none : wide_one p (told_width width p) budget ≡ [] = none_at (λ q. wide_one q (told_width width q) budget) pairs (sym (sym (no_line terms budget wide nothing) ∙ are width (λ q. (one s terms g q).0.1))) p c in
+    let none : wide_one p (told_width width p) budget ≡ [] =
+    none_at (λ q. wide_one q (told_width width q) budget) pairs (sym (sym (no_line terms budget wide nothing) ∙ are width (λ q. (one s terms g q).0.1))) p c in
     (width p, (one s terms g p).0.1, within (width p) (2 ^ 64 - 1) budget few (passes (leb (told_width width p) budget) p (told_width width p) none))

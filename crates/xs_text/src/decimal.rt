@@ -24,7 +24,7 @@ use std::cmp::Ordering;
 pub fn is_decimal(text: &[u8]) -> bool
     ensures { result ≡ is_decimal text.now }
 {
-    let (whole, fraction) = parts(text);
+    let (whole, fraction) = whole_and_fraction(text);
     digits::are_digits(whole)
         && digits::are_digits(fraction)
         && !(whole.is_empty() && fraction.is_empty())
@@ -58,8 +58,8 @@ pub fn fraction_digits(text: &[u8]) -> u64
     Decimal::new(text).fraction.len() as u64
 }
 
-/// What stands before and behind the point of a text, without its sign.
-fn parts(text: &[u8]) -> (&[u8], &[u8])
+/// What stands before and behind the point of a text, without its sign; with no point, all of it and nothing.
+pub fn whole_and_fraction(text: &[u8]) -> (&[u8], &[u8])
     ensures whole { result.0.now ≡ whole_part text.now }
     ensures fraction { result.1.now ≡ fraction_part text.now }
 {
@@ -116,7 +116,7 @@ impl<'a> Decimal<'a> {
         ensures sign { result.is_negative ≡ (has_minus text.now
             && nat_lt 0 (length (significant_whole text.now) + length (significant_fraction text.now))) }
     {
-        let (whole, fraction) = parts(text);
+        let (whole, fraction) = whole_and_fraction(text);
         let whole = without_leading_zeros(whole);
         let fraction = without_trailing_zeros(fraction);
         Decimal {

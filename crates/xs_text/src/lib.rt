@@ -19,6 +19,8 @@ ghost use Rattle.xs_text.specs.Datatype.{
   is_scientific,
 };
 
+pub use decimal::whole_and_fraction;
+pub use digits::has_minus;
 use std::cmp::Ordering;
 pub use unsigned::unsigned_long;
 

@@ -11,6 +11,7 @@ abbrev pub invariant-loop-o : goal.invariant-loop-o
 invariant-loop-o g l = record {
   key :
       (plain : TermId → Option ExprId → Verdict) → g.P.Plain.tells l.known plain →
-      l.key.items ≡ l.triple.p.0 ∷ bit (is_loop l.triple) ∷ bit (same_id l.triple.s l.node) ∷ bit (is_open_rest plain l.shape l.node l.triple) ∷ map (λ o. bit (is_open_at plain l.node l.triple o)) (take l.o-index l.shape.occs);
+      l.key.items ≡ l.triple.p.0 ∷ bit (is_loop l.triple) ∷ bit (same_id l.triple.s l.node) ∷ bit (is_open_rest plain l.shape l.node l.triple) ∷ map (λ o. bit (is_open_at plain l.node l.triple o))
+      (take l.o-index l.shape.occs);
   long : length l.key.items ≡ l.o-index + 4;
 }

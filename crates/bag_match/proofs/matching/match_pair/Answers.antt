@@ -24,7 +24,8 @@ returns-in_default-clause-outcome g c =
 
 pub returns-in_default-clause-placed : goal.returns-in_default-clause-placed
 returns-in_default-clause-placed g c =
-    placed_can c.args.schema.now c.args.terms.now c.args.graph.now.triples (g.V.View.known c.args.view.now) c.args.lean c.args.pair.node (shape_at c.args.schema.now c.args.pair.shape) (Never c.of.result) (returns-in_default-clause-outcome g c)
+    placed_can c.args.schema.now c.args.terms.now c.args.graph.now.triples (g.V.View.known c.args.view.now) c.args.lean c.args.pair.node (shape_at c.args.schema.now c.args.pair.shape)
+    (Never c.of.result) (returns-in_default-clause-outcome g c)
 
 pub returns-clause-outcome : goal.returns-clause-outcome
 returns-clause-outcome g c =

@@ -26,11 +26,13 @@ is_dead_by_arcs-requires-clause-few_triples c =
 
 pub is_dead_by_arcs-requires-clause-one_each : goal.is_dead_by_arcs-requires-clause-one_each
 is_dead_by_arcs-requires-clause-one_each c =
-    ap length c.as_slice-2.ensures ∙ (subst (λ o. IsStateOf o c.args.state.now) (shape_read c.args.schema.now c.args.pair.shape c.as_slice.result.now c.in-Some.shape.now c.as_slice.ensures c.in-Some.ensures.lookup.0 c.in-Some.ensures.lookup.1) c.requires.state).0
+    ap length c.as_slice-2.ensures
+    ∙ (subst (λ o. IsStateOf o c.args.state.now) (shape_read c.args.schema.now c.args.pair.shape c.as_slice.result.now c.in-Some.shape.now c.as_slice.ensures c.in-Some.ensures.lookup.0 c.in-Some.ensures.lookup.1) c.requires.state).0
 
 pub is_dead_by_arcs-requires-clause-small : goal.is_dead_by_arcs-requires-clause-small
 is_dead_by_arcs-requires-clause-small c = λ i.
-    subst (λ cs. slice_index cs i ≤ 2 ^ 31) (sym c.as_slice-2.ensures) ((subst (λ o. IsStateOf o c.args.state.now) (shape_read c.args.schema.now c.args.pair.shape c.as_slice.result.now c.in-Some.shape.now c.as_slice.ensures c.in-Some.ensures.lookup.0 c.in-Some.ensures.lookup.1) c.requires.state).1 i)
+    subst (λ cs. slice_index cs i ≤ 2 ^ 31) (sym c.as_slice-2.ensures)
+    ((subst (λ o. IsStateOf o c.args.state.now) (shape_read c.args.schema.now c.args.pair.shape c.as_slice.result.now c.in-Some.shape.now c.as_slice.ensures c.in-Some.ensures.lookup.0 c.in-Some.ensures.lookup.1) c.requires.state).1 i)
 
 pub returns : goal.returns
 returns c = λ terms sealed.
@@ -39,5 +41,9 @@ returns c = λ terms sealed.
     c.as_slice-occs.result.now c.as_slice-occs.ensures c.outs-outs.result.now c.ins-ins.result.now (c.outs-outs.ensures terms sealed) (c.ins-ins.ensures terms sealed)
     c.args.state.now c.place_behind-out.result.left c.place_behind-out.result.at c.place_behind-inward.result.at c.place_behind-out.ensures.later c.place_behind-out.ensures.left c.place_behind-inward.ensures.later
     c.as_slice-2.result.now c.as_slice-2.ensures c.is_dead_by_arcs.result
-    (subst (λ us. IsTrue c.is_dead_by_arcs.result ↔ IsDeadBody c.in-Some.shape.now c.args.pair.node (us ++ filter (λ t. not (is_loop t)) (drop c.place_behind-inward.result.at c.ins-ins.result.now)) (slice_index c.as_slice-2.result.now) c.in-Some.shape.now.body) c.later.ensures
-    (subst (λ vs. IsTrue c.is_dead_by_arcs.result ↔ IsDeadBody c.in-Some.shape.now c.args.pair.node (c.later.result.now ++ filter (λ t. not (is_loop t)) vs) (slice_index c.as_slice-2.result.now) c.in-Some.shape.now.body) c.later-2.ensures c.is_dead_by_arcs.ensures))
+    (subst (λ us. IsTrue c.is_dead_by_arcs.result ↔
+    IsDeadBody c.in-Some.shape.now c.args.pair.node (us ++ filter (λ t. not (is_loop t)) (drop c.place_behind-inward.result.at c.ins-ins.result.now))
+    (slice_index c.as_slice-2.result.now) c.in-Some.shape.now.body) c.later.ensures
+    (subst (λ vs. IsTrue c.is_dead_by_arcs.result ↔
+    IsDeadBody c.in-Some.shape.now c.args.pair.node (c.later.result.now ++ filter (λ t. not (is_loop t)) vs)
+    (slice_index c.as_slice-2.result.now) c.in-Some.shape.now.body) c.later-2.ensures c.is_dead_by_arcs.ensures))

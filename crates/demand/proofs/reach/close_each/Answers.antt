@@ -16,7 +16,8 @@ returns-clause-asked c =
     asked c.args.schema.now c.args.terms.now c.args.graph.now.triples (roots_of c.args.nodes.now c.args.exprs.now) c.see_each.new.seen (start c) c.closed.result c.closed.ensures.sorted c.closed.ensures.whole c.closed.ensures.grown
 
 pub returns-clause-many : goal.returns-clause-many
-returns-clause-many c = too_many_pairs c.args.schema.now c.args.terms.now c.args.graph.now.triples (roots_of c.args.nodes.now c.args.exprs.now) c.see_each.new.seen (start c) c.closed.result c.closed.ensures.stops
+returns-clause-many c =
+    too_many_pairs c.args.schema.now c.args.terms.now c.args.graph.now.triples (roots_of c.args.nodes.now c.args.exprs.now) c.see_each.new.seen (start c) c.closed.result c.closed.ensures.stops
 
 pub returns-clause-few : goal.returns-clause-few
 returns-clause-few c = not_many c.args.schema.now c.args.terms.now c.args.graph.now.triples (roots_of c.args.nodes.now c.args.exprs.now) c.closed.result (returns-clause-asked c) c.closed.ensures.few

@@ -7,7 +7,8 @@ pub returns-in-Ok-clause-found : goal.returns-in-Ok-clause-found
 returns-in-Ok-clause-found c = found_from c.args.text.now c.utf8.text _ c.new-c.ensures.ahead (ahead c.load_lines.new.c) _ _ _ _ c.in-Ok.ensures.ends
 
 pub returns-in-Ok-clause-complete : goal.returns-in-Ok-clause-complete
-returns-in-Ok-clause-complete c = λ xs terms graph doc loads within. ok_from c.args.text.now c.utf8.text _ c.new-c.ensures.ahead (ahead c.load_lines.new.c) _ _ terms _ _ graph xs c.requires doc loads c.in-Ok.ensures.ends
+returns-in-Ok-clause-complete c =
+    λ xs terms graph doc loads within. ok_from c.args.text.now c.utf8.text _ c.new-c.ensures.ahead (ahead c.load_lines.new.c) _ _ terms _ _ graph xs c.requires doc loads c.in-Ok.ensures.ends
 
 pub returns-in-Err-clause-complete : goal.returns-in-Err-clause-complete
 returns-in-Err-clause-complete c = λ xs terms graph doc loads within.
@@ -15,4 +16,5 @@ returns-in-Err-clause-complete c = λ xs terms graph doc loads within.
 
 pub returns-in-Err-clause-refused : goal.returns-in-Err-clause-refused
 returns-in-Err-clause-refused c =
-    cause_from c.args.text.now c.utf8.text _ c.new-c.ensures.ahead c.in-Err.refusal _ _ _ _ _ _ _ _ c.in-Err.ensures.ends (c.in-Err.ensures.source ∙ c.new-c.ensures.source) c.place.ensures c.error.ensures
+    cause_from c.args.text.now c.utf8.text _ c.new-c.ensures.ahead c.in-Err.refusal _ _ _ _ _ _ _ _ c.in-Err.ensures.ends (c.in-Err.ensures.source
+    ∙ c.new-c.ensures.source) c.place.ensures c.error.ensures

@@ -12,13 +12,15 @@ returns-in-Err-Full-clause-fails c =
     record { proof = c.in-Ok.read; text = c.in-Ok.ensures.found; current = c.in_ok-strata.ensures.current; full = subst (λ ls. CannotTake c.args.terms.now ls) c.into_vec.ensures (c.in-Err-Full.ensures.full (ap (λ e. Err e) c.in-Err-Full.field-0-is)) }
 
 pub first_fault-requires-clause-few_items : goal.first_fault-requires-clause-few_items
-first_fault-requires-clause-few_items c = items_fit c.in-Ok.read c.as_slice-sections.result.now c.as_slice.result.now c.as_slice-sections.ensures c.as_slice.ensures c.lines_are_few.ensures c.args.proof.now c.in-Ok.ensures.found (let n = c.size-fits.ensures in let m = c.size-fits.type_inv in omega (arith, n, m))
+first_fault-requires-clause-few_items c =
+    items_fit c.in-Ok.read c.as_slice-sections.result.now c.as_slice.result.now c.as_slice-sections.ensures c.as_slice.ensures c.lines_are_few.ensures c.args.proof.now c.in-Ok.ensures.found (let n = c.size-fits.ensures in let m = c.size-fits.type_inv in omega (arith, n, m))
 
 pub first_fault-requires-clause-sealed : goal.first_fault-requires-clause-sealed
 first_fault-requires-clause-sealed c = still_sealed c.sealing_outlives_growth.ensures c.args.terms.now c.take_up.new.terms c.args.graph.now c.take_up.ensures.kept c.requires.numbers c.requires.sealed
 
 pub first_fault-requires-clause-rising : goal.first_fault-requires-clause-rising
-first_fault-requires-clause-rising c = sections_rise c.in-Ok.read c.as_slice-sections.result.now c.as_slice.result.now c.as_slice-sections.ensures c.as_slice.ensures c.args.proof.now c.in-Ok.ensures.found
+first_fault-requires-clause-rising c =
+    sections_rise c.in-Ok.read c.as_slice-sections.result.now c.as_slice.result.now c.as_slice-sections.ensures c.as_slice.ensures c.args.proof.now c.in-Ok.ensures.found
 
 pub returns-in-Some-clause-fails : goal.returns-in-Some-clause-fails
 returns-in-Some-clause-fails c =

@@ -18,4 +18,5 @@ loop-i-preserved c =
     ]
 
 pub returns-clause-layer : goal.returns-clause-layer
-returns-clause-layer c = λ x h. c.loop-i.invariant x (all_taken c.args.states.now c.loop-i.i x c.loop-i-test.false (subst (λ zs. Contains zs x) (take_all (length c.args.states.now) c.args.states.now (omega arith)) h))
+returns-clause-layer c =
+    λ x h. c.loop-i.invariant x (all_taken c.args.states.now c.loop-i.i x c.loop-i-test.false (subst (λ zs. Contains zs x) (take_all (length c.args.states.now) c.args.states.now (omega arith)) h))

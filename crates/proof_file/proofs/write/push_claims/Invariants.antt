@@ -6,4 +6,9 @@ use Rattle.proof_file.specs.declared.line.Line.TheVariants as Lines
 use Rattle.proof_file.proofs.write.push_claims.Given as goal
 
 abbrev pub invariant-loop-claim : goal.invariant-loop-claim
-invariant-loop-claim l = record { bytes : l.out.items ≡ l.fn.out.items ++ flat_map (λ c. ended (line_text (Lines.Claim c))) (take l.claim-index l.claims); texts : AllByRecursion (λ c. IsTextTarget c.target) (take l.claim-index l.claims) }
+invariant-loop-claim l =
+    record {
+      bytes : l.out.items ≡
+          l.fn.out.items ++ flat_map (λ c. ended (line_text (Lines.Claim c))) (take l.claim-index l.claims);
+      texts : AllByRecursion (λ c. IsTextTarget c.target) (take l.claim-index l.claims);
+    }

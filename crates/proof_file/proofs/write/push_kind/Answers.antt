@@ -18,5 +18,6 @@ returns-in_ok-push_states-in-Minus c =
     c.in_ok-push_states-in-Minus.ensures ∙ ap (λ z. z ++ flat_map (λ x. 32 ∷ state_text x) c.as_slice-in-Minus.result.now) a
     ∙ append_assoc c.args.out.now.items (32 ∷ decimal c.in-Minus.rank) (flat_map (λ x. 32 ∷ state_text x) c.as_slice-in-Minus.result.now)
     ∙ ap (λ z. c.args.out.now.items ++ z)
-    (ap (λ z. (32 ∷ decimal c.in-Minus.rank) ++ flat_map (λ x. 32 ∷ state_text x) z) c.as_slice-in-Minus.ensures ∙ ap (λ z. (32 ∷ decimal c.in-Minus.rank) ++ z) (sym (flat_map-map (λ f. 32 ∷ f) state_text c.in-Minus.states))
+    (ap (λ z. (32 ∷ decimal c.in-Minus.rank) ++ flat_map (λ x. 32 ∷ state_text x) z) c.as_slice-in-Minus.ensures
+    ∙ ap (λ z. (32 ∷ decimal c.in-Minus.rank) ++ z) (sym (flat_map-map (λ f. 32 ∷ f) state_text c.in-Minus.states))
     ∙ ap (λ z. flat_map (λ f. 32 ∷ f) (kind_fields z)) (sym c.in-Minus.is))

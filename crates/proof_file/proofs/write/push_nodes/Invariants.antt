@@ -6,4 +6,5 @@ use Rattle.proof_file.specs.declared.line.Line.TheVariants as Lines
 use Rattle.proof_file.proofs.write.push_nodes.Given as goal
 
 abbrev pub invariant-loop-node : goal.invariant-loop-node
-invariant-loop-node l = record { bytes : l.out.items ≡ l.fn.out.items ++ flat_map (λ t. ended (line_text (Lines.Node t))) (take l.node-index l.nodes); texts : AllByRecursion IsValue (take l.node-index l.nodes) }
+invariant-loop-node l =
+    record { bytes : l.out.items ≡ l.fn.out.items ++ flat_map (λ t. ended (line_text (Lines.Node t))) (take l.node-index l.nodes); texts : AllByRecursion IsValue (take l.node-index l.nodes) }

@@ -12,7 +12,8 @@ returns c =
     let p = c.args.p.now in
     λ feeds. record {
       keeps = c.requires;
-      unicode = proof_unicode p (subst (λ z. AllByRecursion IsValue z) c.as_slice.ensures c.in_ok-push_nodes.ensures.texts) (subst (λ z. AllByRecursion (λ c. IsTextTarget c.target) z) c.as_slice-3.ensures c.in_ok-push_claims.ensures.texts);
+      unicode = proof_unicode p (subst (λ z. AllByRecursion IsValue z) c.as_slice.ensures c.in_ok-push_nodes.ensures.texts)
+          (subst (λ z. AllByRecursion (λ c. IsTextTarget c.target) z) c.as_slice-3.ensures c.in_ok-push_claims.ensures.texts);
       no_feeds = feeds;
       spelled =
           chained c.in_ok-out.out.items c.push_nodes.new.out.items c.push_sections.new.out.items c.push_claims.new.out.items c.extend_from_slice.new.self.items

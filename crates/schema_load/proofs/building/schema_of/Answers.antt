@@ -25,7 +25,8 @@ returns c = λ docs e.
     let outline = subst (λ ns. IsOutline c.args.terms.now c.args.surveyed.parts.items (number_in ns) c.in_ok-outline.outline) c.as_slice-3.ensures.value outline_read in
     let exprs_read = subst (λ ns. AllZip (IsEntryAt c.args.terms.now c.args.surveyed.parts.items (number_in ns)) c.as_slice-5.result.now c.in_ok-exprs.exprs.items) c.as_slice-4.ensures.value (c.in_ok-exprs.ensures c.args.terms.now) in
     let exprs = subst (λ es. AllZip (IsEntryAt c.args.terms.now c.args.surveyed.parts.items (number_in c.in_ok-numbering.numbering.numbers.items)) es c.in_ok-exprs.exprs.items) c.as_slice-5.ensures.value exprs_read in
-    let exprs_kept = subst (λ xs. AllZip (IsEntryAt c.args.terms.now c.args.surveyed.parts.items (number_in c.in_ok-numbering.numbering.numbers.items)) c.in_ok-numbering.numbering.entries.items xs) (sym c.of.ensures) exprs in
+    let exprs_kept = subst (λ xs. AllZip (IsEntryAt c.args.terms.now c.args.surveyed.parts.items (number_in c.in_ok-numbering.numbering.numbers.items)) c.in_ok-numbering.numbering.entries.items xs)
+    (sym c.of.ensures) exprs in
     built_of docs c.args.surveyed.parts.items c.args.terms.now c.args.surveyed.survey c.in_ok-numbering.numbering c.in_ok-outline.outline
     (record { exprs = c.of.result; shapes = c.of-2.result; labels = c.in_ok-outline.outline.labels; start = c.in_ok-outline.outline.start })
     e c.requires.survey c.requires.few numbering outline exprs_kept c.of-2.ensures refl refl

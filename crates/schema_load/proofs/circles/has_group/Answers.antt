@@ -4,7 +4,8 @@ use Rattle.schema_load.proofs.Grouped.{none_of_group}
 use Rattle.schema_load.proofs.circles.has_group.Goals as goal
 
 pub offset_bounds-groups-place : goal.offset_bounds-groups-place
-offset_bounds-groups-place c = let low = c.requires.within (get_or c.args.places.now c.loop-place.place-index 0) (Contains-get_or c.args.places.now c.loop-place.place-index 0 c.loop-place-test.true) in search rules
+offset_bounds-groups-place c = let low = c.requires.within (get_or c.args.places.now c.loop-place.place-index 0)
+    (Contains-get_or c.args.places.now c.loop-place.place-index 0 c.loop-place-test.true) in search rules
 
 pub bounds-groups-place : goal.bounds-groups-place
 bounds-groups-place c = c.requires.within (get_or c.args.places.now c.loop-place.place-index 0) (Contains-get_or c.args.places.now c.loop-place.place-index 0 c.loop-place-test.true)

@@ -50,10 +50,12 @@ loop-place-preserved c =
     taken c.args.parts.items (number_in c.args.numbers.now) c.args.entries.now c.loop-place.parts.items c.loop-place.exprs.items c.loop-place.place-index (get_or c.args.entries.now c.loop-place.place-index 0) c.take_out-part.result c.loop-place.invariant here c.take_out-part.ensures.taken in
     let lt = slice_get_within c.args.parts.items (get_or c.args.entries.now c.loop-place.place-index 0) c.take_out-part.result at in
     let counted = subst (λ ps. AreShapeNumbers ps c.in_ok-shapes.shapes.items) c.as_slice.ensures.value c.in_ok-shapes.ensures in
-    let read : c.index.result.now ≡ get_or c.in_ok-shapes.shapes.items (get_or c.args.entries.now c.loop-place.place-index 0) 0 = number_read c.in_ok-shapes.shapes.items (get_or c.args.entries.now c.loop-place.place-index 0) c.index.result.now (let n = counted.size in omega arith) c.index.ensures in
+    let read : c.index.result.now ≡ get_or c.in_ok-shapes.shapes.items (get_or c.args.entries.now c.loop-place.place-index 0) 0 =
+    number_read c.in_ok-shapes.shapes.items (get_or c.args.entries.now c.loop-place.place-index 0) c.index.result.now (let n = counted.size in omega arith) c.index.ensures in
     entered_more c.args.parts.items (number_in c.args.numbers.now) c.args.entries.now c.requires.distinct c.loop-place.parts.items c.take_out-part.new.parts.items c.loop-place.exprs.items c.push.new.self.items c.loop-place.place-index (get_or c.args.entries.now c.loop-place.place-index 0) c.take_out-part.result c.in_ok-entry_of.field-0
     c.loop-place.invariant c.loop-place-test.true refl at c.take_out-part.ensures.size c.take_out-part.ensures.others
-    (λ terms. c.in_ok-entry_of.ensures terms c.args.parts.items (get_or c.args.entries.now c.loop-place.place-index 0) (sym (read ∙ counted.each (get_or c.args.entries.now c.loop-place.place-index 0) lt))) c.in_ok-push.ensures.items
+    (λ terms. c.in_ok-entry_of.ensures terms c.args.parts.items (get_or c.args.entries.now c.loop-place.place-index 0) (sym (read
+    ∙ counted.each (get_or c.args.entries.now c.loop-place.place-index 0) lt))) c.in_ok-push.ensures.items
 
 pub returns : goal.returns
 returns c = λ terms. entered_all c.args.parts.items (number_in c.args.numbers.now) c.args.entries.now c.loop-place.parts.items c.loop-place.exprs.items c.loop-place.place-index (let h = c.loop-place-test.false in omega arith) c.loop-place.invariant terms

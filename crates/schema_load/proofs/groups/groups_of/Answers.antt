@@ -19,4 +19,5 @@ returns c =
     let none : c.loop-visit.visits.items ≡ [] = search rules in
     on_value c.numbers_of.result (λ groups numbers.
     are_groups c.args.parts.now c.args.targets.now c.loop-visit.walk.standings.items c.loop-visit.walk.trail.items c.loop-visit.walk.starts.items groups.items (length c.loop-visit.walk.firsts.items)
-    (subst (λ vs. IsWalking c.args.parts.now c.args.targets.now c.loop-visit.walk vs) none c.loop-visit.invariant) (subst (λ s. AreNumbers s groups.items) c.as_slice.ensures.value numbers) c.requires.inside) c.numbers_of.ensures
+    (subst (λ vs. IsWalking c.args.parts.now c.args.targets.now c.loop-visit.walk vs) none c.loop-visit.invariant)
+    (subst (λ s. AreNumbers s groups.items) c.as_slice.ensures.value numbers) c.requires.inside) c.numbers_of.ensures

@@ -19,7 +19,8 @@ loop-position-preserved c =
       high = omega arith;
       numbered =
           numbered_more c.args.standings.now.items c.loop-position.standings.items c.args.trail.now c.args.start c.loop-position.position c.args.group (get_or c.args.trail.now c.loop-position.position 0)
-          c.loop-position.invariant.low (slice_get-get_or c.args.trail.now c.loop-position.position 0 lt) (c.requires.inside (get_or c.args.trail.now c.loop-position.position 0) (Contains-get_or c.args.trail.now c.loop-position.position 0 lt)) c.loop-position.invariant.numbered;
+          c.loop-position.invariant.low (slice_get-get_or c.args.trail.now c.loop-position.position 0 lt)
+          (c.requires.inside (get_or c.args.trail.now c.loop-position.position 0) (Contains-get_or c.args.trail.now c.loop-position.position 0 lt)) c.loop-position.invariant.numbered;
       less = λ parts targets. (
           let a = unseen_less parts targets c.loop-position.standings.items (get_or c.args.trail.now c.loop-position.position 0) c.args.group in
           let b = c.loop-position.invariant.less parts targets in

@@ -7,4 +7,5 @@ pub add_label-requires-clause-new : goal.add_label-requires-clause-new
 add_label-requires-clause-new c = label_new c.args.parts.now (number_in c.args.numbers.now) c.loop-place.place c.loop-place.labels c.requires.once c.loop-place.invariant
 
 pub loop-place-preserved : goal.loop-place-preserved
-loop-place-preserved c = labels_more c.args.parts.now (number_in c.args.numbers.now) c.loop-place.place c.loop-place.labels c.add_label.new.labels (let h = c.loop-place-test.true in omega arith) c.loop-place.invariant c.in_ok-add_label.ensures
+loop-place-preserved c =
+    labels_more c.args.parts.now (number_in c.args.numbers.now) c.loop-place.place c.loop-place.labels c.add_label.new.labels (let h = c.loop-place-test.true in omega arith) c.loop-place.invariant c.in_ok-add_label.ensures

@@ -7,7 +7,8 @@ use Rattle.schema_load.proofs.Exact.{exactly_any, exactly_err, loaded_any}
 use Rattle.schema_load.proofs.load.load.Goals as goal
 
 pub returns-clause-loaded : goal.returns-clause-loaded
-returns-clause-loaded c = loaded_any (map document_of c.args.docs.items) c.schema_in.new.terms c.schema_in.result c.requires.ordered (c.schema_in.ensures.stands (map document_of c.args.docs.items) c.in_ok-surveyed.ensures.parts)
+returns-clause-loaded c =
+    loaded_any (map document_of c.args.docs.items) c.schema_in.new.terms c.schema_in.result c.requires.ordered (c.schema_in.ensures.stands (map document_of c.args.docs.items) c.in_ok-surveyed.ensures.parts)
 
 pub returns-clause-exactly : goal.returns-clause-exactly
 returns-clause-exactly c = λ e refused.

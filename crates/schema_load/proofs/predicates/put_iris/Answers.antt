@@ -11,7 +11,8 @@ loop-iri-init c = (none, stays c.args.terms.now)
 
 pub loop-iri-preserved : goal.loop-iri-preserved
 loop-iri-preserved c = (
-  put_on c.args.terms.now c.loop-iri.terms c.put_iri.new.terms (map Iri (take c.loop-iri.iri-index c.args.iris.now)) (Iri c.iri-item.result ∷ []) (map Iri (take (c.loop-iri.iri-index + 1) c.args.iris.now))
+  put_on c.args.terms.now c.loop-iri.terms c.put_iri.new.terms (map Iri (take c.loop-iri.iri-index c.args.iris.now)) (Iri c.iri-item.result ∷ [])
+      (map Iri (take (c.loop-iri.iri-index + 1) c.args.iris.now))
       (iris_next c.args.iris.now c.loop-iri.iri-index c.iri-item.result c.loop-iri-test.true c.iri-item.is) c.loop-iri.invariant.0 c.in_ok-put_iri.ensures.added,
   grown_on c.args.terms.now c.loop-iri.terms c.put_iri.new.terms c.loop-iri.invariant.1 c.put_iri.ensures.kept,
 )

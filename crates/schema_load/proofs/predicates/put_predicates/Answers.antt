@@ -11,7 +11,8 @@ loop-part-init c = (none, stays c.args.terms.now)
 
 pub loop-part-preserved : goal.loop-part-preserved
 loop-part-preserved c = (
-  put_on c.args.terms.now c.loop-part.terms c.put_part.new.terms (predicates_of (take c.loop-part.part-index c.args.parts.now)) (predicates_in c.part-item.result) (predicates_of (take (c.loop-part.part-index + 1) c.args.parts.now))
+  put_on c.args.terms.now c.loop-part.terms c.put_part.new.terms (predicates_of (take c.loop-part.part-index c.args.parts.now))
+      (predicates_in c.part-item.result) (predicates_of (take (c.loop-part.part-index + 1) c.args.parts.now))
       (flat_next predicates_in c.args.parts.now c.loop-part.part-index c.part-item.result c.loop-part-test.true c.part-item.is) c.loop-part.invariant.0 c.in_ok-put_part.ensures.added,
   grown_on c.args.terms.now c.loop-part.terms c.put_part.new.terms c.loop-part.invariant.1 c.put_part.ensures.kept,
 )

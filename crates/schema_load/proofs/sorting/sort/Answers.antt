@@ -11,7 +11,8 @@ loop-visit-init c =
     let done : c.in_ok-done.done.items ≡ replicate (length c.args.parts.now) false = search rules in
     let none : c.new-order.result.items ≡ [] = search rules in
     record {
-      kept = subst (λ ds. Keeps c.args.parts.now c.args.targets.now ds c.new-order.result.items) (sym done) (subst (λ xs. Keeps c.args.parts.now c.args.targets.now (replicate (length c.args.parts.now) false) xs) (sym none) (kept_none c.args.parts.now c.args.targets.now));
+      kept = subst (λ ds. Keeps c.args.parts.now c.args.targets.now ds c.new-order.result.items) (sym done)
+          (subst (λ xs. Keeps c.args.parts.now c.args.targets.now (replicate (length c.args.parts.now) false) xs) (sym none) (kept_none c.args.parts.now c.args.targets.now));
       visiting =
           subst (λ os. IsVisiting c.args.parts.now c.args.targets.now os c.in_ok-done.done.items c.in_ok-visits.visits.items) (sym opened)
           (subst (λ ds. IsVisiting c.args.parts.now c.args.targets.now (replicate (length c.args.parts.now) false) ds c.in_ok-visits.visits.items) (sym done)

@@ -33,4 +33,5 @@ pub returns-clause-survey : goal.returns-clause-survey
 returns-clause-survey c =
     let long : length c.in_ok-order.order.items ≡ length c.args.parts.now = search rules in
     survey_met c.args.parts.now (record { targets = c.in_ok-targets.targets; order = c.in_ok-order.order; depths = c.in_ok-depths.depths }) c.in_ok-targets.ensures c.requires.once c.requires.there c.requires.fine
-    (subst (λ ts. IsSorted c.args.parts.now ts c.in_ok-order.order.items) c.as_slice.ensures.value c.in_ok-order.ensures.sorted) (c.in_ok-order.ensures.all long) c.in_ok-depths.ensures.limits c.in_ok-depths.ensures.depths
+    (subst (λ ts. IsSorted c.args.parts.now ts c.in_ok-order.order.items) c.as_slice.ensures.value c.in_ok-order.ensures.sorted)
+    (c.in_ok-order.ensures.all long) c.in_ok-depths.ensures.limits c.in_ok-depths.ensures.depths

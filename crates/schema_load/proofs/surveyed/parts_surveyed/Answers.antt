@@ -8,7 +8,8 @@ pub survey_named-requires-clause-fine : goal.survey_named-requires-clause-fine
 survey_named-requires-clause-fine c = fine_parts (map document_of c.args.docs.items) c.in_ok-parts.field-0.parts.items c.in_ok-parts.ensures.parts
 
 pub returns-clause-refused : goal.returns-clause-refused
-returns-clause-refused c = λ terms. explained_any (map document_of c.args.docs.items) c.in_ok-parts.field-0.parts.items terms c.survey_named.result c.in_ok-parts.ensures.parts (c.survey_named.ensures.refused terms)
+returns-clause-refused c =
+    λ terms. explained_any (map document_of c.args.docs.items) c.in_ok-parts.field-0.parts.items terms c.survey_named.result c.in_ok-parts.ensures.parts (c.survey_named.ensures.refused terms)
 
 pub returns-in_err-parts-clause-refused : goal.returns-in_err-parts-clause-refused
 returns-in_err-parts-clause-refused c = λ terms.

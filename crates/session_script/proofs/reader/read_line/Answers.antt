@@ -21,7 +21,8 @@ returns-in_err-command c =
     let p = err_from_is_err_and c.from_residual.result c.from_residual.ensures.1 in
     let e = strip_prefix_char 32 c.in-Some.behind.now (Some c.in-Some-strip_prefix.rest) c.in-Some-strip_prefix.ensures.cases (lit< tt) in
     rw (p.1, p.2)
-    (refused_rest c.in_err-command.field-0.0 c.args.line.now c.in-Some.sign c.in-Some-strip_prefix.rest.now c.args.start (c.in-Some.ensures ∙ ap (λ (v : List ℕ). character c.in-Some.sign ∷ v) e) c.in_err-command.ensures.refused)
+    (refused_rest c.in_err-command.field-0.0 c.args.line.now c.in-Some.sign c.in-Some-strip_prefix.rest.now c.args.start (c.in-Some.ensures
+    ∙ ap (λ (v : List ℕ). character c.in-Some.sign ∷ v) e) c.in_err-command.ensures.refused)
 
 pub returns : goal.returns
 returns c =

@@ -16,4 +16,5 @@ returns-in-Ok-clause-found c = found_from c.args.sign c.args.rest.now c.utf8.res
 
 pub returns-in-Err-clause-refused : goal.returns-in-Err-clause-refused
 returns-in-Err-clause-refused c =
-    cause_from c.args.sign c.args.rest.now c.utf8.rest _ c.new-c.ensures.ahead c.in-Err.stop _ c.place.result c.args.start (ahead c.command.new.c) _ c.in-Err.ensures.gives (c.in-Err.ensures.source ∙ c.new-c.ensures.source) c.place.ensures c.error.ensures
+    cause_from c.args.sign c.args.rest.now c.utf8.rest _ c.new-c.ensures.ahead c.in-Err.stop _ c.place.result c.args.start (ahead c.command.new.c) _ c.in-Err.ensures.gives (c.in-Err.ensures.source
+    ∙ c.new-c.ensures.source) c.place.ensures c.error.ensures

@@ -20,4 +20,5 @@ pub returns-clause-gives : goal.returns-clause-gives
 unfolding blank_of
 returns-clause-gives c =
     let is = subst (λ (text : List ℕ). IsNameOf text c.in_ok-name.name) c.as_str.ensures.characters c.in_ok-name.ensures in
-    labelled_ok (λ name. Blank (name_of name)) false c.in_ok-label.label _ _ c.in_ok-label.ensures.gives ∙ ap (λ (name : Name). Ok (Blank name, ahead c.label.new.c)) (name_is c.in_ok-label.label c.in_ok-name.name is)
+    labelled_ok (λ name. Blank (name_of name)) false c.in_ok-label.label _ _ c.in_ok-label.ensures.gives
+    ∙ ap (λ (name : Name). Ok (Blank name, ahead c.label.new.c)) (name_is c.in_ok-label.label c.in_ok-name.name is)

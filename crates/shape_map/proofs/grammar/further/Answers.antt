@@ -8,7 +8,8 @@ use Rattle.shape_map.proofs.Places.{consumes_behind}
 use Rattle.shape_map.proofs.grammar.further.Goals as goal
 
 pub loop-c-smaller : goal.loop-c-smaller
-loop-c-smaller c = consumes_behind (scope_in c.args.nodes.now) (scope_in c.args.labels.now) c.loop-c.items.items (ahead c.loop-c.c) c.behind.new.items.items (ahead c.behind.new.c) c.in_ok-behind.ensures.gives
+loop-c-smaller c = consumes_behind (scope_in c.args.nodes.now)
+    (scope_in c.args.labels.now) c.loop-c.items.items (ahead c.loop-c.c) c.behind.new.items.items (ahead c.behind.new.c) c.in_ok-behind.ensures.gives
 
 pub loop-c-preserved : goal.loop-c-preserved
 loop-c-preserved c = (
@@ -19,7 +20,8 @@ loop-c-preserved c = (
 pub returns-in_err-behind-clause-gives : goal.returns-in_err-behind-clause-gives
 returns-in_err-behind-clause-gives c =
     let p = err_from_is_err_and c.from_residual.result c.from_residual.ensures.1 in
-    rw (p.1, p.2) (fails_loop _ _ (consumes_behind (scope_in c.args.nodes.now) (scope_in c.args.labels.now)) c.in_err-behind.field-0.0 _ _ _ _ (sym c.is_at.ensures ∙ c.loop-c-test.true) c.in_err-behind.ensures.gives c.loop-c.invariant.0)
+    rw (p.1, p.2) (fails_loop _ _ (consumes_behind (scope_in c.args.nodes.now) (scope_in c.args.labels.now)) c.in_err-behind.field-0.0 _ _ _ _ (sym c.is_at.ensures
+    ∙ c.loop-c-test.true) c.in_err-behind.ensures.gives c.loop-c.invariant.0)
 
 pub returns-clause-gives : goal.returns-clause-gives
 returns-clause-gives c = loop_ends _ _ (consumes_behind (scope_in c.args.nodes.now) (scope_in c.args.labels.now)) _ _ _ (sym c.is_at.ensures ∙ c.loop-c-test.false) c.loop-c.invariant.0

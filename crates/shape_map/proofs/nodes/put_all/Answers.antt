@@ -17,7 +17,8 @@ loop-node-preserved c = (
 pub returns-in-Err-Full-clause-full : goal.returns-in-Err-Full-clause-full
 returns-in-Err-Full-clause-full c = inl (
   refl,
-  overfull c.args.nodes.items c.args.terms.now c.loop-node.terms c.loop-node.yielded c.next.new.self.rest.items c.in-Some.node (c.loop-node.invariant.0 ∙ ap (λ v. c.loop-node.yielded ++ v) c.in-Some.ensures.steps.0) c.loop-node.invariant.1
+  overfull c.args.nodes.items c.args.terms.now c.loop-node.terms c.loop-node.yielded c.next.new.self.rest.items c.in-Some.node (c.loop-node.invariant.0
+      ∙ ap (λ v. c.loop-node.yielded ++ v) c.in-Some.ensures.steps.0) c.loop-node.invariant.1
       (c.in-Err-Full.ensures.full.0 (ap Err c.in-Err-Full.field-0-is)),
 )
 

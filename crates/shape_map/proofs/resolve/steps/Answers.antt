@@ -5,7 +5,8 @@ use Rattle.lists.proofs.Members.{item_there}
 use Rattle.shape_map.proofs.resolve.steps.Goals as goal
 
 pub step-requires-clause-held : goal.step-requires-clause-held
-step-requires-clause-held c = item_held c.args.terms.now c.args.items.now c.item-item.result (item_there c.args.items.now c.loop-item.item-index c.item-item.result c.loop-item-test.true c.item-item.is) c.requires.held
+step-requires-clause-held c =
+    item_held c.args.terms.now c.args.items.now c.item-item.result (item_there c.args.items.now c.loop-item.item-index c.item-item.result c.loop-item-test.true c.item-item.is) c.requires.held
 
 pub returns-in_err-step-clause-refused : goal.returns-in_err-step-clause-refused
 returns-in_err-step-clause-refused c =

@@ -7,4 +7,5 @@ pub returns-then-at_text_facet : goal.returns-then-at_text_facet
 returns-then-at_text_facet c = first_next text_facets number_facets (ahead c.args.c.now) c.at_text_facet.result c.at_text_facet.ensures c.if-at_text_facet.true
 
 pub returns-else-at_text_facet : goal.returns-else-at_text_facet
-returns-else-at_text_facet c = second_next text_facets number_facets (ahead c.args.c.now) c.at_text_facet.result c.at_number_facet.result c.at_text_facet.ensures c.if-at_text_facet.false c.at_number_facet.ensures
+returns-else-at_text_facet c =
+    second_next text_facets number_facets (ahead c.args.c.now) c.at_text_facet.result c.at_number_facet.result c.at_text_facet.ensures c.if-at_text_facet.false c.at_number_facet.ensures

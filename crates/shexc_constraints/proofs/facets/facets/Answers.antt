@@ -8,7 +8,8 @@ use Rattle.shexc_constraints.proofs.Kinded.{consumes_facet_of}
 use Rattle.shexc_constraints.proofs.facets.facets.Goals as goal
 
 pub loop-kind-smaller : goal.loop-kind-smaller
-loop-kind-smaller c = consumes_facet_of true (option_copied c.args.datatype) c.args.kind c.loop-kind.fs.items (ahead c.loop-kind.c) c.facet_of.new.fs.items (ahead c.facet_of.new.c) c.in_ok-facet_of.ensures.gives
+loop-kind-smaller c =
+    consumes_facet_of true (option_copied c.args.datatype) c.args.kind c.loop-kind.fs.items (ahead c.loop-kind.c) c.facet_of.new.fs.items (ahead c.facet_of.new.c) c.in_ok-facet_of.ensures.gives
 
 pub loop-kind-preserved : goal.loop-kind-preserved
 loop-kind-preserved c = (
@@ -20,7 +21,8 @@ loop-kind-preserved c = (
 pub returns-in_err-facet_of-clause-gives : goal.returns-in_err-facet_of-clause-gives
 returns-in_err-facet_of-clause-gives c =
     let p = err_from_is_err_and c.from_residual.result c.from_residual.ensures.1 in
-    rw (p.1, p.2) (fails_loop _ _ (consumes_facet_of true (option_copied c.args.datatype) c.args.kind) c.in_err-facet_of.field-0.0 _ _ _ _ (sym c.at_kind.ensures ∙ c.loop-kind-test.true) c.in_err-facet_of.ensures.gives c.loop-kind.invariant.0)
+    rw (p.1, p.2) (fails_loop _ _ (consumes_facet_of true (option_copied c.args.datatype) c.args.kind) c.in_err-facet_of.field-0.0 _ _ _ _ (sym c.at_kind.ensures
+    ∙ c.loop-kind-test.true) c.in_err-facet_of.ensures.gives c.loop-kind.invariant.0)
 
 pub returns-clause-gives : goal.returns-clause-gives
 returns-clause-gives c = loop_ends _ _ (consumes_facet_of true (option_copied c.args.datatype) c.args.kind) _ _ _ (sym c.at_kind.ensures ∙ c.loop-kind-test.false) c.loop-kind.invariant.0

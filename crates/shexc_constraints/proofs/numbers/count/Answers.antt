@@ -8,8 +8,10 @@ returns-then-starts_with c = sym (plus_none c.args.digits.now ((starts_char 43 c
 
 pub returns-in-Ok : goal.returns-in-Ok
 returns-in-Ok c = sym (count_read c.args.digits.now c.parse.result c.parse.ensures.value.0
-    (not_true c.starts_with.result (get_or c.args.digits.now 0 0 ≡ 43) (starts_char 43 c.args.digits.now c.starts_with.result c.starts_with.ensures.cases (lit< tt) (lit< tt)) c.if-starts_with.false) ∙ ap found c.in-Ok.is)
+    (not_true c.starts_with.result (get_or c.args.digits.now 0 0 ≡
+    43) (starts_char 43 c.args.digits.now c.starts_with.result c.starts_with.ensures.cases (lit< tt) (lit< tt)) c.if-starts_with.false) ∙ ap found c.in-Ok.is)
 
 pub returns-in-Err : goal.returns-in-Err
 returns-in-Err c = sym (count_read c.args.digits.now c.parse.result c.parse.ensures.value.0
-    (not_true c.starts_with.result (get_or c.args.digits.now 0 0 ≡ 43) (starts_char 43 c.args.digits.now c.starts_with.result c.starts_with.ensures.cases (lit< tt) (lit< tt)) c.if-starts_with.false) ∙ ap found c.in-Err.is)
+    (not_true c.starts_with.result (get_or c.args.digits.now 0 0 ≡
+    43) (starts_char 43 c.args.digits.now c.starts_with.result c.starts_with.ensures.cases (lit< tt) (lit< tt)) c.if-starts_with.false) ∙ ap found c.in-Err.is)

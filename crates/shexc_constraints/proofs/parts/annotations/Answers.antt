@@ -21,7 +21,8 @@ pub returns-in_err-annotation-clause-gives : goal.returns-in_err-annotation-clau
 unfolding annotations
 returns-in_err-annotation-clause-gives c =
     let p = err_from_is_err_and c.from_residual.result c.from_residual.ensures.1 in
-    rw (p.1, p.2) (fails_loop _ _ ((λ _. consumes_annotation (scope_in c.args.names.now))) c.in_err-annotation.field-0.0 _ _ _ _ (sym c.is_at.ensures ∙ c.loop-c-test.true) c.in_err-annotation.ensures.gives c.loop-c.invariant.0)
+    rw (p.1, p.2) (fails_loop _ _ ((λ _. consumes_annotation (scope_in c.args.names.now))) c.in_err-annotation.field-0.0 _ _ _ _ (sym c.is_at.ensures
+    ∙ c.loop-c-test.true) c.in_err-annotation.ensures.gives c.loop-c.invariant.0)
 
 pub returns-clause-gives : goal.returns-clause-gives
 unfolding annotations

@@ -8,7 +8,8 @@ use Rattle.shexc_constraints.proofs.parts.at_name.Goals as goal
 
 pub returns-in_err-at_name-clause-gives : goal.returns-in_err-at_name-clause-gives
 unfolding at_name_of
-returns-in_err-at_name-clause-gives c = stops string_bytes _ c.in_err-at_name.field-0.0 c.from_residual.result _ (one_by (any.at_name_of false (scope_in c.args.names.now)) (ahead c.args.c.now)) c.from_residual.ensures.1 c.in_err-at_name.ensures.gives
+returns-in_err-at_name-clause-gives c =
+    stops string_bytes _ c.in_err-at_name.field-0.0 c.from_residual.result _ (one_by (any.at_name_of false (scope_in c.args.names.now)) (ahead c.args.c.now)) c.from_residual.ensures.1 c.in_err-at_name.ensures.gives
 
 pub returns-clause-gives : goal.returns-clause-gives
 unfolding at_name_of

@@ -11,7 +11,9 @@ use Rattle.shexc_constraints.proofs.Kinded.{local_texts, consumes_texts}
 use Rattle.shexc_constraints.proofs.values.exclusions.Goals as goal
 
 pub loop-kind-smaller : goal.loop-kind-smaller
-loop-kind-smaller c = consumes_exclusion (scope_in c.args.names.now) (texts (scope_in c.args.names.now) c.args.kind) (local_texts (scope_in c.args.names.now) c.args.kind) (consumes_texts (scope_in c.args.names.now) c.args.kind) c.loop-kind.xs.items (ahead c.loop-kind.c) c.exclusion.new.xs.items (ahead c.exclusion.new.c) c.in_ok-exclusion.ensures.gives
+loop-kind-smaller c = consumes_exclusion (scope_in c.args.names.now) (texts (scope_in c.args.names.now) c.args.kind)
+    (local_texts (scope_in c.args.names.now) c.args.kind)
+    (consumes_texts (scope_in c.args.names.now) c.args.kind) c.loop-kind.xs.items (ahead c.loop-kind.c) c.exclusion.new.xs.items (ahead c.exclusion.new.c) c.in_ok-exclusion.ensures.gives
 
 pub loop-kind-preserved : goal.loop-kind-preserved
 loop-kind-preserved c = (
@@ -27,4 +29,5 @@ returns-in_err-exclusion-clause-gives c =
 
 pub returns-clause-gives : goal.returns-clause-gives
 unfolding exclusions
-returns-clause-gives c = loop_ends _ _ (consumes_exclusion (scope_in c.args.names.now) (texts (scope_in c.args.names.now) c.args.kind) (local_texts (scope_in c.args.names.now) c.args.kind) (consumes_texts (scope_in c.args.names.now) c.args.kind)) _ _ _ (sym c.is_at.ensures ∙ c.loop-kind-test.false) c.loop-kind.invariant.0
+returns-clause-gives c =
+    loop_ends _ _ (consumes_exclusion (scope_in c.args.names.now) (texts (scope_in c.args.names.now) c.args.kind) (local_texts (scope_in c.args.names.now) c.args.kind) (consumes_texts (scope_in c.args.names.now) c.args.kind)) _ _ _ (sym c.is_at.ensures ∙ c.loop-kind-test.false) c.loop-kind.invariant.0

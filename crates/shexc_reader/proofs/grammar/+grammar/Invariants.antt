@@ -12,7 +12,8 @@ use Rattle.shexc_reader.proofs.grammar.+grammar.Given as goal
 abbrev pub invariant-ands-loop-c : goal.invariant-ands-loop-c
 invariant-ands-loop-c l =
     (loop (is_symbol And) (and_behind true (scope_in l.names) l.depth (level true (scope_in l.names) l.depth) l.whole) (map expr_of l.xs.items, l.flag) (ahead l.c)
-    ≡ loop (is_symbol And) (and_behind true (scope_in l.names) l.depth (level true (scope_in l.names) l.depth) l.whole) (map expr_of l.fn.xs.items, l.counted) (ahead l.fn.c)) × (source_in l.c ≡ source_in l.fn.c)
+    ≡ loop (is_symbol And) (and_behind true (scope_in l.names) l.depth (level true (scope_in l.names) l.depth) l.whole) (map expr_of l.fn.xs.items, l.counted)
+    (ahead l.fn.c)) × (source_in l.c ≡ source_in l.fn.c)
 
 abbrev pub decreases-ands-loop-c : goal.decreases-ands-loop-c
 decreases-ands-loop-c l = count (ahead l.c)
@@ -20,7 +21,8 @@ decreases-ands-loop-c l = count (ahead l.c)
 abbrev pub invariant-ors-loop-c : goal.invariant-ors-loop-c
 invariant-ors-loop-c l =
     (loop (is_symbol Or) (or_behind true (scope_in l.names) l.depth (level true (scope_in l.names) l.depth) l.whole) (map expr_of l.xs.items, l.flag) (ahead l.c)
-    ≡ loop (is_symbol Or) (or_behind true (scope_in l.names) l.depth (level true (scope_in l.names) l.depth) l.whole) (map expr_of l.fn.xs.items, l.counted) (ahead l.fn.c)) × (source_in l.c ≡ source_in l.fn.c)
+    ≡ loop (is_symbol Or) (or_behind true (scope_in l.names) l.depth (level true (scope_in l.names) l.depth) l.whole) (map expr_of l.fn.xs.items, l.counted)
+    (ahead l.fn.c)) × (source_in l.c ≡ source_in l.fn.c)
 
 abbrev pub decreases-ors-loop-c : goal.decreases-ors-loop-c
 decreases-ors-loop-c l = count (ahead l.c)
@@ -133,7 +135,8 @@ decreases-alternatives l = l.depth * 64 + 33
 abbrev pub invariant-semicolons-loop-c : goal.invariant-semicolons-loop-c
 invariant-semicolons-loop-c l =
     (loop (is_symbol Semicolon) (semicolon true (scope_in l.names) l.depth (level true (scope_in l.names) l.depth)) (map triple_of l.xs.items, l.ended) (ahead l.c)
-    ≡ loop (is_symbol Semicolon) (semicolon true (scope_in l.names) l.depth (level true (scope_in l.names) l.depth)) (map triple_of l.fn.xs.items, false) (ahead l.fn.c)) × (source_in l.c ≡ source_in l.fn.c)
+    ≡ loop (is_symbol Semicolon) (semicolon true (scope_in l.names) l.depth (level true (scope_in l.names) l.depth)) (map triple_of l.fn.xs.items, false)
+    (ahead l.fn.c)) × (source_in l.c ≡ source_in l.fn.c)
 
 abbrev pub decreases-semicolons-loop-c : goal.decreases-semicolons-loop-c
 decreases-semicolons-loop-c l = count (ahead l.c)

@@ -17,4 +17,5 @@ returns-in-Err-clause-complete c = λ x doc.
 
 pub returns-in-Err-clause-refused : goal.returns-in-Err-clause-refused
 returns-in-Err-clause-refused c =
-    cause_from c.args.base.now c.args.text.now c.utf8.text _ c.new-c.ensures.ahead _ c.in-Ok.ensures c.in-Err.stop _ _ (ahead c.document.new.c) _ c.in-Err.ensures.gives (c.in-Err.ensures.source ∙ c.new-c.ensures.source) c.place.ensures c.error.ensures
+    cause_from c.args.base.now c.args.text.now c.utf8.text _ c.new-c.ensures.ahead _ c.in-Ok.ensures c.in-Err.stop _ _ (ahead c.document.new.c) _ c.in-Err.ensures.gives (c.in-Err.ensures.source
+    ∙ c.new-c.ensures.source) c.place.ensures c.error.ensures

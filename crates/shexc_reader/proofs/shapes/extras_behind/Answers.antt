@@ -19,7 +19,8 @@ loop-c-preserved c = (
 pub returns-in_err-extra_behind-clause-gives : goal.returns-in_err-extra_behind-clause-gives
 returns-in_err-extra_behind-clause-gives c =
     let p = err_from_is_err_and c.from_residual.result c.from_residual.ensures.1 in
-    rw (p.1, p.2) (fails_loop _ _ (consumes_extra_behind (scope_in c.args.names.now)) c.in_err-extra_behind.field-0.0 _ _ _ _ (sym c.at_predicate.ensures ∙ c.loop-c-test.true) c.in_err-extra_behind.ensures.gives c.loop-c.invariant.0)
+    rw (p.1, p.2) (fails_loop _ _ (consumes_extra_behind (scope_in c.args.names.now)) c.in_err-extra_behind.field-0.0 _ _ _ _ (sym c.at_predicate.ensures
+    ∙ c.loop-c-test.true) c.in_err-extra_behind.ensures.gives c.loop-c.invariant.0)
 
 pub returns-clause-gives : goal.returns-clause-gives
 returns-clause-gives c = loop_ends _ _ (consumes_extra_behind (scope_in c.args.names.now)) _ _ _ (sym c.at_predicate.ensures ∙ c.loop-c-test.false) c.loop-c.invariant.0

@@ -8,7 +8,8 @@ use Rattle.shexc_reader.proofs.Places.{consumes_qualifier}
 use Rattle.shexc_reader.proofs.shapes.qualifiers.Goals as goal
 
 pub loop-c-smaller : goal.loop-c-smaller
-loop-c-smaller c = consumes_qualifier (scope_in c.args.names.now) (c.loop-c.closed, c.loop-c.ps.items) (ahead c.loop-c.c) (c.in_ok-closed.closed, c.qualifier.new.ps.items) (ahead c.qualifier.new.c) c.in_ok-closed.ensures.gives
+loop-c-smaller c = consumes_qualifier (scope_in c.args.names.now) (c.loop-c.closed, c.loop-c.ps.items) (ahead c.loop-c.c)
+    (c.in_ok-closed.closed, c.qualifier.new.ps.items) (ahead c.qualifier.new.c) c.in_ok-closed.ensures.gives
 
 pub loop-c-preserved : goal.loop-c-preserved
 loop-c-preserved c = (
@@ -19,7 +20,8 @@ loop-c-preserved c = (
 pub returns-in_err-closed-clause-gives : goal.returns-in_err-closed-clause-gives
 returns-in_err-closed-clause-gives c =
     let p = err_from_is_err_and c.from_residual.result c.from_residual.ensures.1 in
-    rw (p.1, p.2) (fails_loop _ _ (consumes_qualifier (scope_in c.args.names.now)) c.in_err-closed.field-0.0 _ _ _ _ (sym c.at_qualifier.ensures ∙ c.loop-c-test.true) c.in_err-closed.ensures.gives c.loop-c.invariant.0)
+    rw (p.1, p.2) (fails_loop _ _ (consumes_qualifier (scope_in c.args.names.now)) c.in_err-closed.field-0.0 _ _ _ _ (sym c.at_qualifier.ensures
+    ∙ c.loop-c-test.true) c.in_err-closed.ensures.gives c.loop-c.invariant.0)
 
 pub returns-clause-gives : goal.returns-clause-gives
 returns-clause-gives c = loop_ends _ _ (consumes_qualifier (scope_in c.args.names.now)) _ _ _ (sym c.at_qualifier.ensures ∙ c.loop-c-test.false) c.loop-c.invariant.0

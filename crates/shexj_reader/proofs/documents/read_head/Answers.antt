@@ -8,4 +8,5 @@ use Rattle.shexj_reader.proofs.documents.read_head.Goals as goal
 pub returns-clause-cause : goal.returns-clause-cause
 returns-clause-cause c =
     let d = view c.args.value.now in
-    made (λ f. IsNoList (codes "startActs") f d ⊎ HasActs (codes "startActs") f d) (λ f. SchemaFault f d) _ c.no_acts.result c.map.result c.map.ensures.cases (λ f s. elim s [ inl h ↦ SchemaFault.bad_acts h | inr h ↦ SchemaFault.has_acts h ]) c.no_acts.ensures.cause
+    made (λ f. IsNoList (codes "startActs") f d ⊎ HasActs (codes "startActs") f d)
+    (λ f. SchemaFault f d) _ c.no_acts.result c.map.result c.map.ensures.cases (λ f s. elim s [ inl h ↦ SchemaFault.bad_acts h | inr h ↦ SchemaFault.has_acts h ]) c.no_acts.ensures.cause

@@ -11,4 +11,5 @@ pub returns-clause-cause : goal.returns-clause-cause
 returns-clause-cause c =
     let d = view c.in-Some.value.now in
     let at : option_map (λ v. view v.now) c.args.value ≡ Some d = search rules in
-    made (λ f. ExprFault f (codes "start") false max_nesting d) (λ f. HasExprFault (codes "start") f (option_map (λ v. view v.now) c.args.value)) _ c.read_expr.result c.map.result c.map.ensures.cases (λ f h. record { value = d; there = at; fault = h }) c.read_expr.ensures.cause
+    made (λ f. ExprFault f (codes "start") false max_nesting d)
+    (λ f. HasExprFault (codes "start") f (option_map (λ v. view v.now) c.args.value)) _ c.read_expr.result c.map.result c.map.ensures.cases (λ f h. record { value = d; there = at; fault = h }) c.read_expr.ensures.cause

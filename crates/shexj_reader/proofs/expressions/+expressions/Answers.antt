@@ -55,7 +55,8 @@ pub read_expr_object-returns-in-Node-clause-cause : goal.read_expr_object-return
 read_expr_object-returns-in-Node-clause-cause t c =
     let d = view c.args.value.now in
     let typed : type_of d ≡ Some (codes "NodeConstraint") = search rules in
-    made (λ f. ConstraintFault (with_id c.args.labelled constraint_keys) f d) (λ f. ExprObjectFault f c.args.labelled c.args.depth d) _ c.read_constraint.result c.map-in-Node.result c.map-in-Node.ensures.cases
+    made (λ f. ConstraintFault (with_id c.args.labelled constraint_keys) f d)
+    (λ f. ExprObjectFault f c.args.labelled c.args.depth d) _ c.read_constraint.result c.map-in-Node.result c.map-in-Node.ensures.cases
     (λ f h. bad_constraint typed h) c.read_constraint.ensures.cause
 
 pub read_expr_object-returns-in-Not-clause-cause : goal.read_expr_object-returns-in-Not-clause-cause
@@ -164,17 +165,20 @@ read_triple_object-returns-in-Arc-clause-cause t c =
 pub read_group-returns-in_err-only_keys-clause-cause : goal.read_group-returns-in_err-only_keys-clause-cause
 read_group-returns-in_err-only_keys-clause-cause t c =
     let d = view c.args.value.now in
-    group_passed (λ f. IsUnknownKey group_keys f d) (c.args.depth + 1) d c.from_residual.result c.in_err-only_keys.field-0.0 c.from_residual.ensures.1 c.requires (λ f h. GroupFault.unknown_key h) c.in_err-only_keys.ensures.cause
+    group_passed (λ f. IsUnknownKey group_keys f d)
+    (c.args.depth + 1) d c.from_residual.result c.in_err-only_keys.field-0.0 c.from_residual.ensures.1 c.requires (λ f h. GroupFault.unknown_key h) c.in_err-only_keys.ensures.cause
 
 pub read_group-returns-in_err-label-clause-cause : goal.read_group-returns-in_err-label-clause-cause
 read_group-returns-in_err-label-clause-cause t c =
     let d = view c.args.value.now in
-    group_passed (λ f. IsBad (codes "id") label_if_any f d) (c.args.depth + 1) d c.from_residual-in_err-label.result c.in_err-label.field-0.0 c.from_residual-in_err-label.ensures.1 c.requires (λ f h. GroupFault.bad_label h) c.in_err-label.ensures.cause
+    group_passed (λ f. IsBad (codes "id") label_if_any f d)
+    (c.args.depth + 1) d c.from_residual-in_err-label.result c.in_err-label.field-0.0 c.from_residual-in_err-label.ensures.1 c.requires (λ f h. GroupFault.bad_label h) c.in_err-label.ensures.cause
 
 pub read_group-returns-in_err-min-clause-cause : goal.read_group-returns-in_err-min-clause-cause
 read_group-returns-in_err-min-clause-cause t c =
     let d = view c.args.value.now in
-    group_passed (λ f. CardinalityFault f d) (c.args.depth + 1) d c.from_residual-in_err-min.result c.in_err-min.field-0.0 c.from_residual-in_err-min.ensures.1 c.requires (λ f h. GroupFault.bad_count h) c.in_err-min.ensures.cause
+    group_passed (λ f. CardinalityFault f d)
+    (c.args.depth + 1) d c.from_residual-in_err-min.result c.in_err-min.field-0.0 c.from_residual-in_err-min.ensures.1 c.requires (λ f h. GroupFault.bad_count h) c.in_err-min.ensures.cause
 
 pub read_group-returns-clause-cause : goal.read_group-returns-clause-cause
 read_group-returns-clause-cause t c =
@@ -183,7 +187,8 @@ read_group-returns-clause-cause t c =
 pub read_triples-returns-in_err-items-clause-cause : goal.read_triples-returns-in_err-items-clause-cause
 read_triples-returns-in_err-items-clause-cause t c =
     let d = view c.args.value.now in
-    group_passed (λ f. IsBad (codes "expressions") members f d) (c.args.depth + 1) d c.from_residual.result c.in_err-items.field-0.0 c.from_residual.ensures.1 c.requires (λ f h. GroupFault.no_members h) c.in_err-items.ensures.cause
+    group_passed (λ f. IsBad (codes "expressions") members f d)
+    (c.args.depth + 1) d c.from_residual.result c.in_err-items.field-0.0 c.from_residual.ensures.1 c.requires (λ f h. GroupFault.no_members h) c.in_err-items.ensures.cause
 
 pub read_triples-returns-in_err-member-clause-cause : goal.read_triples-returns-in_err-member-clause-cause
 read_triples-returns-in_err-member-clause-cause t c =
@@ -200,27 +205,32 @@ read_triples-loop-item-preserved t c =
 pub read_arc-returns-in_err-only_keys-clause-cause : goal.read_arc-returns-in_err-only_keys-clause-cause
 read_arc-returns-in_err-only_keys-clause-cause t c =
     let d = view c.args.value.now in
-    arc_passed (λ f. IsUnknownKey arc_keys f d) (c.args.depth + 1) d c.from_residual.result c.in_err-only_keys.field-0.0 c.from_residual.ensures.1 c.requires (λ f h. ArcFault.unknown_key h) c.in_err-only_keys.ensures.cause
+    arc_passed (λ f. IsUnknownKey arc_keys f d)
+    (c.args.depth + 1) d c.from_residual.result c.in_err-only_keys.field-0.0 c.from_residual.ensures.1 c.requires (λ f h. ArcFault.unknown_key h) c.in_err-only_keys.ensures.cause
 
 pub read_arc-returns-in_err-label-clause-cause : goal.read_arc-returns-in_err-label-clause-cause
 read_arc-returns-in_err-label-clause-cause t c =
     let d = view c.args.value.now in
-    arc_passed (λ f. IsBad (codes "id") label_if_any f d) (c.args.depth + 1) d c.from_residual-in_err-label.result c.in_err-label.field-0.0 c.from_residual-in_err-label.ensures.1 c.requires (λ f h. ArcFault.bad_label h) c.in_err-label.ensures.cause
+    arc_passed (λ f. IsBad (codes "id") label_if_any f d)
+    (c.args.depth + 1) d c.from_residual-in_err-label.result c.in_err-label.field-0.0 c.from_residual-in_err-label.ensures.1 c.requires (λ f h. ArcFault.bad_label h) c.in_err-label.ensures.cause
 
 pub read_arc-returns-in_err-inverse-clause-cause : goal.read_arc-returns-in_err-inverse-clause-cause
 read_arc-returns-in_err-inverse-clause-cause t c =
     let d = view c.args.value.now in
-    arc_passed (λ f. IsBad (codes "inverse") flag f d) (c.args.depth + 1) d c.from_residual-in_err-inverse.result c.in_err-inverse.field-0.0 c.from_residual-in_err-inverse.ensures.1 c.requires (λ f h. ArcFault.bad_inverse h) c.in_err-inverse.ensures.cause
+    arc_passed (λ f. IsBad (codes "inverse") flag f d)
+    (c.args.depth + 1) d c.from_residual-in_err-inverse.result c.in_err-inverse.field-0.0 c.from_residual-in_err-inverse.ensures.1 c.requires (λ f h. ArcFault.bad_inverse h) c.in_err-inverse.ensures.cause
 
 pub read_arc-returns-in_err-predicate-clause-cause : goal.read_arc-returns-in_err-predicate-clause-cause
 read_arc-returns-in_err-predicate-clause-cause t c =
     let d = view c.args.value.now in
-    arc_passed (λ f. IsBad (codes "predicate") text f d) (c.args.depth + 1) d c.from_residual-in_err-predicate.result c.in_err-predicate.field-0.0 c.from_residual-in_err-predicate.ensures.1 c.requires (λ f h. ArcFault.bad_predicate h) c.in_err-predicate.ensures.cause
+    arc_passed (λ f. IsBad (codes "predicate") text f d)
+    (c.args.depth + 1) d c.from_residual-in_err-predicate.result c.in_err-predicate.field-0.0 c.from_residual-in_err-predicate.ensures.1 c.requires (λ f h. ArcFault.bad_predicate h) c.in_err-predicate.ensures.cause
 
 pub read_arc-returns-in_err-min-clause-cause : goal.read_arc-returns-in_err-min-clause-cause
 read_arc-returns-in_err-min-clause-cause t c =
     let d = view c.args.value.now in
-    arc_passed (λ f. CardinalityFault f d) (c.args.depth + 1) d c.from_residual-in_err-min.result c.in_err-min.field-0.0 c.from_residual-in_err-min.ensures.1 c.requires (λ f h. ArcFault.bad_count h) c.in_err-min.ensures.cause
+    arc_passed (λ f. CardinalityFault f d)
+    (c.args.depth + 1) d c.from_residual-in_err-min.result c.in_err-min.field-0.0 c.from_residual-in_err-min.ensures.1 c.requires (λ f h. ArcFault.bad_count h) c.in_err-min.ensures.cause
 
 pub read_arc-returns-clause-cause : goal.read_arc-returns-clause-cause
 read_arc-returns-clause-cause t c =

@@ -16,7 +16,11 @@ returns-in_default-as_str-clause-cause c =
     let there : get c.args.key.now (view c.args.value.now) ≡ Some (view c.in-Some.child.now) = search rules in
     let list : Some (items_view c.deref-item-items.result.now) ≡ as_array (view c.in-Some.child.now) = rw c.deref-item-items.ensures.value c.in-Some-as_array.ensures in
     because (λ f. f ≡ form c.args.key.now) (λ f. IsBad c.args.key.now texts f d) c.bad_form-in_default-as_str.result
-    (λ f h. record { is = h; wrong = at_list _ _ _ there list ∙ texts_bad c.deref-item-items.result.now c.loop-item.item-index c.item-item.result c.loop-item-test.true c.item-item.is (no_text_of _ c.in_default-as_str.ensures) }) c.bad_form-in_default-as_str.ensures
+    (λ f h. record {
+      is = h;
+      wrong = at_list _ _ _ there list
+          ∙ texts_bad c.deref-item-items.result.now c.loop-item.item-index c.item-item.result c.loop-item-test.true c.item-item.is (no_text_of _ c.in_default-as_str.ensures);
+    }) c.bad_form-in_default-as_str.ensures
 
 pub loop-item-preserved : goal.loop-item-preserved
 loop-item-preserved c =

@@ -22,7 +22,8 @@ returns-in_err-exclusion-clause-cause c =
     let vs = c.deref-item-items.result.now in
     let at : option_map (λ v. view v.now) c.args.value ≡ Some d = search rules in
     let list : Some (items_view c.deref-item-items.result.now) ≡ as_array (view c.in-Some.value.now) = rw c.deref-item-items.ensures.value c.in-Some-as_array.ensures in
-    passed (λ f. ExclusionFault c.args.kind f (view c.item-item.result)) (λ f. ExclusionsFault c.args.kind f (option_map (λ v. view v.now) c.args.value)) c.from_residual.result c.in_err-exclusion.field-0.0 c.from_residual.ensures.1
+    passed (λ f. ExclusionFault c.args.kind f (view c.item-item.result))
+    (λ f. ExclusionsFault c.args.kind f (option_map (λ v. view v.now) c.args.value)) c.from_residual.result c.in_err-exclusion.field-0.0 c.from_residual.ensures.1
     (λ f h. ExclusionsFault.bad_item (items_view vs) c.loop-item.item-index (view c.item-item.result) (listed vs _ d at list) (item_at vs c.loop-item.item-index c.item-item.result c.loop-item-test.true c.item-item.is) h) c.in_err-exclusion.ensures.cause
 
 pub loop-item-preserved : goal.loop-item-preserved

@@ -12,13 +12,15 @@ use Rattle.shexj_reader.proofs.values.read_range.Goals as goal
 pub returns-in_err-stem-clause-cause : goal.returns-in_err-stem-clause-cause
 returns-in_err-stem-clause-cause c =
     let d = view c.args.value.now in
-    passed (λ f. RangeStemFault f (option_map (λ v. view v.now) c.get.result)) (λ f. RangeFault c.args.kind f d) c.from_residual-in_err-stem.result c.in_err-stem.field-0.0 c.from_residual-in_err-stem.ensures.1
+    passed (λ f. RangeStemFault f (option_map (λ v. view v.now) c.get.result))
+    (λ f. RangeFault c.args.kind f d) c.from_residual-in_err-stem.result c.in_err-stem.field-0.0 c.from_residual-in_err-stem.ensures.1
     (λ f h. RangeFault.bad_stem (rw (sym c.get.ensures) h)) c.in_err-stem.ensures.cause
 
 pub returns-in_err-exclusions-clause-cause : goal.returns-in_err-exclusions-clause-cause
 returns-in_err-exclusions-clause-cause c =
     let d = view c.args.value.now in
-    passed (λ f. ExclusionsFault c.args.kind f (option_map (λ v. view v.now) c.get-2.result)) (λ f. RangeFault c.args.kind f d) c.from_residual-in_err-exclusions.result c.in_err-exclusions.field-0.0 c.from_residual-in_err-exclusions.ensures.1
+    passed (λ f. ExclusionsFault c.args.kind f (option_map (λ v. view v.now) c.get-2.result))
+    (λ f. RangeFault c.args.kind f d) c.from_residual-in_err-exclusions.result c.in_err-exclusions.field-0.0 c.from_residual-in_err-exclusions.ensures.1
     (λ f h. RangeFault.bad_exclusions (rw (sym c.get-2.ensures) h)) c.in_err-exclusions.ensures.cause
 
 pub returns-then-is_empty-clause-cause : goal.returns-then-is_empty-clause-cause

@@ -31,5 +31,6 @@ returns-in_err-only_keys-clause-cause c =
     let d = view c.in-Some.value.now in
     let at : option_map (λ v. view v.now) c.args.value ≡ Some d = search rules in
     let typed : type_of d ≡ Some (codes "Wildcard") = search rules in
-    passed (λ f. IsUnknownKey (codes "type" ∷ []) f d) (λ f. RangeStemFault f (option_map (λ v. view v.now) c.args.value)) c.from_residual-in_err-only_keys.result c.in_err-only_keys.field-0.0 c.from_residual-in_err-only_keys.ensures.1
+    passed (λ f. IsUnknownKey (codes "type" ∷ []) f d)
+    (λ f. RangeStemFault f (option_map (λ v. view v.now) c.args.value)) c.from_residual-in_err-only_keys.result c.in_err-only_keys.field-0.0 c.from_residual-in_err-only_keys.ensures.1
     (λ f h. RangeStemFault.unknown_key d at typed h) c.in_err-only_keys.ensures.cause

@@ -27,4 +27,5 @@ returns-clause-read_back c =
     let whole : is_whole_document doc ≡ true = search rules in
     let nests : document_nesting doc ≤ max_nesting = grind (arith, nat_tests) in
     let within : depth (view c.in_ok-value.value) ≤ max_depth = grind (arith, nat_tests) in
-    λ expressible. text_back doc (string_bytes c.in_ok-text.text) (IsUtf8-string_bytes c.in_ok-text.text) (c.in_ok-text.ensures.reads_back within ∙ ap Some is) nests c.in_ok-value.ensures.held whole expressible
+    λ expressible. text_back doc (string_bytes c.in_ok-text.text) (IsUtf8-string_bytes c.in_ok-text.text)
+    (c.in_ok-text.ensures.reads_back within ∙ ap Some is) nests c.in_ok-value.ensures.held whole expressible

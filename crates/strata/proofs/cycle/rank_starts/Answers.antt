@@ -12,6 +12,7 @@ loop-arc-preserved c =
     record {
       found = last.found;
       more = omega (arith, c.loop-arc.invariant.more, last.more);
-      risen = risen_on (length c.args.found.now.items) (length c.loop-arc.found.items) c.args.ranks.now.items c.loop-arc.ranks.items c.rank_start.new.ranks.items c.loop-arc.invariant.more c.loop-arc.invariant.risen last.risen;
+      risen = risen_on (length c.args.found.now.items)
+          (length c.loop-arc.found.items) c.args.ranks.now.items c.loop-arc.ranks.items c.rank_start.new.ranks.items c.loop-arc.invariant.more c.loop-arc.invariant.risen last.risen;
       has = has_next c.args.leading.now c.loop-arc.arc-index (length c.loop-arc.found.items) no_arc c.loop-arc.ranks.items c.rank_start.new.ranks.items last.risen c.loop-arc-test.true c.loop-arc.invariant.has last.has;
     }

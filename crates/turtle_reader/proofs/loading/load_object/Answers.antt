@@ -19,4 +19,5 @@ pub returns-in-Ok-clause-appended : goal.returns-in-Ok-clause-appended
 returns-in-Ok-clause-appended c = adds_grows _ _ _ c.in-Ok.ensures.added
 
 pub returns-in-Err-Full-clause-loads : goal.returns-in-Err-Full-clause-loads
-returns-in-Err-Full-clause-loads c = λ old s p b. no_triple old _ _ _ s p _ _ b c.in_ok-o.ensures.added c.in_ok-o.ensures.number c.in_ok-o.ensures.distinct (c.in-Err-Full.ensures.full.0 (ap Err c.in-Err-Full.field-0-is))
+returns-in-Err-Full-clause-loads c =
+    λ old s p b. no_triple old _ _ _ s p _ _ b c.in_ok-o.ensures.added c.in_ok-o.ensures.number c.in_ok-o.ensures.distinct (c.in-Err-Full.ensures.full.0 (ap Err c.in-Err-Full.field-0-is))

@@ -2,10 +2,12 @@ use Rattle.typing_session.proofs.Asked.{answered, by_all, fresh_apart, fresh_who
 use Rattle.typing_session.proofs.answering.answer.Goals as goal
 
 pub keep_fresh-requires-clause-apart : goal.keep_fresh-requires-clause-apart
-keep_fresh-requires-clause-apart g c = fresh_apart c.args.question.now.schema.now c.args.question.now.terms.now c.args.question.now.graph.now.triples c.args.node c.args.expr c.args.kept.now c.args.fresh.now c.requires.fresh
+keep_fresh-requires-clause-apart g c =
+    fresh_apart c.args.question.now.schema.now c.args.question.now.terms.now c.args.question.now.graph.now.triples c.args.node c.args.expr c.args.kept.now c.args.fresh.now c.requires.fresh
 
 pub keep_fresh-requires-clause-whole : goal.keep_fresh-requires-clause-whole
-keep_fresh-requires-clause-whole g c = fresh_whole c.args.question.now.schema.now c.args.question.now.terms.now c.args.question.now.graph.now.triples c.args.node c.args.expr c.args.kept.now c.args.fresh.now c.requires.fresh
+keep_fresh-requires-clause-whole g c =
+    fresh_whole c.args.question.now.schema.now c.args.question.now.terms.now c.args.question.now.graph.now.triples c.args.node c.args.expr c.args.kept.now c.args.fresh.now c.requires.fresh
 
 pub returns-in-Ok-clause-answer : goal.returns-in-Ok-clause-answer
 returns-in-Ok-clause-answer g c =

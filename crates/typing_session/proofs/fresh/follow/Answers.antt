@@ -18,8 +18,10 @@ pub loop-at-preserved : goal.loop-at-preserved
 loop-at-preserved c =
     followed_more c.args.schema.now c.args.graph.now.triples c.args.kept.now c.args.met.now c.loop-at.at c.loop-at.met c.in_ok-found.found.items c.in_ok-missing.missing.items c.put_all.new.self
     (record { node = record { 0 = 0 }; shape = record { 0 = 0 } })
-    (let inside = c.loop-at-test.true in let count = c.len.ensures.count in omega (arith, inside, count)) (let few = c.if-len-gt-MAX_PAIRS.false in let count = c.len-in-loop-at.ensures.count in omega (arith, few, count)) c.loop-at.invariant
-    (subst (λ xs. (q : Pair) → Contains c.in_ok-found.found.items q ↔ Needs c.args.schema.now c.args.graph.now.triples (get_or xs c.loop-at.at (record { node = record { 0 = 0 }; shape = record { 0 = 0 } })) q) c.as_slice.ensures c.in_ok-found.ensures)
+    (let inside = c.loop-at-test.true in let count = c.len.ensures.count in omega (arith, inside, count))
+    (let few = c.if-len-gt-MAX_PAIRS.false in let count = c.len-in-loop-at.ensures.count in omega (arith, few, count)) c.loop-at.invariant
+    (subst (λ xs. (q : Pair) → Contains c.in_ok-found.found.items q ↔
+    Needs c.args.schema.now c.args.graph.now.triples (get_or xs c.loop-at.at (record { node = record { 0 = 0 }; shape = record { 0 = 0 } })) q) c.as_slice.ensures c.in_ok-found.ensures)
     (c.in_ok-missing.ensures ∙ ap (fresh_of c.args.kept.now) c.as_slice-in-loop-at.ensures.value)
     (subst (λ xs. Grows c.loop-at.met xs c.put_all.new.self) c.as_slice-in-loop-at-2.ensures.value c.in_ok-put_all.ensures)
 

@@ -17,4 +17,5 @@ loop-pair-preserved c = λ width give.
     c.in_ok-push_wide.ensures
     ∙ (ap (λ z. z ++ wide_one next c.in_ok-width.width c.args.budget) (c.loop-pair.invariant width give)
     ∙ (ap (λ w. wide_of width c.args.budget (take i pairs) ++ wide_one next w c.args.budget) (c.in_ok-width.ensures width give)
-    ∙ sym (ap (wide_of width c.args.budget) (take_more pairs i no_pair c.loop-pair-test.true) ∙ flat_map-append one (take i pairs) (next ∷ []) ∙ ap (λ z. wide_of width c.args.budget (take i pairs) ++ z) (append-nil (one next)))))
+    ∙ sym (ap (wide_of width c.args.budget) (take_more pairs i no_pair c.loop-pair-test.true) ∙ flat_map-append one (take i pairs) (next ∷ [])
+    ∙ ap (λ z. wide_of width c.args.budget (take i pairs) ++ z) (append-nil (one next)))))

@@ -13,7 +13,8 @@ use Rattle.bag_match.proofs.layers.Question.next.Goals as goal
 
 pub successors-requires-clause-there : goal.successors-requires-clause-there
 successors-requires-clause-there g c =
-    let (d, are) = places_now (g.J.Judge.hold c.args.self.now.judge.now) (g.J.Judge.fail c.args.self.now.judge.now) c.args.self.now.shape.now c.args.self.now.node c.args.self.now.triples.now c.args.done c.args.places.now c.requires.within c.requires.places in
+    let (d, are) = places_now (g.J.Judge.hold c.args.self.now.judge.now)
+    (g.J.Judge.fail c.args.self.now.judge.now) c.args.self.now.shape.now c.args.self.now.node c.args.self.now.triples.now c.args.done c.args.places.now c.requires.within c.requires.places in
     subst (λ occs. ArePlacesOf (length occs) c.args.places.now) (sym c.as_slice-occurrences.ensures)
     (places_there (g.J.Judge.hold c.args.self.now.judge.now) (g.J.Judge.fail c.args.self.now.judge.now) c.args.self.now.shape.now c.args.self.now.node c.args.self.now.triples.now _ c.args.places.now are)
 
@@ -25,7 +26,8 @@ successors-requires-clause-shaped g c =
 
 pub living-requires-clause-small : goal.living-requires-clause-small
 living-requires-clause-small g c =
-    let (d, are) = places_now (g.J.Judge.hold c.args.self.now.judge.now) (g.J.Judge.fail c.args.self.now.judge.now) c.args.self.now.shape.now c.args.self.now.node c.args.self.now.triples.now c.args.done c.args.places.now c.requires.within c.requires.places in
+    let (d, are) = places_now (g.J.Judge.hold c.args.self.now.judge.now)
+    (g.J.Judge.fail c.args.self.now.judge.now) c.args.self.now.shape.now c.args.self.now.node c.args.self.now.triples.now c.args.done c.args.places.now c.requires.within c.requires.places in
     found_small (g.J.Judge.hold c.args.self.now.judge.now) (g.J.Judge.fail c.args.self.now.judge.now) c.args.self.now.shape.now c.args.self.now.node c.args.self.now.triples.now
     c.args.done d c.args.layer.now c.args.places.now (lists_of c.in_ok-found.found) c.requires.within c.requires.few c.requires.layer are
     c.in_ok-found.ensures
@@ -33,7 +35,8 @@ living-requires-clause-small g c =
 
 pub returns-clause-layer : goal.returns-clause-layer
 returns-clause-layer g c =
-    let (d, are) = places_now (g.J.Judge.hold c.args.self.now.judge.now) (g.J.Judge.fail c.args.self.now.judge.now) c.args.self.now.shape.now c.args.self.now.node c.args.self.now.triples.now c.args.done c.args.places.now c.requires.within c.requires.places in
+    let (d, are) = places_now (g.J.Judge.hold c.args.self.now.judge.now)
+    (g.J.Judge.fail c.args.self.now.judge.now) c.args.self.now.shape.now c.args.self.now.node c.args.self.now.triples.now c.args.done c.args.places.now c.requires.within c.requires.places in
     IfOk-weaker c.living.result
     (λ v. (n : TermId) (ts : List Triple) → AreLeft c.args.self.now.shape.now.occs n (drop (c.args.done + 1) ts) c.args.left.now →
     AreLiving c.args.self.now.shape.now n ts (c.args.done + 1) (lists_of c.in_ok-found.found) v.items)
@@ -47,7 +50,8 @@ returns-clause-layer g c =
 
 pub returns-clause-most : goal.returns-clause-most
 returns-clause-most g c =
-    let (d, are) = places_now (g.J.Judge.hold c.args.self.now.judge.now) (g.J.Judge.fail c.args.self.now.judge.now) c.args.self.now.shape.now c.args.self.now.node c.args.self.now.triples.now c.args.done c.args.places.now c.requires.within c.requires.places in
+    let (d, are) = places_now (g.J.Judge.hold c.args.self.now.judge.now)
+    (g.J.Judge.fail c.args.self.now.judge.now) c.args.self.now.shape.now c.args.self.now.node c.args.self.now.triples.now c.args.done c.args.places.now c.requires.within c.requires.places in
     ticks_few (g.J.Judge.hold c.args.self.now.judge.now) (g.J.Judge.fail c.args.self.now.judge.now) c.args.self.now.shape.now c.args.self.now.node c.args.self.now.triples.now
     c.args.done d c.args.layer.now c.args.places.now (lists_of c.in_ok-found.found) c.requires.within c.requires.layer are
     c.in_ok-found.ensures

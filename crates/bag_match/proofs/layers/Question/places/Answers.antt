@@ -4,10 +4,13 @@ use Rattle.bag_match.proofs.Unchosen.{most_sole}
 use Rattle.bag_match.proofs.layers.Question.places.Goals as goal
 
 pub returns-in_err-sole_match-clause-most : goal.returns-in_err-sole_match-clause-most
-returns-in_err-sole_match-clause-most g c bound is = most_sole c.args.steps.now c.sole_match.new.steps (length c.args.self.now.triples.now) bound c.sole_match.ensures.few (bound_some (g.J.Judge.hold c.args.self.now.judge.now) (g.J.Judge.fail c.args.self.now.judge.now) c.args.self.now.shape.now c.args.self.now.node c.args.self.now.triples.now bound is)
+returns-in_err-sole_match-clause-most g c bound is =
+    most_sole c.args.steps.now c.sole_match.new.steps (length c.args.self.now.triples.now) bound c.sole_match.ensures.few (bound_some (g.J.Judge.hold c.args.self.now.judge.now) (g.J.Judge.fail c.args.self.now.judge.now) c.args.self.now.shape.now c.args.self.now.node c.args.self.now.triples.now bound is)
 
 pub returns-then-branch-clause-most : goal.returns-then-branch-clause-most
-returns-then-branch-clause-most g c bound is = most_sole c.args.steps.now c.sole_match.new.steps (length c.args.self.now.triples.now) bound c.sole_match.ensures.few (bound_some (g.J.Judge.hold c.args.self.now.judge.now) (g.J.Judge.fail c.args.self.now.judge.now) c.args.self.now.shape.now c.args.self.now.node c.args.self.now.triples.now bound is)
+returns-then-branch-clause-most g c bound is =
+    most_sole c.args.steps.now c.sole_match.new.steps (length c.args.self.now.triples.now) bound c.sole_match.ensures.few (bound_some (g.J.Judge.hold c.args.self.now.judge.now) (g.J.Judge.fail c.args.self.now.judge.now) c.args.self.now.shape.now c.args.self.now.node c.args.self.now.triples.now bound is)
 
 pub returns-clause-most : goal.returns-clause-most
-returns-clause-most g c bound is = most_sole c.args.steps.now c.sole_match.new.steps (length c.args.self.now.triples.now) bound c.sole_match.ensures.few (bound_some (g.J.Judge.hold c.args.self.now.judge.now) (g.J.Judge.fail c.args.self.now.judge.now) c.args.self.now.shape.now c.args.self.now.node c.args.self.now.triples.now bound is)
+returns-clause-most g c bound is =
+    most_sole c.args.steps.now c.sole_match.new.steps (length c.args.self.now.triples.now) bound c.sole_match.ensures.few (bound_some (g.J.Judge.hold c.args.self.now.judge.now) (g.J.Judge.fail c.args.self.now.judge.now) c.args.self.now.shape.now c.args.self.now.node c.args.self.now.triples.now bound is)

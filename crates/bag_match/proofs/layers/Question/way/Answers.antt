@@ -9,4 +9,5 @@ offers_of-requires-clause-there g c =
     (all_there (g.J.Judge.hold c.args.self.now.judge.now) (g.J.Judge.fail c.args.self.now.judge.now) c.args.self.now.shape.now c.args.self.now.node c.args.self.now.triples.now c.args.offered.now c.requires.offered)
 
 pub offers_of-requires-clause-small : goal.offers_of-requires-clause-small
-offers_of-requires-clause-small g c = all_small (g.J.Judge.hold c.args.self.now.judge.now) (g.J.Judge.fail c.args.self.now.judge.now) c.args.self.now.shape.now c.args.self.now.node c.args.self.now.triples.now c.args.offered.now c.requires.offered c.requires.few
+offers_of-requires-clause-small g c = all_small (g.J.Judge.hold c.args.self.now.judge.now)
+    (g.J.Judge.fail c.args.self.now.judge.now) c.args.self.now.shape.now c.args.self.now.node c.args.self.now.triples.now c.args.offered.now c.requires.offered c.requires.few

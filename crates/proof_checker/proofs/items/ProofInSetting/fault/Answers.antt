@@ -11,7 +11,8 @@ section_fault-requires-clause-rising c = λ r h.
 
 pub after-requires : goal.after-requires
 after-requires c =
-    fault_fits (setting c.args.self.now) (proof_in c.args.self.now) c.args.self.now.sections.now c.args.self.now.claims.now c.loop-section.section-index c.section-item.result c.loop-section-test.true c.section-item.is c.as_slice-records.result.now c.as_slice-records.ensures c.loop-section.before c.loop-section.invariant.count c.in-Some.fault c.requires.few
+    fault_fits (setting c.args.self.now)
+    (proof_in c.args.self.now) c.args.self.now.sections.now c.args.self.now.claims.now c.loop-section.section-index c.section-item.result c.loop-section-test.true c.section-item.is c.as_slice-records.result.now c.as_slice-records.ensures c.loop-section.before c.loop-section.invariant.count c.in-Some.fault c.requires.few
     (fault_some (setting c.args.self.now) (proof_in c.args.self.now) (map (λ r. in_section c.section-item.result.stratum r) c.as_slice-records.result.now) c.in_ok-failed.failed c.in-Some.fault c.in-Some.is c.in_ok-failed.ensures)
 
 pub returns-in-Some : goal.returns-in-Some
@@ -22,13 +23,16 @@ returns-in-Some c =
     (fault_some (setting c.args.self.now) (proof_in c.args.self.now) here c.in_ok-failed.failed c.in-Some.fault c.in-Some.is c.in_ok-failed.ensures))
 
 pub overflow_add-before : goal.overflow_add-before
-overflow_add-before c = let h = count_fits (setting c.args.self.now) (proof_in c.args.self.now) c.args.self.now.sections.now c.args.self.now.claims.now c.loop-section.section-index c.section-item.result c.loop-section-test.true c.section-item.is c.as_slice-records.result.now c.as_slice-records.ensures c.loop-section.before c.loop-section.invariant.count c.requires.few in omega (arith, h)
+overflow_add-before c = let h = count_fits (setting c.args.self.now)
+    (proof_in c.args.self.now) c.args.self.now.sections.now c.args.self.now.claims.now c.loop-section.section-index c.section-item.result c.loop-section-test.true c.section-item.is c.as_slice-records.result.now c.as_slice-records.ensures c.loop-section.before c.loop-section.invariant.count c.requires.few in omega (arith, h)
 
 pub loop-section-preserved : goal.loop-section-preserved
 loop-section-preserved c =
     record {
-      count = count_here (setting c.args.self.now) (proof_in c.args.self.now) c.args.self.now.sections.now c.args.self.now.claims.now c.loop-section.section-index c.section-item.result c.loop-section-test.true c.section-item.is c.as_slice-records.result.now c.as_slice-records.ensures c.loop-section.before c.loop-section.invariant.count;
-      all = none_here (setting c.args.self.now) (proof_in c.args.self.now) c.args.self.now.sections.now c.args.self.now.claims.now c.loop-section.section-index c.section-item.result c.loop-section-test.true c.section-item.is c.as_slice-records.result.now c.as_slice-records.ensures c.loop-section.before c.loop-section.invariant.count c.loop-section.invariant.all
+      count = count_here (setting c.args.self.now)
+          (proof_in c.args.self.now) c.args.self.now.sections.now c.args.self.now.claims.now c.loop-section.section-index c.section-item.result c.loop-section-test.true c.section-item.is c.as_slice-records.result.now c.as_slice-records.ensures c.loop-section.before c.loop-section.invariant.count;
+      all = none_here (setting c.args.self.now)
+          (proof_in c.args.self.now) c.args.self.now.sections.now c.args.self.now.claims.now c.loop-section.section-index c.section-item.result c.loop-section-test.true c.section-item.is c.as_slice-records.result.now c.as_slice-records.ensures c.loop-section.before c.loop-section.invariant.count c.loop-section.invariant.all
           (fault_none (setting c.args.self.now) (proof_in c.args.self.now) (map (λ r. in_section c.section-item.result.stratum r) c.as_slice-records.result.now) c.in_ok-failed.failed c.in_default.not-Some c.in_ok-failed.ensures);
     }
 

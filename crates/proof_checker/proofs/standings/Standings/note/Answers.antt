@@ -10,7 +10,8 @@ pub returns : goal.returns
 returns c =
     let before : List (Pair × Standing) = c.self.inside.by_pair.entries in
     let after : List (Pair × Standing) = c.insert.new.self.entries in
-    let F : List (Pair × Standing) → Type 0 = λ es. (q : Pair) → standing_in after q ≡ (if same_pair c.args.pair q then said_by c.args.kind.now (standing_in c.args.self.now c.args.pair) else standing_in es q) in
+    let F : List (Pair × Standing) → Type 0 = λ es. (q : Pair) → standing_in after q ≡
+    (if same_pair c.args.pair q then said_by c.args.kind.now (standing_in c.args.self.now c.args.pair) else standing_in es q) in
     subst F c.self.view_is
     (λ q. standing_after before after c.args.pair c.with-standing.result (said_by c.args.kind.now (standing_in c.args.self.now c.args.pair)) q
     (c.with-standing.ensures ∙ ap (λ z. said_by c.args.kind.now z) c.of.ensures) (c.in_ok-insert.ensures.updates.0 q))

@@ -15,19 +15,24 @@ is_settled-requires-clause-small g c =
     (c.requires.layer c.state-item.result (item_there c.args.layer.now.states.now c.loop-state.state-index c.state-item.result c.loop-state-test.true c.state-item.is)) c.requires.listed.few
 
 pub returns-then-is_empty : goal.returns-then-is_empty
-returns-then-is_empty g c = none_are (g.J.Judge.hold c.args.self.now.judge.now) (g.J.Judge.fail c.args.self.now.judge.now) c.args.self.now.shape.now c.args.self.now.node c.args.self.now.triples.now c.args.self.now.states.now c.args.layer.now.states.now (search rules)
+returns-then-is_empty g c = none_are (g.J.Judge.hold c.args.self.now.judge.now)
+    (g.J.Judge.fail c.args.self.now.judge.now) c.args.self.now.shape.now c.args.self.now.node c.args.self.now.triples.now c.args.self.now.states.now c.args.layer.now.states.now (search rules)
 
 pub returns-then-not-branch : goal.returns-then-not-branch
 returns-then-not-branch g c =
-    one_is_not (g.J.Judge.hold c.args.self.now.judge.now) (g.J.Judge.fail c.args.self.now.judge.now) c.args.self.now.shape.now c.args.self.now.node c.args.self.now.triples.now c.args.self.now.states.now c.args.layer.now.states.now c.loop-state.state-index c.state-item.result c.loop-state-test.true c.state-item.is
+    one_is_not (g.J.Judge.hold c.args.self.now.judge.now)
+    (g.J.Judge.fail c.args.self.now.judge.now) c.args.self.now.shape.now c.args.self.now.node c.args.self.now.triples.now c.args.self.now.states.now c.args.layer.now.states.now c.loop-state.state-index c.state-item.result c.loop-state-test.true c.state-item.is
     (λ settled. true≢false (sym (c.in_ok-is_settled.ensures.1 (subst (λ z. IsSettled (g.J.Judge.hold c.args.self.now.judge.now) (g.J.Judge.fail c.args.self.now.judge.now) c.args.self.now.shape.now c.args.self.now.node c.args.self.now.triples.now c.args.self.now.states.now z) (sym (layer_state c.args.self.now.shape.now c.args.self.now.triples.now c.args.done c.state-item.result c.as_slice-counts.result.now c.as_slice-counts.ensures
-    (c.requires.layer c.state-item.result (item_there c.args.layer.now.states.now c.loop-state.state-index c.state-item.result c.loop-state-test.true c.state-item.is)))) settled)) ∙ c.if-not-branch.true))
+    (c.requires.layer c.state-item.result (item_there c.args.layer.now.states.now c.loop-state.state-index c.state-item.result c.loop-state-test.true c.state-item.is)))) settled))
+    ∙ c.if-not-branch.true))
 
 pub loop-state-preserved : goal.loop-state-preserved
 loop-state-preserved g c =
-    one_more_settled (g.J.Judge.hold c.args.self.now.judge.now) (g.J.Judge.fail c.args.self.now.judge.now) c.args.self.now.shape.now c.args.self.now.node c.args.self.now.triples.now c.args.self.now.states.now c.args.layer.now.states.now c.loop-state.state-index c.state-item.result c.loop-state-test.true c.state-item.is c.loop-state.invariant
+    one_more_settled (g.J.Judge.hold c.args.self.now.judge.now)
+    (g.J.Judge.fail c.args.self.now.judge.now) c.args.self.now.shape.now c.args.self.now.node c.args.self.now.triples.now c.args.self.now.states.now c.args.layer.now.states.now c.loop-state.state-index c.state-item.result c.loop-state-test.true c.state-item.is c.loop-state.invariant
     (subst (λ z. IsSettled (g.J.Judge.hold c.args.self.now.judge.now) (g.J.Judge.fail c.args.self.now.judge.now) c.args.self.now.shape.now c.args.self.now.node c.args.self.now.triples.now c.args.self.now.states.now z) (layer_state c.args.self.now.shape.now c.args.self.now.triples.now c.args.done c.state-item.result c.as_slice-counts.result.now c.as_slice-counts.ensures
     (c.requires.layer c.state-item.result (item_there c.args.layer.now.states.now c.loop-state.state-index c.state-item.result c.loop-state-test.true c.state-item.is))) (c.in_ok-is_settled.ensures.0 c.if-not-branch.false))
 
 pub returns : goal.returns
-returns g c = all_are (g.J.Judge.hold c.args.self.now.judge.now) (g.J.Judge.fail c.args.self.now.judge.now) c.args.self.now.shape.now c.args.self.now.node c.args.self.now.triples.now c.args.self.now.states.now c.args.layer.now.states.now c.loop-state.state-index c.loop-state-test.false c.loop-state.invariant
+returns g c = all_are (g.J.Judge.hold c.args.self.now.judge.now)
+    (g.J.Judge.fail c.args.self.now.judge.now) c.args.self.now.shape.now c.args.self.now.node c.args.self.now.triples.now c.args.self.now.states.now c.args.layer.now.states.now c.loop-state.state-index c.loop-state-test.false c.loop-state.invariant

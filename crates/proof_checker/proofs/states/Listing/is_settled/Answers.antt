@@ -13,7 +13,8 @@ is_dead-requires-clause-small g c =
 
 pub all_lead_on-requires-clause-there : goal.all_lead_on-requires-clause-there
 all_lead_on-requires-clause-there g c =
-    let (d, offered) = places_now (g.J.Judge.hold c.args.self.now.judge.now) (g.J.Judge.fail c.args.self.now.judge.now) c.args.self.now.shape.now c.args.self.now.node c.args.self.now.triples.now c.args.done c.args.places.now c.requires.within c.requires.places in
+    let (d, offered) = places_now (g.J.Judge.hold c.args.self.now.judge.now)
+    (g.J.Judge.fail c.args.self.now.judge.now) c.args.self.now.shape.now c.args.self.now.node c.args.self.now.triples.now c.args.done c.args.places.now c.requires.within c.requires.places in
     subst (λ k. ArePlacesOf k c.args.places.now) (sym c.requires.one_each)
     (places_there (g.J.Judge.hold c.args.self.now.judge.now) (g.J.Judge.fail c.args.self.now.judge.now) c.args.self.now.shape.now c.args.self.now.node c.args.self.now.triples.now (get_or c.args.self.now.triples.now c.args.done d) c.args.places.now offered)
 
@@ -24,6 +25,7 @@ returns-then-branch g c =
 
 pub returns : goal.returns
 returns g c =
-    settled_dead (g.J.Judge.hold c.args.self.now.judge.now) (g.J.Judge.fail c.args.self.now.judge.now) c.args.self.now.shape.now c.args.self.now.node c.args.self.now.triples.now c.args.self.now.states.now c.args.done c.args.counts.now c.args.places.now c.requires.within c.requires.places c.is_dead.result
+    settled_dead (g.J.Judge.hold c.args.self.now.judge.now)
+    (g.J.Judge.fail c.args.self.now.judge.now) c.args.self.now.shape.now c.args.self.now.node c.args.self.now.triples.now c.args.self.now.states.now c.args.done c.args.counts.now c.args.places.now c.requires.within c.requires.places c.is_dead.result
     (λ all. true≢false (sym (c.in_ok-all_lead_on.ensures.1 all) ∙ c.if-branch.false))
     (c.is_dead.ensures c.args.self.now.node c.args.self.now.triples.now c.args.done c.requires.left)

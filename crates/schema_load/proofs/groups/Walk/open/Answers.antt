@@ -19,7 +19,8 @@ offset_bounds-parts-place c =
     search rules
 
 pub bounds-parts-place : goal.bounds-parts-place
-bounds-parts-place c = visit_inside c.args.parts.now c.args.targets.now c.args.self.now.standings.items c.args.self.now.trail.items c.args.self.now.starts.items (length c.args.self.now.firsts.items) c.args.visits.now.items (Enter c.args.place) c.requires.walking
+bounds-parts-place c =
+    visit_inside c.args.parts.now c.args.targets.now c.args.self.now.standings.items c.args.self.now.trail.items c.args.self.now.starts.items (length c.args.self.now.firsts.items) c.args.visits.now.items (Enter c.args.place) c.requires.walking
 
 pub steps-requires : goal.steps-requires
 steps-requires c =

@@ -48,7 +48,8 @@ pub unfold_form-bounds-self-place : goal.unfold_form-bounds-self-place
 unfold_form-bounds-self-place t c = form_inside c.args.self.now.parts.now c.args.self.now.targets.now c.args.place c.args.form.now c.requires.ready.targets c.requires.here
 
 pub unfold_form-offset_bounds-self-place : goal.unfold_form-offset_bounds-self-place
-unfold_form-offset_bounds-self-place t c = let lt = form_inside c.args.self.now.parts.now c.args.self.now.targets.now c.args.place c.args.form.now c.requires.ready.targets c.requires.here in search rules
+unfold_form-offset_bounds-self-place t c = let lt =
+    form_inside c.args.self.now.parts.now c.args.self.now.targets.now c.args.place c.args.form.now c.requires.ready.targets c.requires.here in search rules
 
 pub unfold_form-unfold-requires : goal.unfold_form-unfold-requires
 unfold_form-unfold-requires t c =
@@ -94,12 +95,14 @@ pub unfold_form-returns-in_ok-push-in-Arc : goal.unfold_form-returns-in_ok-push-
 unfold_form-returns-in_ok-push-in-Arc t c =
     let pushed : c.push.new.self.items ≡ c.args.occs.now.items ++ c.in_ok-occurrence-in-Arc.occurrence ∷ [] = search rules in
     let at : c.len-symbol.result ≡ length c.args.occs.now.items = search rules in
-    by_arc c.args.self.now.terms.now c.args.self.now.parts.now (number_in c.args.self.now.numbers.now) (length c.args.occs.now.items) c.in-Arc.arc c.args.form.now c.in_ok-occurrence-in-Arc.occurrence c.len-symbol.result c.args.occs.now.items c.push.new.self.items
+    by_arc c.args.self.now.terms.now c.args.self.now.parts.now (number_in c.args.self.now.numbers.now)
+    (length c.args.occs.now.items) c.in-Arc.arc c.args.form.now c.in_ok-occurrence-in-Arc.occurrence c.len-symbol.result c.args.occs.now.items c.push.new.self.items
     c.in-Arc.is (c.in_ok-occurrence-in-Arc.ensures c.args.self.now.parts.now) at pushed
 
 pub unfold_form-returns-in-Include : goal.unfold_form-returns-in-Include
 unfold_form-returns-in-Include t c =
     let ready = include_ready c.args.self.now.parts.now c.args.self.now.depths.now c.requires.ready.depths c.requires.ready.triples c.requires.ready.once c.args.self.now.targets.now c.requires.ready.targets c.args.place (length c.args.occs.now.items) c.in-Include.field-0
     (subst (λ f. IsFormAt c.args.self.now.parts.now c.args.place f) c.in-Include.is c.requires.here) c.requires.room in
-    by_inclusion c.args.self.now.terms.now c.args.self.now.parts.now (number_in c.args.self.now.numbers.now) (get_or c.args.self.now.targets.now c.args.place 0) (length c.args.occs.now.items) c.in-Include.field-0 c.args.form.now c.args.occs.now.items c.unfold.new.occs.items c.unfold.result
+    by_inclusion c.args.self.now.terms.now c.args.self.now.parts.now (number_in c.args.self.now.numbers.now) (get_or c.args.self.now.targets.now c.args.place 0)
+    (length c.args.occs.now.items) c.in-Include.field-0 c.args.form.now c.args.occs.now.items c.unfold.new.occs.items c.unfold.result
     c.in-Include.is ready.named c.unfold.ensures

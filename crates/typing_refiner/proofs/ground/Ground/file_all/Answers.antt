@@ -31,5 +31,6 @@ loop-kind-preserved c = record {
 pub returns-clause-filed : goal.returns-clause-filed
 returns-clause-filed c =
     subst (λ n. IsFiled c.args.self.now.terms.now c.args.self.now.strata.now c.args.self.now.table.now c.args.kinds.items n c.loop-kind.nodes.items (map (λ v. v.items) c.loop-kind.lists.items))
-    (c.loop-kind.invariant.count ∙ all_yielded c.args.kinds.items c.loop-kind.yielded c.loop-kind.kind-iterator.rest.items c.loop-kind.invariant.split (nil_from_length c.loop-kind.kind-iterator.rest.items (search rules)))
+    (c.loop-kind.invariant.count
+    ∙ all_yielded c.args.kinds.items c.loop-kind.yielded c.loop-kind.kind-iterator.rest.items c.loop-kind.invariant.split (nil_from_length c.loop-kind.kind-iterator.rest.items (search rules)))
     c.loop-kind.invariant.filed

@@ -6,13 +6,16 @@ use Rattle.typing_refiner.proofs.Upheld.{back_stays, can_at, out_stays, table_re
 use Rattle.typing_refiner.proofs.ground.Ground.is_shown.Goals as goal
 
 pub returns-in_default-clause-witnesses : goal.returns-in_default-clause-witnesses
-returns-in_default-clause-witnesses g c = out_stays c.args.self.now (known_of c.args.self.now (g.K.View.known c.args.kept.now) c.args.marks.now) c.args.other c.args.witnesses.now c.take.new.self c.take.ensures.left
+returns-in_default-clause-witnesses g c =
+    out_stays c.args.self.now (known_of c.args.self.now (g.K.View.known c.args.kept.now) c.args.marks.now) c.args.other c.args.witnesses.now c.take.new.self c.take.ensures.left
 
 pub returns-in_default-get-clause-witnesses : goal.returns-in_default-get-clause-witnesses
-returns-in_default-get-clause-witnesses g c = out_stays c.args.self.now (known_of c.args.self.now (g.K.View.known c.args.kept.now) c.args.marks.now) c.args.other c.args.witnesses.now c.take.new.self c.take.ensures.left
+returns-in_default-get-clause-witnesses g c =
+    out_stays c.args.self.now (known_of c.args.self.now (g.K.View.known c.args.kept.now) c.args.marks.now) c.args.other c.args.witnesses.now c.take.new.self c.take.ensures.left
 
 pub returns-then-not-branch-clause-witnesses : goal.returns-then-not-branch-clause-witnesses
-returns-then-not-branch-clause-witnesses g c = out_stays c.args.self.now (known_of c.args.self.now (g.K.View.known c.args.kept.now) c.args.marks.now) c.args.other c.args.witnesses.now c.take.new.self c.take.ensures.left
+returns-then-not-branch-clause-witnesses g c =
+    out_stays c.args.self.now (known_of c.args.self.now (g.K.View.known c.args.kept.now) c.args.marks.now) c.args.other c.args.witnesses.now c.take.new.self c.take.ensures.left
 
 pub stands-requires-clause-shows : goal.stands-requires-clause-shows
 stands-requires-clause-shows g c =

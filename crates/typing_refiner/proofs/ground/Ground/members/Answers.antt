@@ -14,7 +14,8 @@ add_member-requires-clause-strata c = λ i. let s = c.requires.strata i in let e
 
 pub loop-at-preserved : goal.loop-at-preserved
 loop-at-preserved c = record {
-  members = members_next c.args.self.now c.loop-at.at (map (λ v. v.items) c.loop-at.lists.items) (map (λ v. v.items) c.add_member.new.lists.items) c.loop-at.invariant.members c.in_ok-add_member.ensures.added;
+  members = members_next c.args.self.now c.loop-at.at (map (λ v. v.items) c.loop-at.lists.items)
+      (map (λ v. v.items) c.add_member.new.lists.items) c.loop-at.invariant.members c.in_ok-add_member.ensures.added;
   count = c.add_member.ensures.same ∙ c.loop-at.invariant.count;
 }
 

@@ -35,4 +35,5 @@ returns-in-None-clause-shows g c =
     (all_but c.args.self.now c.requires.ready (g.K.View.known c.args.kept.now) before c.args.at c.args.gone c.requires.pair c.args.marks.now marked c.args.pending.now.witnesses all))
 
 pub returns-in-None-clause-settled : goal.returns-in-None-clause-settled
-returns-in-None-clause-settled g c = λ q t. absurd (subst (λ o. IsAmong (option_map (λ v. v.items) o) q) (slice_get_past c.args.self.now.needing.now c.args.at (ltb-false c.args.at (length c.args.self.now.needing.now) (sym c.in-None.ensures.lookup.0))) t.0)
+returns-in-None-clause-settled g c =
+    λ q t. absurd (subst (λ o. IsAmong (option_map (λ v. v.items) o) q) (slice_get_past c.args.self.now.needing.now c.args.at (ltb-false c.args.at (length c.args.self.now.needing.now) (sym c.in-None.ensures.lookup.0))) t.0)

@@ -19,7 +19,8 @@ loop-other-preserved g c = record {
 }
 
 pub returns-clause-shows : goal.returns-clause-shows
-returns-clause-shows g c = none_but c.args.self.now (known_of c.args.self.now (g.K.View.known c.args.kept.now) c.args.marks.now) c.args.gone c.args.numbers.now c.loop-other.other-index c.loop-other.pending.witnesses c.loop-other-test.false c.loop-other.invariant.shows
+returns-clause-shows g c =
+    none_but c.args.self.now (known_of c.args.self.now (g.K.View.known c.args.kept.now) c.args.marks.now) c.args.gone c.args.numbers.now c.loop-other.other-index c.loop-other.pending.witnesses c.loop-other-test.false c.loop-other.invariant.shows
 
 pub returns-clause-settled : goal.returns-clause-settled
 returns-clause-settled g c = λ q h w.

@@ -15,14 +15,16 @@ returns-clause-refined g c =
     subst (λ ms. IsRefinedOn c.args.self.now.schema.now c.args.self.now.terms.now c.args.self.now.graph.now.triples c.args.self.now.strata.now c.args.self.now.table.now c.args.self.now.budget
     (g.K.View.known c.args.kept.now) (known_by (g.K.View.known c.args.kept.now) c.args.self.now.table.now ms))
     (sym (written_back c.refine_strata.new.marks c.in_ok-marks.marks.items c.in_ok-marks.marks.len (search rules) (search rules)))
-    (refined_on c.args.self.now c.args.self.now.table.now (g.K.View.known c.args.kept.now) c.as_mut_slice.result.now c.refine_strata.new.marks refl (ap length c.as_mut_slice.ensures.value ∙ (c.in_ok-marks.ensures.count ∙ c.len.ensures.count))
+    (refined_on c.args.self.now c.args.self.now.table.now (g.K.View.known c.args.kept.now) c.as_mut_slice.result.now c.refine_strata.new.marks refl (ap length c.as_mut_slice.ensures.value
+    ∙ (c.in_ok-marks.ensures.count ∙ c.len.ensures.count))
     (subst (λ ms. (i : ℕ) → i < length ms → slice_get ms i ≡ Some Unknown) (sym c.as_mut_slice.ensures.value) c.in_ok-marks.ensures.unknown) c.in_ok-gone.ensures.refined)
 
 pub returns-clause-matches : goal.returns-clause-matches
 returns-clause-matches g c =
     subst (λ ms. (i : ℕ) → slice_get ms i ≡ Some Yes → MatchesAt c.args.self.now (known_of c.args.self.now (g.K.View.known c.args.kept.now) ms) i)
     (sym (written_back c.refine_strata.new.marks c.in_ok-marks.marks.items c.in_ok-marks.marks.len (search rules) (search rules)))
-    (all_match c.args.self.now c.requires.ready (g.K.View.known c.args.kept.now) c.as_mut_slice.result.now c.refine_strata.new.marks (ap length c.as_mut_slice.ensures.value ∙ (c.in_ok-marks.ensures.count ∙ c.len.ensures.count))
+    (all_match c.args.self.now c.requires.ready (g.K.View.known c.args.kept.now) c.as_mut_slice.result.now c.refine_strata.new.marks (ap length c.as_mut_slice.ensures.value
+    ∙ (c.in_ok-marks.ensures.count ∙ c.len.ensures.count))
     (subst (λ ms. (i : ℕ) → i < length ms → slice_get ms i ≡ Some Unknown) (sym c.as_mut_slice.ensures.value) c.in_ok-marks.ensures.unknown) c.in_ok-gone.ensures.refined)
 
 pub returns-clause-shown : goal.returns-clause-shown

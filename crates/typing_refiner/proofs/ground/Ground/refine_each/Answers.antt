@@ -10,7 +10,8 @@ use Rattle.typing_refiner.proofs.Spending.{spent_all, spent_next, total_more}
 use Rattle.typing_refiner.proofs.ground.Ground.refine_each.Goals as goal
 
 pub loop-stratum-init : goal.loop-stratum-init
-loop-stratum-init g c = record { refined = at_first c.args.self.now _ c.args.marks.now c.requires.marked c.requires.unknown; shown = shown_first c.args.self.now _ c.args.marks.now _ (ap (λ xs. map (λ v. v.items) xs) c.new-all.ensures.items) c.requires.marked c.requires.unknown; spent = λ width give. (omega arith) }
+loop-stratum-init g c =
+    record { refined = at_first c.args.self.now _ c.args.marks.now c.requires.marked c.requires.unknown; shown = shown_first c.args.self.now _ c.args.marks.now _ (ap (λ xs. map (λ v. v.items) xs) c.new-all.ensures.items) c.requires.marked c.requires.unknown; spent = λ width give. (omega arith) }
 
 pub loop-stratum-preserved : goal.loop-stratum-preserved
 loop-stratum-preserved g c = record {

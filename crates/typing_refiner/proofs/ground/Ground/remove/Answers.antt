@@ -39,10 +39,12 @@ remove_next-requires-clause-all g c = λ i on. c.loop-at.invariant.waits i ((c.i
 pub loop-at-preserved : goal.loop-at-preserved
 loop-at-preserved g c = record {
   removing = λ lower before. c.in_ok-remove_next.ensures.looked lower
-      (todo_same c.args.self.now _ lower c.args.stratum c.loop-at.marks _ (λ i. Contains c.loop-at.pending.agenda i) (λ i. Contains c.take_least.new.self i ⊎ (i ≡ c.in-Some.at)) c.in-Some.ensures.taken
+      (todo_same c.args.self.now _ lower c.args.stratum c.loop-at.marks _ (λ i. Contains c.loop-at.pending.agenda i) (λ i. Contains c.take_least.new.self i ⊎
+      (i ≡ c.in-Some.at)) c.in-Some.ensures.taken
       (c.loop-at.invariant.removing lower before));
   states = λ lower before. c.in_ok-remove_next.ensures.states lower
-      (todo_same c.args.self.now _ lower c.args.stratum c.loop-at.marks _ (λ i. Contains c.loop-at.pending.agenda i) (λ i. Contains c.take_least.new.self i ⊎ (i ≡ c.in-Some.at)) c.in-Some.ensures.taken
+      (todo_same c.args.self.now _ lower c.args.stratum c.loop-at.marks _ (λ i. Contains c.loop-at.pending.agenda i) (λ i. Contains c.take_least.new.self i ⊎
+      (i ≡ c.in-Some.at)) c.in-Some.ensures.taken
       (c.loop-at.invariant.removing lower before)) (c.loop-at.invariant.states lower before);
   paid = λ width give. (let a = (taken c.args.self.now width c.requires.ready c.args.stratum Unknown c.loop-at.marks c.in-Some.at c.loop-at.pending.agenda c.take_least.new.self (c.loop-at.invariant.waits c.in-Some.at ((c.in-Some.ensures.taken c.in-Some.at).1 (inr refl))).0 c.in-Some.ensures.taken c.in-Some.ensures.least) in let b = c.in_ok-remove_next.ensures.paid width give in let d = c.loop-at.invariant.paid width give in omega (arith, a, b, d));
   few = (let a = c.in_ok-remove_next.ensures.few in let b = c.loop-at.invariant.few in omega (arith, a, b));
@@ -52,7 +54,8 @@ loop-at-preserved g c = record {
 
 pub returns-clause-removed : goal.returns-clause-removed
 returns-clause-removed g c = λ lower before.
-    todo_same c.args.self.now _ lower c.args.stratum c.loop-at.marks _ (λ i. Contains c.loop-at.pending.agenda i) (λ i. ⊥) (none_left c.loop-at.pending.agenda (c.in_default.ensures.none refl)) (c.loop-at.invariant.removing lower before)
+    todo_same c.args.self.now _ lower c.args.stratum c.loop-at.marks _ (λ i. Contains c.loop-at.pending.agenda i) (λ i. ⊥)
+    (none_left c.loop-at.pending.agenda (c.in_default.ensures.none refl)) (c.loop-at.invariant.removing lower before)
 
 pub returns-clause-few : goal.returns-clause-few
 returns-clause-few g c = let b = c.loop-at.invariant.few in omega (arith, b)

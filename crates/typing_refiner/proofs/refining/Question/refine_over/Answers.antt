@@ -26,6 +26,7 @@ returns-in_err-found-clause-bounded g c = λ width count widths counts.
 
 pub returns-clause-shown : goal.returns-clause-shown
 returns-clause-shown g c = λ wanted.
-    subst (λ ps. HoldNeeds c.args.self.now.schema.now c.args.self.now.graph.now.triples ps → AreShownBy c.args.self.now.schema.now c.args.self.now.terms.now c.args.self.now.graph.now.triples c.args.self.now.strata.now ps c.args.self.now.budget
+    subst (λ ps. HoldNeeds c.args.self.now.schema.now c.args.self.now.graph.now.triples ps →
+    AreShownBy c.args.self.now.schema.now c.args.self.now.terms.now c.args.self.now.graph.now.triples c.args.self.now.strata.now ps c.args.self.now.budget
     (verdicts_of c.in_ok-table.table c.in_ok-found.found.marks.items) c.in_ok-found.found.records.nodes.items c.in_ok-found.found.records.sections.items)
     c.in_ok-table.ensures (c.in_ok-found.ensures.shown wanted)

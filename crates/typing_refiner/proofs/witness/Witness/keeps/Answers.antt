@@ -18,7 +18,8 @@ take_one-requires-clause-inside g c =
 pub returns-then-is_among-clause-stands : goal.returns-then-is_among-clause-stands
 returns-then-is_among-clause-stands g c =
     kept_there (g.J.Judge.hold c.args.judge.now) (g.J.Judge.fail c.args.judge.now) c.args.shape.now c.args.node c.args.self.now c.requires.distinct c.args.at c.args.triple c.requires.there
-    c.place_at.result (ap (λ ps. slice_get ps c.args.at) (sym c.as_slice-2.ensures.value) ∙ c.place_at.ensures) _ _ c.as_slice.ensures.value c.in_ok-allowed.ensures (c.is_among.ensures.0 c.if-is_among.true)
+    c.place_at.result (ap (λ ps. slice_get ps c.args.at) (sym c.as_slice-2.ensures.value)
+    ∙ c.place_at.ensures) _ _ c.as_slice.ensures.value c.in_ok-allowed.ensures (c.is_among.ensures.0 c.if-is_among.true)
 
 pub returns-then-take_one-clause-stands : goal.returns-then-take_one-clause-stands
 returns-then-take_one-clause-stands g c =
@@ -28,9 +29,14 @@ returns-then-take_one-clause-stands g c =
 pub returns-clause-stands : goal.returns-clause-stands
 returns-clause-stands g c =
     IfOk-weaker c.exchange.result
-    (λ b. OnTrue b ((free : List Triple) → ArePlaced (g.J.Judge.hold c.args.judge.now) (g.J.Judge.fail c.args.judge.now) c.args.shape.now c.args.node free c.set_place.new.self → IsStanding (g.J.Judge.hold c.args.judge.now) (g.J.Judge.fail c.args.judge.now) c.args.shape.now c.args.node free c.exchange.new.self))
-    (λ b. OnTrue b ((free : List Triple) → IsStanding (g.J.Judge.hold c.args.judge.now) (g.J.Judge.fail c.args.judge.now) c.args.shape.now c.args.node (c.args.triple ∷ free) c.args.self.now → IsStanding (g.J.Judge.hold c.args.judge.now) (g.J.Judge.fail c.args.judge.now) c.args.shape.now c.args.node free c.exchange.new.self))
-    (λ b stands. kept_by (g.J.Judge.hold c.args.judge.now) (g.J.Judge.fail c.args.judge.now) c.args.shape.now c.args.node c.args.self.now c.set_place.new.self (c.set_place.ensures.triples ∙ c.take_one.ensures.triples) c.requires.distinct
+    (λ b. OnTrue b ((free : List Triple) →
+    ArePlaced (g.J.Judge.hold c.args.judge.now) (g.J.Judge.fail c.args.judge.now) c.args.shape.now c.args.node free c.set_place.new.self →
+    IsStanding (g.J.Judge.hold c.args.judge.now) (g.J.Judge.fail c.args.judge.now) c.args.shape.now c.args.node free c.exchange.new.self))
+    (λ b. OnTrue b ((free : List Triple) →
+    IsStanding (g.J.Judge.hold c.args.judge.now) (g.J.Judge.fail c.args.judge.now) c.args.shape.now c.args.node (c.args.triple ∷ free) c.args.self.now →
+    IsStanding (g.J.Judge.hold c.args.judge.now) (g.J.Judge.fail c.args.judge.now) c.args.shape.now c.args.node free c.exchange.new.self))
+    (λ b stands. kept_by (g.J.Judge.hold c.args.judge.now) (g.J.Judge.fail c.args.judge.now) c.args.shape.now c.args.node c.args.self.now c.set_place.new.self (c.set_place.ensures.triples
+    ∙ c.take_one.ensures.triples) c.requires.distinct
     c.args.at c.args.triple c.requires.there _ _ c.as_slice-4.ensures.value c.in_ok-allowed.ensures Rest (c.is_among-2.ensures.0 c.if-not-is_among.false)
     (put_there c.take_one.new.self.places.items c.set_place.new.self.places.items c.args.at Rest c.set_place.ensures.places
     (has_place (length c.args.shape.now.occs) c.args.self.now c.take_one.new.self c.take_one.ensures.tally c.take_one.ensures.triples c.args.at c.args.triple c.requires.there))

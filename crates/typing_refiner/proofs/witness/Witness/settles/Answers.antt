@@ -27,7 +27,8 @@ returns-then-take_one-clause-spelled g c = (OnTrue_at c.if-take_one.true c.take_
 
 pub returns-clause-placed : goal.returns-clause-placed
 returns-clause-placed g c =
-    given_back (g.J.Judge.hold c.args.judge.now) (g.J.Judge.fail c.args.judge.now) c.args.shape.now c.args.node c.args.self.now c.set_place.new.self (c.set_place.ensures.triples ∙ c.take_one.ensures.triples)
+    given_back (g.J.Judge.hold c.args.judge.now)
+    (g.J.Judge.fail c.args.judge.now) c.args.shape.now c.args.node c.args.self.now c.set_place.new.self (c.set_place.ensures.triples ∙ c.take_one.ensures.triples)
     (put_again c.args.self.now.places.items c.take_one.new.self.places.items c.set_place.new.self.places.items c.args.at c.place_at-before.result
     (subst (λ ps. slice_get ps c.args.at ≡ Some c.place_at-before.result) c.as_slice.ensures.value c.place_at-before.ensures)
     (has_place (length c.args.shape.now.occs) c.args.self.now c.take_one.new.self c.take_one.ensures.tally c.take_one.ensures.triples c.args.at c.args.triple c.requires.there)

@@ -22,7 +22,8 @@ invariant_of-self-2 c =
 
 pub returns : goal.returns
 returns c = λ i w holds.
-    elim (put_there c.take.new.self c.insert.new.self.entries c.args.at c.args.witness (λ q. c.in_ok-insert.ensures.updates.0 q ∙ ap (λ es. cond (nat_eq c.args.at q) (Some c.args.witness) (lookup (nat_eq q) es)) c.self.view_is) i w holds) [
+    elim (put_there c.take.new.self c.insert.new.self.entries c.args.at c.args.witness (λ q. c.in_ok-insert.ensures.updates.0 q
+    ∙ ap (λ es. cond (nat_eq c.args.at q) (Some c.args.witness) (lookup (nat_eq q) es)) c.self.view_is) i w holds) [
       | inl o ↦ inl (c.take.ensures.left i w o).1
       | inr t ↦ inr t
     ]

@@ -20,7 +20,8 @@ invariant_of-self-2 c =
       c.self.invariant.0,
       held_added c.self.inside.terms c.self.inside.graph c.insert_sealed.new.self c.args.triple c.self.invariant.1 of c.insert_sealed.ensures.sealed last,
       sound_added c.self.inside.schema c.self.inside.terms c.self.inside.strata c.self.inside.budget c.args.triple c.self.inside.kept c.forget_all.new.self c.as_slice.result.now c.forget_all.ensures.gone c.forget_all.ensures.others c.self.inside.graph c.insert_sealed.new.self
-          (λ q. subst (λ xs. Contains xs q ↔ (Contains (pairs_of c.self.inside.kept) q × ReachesEnd c.self.inside.schema c.self.inside.graph.triples c.args.triple q)) (sym c.as_slice.ensures) (c.in-Ok.ensures.reaching q))
+          (λ q. subst (λ xs. Contains xs q ↔ (Contains (pairs_of c.self.inside.kept) q ×
+          ReachesEnd c.self.inside.schema c.self.inside.graph.triples c.args.triple q)) (sym c.as_slice.ensures) (c.in-Ok.ensures.reaching q))
           c.edits_are_local.ensures.verdicts c.self.invariant.0.loaded c.forget_all.ensures.distinct c.len.ensures.distinct c.insert_sealed.ensures.distinct c.self.invariant.2
           (last_edit c.self.inside.graph.triples c.insert_sealed.new.self.triples c.args.triple last),
       c.reaching.ensures.there,
@@ -30,13 +31,15 @@ pub returns-clause-loses : goal.returns-clause-loses
 returns-clause-loses c =
     subst (λ (x : Seen). Loses x.schema x.graph c.args.triple x.kept (pairs_of c.forget_all.new.self)) c.self.view_is
     (loses c.self.inside.schema c.args.triple c.self.inside.kept c.forget_all.new.self c.as_slice.result.now c.forget_all.ensures.gone c.forget_all.ensures.others c.self.inside.graph.triples
-    (λ q. subst (λ xs. Contains xs q ↔ (Contains (pairs_of c.self.inside.kept) q × ReachesEnd c.self.inside.schema c.self.inside.graph.triples c.args.triple q)) (sym c.as_slice.ensures) (c.in-Ok.ensures.reaching q)))
+    (λ q. subst (λ xs. Contains xs q ↔ (Contains (pairs_of c.self.inside.kept) q ×
+    ReachesEnd c.self.inside.schema c.self.inside.graph.triples c.args.triple q)) (sym c.as_slice.ensures) (c.in-Ok.ensures.reaching q)))
 
 pub returns-clause-loses_after : goal.returns-clause-loses_after
 returns-clause-loses_after c =
     subst (λ (x : Seen). Loses x.schema c.insert_sealed.new.self.triples c.args.triple x.kept (pairs_of c.forget_all.new.self)) c.self.view_is
     (loses_by c.self.inside.schema c.args.triple c.self.inside.kept c.forget_all.new.self c.as_slice.result.now c.forget_all.ensures.gone c.forget_all.ensures.others c.self.inside.graph.triples
-    (λ q. subst (λ xs. Contains xs q ↔ (Contains (pairs_of c.self.inside.kept) q × ReachesEnd c.self.inside.schema c.self.inside.graph.triples c.args.triple q)) (sym c.as_slice.ensures) (c.in-Ok.ensures.reaching q))
+    (λ q. subst (λ xs. Contains xs q ↔ (Contains (pairs_of c.self.inside.kept) q ×
+    ReachesEnd c.self.inside.schema c.self.inside.graph.triples c.args.triple q)) (sym c.as_slice.ensures) (c.in-Ok.ensures.reaching q))
     c.insert_sealed.new.self.triples
     (λ p. c.edits_are_local.ensures.reach c.self.inside.schema c.insert_sealed.new.self.triples c.self.inside.graph.triples c.args.triple
     (last_edit c.self.inside.graph.triples c.insert_sealed.new.self.triples c.args.triple

@@ -37,7 +37,8 @@ answer-requires-clause-posed g c = record {
 
 pub returns-in_err-verdict-clause-bounded : goal.returns-in_err-verdict-clause-bounded
 returns-in_err-verdict-clause-bounded g c =
-    subst (λ (x : Seen). (fresh : List Pair) (width count : Pair → ℕ) → AreFresh x.schema x.terms x.graph x.kept c.args.node c.args.expr fresh → AreWidths x.schema x.terms x.graph width → CountNeeds x.schema x.graph fresh count →
+    subst (λ (x : Seen). (fresh : List Pair) (width count : Pair → ℕ) → AreFresh x.schema x.terms x.graph x.kept c.args.node c.args.expr fresh →
+    AreWidths x.schema x.terms x.graph width → CountNeeds x.schema x.graph fresh count →
     c.answer.new.steps ≤ c.args.steps.now + most_of x.schema x.terms x.graph x.budget width count fresh) c.self.view_is
     (bound_fresh c.self.inside.schema c.self.inside.terms c.self.inside.graph.triples c.self.inside.budget c.args.node c.args.expr c.self.inside.kept c.as_slice.result.now c.args.steps.now c.answer.new.steps
     (subst (AreFresh c.self.inside.schema c.self.inside.terms c.self.inside.graph.triples (pairs_of c.self.inside.kept) c.args.node c.args.expr) (sym c.as_slice.ensures.value) c.in_ok-fresh.ensures.fresh) c.in_err-verdict.ensures.bounded)
@@ -73,7 +74,8 @@ pub returns-clause-true_answer : goal.returns-clause-true_answer
 returns-clause-true_answer g c = subst (λ (x : Seen). IsTrueAnswer x.schema x.terms x.graph x.strata c.args.node c.args.expr c.in_ok-verdict.verdict) c.self.view_is c.in_ok-verdict.ensures.true_answer
 
 pub returns-clause-only_wide : goal.returns-clause-only_wide
-returns-clause-only_wide g c = subst (λ (x : Seen). IsUnknownOnlyWide x.schema x.terms x.graph x.budget c.args.node c.args.expr c.in_ok-verdict.verdict) c.self.view_is c.in_ok-verdict.ensures.only_wide
+returns-clause-only_wide g c =
+    subst (λ (x : Seen). IsUnknownOnlyWide x.schema x.terms x.graph x.budget c.args.node c.args.expr c.in_ok-verdict.verdict) c.self.view_is c.in_ok-verdict.ensures.only_wide
 
 pub returns-clause-keeps : goal.returns-clause-keeps
 returns-clause-keeps g c =
@@ -83,7 +85,8 @@ returns-clause-keeps g c =
 
 pub returns-clause-bounded : goal.returns-clause-bounded
 returns-clause-bounded g c =
-    subst (λ (x : Seen). (fresh : List Pair) (width count : Pair → ℕ) → AreFresh x.schema x.terms x.graph x.kept c.args.node c.args.expr fresh → AreWidths x.schema x.terms x.graph width → CountNeeds x.schema x.graph fresh count →
+    subst (λ (x : Seen). (fresh : List Pair) (width count : Pair → ℕ) → AreFresh x.schema x.terms x.graph x.kept c.args.node c.args.expr fresh →
+    AreWidths x.schema x.terms x.graph width → CountNeeds x.schema x.graph fresh count →
     c.answer.new.steps ≤ c.args.steps.now + most_of x.schema x.terms x.graph x.budget width count fresh) c.self.view_is
     (bound_fresh c.self.inside.schema c.self.inside.terms c.self.inside.graph.triples c.self.inside.budget c.args.node c.args.expr c.self.inside.kept c.as_slice.result.now c.args.steps.now c.answer.new.steps
     (subst (AreFresh c.self.inside.schema c.self.inside.terms c.self.inside.graph.triples (pairs_of c.self.inside.kept) c.args.node c.args.expr) (sym c.as_slice.ensures.value) c.in_ok-fresh.ensures.fresh) c.in_ok-verdict.ensures.bounded)
