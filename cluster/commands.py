@@ -1,19 +1,15 @@
 """The commands of which the tasks are made: programs over files, run in the folder of a task.
 
-Each of the four commands `lines`, `followed`, `reached` and `covers` is one of shextool. While standins.py is there, and shextool has
-no such command, its stand-in is run instead. Two columns of a file are divided by a carriage return, which stands in no term.
+The commands `lines`, `followed`, `reached` and `covers` are those of shextool, which carry what has to be believed. Two columns of a file
+are divided by a carriage return, which stands in no term.
 """
 
 from __future__ import annotations
 
 import os
 import subprocess
-import sys
 from typing import NamedTuple
 
-HERE = os.path.dirname(os.path.abspath(__file__))
-STANDINS = os.path.join(HERE, "standins.py")
-COMMANDS = ("lines", "followed", "reached", "covers")
 REFUSED = (2, 3, 5)
 
 
@@ -30,10 +26,9 @@ class Failed(Exception):
 
 
 class Programs(NamedTuple):
-    """The folder of the programs, the commands that stand-ins do, and the words on the schema that each call has."""
+    """The folder of the programs, and the words on the schema that each call has."""
 
     folder: str
-    standins: list[str]
     schema: list[str]
     imports: list[str]
     data_base: list[str]
@@ -64,9 +59,7 @@ def checked(done: subprocess.CompletedProcess[bytes], statuses: tuple[int, ...] 
 
 
 def tool(programs: Programs, command: str) -> list[str]:
-    """The words that begin a call of one of the four commands."""
-    if command in programs.standins:
-        return [sys.executable, STANDINS, command]
+    """The words that begin a call of a command of shextool."""
     return [os.path.join(programs.folder, "shextool"), command]
 
 
@@ -107,20 +100,3 @@ def check(programs: Programs, data: str, proof: str) -> bytes:
     """The claims of a proof that `shex check` accepts."""
     words = ["check", *programs.schema, "--data", data, "--proof", proof, *programs.data_base, *programs.imports]
     return checked(run([os.path.join(programs.folder, "shex"), *words]))
-
-
-def standins(folder: str) -> list[str]:
-    """Those of the four commands that shextool refuses as words, where the stand-ins are there."""
-    if not os.path.exists(STANDINS):
-        return []
-    found = [run([os.path.join(folder, "shextool"), command, *tried]) for command, tried in TRIED.items()]
-    return [command for command, done in zip(TRIED, found) if done.returncode == 2]
-
-
-# Words of each command that are in order, over files that are not there.
-TRIED = {
-    "lines": ["--data", "none.nt"],
-    "followed": ["--schema", "none.shex"],
-    "reached": ["--schema", "none.shex", "--data", "none.nt", "--map", "none"],
-    "covers": ["--followed", "none", "--part", "none.nt", "none=none"],
-}

@@ -10,6 +10,10 @@ _shex_options() {
         shextool\ convert) echo --schema --schema-base ;;
         shextool\ extents) echo --schema --data --budget --schema-base --data-base ;;
         shextool\ explain) echo --schema --data --map --budget --limit --json --schema-base --data-base ;;
+        shextool\ lines) echo --data --prefix --data-base ;;
+        shextool\ followed) echo --schema --schema-base ;;
+        shextool\ reached) echo --schema --data --map --schema-base --data-base ;;
+        shextool\ covers) echo --followed --part ;;
         typing_session\ *) echo --schema --data --script --budget --schema-base --data-base ;;
     esac
 }
@@ -41,7 +45,7 @@ _shex() {
     fi
     case $program in
         shex) commands='validate check upgrade drill' ;;
-        shextool) commands='convert extents explain' ;;
+        shextool) commands='convert extents explain lines followed reached covers' ;;
     esac
     if [[ $COMP_CWORD -eq 1 && -n $commands ]]; then
         mapfile -t COMPREPLY < <(compgen -W "$commands" -- "$word")
@@ -52,8 +56,8 @@ _shex() {
     case $before in
         --schema) _shex_files "$word" shex json shexj ;;
         --data) _shex_files "$word" ttl nt ;;
-        --map | --proof | --to | --script) _shex_files "$word" ;;
-        --budget | --limit) ;;
+        --map | --proof | --to | --script | --followed | --part) _shex_files "$word" ;;
+        --budget | --limit | --prefix) ;;
         --schema-base | --data-base) mapfile -t COMPREPLY < <(compgen -W http://localhost/ -- "$word") ;;
         --*) ;;
         *)

@@ -324,7 +324,7 @@ class Starting(Case):
         self.change()
         with open(os.path.join(ROOT, "VERSION"), encoding="utf-8") as file:
             version = file.read()
-        for name, commands in (("shex", 4), ("shextool", 3), ("typing_session", 1)):
+        for name, commands in (("shex", 4), ("shextool", 7), ("typing_session", 1)):
             done = self.run_in(f"bin/{name}", "--version", kit=self.kit)
             self.assertEqual((done.returncode, done.stdout, done.stderr), (0, f"{name} {version}", ""))
             for word in ("--help", "-h"):

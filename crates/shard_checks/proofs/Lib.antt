@@ -1,7 +1,8 @@
 pub mod Apart
 pub mod Covering
 pub mod Finding
-pub mod Growing
+pub mod Gathered
+pub mod Leading
 pub mod Nodes
 pub mod Reading
 pub mod Splitting

@@ -5,3 +5,4 @@ pub mod Reached
 pub mod Sets
 pub mod Ways
 pub mod Written
+pub mod WayLines

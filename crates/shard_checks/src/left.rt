@@ -11,8 +11,8 @@ use crate::lines::lines_of;
 use std::alloc::{AllocError, Global};
 
 /// Adds the line, where it is not in the set.
-fn note<'a>(left: &mut Vec<&'a [u8]>, line: &'a [u8], set: &LineSet<'a>) -> Result<(), AllocError>
-    ensures { OnOk result ((texts : List (List ℕ)) → Knows set.now.lines texts →
+fn note<'a>(left: &mut Vec<&'a [u8]>, line: &'a [u8], set: &LineSet<'_>) -> Result<(), AllocError>
+    ensures { OnOk result ((texts : List (List ℕ)) → Knows set.now.lines.items texts →
         map (λ l. l.now) left.new.items ≡ map (λ l. l.now) left.old.items ++ outside texts (line.now ∷ [])) }
 {
     if !set.has(line) {
@@ -25,9 +25,9 @@ fn note<'a>(left: &mut Vec<&'a [u8]>, line: &'a [u8], set: &LineSet<'a>) -> Resu
 fn left_of<'a>(
     alloc: Global,
     lines: &[&'a [u8]],
-    set: &LineSet<'a>,
+    set: &LineSet<'_>,
 ) -> Result<Vec<&'a [u8]>, AllocError>
-    ensures { IfOk result (λ v. (texts : List (List ℕ)) → Knows set.now.lines texts → map (λ l. l.now) v.items ≡ outside texts (map (λ l. l.now) lines.now)) }
+    ensures { IfOk result (λ v. (texts : List (List ℕ)) → Knows set.now.lines.items texts → map (λ l. l.now) v.items ≡ outside texts (map (λ l. l.now) lines.now)) }
 {
     let mut left = Vec::new(alloc);
     for line in lines {
@@ -41,7 +41,7 @@ fn left_of<'a>(
 pub fn lines_left<'a>(
     alloc: Global,
     shard: &'a [u8],
-    part: &'a [u8],
+    part: &[u8],
 ) -> Result<Vec<&'a [u8]>, AllocError>
     ensures { IfOk result (λ v. map (λ l. l.now) v.items ≡ outside (lines_of part.now) (lines_of shard.now)) }
 {

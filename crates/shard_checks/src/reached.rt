@@ -1,11 +1,14 @@
 //! The nodes that roots reach.
 
-ghost use Rattle.std.specs.Prelude.{◌≡◌, ◌↔◌, ◌++◌, Contains, Err, IfOk, List, OnOk, map};
+ghost use Rattle.std.specs.Prelude.{◌≡◌, ◌++◌, Err, IfOk, List, OnOk, map};
 ghost use Rattle.std.specs.List.{flat_map};
 ghost use Rattle.graph_index.specs.Contents.{IsSealedWith};
 ghost use Rattle.rdf_terms.specs.declared.terms.TermId.{TermId as Id};
 ghost use Rattle.schema_tree.specs.Loaded.{IsLoaded};
-ghost use Rattle.demand.specs.Demand.{AreTooMany};
+ghost use Rattle.schema_tree.specs.declared.schema.Schema.{Schema as Reading};
+ghost use Rattle.rdf_terms.specs.declared.terms.Triple.{Triple as Arc};
+ghost use Rattle.demand.specs.declared.reach.Root.{Root as Start};
+ghost use Rattle.demand.specs.Demand.{AreAsked, AreTooMany};
 ghost use Rattle.shard_checks.specs.Reached.{AreReached, node_line};
 
 use crate::written::push_number;
@@ -24,22 +27,12 @@ fn nodes_in(alloc: Global, pairs: &[Pair]) -> Result<Vec<TermId>, AllocError>
     pairs.iter().map(|pair| pair.node).collect(alloc)
 }
 
-/// The nodes at which roots reach a Shape, each once, in the order of their texts.
-fn nodes_reached(
-    alloc: Global,
-    schema: &Schema,
-    graph: &Graph,
-    terms: &TermTable,
-    roots: &[Root],
-) -> Result<Vec<TermId>, DemandError>
-    requires loaded { IsLoaded schema.now }
-    requires sealed { IsSealedWith terms.now graph.now }
-    ensures reached { IfOk result (λ v. AreReached schema.now terms.now graph.now.triples roots.now v.items) }
-    ensures many { (result ≡ Err DemandError.Pairs) → AreTooMany schema.now graph.now.triples roots.now }
-    ensures few { IfOk result (λ v. ¬ AreTooMany schema.now graph.now.triples roots.now) }
+/// The nodes of the pairs that roots reach, each once, in the order of their texts.
+fn nodes_of(alloc: Global, terms: &TermTable, pairs: &[Pair]) -> Result<Vec<TermId>, AllocError>
+    ensures { IfOk result (λ v. (s : Reading) (g : List Arc) (roots : List Start) →
+        AreAsked s terms.now g roots pairs.now → AreReached s terms.now g roots v.items) }
 {
-    let pairs = close(alloc, schema, graph, terms, roots)?;
-    let mut nodes = nodes_in(alloc, pairs.list())?;
+    let mut nodes = nodes_in(alloc, pairs)?;
     put_in_order(terms, &mut nodes)?;
     Ok(nodes)
 }
@@ -69,6 +62,19 @@ fn lines_of_nodes(alloc: Global, terms: &TermTable, nodes: &[TermId]) -> Result<
     Ok(out)
 }
 
+/// The nodes of the pairs that roots reach over a graph, each once, a line each, in the order of their texts.
+pub fn lines_of_pairs(
+    alloc: Global,
+    terms: &TermTable,
+    pairs: &[Pair],
+) -> Result<Vec<u8>, AllocError>
+    ensures { IfOk result (λ v. (s : Reading) (g : List Arc) (roots : List Start) → AreAsked s terms.now g roots pairs.now →
+        (nodes : List Id) × AreReached s terms.now g roots nodes × (v.items ≡ flat_map (node_line terms.now) nodes)) }
+{
+    let nodes = nodes_of(alloc, terms, pairs)?;
+    lines_of_nodes(alloc, terms, nodes.as_slice())
+}
+
 /// The nodes at which roots reach a Shape over a graph, each once, a line each, in the order of their texts. The graph is sealed
 /// with the table of its terms.
 ///
@@ -87,6 +93,6 @@ pub fn reached_lines(
     ensures many { (result ≡ Err DemandError.Pairs) → AreTooMany schema.now graph.now.triples roots.now }
     ensures few { IfOk result (λ v. ¬ AreTooMany schema.now graph.now.triples roots.now) }
 {
-    let nodes = nodes_reached(alloc, schema, graph, terms, roots)?;
-    Ok(lines_of_nodes(alloc, terms, nodes.as_slice())?)
+    let pairs = close(alloc, schema, graph, terms, roots)?;
+    Ok(lines_of_pairs(alloc, terms, pairs.list())?)
 }

@@ -1,11 +1,13 @@
 //! What words ask for.
 
-use command_words::{
-    Call, Checking, Command, Drilling, Import, Inputs, Upgrading, Validation, read,
-};
+use command_words::{Call, Checking, Command, Drilling, Upgrading, Validation, read};
+use input_names::{Import, Inputs};
 use row_format::words_of;
 use std::alloc::{AllocError, Global};
-use tool_words::{Converting, Editing, Explaining, Listing, ToolCall, read_session, read_tool};
+use tool_words::{
+    Converting, Covering, Editing, Explaining, Following, Lining, Listing, Reaching, ShardCall,
+    ToolCall, read_session, read_tool,
+};
 
 /// The files and the bases of a command.
 fn shown_inputs(alloc: Global, inputs: &Inputs<'_>) -> Result<String, AllocError> {
@@ -84,6 +86,48 @@ fn shown_explaining(alloc: Global, asked: &Explaining<'_>) -> Result<String, All
     with_imports(line, &asked.inputs.imports)
 }
 
+/// What `lines` asks for.
+fn shown_lining(alloc: Global, asked: &Lining<'_>) -> Result<String, AllocError> {
+    let (data, prefix, base) = (asked.data, asked.prefix, asked.data_base);
+    format!(in alloc; "lines {data} {prefix:?} {base}")
+}
+
+/// What `followed` asks for.
+fn shown_following(alloc: Global, asked: &Following<'_>) -> Result<String, AllocError> {
+    let (schema, base) = (asked.schema, asked.schema_base);
+    let line = format!(in alloc; "followed {schema} {base}")?;
+    with_imports(line, &asked.imports)
+}
+
+/// What `reached` asks for.
+fn shown_reaching(alloc: Global, asked: &Reaching<'_>) -> Result<String, AllocError> {
+    let inputs = shown_inputs(alloc, &asked.inputs)?;
+    let map = asked.map;
+    let line = format!(in alloc; "reached {inputs} {map}")?;
+    with_imports(line, &asked.inputs.imports)
+}
+
+/// What `covers` asks for.
+fn shown_covering(alloc: Global, asked: &Covering<'_>) -> Result<String, AllocError> {
+    let (followed, part) = (asked.followed, asked.part);
+    let mut line = format!(in alloc; "covers {followed} {part}")?;
+    for files in &asked.shards {
+        let (nodes, shard) = (files.nodes, files.shard);
+        write!(line, " [{nodes} {shard}]")?;
+    }
+    Ok(line)
+}
+
+/// What is asked about data in shards.
+fn shown_shard_call(alloc: Global, call: &ShardCall<'_>) -> Result<String, AllocError> {
+    match call {
+        ShardCall::Lines(lining) => shown_lining(alloc, lining),
+        ShardCall::Followed(following) => shown_following(alloc, following),
+        ShardCall::Reached(reaching) => shown_reaching(alloc, reaching),
+        ShardCall::Covers(covering) => shown_covering(alloc, covering),
+    }
+}
+
 /// What words ask of a session.
 fn shown_editing(alloc: Global, asked: &Editing<'_>) -> Result<String, AllocError> {
     let inputs = shown_inputs(alloc, &asked.inputs)?;
@@ -99,6 +143,7 @@ pub fn asked_of_tool(alloc: Global, line: &str) -> Result<String, AllocError> {
         Ok(ToolCall::Convert(converting)) => shown_converting(alloc, converting),
         Ok(ToolCall::Extents(listing)) => shown_listing(alloc, &listing),
         Ok(ToolCall::Explain(explaining)) => shown_explaining(alloc, &explaining),
+        Ok(ToolCall::Shards(call)) => shown_shard_call(alloc, &call),
         Err(error) => format!(in alloc; "{error}"),
     }
 }

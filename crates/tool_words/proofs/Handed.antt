@@ -1,5 +1,5 @@
 -- What is known of the words of a command by what `clap` finds in them, and of the errors that are handed on.
-use Rattle.std.proofs.Common.{◌≡◌, ◌≢◌, ◌∙◌, List, [], ◌∷◌, ap, codes, subst, sym}
+use Rattle.std.proofs.Common.{◌≡◌, ◌≢◌, ◌∙◌, List, [], ◌∷◌, ap, subst, sym}
 use Rattle.std.specs.Prelude.{IfErr, IsErrAnd, Result}
 use Rattle.clap.specs.Words.{App, Row, Text}
 use Rattle.command_words.specs.declared.error.WordsError.{WordsError}
@@ -7,7 +7,7 @@ use Rattle.command_words.specs.Checks.{Fault, arguments}
 use Rattle.command_words.specs.Commands.{faults, rows}
 use Rattle.command_words.specs.Lent.{Because}
 use Rattle.command_words.proofs.Exact.{handed_on}
-use Rattle.tool_words.specs.Asked.{IsConvertingFault, IsExplainingFault, IsFirstFault, IsListingFault, IsToolFault, failing, in_convert, in_explain, in_extents, unasked}
+use Rattle.tool_words.specs.Asked.{Command, IsFaultOf, IsFirstFault, IsToolFault, failing, name_of, unasked, wrong_behind}
 use Rattle.tool_words.specs.Requests.{Asks}
 
 -- b is the command
@@ -39,17 +39,7 @@ module _ {R : Type 0} (app b : App) (Are : List Row → R → Type 0) (Fails : R
     failed res e h taken r found = handed_on (Fails r) (IsFirstFault app Are Fails words) res e h (failing r (asks_for taken r found))
 
 -- behind a command's name
-pub failed_to_convert : {L : Type 0} (words behind : List Text) (res : Result L WordsError) (e : WordsError) → words ≡ codes "convert" ∷ behind → IsErrAnd res (λ x. x ≡ e)
-    → Because (IsConvertingFault behind) e → IfErr res (Because (IsToolFault words))
-failed_to_convert words behind res e named h =
-    handed_on (IsConvertingFault behind) (IsToolFault words) res e h (λ f bad. in_convert f (record { behind = behind; named = named; holds = bad }))
-
-pub failed_to_list : {L : Type 0} (words behind : List Text) (res : Result L WordsError) (e : WordsError) → words ≡ codes "extents" ∷ behind → IsErrAnd res (λ x. x ≡ e)
-    → Because (IsListingFault behind) e → IfErr res (Because (IsToolFault words))
-failed_to_list words behind res e named h =
-    handed_on (IsListingFault behind) (IsToolFault words) res e h (λ f bad. in_extents f (record { behind = behind; named = named; holds = bad }))
-
-pub failed_to_explain : {L : Type 0} (words behind : List Text) (res : Result L WordsError) (e : WordsError) → words ≡ codes "explain" ∷ behind → IsErrAnd res (λ x. x ≡ e)
-    → Because (IsExplainingFault behind) e → IfErr res (Because (IsToolFault words))
-failed_to_explain words behind res e named h =
-    handed_on (IsExplainingFault behind) (IsToolFault words) res e h (λ f bad. in_explain f (record { behind = behind; named = named; holds = bad }))
+pub failed_behind : {L : Type 0} (c : Command) (words behind : List Text) (res : Result L WordsError) (e : WordsError) → words ≡ name_of c ∷ behind → IsErrAnd res (λ x. x ≡ e)
+    → Because (IsFaultOf c behind) e → IfErr res (Because (IsToolFault words))
+failed_behind c words behind res e named h =
+    handed_on (IsFaultOf c behind) (IsToolFault words) res e h (λ f bad. wrong_behind c f (record { behind = behind; named = named; holds = bad }))

@@ -1,14 +1,16 @@
 -- Words ask by a command for one thing at most, and have one first fault at most, and none where they ask for something.
 use Rattle.std.specs.Prelude.{ℕ, Option, Some, None}
-use Rattle.std.proofs.Common.{◌≡◌, ◌∙◌, Bool, true, false, List, [], ap, refl, subst, sym}
+use Rattle.std.proofs.Common.{◌≡◌, ◌∙◌, Bool, true, false, List, [], ◌∷◌, ap, codes, refl, subst, sym}
+use Rattle.std.specs.List.{AllZip}
 use Rattle.clap.specs.Words.{App, Row, Text}
-use Rattle.command_words.specs.Checks.{AreInputs, Fault, Inputs, inputs_by}
+use Rattle.command_words.specs.Checks.{AreImports, AreInputs, Fault, HasEndings, IsGivenFault, import_words, inputs_by, schema_base as given_base, schema_ending as given_ending}
+use Rattle.input_names.specs.Names.{Import, Inputs, is_data_name}
 use Rattle.command_words.specs.Commands.{rows}
 use Rattle.command_words.specs.Requests.{Given}
-use Rattle.command_words.proofs.Once.{apart, no_given_fault, one_given_fault, one_list}
+use Rattle.command_words.proofs.Once.{apart, no_given_fault, no_import_fault, one_given_fault, one_list, one_split}
 use Rattle.command_words.proofs.Requested.{one_budget, one_given, one_value}
-use Rattle.tool_words.specs.Asked.{FailsConverting, FailsEditing, FailsExplaining, FailsListing, IsFirstFault, LeadsTo, PassesConverting, PassesEditing, PassesExplaining, PassesListing, failing, schema_base, schema_ending, unasked}
-use Rattle.tool_words.specs.Requests.{Asks, Budgeted, Converting, IsBudgeted, IsExplained, IsFlag, IsLimit, IsNamed, IsScripted}
+use Rattle.tool_words.specs.Asked.{FailsConverting, FailsCovering, FailsEditing, FailsExplaining, FailsFollowing, FailsLining, FailsListing, FailsReaching, Following, IsFirstFault, LeadsTo, PassesConverting, PassesCovering, PassesEditing, PassesExplaining, PassesFollowing, PassesLining, PassesListing, PassesReaching, failing, line_base, line_ending, schema_base, schema_ending, unasked, way_base, way_ending, way_imports}
+use Rattle.tool_words.specs.Requests.{Asks, Budgeted, Converting, IsBudgeted, IsCovering, IsExplained, IsFlag, IsLimit, IsLining, IsMapped, IsNamed, IsPrefix, IsSchemed, IsScripted, Lining, NamesBoth, Schemed, ShardFiles}
 
 -- what is known of the values and of the checks of a command
 pub record IsSingle {R C : Type 0} (Are : List Row → R → Type 0) (Passes : R → C → Type 0) (Fails : R → Fault → Type 0) : Type 0 where
@@ -105,4 +107,96 @@ explaining_single = record {
   };
   no_fault = λ r c f a. no_given_fault r.budgeted.given c.inputs.imports f a.inputs.passes;
   one_fault = λ r. one_given_fault r.budgeted.given;
+}
+
+one_prefix : (o p q : Option Text) → IsPrefix o p → IsPrefix o q → p ≡ q
+one_prefix None p q a b = a ∙ sym b
+one_prefix (Some text) p q a b = a.0 ∙ sym b.0
+
+no_lining_fault : (r l : Lining) (f : Fault) → PassesLining r l → FailsLining r f → ⊥
+no_lining_fault r l _ p (line_ending x) = apart p.data_file x
+no_lining_fault r l _ p (line_base x y) = apart p.data_base y
+
+one_lining_fault : (r : Lining) (f g : Fault) → FailsLining r f → FailsLining r g → f ≡ g
+one_lining_fault r _ _ (line_ending x) (line_ending y) = refl
+one_lining_fault r _ _ (line_ending x) (line_base y z) = absurd (apart y x)
+one_lining_fault r _ _ (line_base x y) (line_ending z) = absurd (apart x z)
+one_lining_fault r _ _ (line_base x y) (line_base z w) = refl
+
+pub lining_single : IsSingle IsLining PassesLining FailsLining
+lining_single = record {
+  one_request = λ found r s a b k. record {
+    data_file = one_value _ r.data_file s.data_file a.data_file b.data_file k;
+    prefix = one_prefix _ r.prefix s.prefix a.prefix b.prefix k;
+    data_base = (sym a.data_base ∙ b.data_base) k;
+  };
+  one_answer = λ r c d a b. a.leads ∙ sym b.leads;
+  no_fault = no_lining_fault;
+  one_fault = one_lining_fault;
+}
+
+-- what is given of a schema, with data whose name has an ending
+abbrev with_data : Schemed → Given
+with_data r = record { schema = r.schema; data_file = codes ".nt"; schema_base = r.schema_base; data_base = []; import_words = r.import_words }
+
+is_data : is_data_name (codes ".nt") ≡ true
+unfolding is_data_name
+is_data = refl
+
+as_given : (r : Schemed) (f : Fault) → FailsFollowing r f → IsGivenFault (with_data r) f
+as_given r _ (way_ending x) = given_ending x
+as_given r _ (way_imports f x y) = import_words f (record { schema = x; data_file = is_data }) y
+as_given r _ (way_base imports x y z) = given_base imports (record { endings = record { schema = x; data_file = is_data }; imports_given = y }) z
+
+no_following_fault : (r : Schemed) (c : Following) (f : Fault) → PassesFollowing r c → FailsFollowing r f → ⊥
+no_following_fault r c _ p (way_ending x) = apart p.schema x
+no_following_fault r c _ p (way_imports f x y) = no_import_fault [] r.import_words c.imports f p.imports_given y
+no_following_fault r c _ p (way_base imports x y z) = apart p.schema_base z
+
+pub following_single : IsSingle IsSchemed PassesFollowing FailsFollowing
+following_single = record {
+  one_request = λ found r s a b k. record {
+    schema = one_value _ r.schema s.schema a.schema b.schema k;
+    schema_base = (sym a.schema_base ∙ b.schema_base) k;
+    import_words = (sym a.import_words ∙ b.import_words) k;
+  };
+  one_answer = λ r c d a b.
+      a.leads
+      ∙ ap (λ (is : List Import). record { schema = r.schema; schema_base = r.schema_base; imports = is }) (one_list [] r.import_words c.imports d.imports a.imports_given b.imports_given)
+      ∙ sym b.leads;
+  no_fault = no_following_fault;
+  one_fault = λ r f g h k. one_given_fault (with_data r) f g (as_given r f h) (as_given r g k);
+}
+
+pub reaching_single : IsSingle IsMapped PassesReaching FailsReaching
+reaching_single = record {
+  one_request = λ found r s a b k. record { given = one_given found r.given s.given a.given b.given k; map_file = one_value _ r.map_file s.map_file a.map_file b.map_file k };
+  one_answer = λ r c d a b k. record { inputs = one_inputs r.given c.inputs d.inputs a.inputs b.inputs k; map_file = (a.map_file ∙ sym b.map_file) k };
+  no_fault = λ r c f a. no_given_fault r.given c.inputs.imports f a.inputs.passes;
+  one_fault = λ r. one_given_fault r.given;
+}
+
+one_pair : (word : Text) (s t : ShardFiles) → NamesBoth word s → NamesBoth word t → s ≡ t
+one_pair word s t p q =
+    let parts : (s.nodes ≡ t.nodes) × (s.shard ≡ t.shard) = one_split s.nodes s.shard t.nodes t.shard p.last q.last (sym p.whole ∙ q.whole) in
+    λ k. record { nodes = parts.0 k; shard = parts.1 k }
+
+one_shards : (words : List Text) (ss ts : List ShardFiles) → AllZip NamesBoth words ss → AllZip NamesBoth words ts → ss ≡ ts
+one_shards [] [] [] a b = refl
+one_shards [] [] (t ∷ ts) a b = absurd b
+one_shards [] (s ∷ ss) ts a b = absurd a
+one_shards (w ∷ ws) [] ts a b = absurd a
+one_shards (w ∷ ws) (s ∷ ss) [] a b = absurd b
+one_shards (w ∷ ws) (s ∷ ss) (t ∷ ts) a b = λ k. one_pair w s t a.0 b.0 k ∷ one_shards ws ss ts a.1 b.1 k
+
+pub covering_single : IsSingle IsCovering PassesCovering FailsCovering
+covering_single = record {
+  one_request = λ found r s a b k. record {
+    ways = one_value _ r.ways s.ways a.ways b.ways k;
+    part = one_value _ r.part s.part a.part b.part k;
+    shards = one_shards _ r.shards s.shards a.shards b.shards k;
+  };
+  one_answer = λ r c d a b. a ∙ sym b;
+  no_fault = λ r c f a h. h;
+  one_fault = λ r f g h k. absurd h;
 }

@@ -37,6 +37,29 @@ explain = command (codes "explain")
     ∷ rest (codes "imports")
     ∷ [])
 
+-- `lines --data F [--prefix P] [--data-base I]`
+abbrev pub lines : App
+lines = command (codes "lines") (needed (option (codes "data")) ∷ option (codes "prefix") ∷ option (codes "data-base") ∷ [])
+
+-- `followed --schema F [--schema-base I] [IRI=FILE ..]`
+abbrev pub followed : App
+followed = command (codes "followed") (needed (option (codes "schema")) ∷ option (codes "schema-base") ∷ rest (codes "imports") ∷ [])
+
+-- `reached --schema F --data F --map F [--schema-base I] [--data-base I] [IRI=FILE ..]`
+abbrev pub reached : App
+reached = command (codes "reached")
+    (needed (option (codes "schema"))
+    ∷ needed (option (codes "data"))
+    ∷ needed (option (codes "map"))
+    ∷ option (codes "schema-base")
+    ∷ option (codes "data-base")
+    ∷ rest (codes "imports")
+    ∷ [])
+
+-- `covers --followed F --part F [NODES=SHARD ..]`
+abbrev pub covers : App
+covers = command (codes "covers") (needed (option (codes "followed")) ∷ needed (option (codes "part")) ∷ rest (codes "shards") ∷ [])
+
 -- `--schema F --data F --script F [--budget N] [--schema-base I] [--data-base I] [IRI=FILE ..]`
 abbrev pub session : App
 session = command (codes "typing_session")

@@ -3,10 +3,10 @@
 ghost use Rattle.std.specs.Prelude.{◌≡◌, IfOk, codes, false};
 ghost use Rattle.clap.specs.Words.{app_of, rule_of, with_rule};
 ghost use Rattle.command_words.specs.Commands.{needed, option};
-ghost use Rattle.tool_words.specs.Commands.{convert, explain, extents, flag, session};
+ghost use Rattle.tool_words.specs.Commands.{convert, covers, explain, extents, flag, followed, lines, reached, session};
 
 use clap::{Arg, ArgAction, Command};
-use command_words::commands::{bare, needed, option, over_files, with, with_bases};
+use command_words::commands::{bare, needed, option, over_files, rest, with, with_bases};
 use std::alloc::{AllocError, Global};
 
 /// The command `convert`.
@@ -58,6 +58,42 @@ pub fn explain<'a>(alloc: Global) -> Result<Command<'a>, AllocError>
     let command = with_map(alloc, command)?;
     let command = with_form(alloc, command)?;
     with_bases(alloc, command)
+}
+
+/// The command `lines`.
+pub fn lines<'a>(alloc: Global) -> Result<Command<'a>, AllocError>
+    ensures { IfOk result (λ c. app_of c ≡ lines) }
+{
+    let command = with(bare(alloc, "lines"), needed(option(alloc, "data")))?;
+    let command = with(command, option(alloc, "prefix"))?;
+    with(command, option(alloc, "data-base"))
+}
+
+/// The command `followed`.
+pub fn followed<'a>(alloc: Global) -> Result<Command<'a>, AllocError>
+    ensures { IfOk result (λ c. app_of c ≡ followed) }
+{
+    let command = with(bare(alloc, "followed"), needed(option(alloc, "schema")))?;
+    let command = with(command, option(alloc, "schema-base"))?;
+    with(command, rest(alloc, "imports"))
+}
+
+/// The command `reached`.
+pub fn reached<'a>(alloc: Global) -> Result<Command<'a>, AllocError>
+    ensures { IfOk result (λ c. app_of c ≡ reached) }
+{
+    let command = over_files(alloc, "reached")?;
+    let command = with(command, needed(option(alloc, "map")))?;
+    with_bases(alloc, command)
+}
+
+/// The command `covers`.
+pub fn covers<'a>(alloc: Global) -> Result<Command<'a>, AllocError>
+    ensures { IfOk result (λ c. app_of c ≡ covers) }
+{
+    let command = with(bare(alloc, "covers"), needed(option(alloc, "followed")))?;
+    let command = with(command, needed(option(alloc, "part")))?;
+    with(command, rest(alloc, "shards"))
 }
 
 /// The words of `typing_session`.

@@ -6,9 +6,14 @@ mod commands;
 mod laws;
 mod requests;
 mod session;
+mod shard_requests;
+mod shards;
 mod tool;
 
-pub use call::{Converting, Editing, Explaining, Listing, ToolCall};
+pub use call::{
+    Converting, Covering, Editing, Explaining, Following, Lining, Listing, Reaching, ShardCall,
+    ShardFiles, ToolCall,
+};
 pub use laws::answers_are_one;
 pub use session::read_session;
 pub use tool::read_tool;

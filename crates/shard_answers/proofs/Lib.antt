@@ -1,0 +1,5 @@
+pub mod Apart
+pub mod Asking
+pub mod Comparing
+pub mod Ordered
+pub mod Stopping
