@@ -1,7 +1,7 @@
 -- What the ways to end say of the status.
 use Rattle.std.proofs.Common.{◌≡◌, ◌≢◌, ◌∙◌, ap, sym, subst, refl, List, ℕ, [], ◌++◌, ◌⊎◌, inl, inr, arith, Bool, true, false}
-use Rattle.std.specs.Prelude.{◌↔◌, Option, Some, IsTrue, if◌then◌else◌, not}
-use Rattle.clap.specs.Words.{Text}
+use Rattle.std.specs.Prelude.{◌↔◌, Option, Some, IsTrue, if◌then◌else◌, not, None}
+use Rattle.input_names.specs.Names.{Text}
 use Rattle.rdf_terms.specs.declared.terms.Term.{Term}
 use Rattle.schema_tree.specs.declared.schema.Pair.{Pair}
 use Rattle.schema_tree.specs.Laws.{OneRefinement, OneVerdict, SureFollowsAnswers}
@@ -29,17 +29,18 @@ use Rattle.program_ends.specs.Ends.{FilesSeen}
 use Rattle.program_ends.specs.Printing.{SinkSeen}
 use Rattle.call_ends.specs.Statuses.{IsAnswering as IsListing, IsCutOff, IsInterrupted, status_by}
 use Rattle.call_ends.proofs.Closing as closing
-use Rattle.shex_inputs.specs.declared.error.Source.{Source}
+use Rattle.shard_answers.specs.declared.error.CallFile.{CallFile}
+use Rattle.shard_answers.specs.Answers.{Concludes as ConcludesShard, IsAnswer as IsShardAnswer, IsFound as IsFoundOf}
 use Rattle.shex_inputs.specs.Asked.{Question, root_of}
 use Rattle.shex_inputs.specs.Held.{Held}
 use Rattle.shex_io.specs.Files.{Told}
-use Rattle.tool_words.specs.Asked.{Explaining, IsToolCall, IsToolFault, Listing, ToolCall, of_labels, of_reasons, of_schema}
+use Rattle.tool_words.specs.Asked.{Explaining, IsToolCall, IsToolFault, Listing, ShardCall, ToolCall, of_cover, of_labels, of_lines, of_nodes, of_reasons, of_schema, of_shards, of_ways}
 use Rattle.tool_words.specs.Laws.{AnswersAreOne}
 use Rattle.typing_refiner.specs.declared.building.WidePair.{WidePair}
 use Rattle.demand.proofs.Led.{not_decided}
 use Rattle.shex_tools.specs.declared.stop.Refusal.{Refusal}
 use Rattle.shex_tools.specs.Calls.{inputs_of}
-use Rattle.shex_tools.specs.Endings.{AreNotedQuietly, AreQuietNotes, HasFailing, IsAnswered, IsFailedBy, IsRefusedBy, IsWordsLine, TellsIdle, ToolEnds}
+use Rattle.shex_tools.specs.Endings.{AreNotedQuietly, AreQuietNotes, HasFailing, IsAnswered, IsFailedBy, IsRefusedBy, IsWordsLine, TellsIdle, ToolEnds, HasLacking}
 use Rattle.shex_tools.specs.Finding.{IsFound}
 use Rattle.shex_tools.specs.Outcomes.{AreHeld, AreTaken, IsAbsent, IsQuestionOf, IsRefused}
 use Rattle.shex_tools.specs.Reasons.{AreAsAsked, HaveFailing, HaveUnknown, IsToldTruly, are_as_asked, are_undecided}
@@ -48,7 +49,7 @@ use Rattle.shex_tools.specs.Results.{Concludes, IsAnswer, IsExplained, IsExplain
 use Rattle.shex_tools.specs.Statuses.{IsAnswering, IsStatus}
 use Rattle.shex_tools.specs.Notes.{named_by}
 use Rattle.shex_tools.specs.Texts.{notes_by}
-use Rattle.shex_tools.proofs.Exclusive.{AreOne, answer_taken, refused_not_absent, taken_not_absent, taken_not_refused}
+use Rattle.shex_tools.proofs.Exclusive.{AreOne, ShardLaws, answer_taken, refused_not_absent, taken_not_absent, taken_not_refused}
 use Rattle.shex_tools.proofs.Fitting.{fit}
 use Rattle.shex_tools.proofs.Noted.{idle_alone, none_wide}
 use Rattle.shex_tools.proofs.Settled.{as_asked_by, decided_by, four_means, is_four, is_nought, is_one, known_as, known_off, known_unless, low_means, off_by, off_one, off_truth, one_means, status_answers, undecided_by, undecided_one, unknown_is, unsure_wide}
@@ -67,15 +68,45 @@ of_listed : (status : ℕ) → IsListing status → IsAnswering status
 of_listed status (inl e) = inl e
 of_listed status (inr e) = inr (inr e)
 
+-- the status of a call about data in shards is 0 or 1
+found_status : (found : Option (List ℕ)) (status : ℕ) (text : List ℕ) → IsFoundOf found status text → (status ≡ 0) ⊎ (status ≡ 1)
+found_status None status text at = inl at.0
+found_status (Some line) status text at = inr at.0
+
+shard_concluded : (told : Told) (s : ShardCall) (status : ℕ) (text : List ℕ) → IsShardAnswer told s status text → ConcludesShard s status
+shard_concluded told (of_lines l) status text answer = answer.0
+shard_concluded told (of_ways f) status text answer = answer.0
+shard_concluded told (of_nodes r) status text answer = answer.0
+shard_concluded told (of_cover c) status text (found, covers, at) = found_status found status text at
+
+shard_low : (s : ShardCall) (status : ℕ) → ConcludesShard s status → (status ≡ 0) ⊎ (status ≡ 1)
+shard_low (of_lines l) status at = inl at
+shard_low (of_ways f) status at = inl at
+shard_low (of_nodes r) status at = inl at
+shard_low (of_cover c) status at = at
+
+shard_status : (told : Told) (s : ShardCall) (status : ℕ) (text : List ℕ) → IsShardAnswer told s status text → (status ≡ 0) ⊎ (status ≡ 1)
+shard_status told s status text answer = shard_low s status (shard_concluded told s status text answer)
+
+of_low : (status : ℕ) → (status ≡ 0) ⊎ (status ≡ 1) → IsAnswering status
+of_low status (inl at) = inl at
+of_low status (inr at) = inr (inl at)
+
+not_four : (status : ℕ) → (status ≡ 0) ⊎ (status ≡ 1) → status ≡ 4 → ⊥
+not_four status (inl at) four = omega (arith, at, four)
+not_four status (inr at) four = omega (arith, at, four)
+
 concluded : (told : Told) (call : ToolCall) (status : ℕ) (text notes : List ℕ) → IsAnswer told call status text notes → Concludes call status
 concluded told (of_schema c) status text notes answer = answer.status_is
 concluded told (of_labels l) status text notes answer = low_status answer.listed.extents.undecided status answer.listed.status_is
 concluded told (of_reasons e) status text notes answer = status_answers answer.question.associations answer.explained.explanation.answers status answer.explained.status_is
+concluded told (of_shards s) status text notes answer = shard_concluded told s status text answer.0
 
 low_answer : (told : Told) (call : ToolCall) (status : ℕ) (text notes : List ℕ) → IsAnswer told call status text notes → IsAnswering status
 low_answer told (of_schema c) status text notes answer = inl answer.status_is
 low_answer told (of_labels l) status text notes answer = of_listed status (low_status answer.listed.extents.undecided status answer.listed.status_is)
 low_answer told (of_reasons e) status text notes answer = status_answers answer.question.associations answer.explained.explanation.answers status answer.explained.status_is
+low_answer told (of_shards s) status text notes answer = of_low status (shard_status told s status text answer.0)
 
 pub low : (told : Told) (words : List Text) (text notes : List ℕ) (wanted : ℕ) → IsAnswered told words wanted text notes → IsAnswering wanted
 low told words text notes wanted (call, is_call, answer) = low_answer told call wanted text notes answer
@@ -117,6 +148,7 @@ quiet_answer told (of_reasons e) status text notes at answer =
       idle_alone q.held.schema q.terms q.held.graph answer.is_asked.items e (are_undecided told_of) x.wide notes x.notes_are
           (low_means (are_undecided told_of) (are_as_asked q.associations told_of) status x.status_is at),
     )
+quiet_answer told (of_shards s) status text notes at answer = answer.1
 
 quiet : (told : Told) (words : List Text) (status : ℕ) (text notes : List ℕ) → (status ≡ 0) ⊎ (status ≡ 1) → IsAnswered told words status text notes → AreNotedQuietly told words notes
 quiet told words status text notes at (call, is_call, answer) = (call, is_call, quiet_answer told call status text notes at answer)
@@ -156,6 +188,7 @@ noted_answer law told words (of_labels l) text notes is_call answer none =
     not_decided h.schema h.terms h.graph l.budget u.node u.expr (found.only_wide u.label u.expr u.node u.declared u.is_node u.unknown) (λ p reached.
     law h.schema h.terms h.graph l.budget found.pairs x.wide (omega (arith, few)) found.wide lines p
     ((found.demanded.exactly p).1 (record { label = u.label; expr = u.expr; node = u.node; declared = u.declared; is_node = u.is_node; reaches = reached })))
+noted_answer law told words (of_shards s) text notes is_call answer none = absurd (not_four 4 (shard_status told s 4 text answer.0) refl)
 noted_answer law told words (of_reasons e) text notes is_call answer none =
     let q = answer.question in
     let x = answer.explained in
@@ -182,6 +215,7 @@ leaves_out : (told : Told) (words : List Text) (call : ToolCall) (text notes : L
 leaves_out told words (of_schema c) text notes is_call answer = let e : 4 ≡ 0 = answer.status_is in absurd (omega (arith, e))
 leaves_out told words (of_labels l) text notes is_call answer = inl (l, is_call)
 leaves_out told words (of_reasons e) text notes is_call answer = inr (e, is_call)
+leaves_out told words (of_shards s) text notes is_call answer = absurd (not_four 4 (shard_status told s 4 text answer.0) refl)
 
 -- with 1 some association is not as asked
 one_listed : (undecided : Bool) → 1 ≡ status_by undecided → ⊥
@@ -191,7 +225,16 @@ one_listed undecided is = other (low_status undecided 1 is)
     other (inl at) = omega (arith, at)
     other (inr at) = omega (arith, at)
 
-failing_answer : (told : Told) (words : List Text) (call : ToolCall) (text notes : List ℕ) → IsToolCall words call → IsAnswer told call 1 text notes → HasFailing told words
+-- a shard lacks a line
+lacking_answer : (told : Told) (words : List Text) (s : ShardCall) (text : List ℕ) → IsToolCall words (of_shards s) → IsShardAnswer told s 1 text → HasLacking told words
+lacking_answer told words (of_lines l) text is_call answer = let e : 1 ≡ 0 = answer.0 in absurd (omega (arith, e))
+lacking_answer told words (of_ways f) text is_call answer = let e : 1 ≡ 0 = answer.0 in absurd (omega (arith, e))
+lacking_answer told words (of_nodes r) text is_call answer = let e : 1 ≡ 0 = answer.0 in absurd (omega (arith, e))
+lacking_answer told words (of_cover c) text is_call (None, covers, at) = let e : 1 ≡ 0 = at.0 in absurd (omega (arith, e))
+lacking_answer told words (of_cover c) text is_call (Some line, covers, at) = record { covering = c; is_call = is_call; text = line; covers = covers }
+
+failing_answer : (told : Told) (words : List Text) (call : ToolCall) (text notes : List ℕ) → IsToolCall words call → IsAnswer told call 1 text notes → HasFailing told words ⊎ HasLacking told words
+failing_answer told words (of_shards s) text notes is_call answer = inr (lacking_answer told words s text is_call answer.0)
 failing_answer told words (of_schema c) text notes is_call answer = let e : 1 ≡ 0 = answer.status_is in absurd (omega (arith, e))
 failing_answer told words (of_labels l) text notes is_call answer = absurd (one_listed answer.listed.extents.undecided answer.listed.status_is)
 failing_answer told words (of_reasons e) text notes is_call answer =
@@ -201,7 +244,7 @@ failing_answer told words (of_reasons e) text notes is_call answer =
     let (known, off) = one_means (are_undecided told_of) (are_as_asked q.associations told_of) x.status_is in
     let R : Association → Told_of → Type 0 = λ a t. IsToldTruly q.held.schema q.terms q.held.graph e.budget a t in
     let u = off_one R q.associations told_of x.reasons.told_truly known off in
-    record {
+    inl (record {
       explaining = e;
       is_call = is_call;
       question = q;
@@ -209,7 +252,7 @@ failing_answer told words (of_reasons e) text notes is_call answer =
       association = u.association;
       listed = u.listed;
       failing = off_truth q.held.schema q.terms q.held.graph e.budget u.association u.told.verdict u.association.want u.so.0 u.so.1 u.related;
-    }
+    })
 
 -- ---- words that are refused
 
@@ -248,7 +291,7 @@ module _ (words : List Text) (files : FilesSeen) (out err : SinkSeen) (status : 
       let (call, is_call, answer) = subst (λ n. IsAnswered files.told words n text notes) at by in
       leaves_out files.told words call text notes is_call answer
 
-  pub one_fails : status ≡ 1 → ToolEnds words files out err status → HasFailing files.told words
+  pub one_fails : status ≡ 1 → ToolEnds words files out err status → HasFailing files.told words ⊎ HasLacking files.told words
   one_fails at ends =
       let (text, notes, by, printed, noted) = gives (inr (inl at)) ends in
       let (call, is_call, answer) = subst (λ n. IsAnswered files.told words n text notes) at by in
@@ -283,26 +326,26 @@ module _ (words : List Text) (files : FilesSeen) (out err : SinkSeen) (status : 
         (λ line by. three by.refusal (refusal_of line by))
         ends
 
-    module _ (contents : List ℕ → Option (List ℕ)) (told : files.told ≡ Some contents) (docs : DocumentsAreOne) (one : AreOne files.told (inputs_of call)) where
+    module _ (contents : List ℕ → Option (List ℕ)) (told : files.told ≡ Some contents) (docs : DocumentsAreOne) (shards : ShardLaws) (one : AreOne files.told (inputs_of call)) where
       -- where all is taken, the call concludes unless it is interrupted
       pub taken_ends : AreTaken files.told call → ToolEnds words files out err status → Concludes call status ⊎ IsInterrupted status
       taken_ends taken ends = call_ends (λ n. Concludes call n)
           (λ text notes wanted answer. concluded files.told call wanted text notes answer)
-          (λ refusal refused. absurd (taken_not_refused files.told contents told docs call one taken refusal refused))
+          (λ refusal refused. absurd (taken_not_refused files.told contents told docs shards call one taken refusal refused))
           ends
 
       -- where a file is refused, the refusal is said
       pub refused_ends : (refusal : Refusal) → IsRefused files.told call refusal → ToolEnds words files out err status → (status ≡ 3) ⊎ IsInterrupted status
       refused_ends refusal refused ends = call_ends (λ n. n ≡ 3)
-          (λ text notes wanted answer. absurd (taken_not_refused files.told contents told docs call one (answer_taken files.told call wanted text notes answer) refusal refused))
+          (λ text notes wanted answer. absurd (taken_not_refused files.told contents told docs shards call one (answer_taken files.told call wanted text notes answer) refusal refused))
           (λ other also. refl)
           ends
 
       -- where a file is absent, the call is interrupted
-      pub absent_ends : (source : Source) → IsAbsent files.told call source → ToolEnds words files out err status → IsInterrupted status
-      absent_ends source absent ends = go (call_ends (λ n. ⊥)
-          (λ text notes wanted answer. taken_not_absent files.told contents told docs call one (answer_taken files.told call wanted text notes answer) source absent)
-          (λ refusal refused. refused_not_absent files.told contents told docs call one refusal refused source absent)
+      pub absent_ends : (file : CallFile) → IsAbsent files.told call file → ToolEnds words files out err status → IsInterrupted status
+      absent_ends file absent ends = go (call_ends (λ n. ⊥)
+          (λ text notes wanted answer. taken_not_absent files.told contents told docs shards call one (answer_taken files.told call wanted text notes answer) file absent)
+          (λ refusal refused. refused_not_absent files.told contents told docs shards call one refusal refused file absent)
           ends)
         where
           go : ⊥ ⊎ IsInterrupted status → IsInterrupted status
@@ -312,7 +355,7 @@ module _ (words : List Text) (files : FilesSeen) (out err : SinkSeen) (status : 
 -- ---- extents that are told or not
 
 module _ (words : List Text) (files : FilesSeen) (out err : SinkSeen) (status : ℕ) (l : Listing) (is_call : IsToolCall words (of_labels l)) (law : AnswersAreOne)
-    (contents : List ℕ → Option (List ℕ)) (told : files.told ≡ Some contents) (docs : DocumentsAreOne) (one : AreOne files.told (inputs_of (of_labels l)))
+    (contents : List ℕ → Option (List ℕ)) (told : files.told ≡ Some contents) (docs : DocumentsAreOne) (shards : ShardLaws) (one : AreOne files.told (inputs_of (of_labels l)))
     (refinements : OneRefinement) (follows : SureFollowsAnswers) (h : Held) (held : AreHeld files.told l h) (few : ¬ AreTooMany h.schema h.graph) (loaded : IsLoaded h.schema)
     (pairs : List Pair) (verdicts : Known) (demanded : AreDemanded h.schema h.terms h.graph pairs) (refined : IsRefined h.schema h.terms h.graph h.strata pairs l.budget verdicts) where
   -- what is found is found of the same
@@ -327,7 +370,7 @@ module _ (words : List Text) (files : FilesSeen) (out err : SinkSeen) (status : 
   )
 
   not_refused : (refusal : Refusal) → IsRefused files.told (of_labels l) refusal → ⊥
-  not_refused refusal refused = taken_not_refused files.told contents told docs (of_labels l) one (h, held, few) refusal refused
+  not_refused refusal refused = taken_not_refused files.told contents told docs shards (of_labels l) one (h, held, few) refusal refused
 
   pub undecided_ends : IsUndecided h.schema h.terms h.graph verdicts → ToolEnds words files out err status → (status ≡ 4) ⊎ IsInterrupted status
   undecided_ends is ends = call_ends words files out err status (of_labels l) is_call law (λ n. n ≡ 4)
@@ -344,7 +387,7 @@ module _ (words : List Text) (files : FilesSeen) (out err : SinkSeen) (status : 
 -- ---- explanations
 
 module _ (words : List Text) (files : FilesSeen) (out err : SinkSeen) (status : ℕ) (e : Explaining) (is_call : IsToolCall words (of_reasons e)) (law : AnswersAreOne)
-    (contents : List ℕ → Option (List ℕ)) (told : files.told ≡ Some contents) (docs : DocumentsAreOne) (one : AreOne files.told (inputs_of (of_reasons e)))
+    (contents : List ℕ → Option (List ℕ)) (told : files.told ≡ Some contents) (docs : DocumentsAreOne) (shards : ShardLaws) (one : AreOne files.told (inputs_of (of_reasons e)))
     (refinements : OneRefinement) (follows : SureFollowsAnswers) (verdict : OneVerdict) (q : Question) (asked : IsQuestionOf files.told e q) (loaded : IsLoaded q.held.schema)
     (verdicts : Known) (refined : IsRefined q.held.schema q.terms q.held.graph q.held.strata q.pairs e.budget verdicts) where
   abbrev Explained : ℕ → List ℕ → List ℕ → Type 0
@@ -400,7 +443,7 @@ module _ (words : List Text) (files : FilesSeen) (out err : SinkSeen) (status : 
         (λ t h. known_off t.verdict some.association.want (told_is some.association t (verdict_of (not some.association.want)) h some.failing)))
 
   no_refusal : (refusal : Refusal) → IsRefused files.told (of_reasons e) refusal → ⊥
-  no_refusal refusal refused = taken_not_refused files.told contents told docs (of_reasons e) one (q, asked) refusal refused
+  no_refusal refusal refused = taken_not_refused files.told contents told docs shards (of_reasons e) one (q, asked) refusal refused
 
   explained_ends : (C : ℕ → Type 0) → ((text notes : List ℕ) (wanted : ℕ) → Explained wanted text notes → C wanted) → ToolEnds words files out err status → C status ⊎ IsInterrupted status
   explained_ends C with ends = call_ends words files out err status (of_reasons e) is_call law C

@@ -3,15 +3,15 @@ use Rattle.std.proofs.Common.{◌≡◌, ◌≢◌, ap, sym, subst, refl, List, 
 use Rattle.std.specs.Prelude.{codes}
 use Rattle.call_ends.specs.Words.{RefusesWords}
 use Rattle.call_ends.proofs.Closing as closing
-use Rattle.clap.specs.Words.{Text}
+use Rattle.input_names.specs.Names.{Text}
 use Rattle.command_words.specs.Checks.{arguments, base, ending, import_word, same as same_name}
 use Rattle.command_words.specs.Lent.{Because, words_text}
 use Rattle.command_words.specs.declared.error.WordsError.{WordsError}
 use Rattle.command_words.specs.declared.error.WordsError.TheVariants as Errors
 use Rattle.program_ends.specs.Ends.{AreLeft, FilesSeen, answered, failed, refused}
 use Rattle.program_ends.specs.Printing.{IsQuiet, PrintsBoth, PrintsTo, SinkSeen}
-use Rattle.schema_files.specs.Files.{HasFailed}
-use Rattle.shex_inputs.specs.declared.error.Source.{Source}
+use Rattle.shex_io.specs.Fetching.{HasFailed}
+use Rattle.shard_answers.specs.declared.error.CallFile.{CallFile}
 use Rattle.shex_io.specs.Files.{Told}
 use Rattle.tool_words.specs.Asked.{IsToolCall, IsToolFault, ToolCall}
 use Rattle.shex_tools.specs.declared.stop.Refusal.{Refusal}
@@ -30,7 +30,7 @@ module _ (words : List Text) (call : ToolCall) (is_call : IsToolCall words call)
   with_refusal refusal text why is left quiet prints =
       refused text (record { call = call; is_call = is_call; refusal = refusal; refused = why; text_is = is }) left quiet prints
 
-  pub with_failure : (source : Source) → Reaches files.told call source → HasFailed (name_of call source) files.faults files.faults_after files.blame files.act → files.told_after ≡ files.told → IsQuiet out →
+  pub with_failure : (source : CallFile) → Reaches files.told call source → HasFailed (name_of call source) files.faults files.faults_after files.blame files.act → files.told_after ≡ files.told → IsQuiet out →
       PrintsTo err (failed_line (name_of call source)) 5 status → ToolEnds words files out err status
   with_failure source reached (rose, later, named, act) same quiet prints = failed (failed_line (name_of call source)) (record {
     rose = rose;

@@ -7,7 +7,7 @@ use Rattle.shex_io.specs.Files.{Holds, Lacks, Told}
 use Rattle.label_extents.specs.Demanded.{AreTooMany}
 use Rattle.schema_documents.specs.Tree.{Document}
 use Rattle.schema_documents.specs.declared.error.SchemaError.{SchemaError}
-use Rattle.schema_files.specs.Files.{IsTooLong, max_file}
+use Rattle.shex_io.specs.Fetching.{IsTooLong, max_file}
 use Rattle.schema_files.specs.Named.{Asked}
 use Rattle.schema_files.specs.Refusals.{IsNext, IsNoDocument, imported, root}
 use Rattle.schema_files.specs.declared.error.SchemaFile.{SchemaFile}
@@ -24,14 +24,21 @@ use Rattle.shex_inputs.specs.Outcomes.{IsAbsent as IsInputAbsent}
 use Rattle.shex_inputs.specs.Refusals.{IsRefused as IsInputRefused}
 use Rattle.shexj_writer.specs.declared.error.WriteError.{WriteError}
 use Rattle.shexj_writer.specs.declared.error.WriteError.TheVariants as WriteErrors
-use Rattle.tool_words.specs.Asked.{ToolCall, of_labels, of_reasons, of_schema}
+use Rattle.tool_words.specs.Asked.{ToolCall, of_labels, of_reasons, of_schema, of_shards}
 use Rattle.tool_words.specs.Requests.{Converting}
+use Rattle.shard_answers.specs.declared.error.CallFile.{CallFile}
+use Rattle.shard_answers.specs.declared.error.CallFile.TheVariants.{Input, Cover}
+use Rattle.shard_answers.specs.Laws.{AnsweredIsNotLeft, RefusedIsNotAbsent}
+use Rattle.shard_answers.specs.Refusals.{IsAbsent as IsShardAbsent, IsRefused as IsShardRefused}
+use Rattle.shard_answers.specs.Answers.{IsAnswer as IsShardAnswer}
+use Rattle.tool_words.specs.Asked.{ShardCall}
+use Rattle.shard_answers.specs.declared.error.ShardRefusal.{ShardRefusal}
 use Rattle.shex_tools.specs.declared.stop.Refusal.{Refusal}
 use Rattle.shex_tools.specs.declared.stop.Refusal.TheVariants as Refusals
 use Rattle.shex_tools.specs.Calls.{inputs_of}
 use Rattle.shex_tools.specs.Documents.{HasText, HoldsDocument, LacksText, Spells}
 use Rattle.shex_tools.specs.Laws.{DocumentsAreOne}
-use Rattle.shex_tools.specs.Outcomes.{AreTaken, IsAbsent, IsRefused}
+use Rattle.shex_tools.specs.Outcomes.{AreTaken, IsAbsent, IsInputsAbsent, IsRefused}
 use Rattle.shex_tools.specs.Results.{IsAnswer}
 use Rattle.shex_tools.proofs.Spelled.{as_schema}
 
@@ -115,8 +122,29 @@ pub answer_taken : (told : Told) (call : ToolCall) (status : ℕ) (text notes : 
 answer_taken told (of_schema c) status text notes answer = (answer.document, answer.held, answer.has_text)
 answer_taken told (of_labels l) status text notes answer = (answer.held, answer.taken, answer.listed.is_found.few)
 answer_taken told (of_reasons e) status text notes answer = (answer.question, answer.is_asked)
+answer_taken told (of_shards s) status text notes answer = (status, text, answer.0)
 
-module _ (told : Told) (contents : List ℕ → Option (List ℕ)) (e : told ≡ Some contents) (law : DocumentsAreOne) where
+-- the laws of calls about data in shards
+pub record ShardLaws : Type 0 where
+  pub answered : AnsweredIsNotLeft
+  pub refused : RefusedIsNotAbsent
+
+pub shard_laws : AnsweredIsNotLeft → RefusedIsNotAbsent → ShardLaws
+shard_laws answered refused = record { answered = answered; refused = refused }
+
+module _ (told : Told) (contents : List ℕ → Option (List ℕ)) (e : told ≡ Some contents) (laws : ShardLaws) (s : ShardCall) where
+  shard_not_refused : (status : ℕ) (text : List ℕ) → IsShardAnswer told s status text → (refusal : ShardRefusal) → IsShardRefused told s refusal → ⊥
+  shard_not_refused status text h refusal u =
+      (laws.answered contents s status text (subst (λ t. IsShardAnswer t s status text) e h)).0 refusal (subst (λ t. IsShardRefused t s refusal) e u)
+
+  shard_not_absent : (status : ℕ) (text : List ℕ) → IsShardAnswer told s status text → (file : CallFile) → IsShardAbsent told s file → ⊥
+  shard_not_absent status text h file absent =
+      (laws.answered contents s status text (subst (λ t. IsShardAnswer t s status text) e h)).1 file (subst (λ t. IsShardAbsent t s file) e absent)
+
+  shard_refused_not_absent : (refusal : ShardRefusal) → IsShardRefused told s refusal → (file : CallFile) → IsShardAbsent told s file → ⊥
+  shard_refused_not_absent refusal u file absent = laws.refused contents s refusal (subst (λ t. IsShardRefused t s refusal) e u) file (subst (λ t. IsShardAbsent t s file) e absent)
+
+module _ (told : Told) (contents : List ℕ → Option (List ℕ)) (e : told ≡ Some contents) (law : DocumentsAreOne) (laws : ShardLaws) where
   -- where all is taken, nothing is refused
   pub taken_not_refused : (call : ToolCall) → AreOne told (inputs_of call) → AreTaken told call → (refusal : Refusal) → IsRefused told call refusal → ⊥
   taken_not_refused (of_schema c) one (doc, held, has) (Refusals.Input refusal) (inl is, refused) =
@@ -132,29 +160,59 @@ module _ (told : Told) (contents : List ℕ → Option (List ℕ)) (e : told ≡
   taken_not_refused (of_reasons x) one (q, asked) (Refusals.Input refusal) (read, refused) = (one.asked q asked).0 refusal refused
   taken_not_refused (of_reasons x) one taken (Refusals.Unwritten y) refused = absurd refused
   taken_not_refused (of_reasons x) one taken Refusals.Pairs refused = absurd refused
+  taken_not_refused (of_schema c) one taken (Refusals.Shards refusal) refused = absurd refused
+  taken_not_refused (of_labels l) one taken (Refusals.Shards refusal) refused = absurd refused
+  taken_not_refused (of_reasons x) one taken (Refusals.Shards refusal) refused = absurd refused
+  taken_not_refused (of_shards s) one taken (Refusals.Input refusal) refused = absurd refused.0
+  taken_not_refused (of_shards s) one taken (Refusals.Unwritten y) refused = absurd refused
+  taken_not_refused (of_shards s) one taken Refusals.Pairs refused = absurd refused
+  taken_not_refused (of_shards s) one (status, text, h) (Refusals.Shards refusal) refused = shard_not_refused told contents e laws s status text h refusal refused
 
   -- and nothing is absent
-  not_absent : (c : Converting) (bytes : List ℕ) → Holds told c.schema (Some bytes) → (source : Source) → IsAbsent told (of_schema c) source → ⊥
+  not_absent : (c : Converting) (bytes : List ℕ) → Holds told c.schema (Some bytes) → (source : Source) → IsAbsent told (of_schema c) (Input source) → ⊥
   not_absent c bytes held source (is, absent) = held_not_lacking told c.schema bytes held (subst (λ s. IsInputAbsent told (inputs_of (of_schema c)) s) is absent).1
 
-  pub taken_not_absent : (call : ToolCall) → AreOne told (inputs_of call) → AreTaken told call → (source : Source) → IsAbsent told call source → ⊥
-  taken_not_absent (of_schema c) one (doc, held, has) source absent = not_absent c held.bytes held.file.held source absent
-  taken_not_absent (of_labels l) one (h, held, few) source (other, absent) = (one.taken h source held other).1 absent
-  taken_not_absent (of_reasons x) one (q, asked) source (read, absent) = (one.asked q asked).1 source absent
+  pub taken_not_absent : (call : ToolCall) → AreOne told (inputs_of call) → AreTaken told call → (file : CallFile) → IsAbsent told call file → ⊥
+  taken_not_absent (of_schema c) one (doc, held, has) (Input source) absent = not_absent c held.bytes held.file.held source absent
+  taken_not_absent (of_labels l) one (h, held, few) (Input source) (other, absent) = (one.taken h source held other).1 absent
+  taken_not_absent (of_reasons x) one (q, asked) (Input source) (read, absent) = (one.asked q asked).1 source absent
+  taken_not_absent (of_schema c) one taken (Cover file) absent = absurd absent
+  taken_not_absent (of_labels l) one taken (Cover file) absent = absurd absent
+  taken_not_absent (of_reasons x) one taken (Cover file) absent = absurd absent
+  taken_not_absent (of_shards s) one (status, text, h) file absent = shard_not_absent told contents e laws s status text h file absent
 
   -- nor is anything where a file is refused
-  pub refused_not_absent : (call : ToolCall) → AreOne told (inputs_of call) → (refusal : Refusal) → IsRefused told call refusal → (source : Source) → IsAbsent told call source → ⊥
-  refused_not_absent (of_schema c) one (Refusals.Input refusal) (inl is, refused) source absent =
+  input_not_absent : (call : ToolCall) → AreOne told (inputs_of call) → (refusal : Refusal) → IsRefused told call refusal → (source : Source) → IsInputsAbsent told call (Input source) → ⊥
+  input_not_absent (of_schema c) one (Refusals.Input refusal) (inl is, refused) source absent =
       let long : IsTooLong told c.schema = (subst (λ r. IsInputRefused told (inputs_of (of_schema c)) r) is refused).1 in
       not_absent c long.bytes long.held source absent
-  refused_not_absent (of_schema c) one (Refusals.Input refusal) (inr (x, is), refused) source absent =
+  input_not_absent (of_schema c) one (Refusals.Input refusal) (inr (x, is), refused) source absent =
       let none : IsNoDocument told (asked_of (inputs_of (of_schema c))) Root x = subst (λ r. IsInputRefused told (inputs_of (of_schema c)) r) is refused in
       not_absent c none.bytes none.is_file.held source absent
-  refused_not_absent (of_schema c) one (Refusals.Unwritten x) (doc, held, lacks) source absent = not_absent c held.bytes held.file.held source absent
-  refused_not_absent (of_schema c) one Refusals.Pairs refused source absent = absurd refused
-  refused_not_absent (of_labels l) one (Refusals.Input refusal) (other, refused) source (read, absent) = one.left refusal refused source absent
-  refused_not_absent (of_labels l) one (Refusals.Unwritten x) refused source absent = absurd refused
-  refused_not_absent (of_labels l) one Refusals.Pairs (h, held, many) source (read, absent) = (one.taken h source held read).1 absent
-  refused_not_absent (of_reasons x) one (Refusals.Input refusal) (read, refused) source (also, absent) = one.left refusal refused source absent
-  refused_not_absent (of_reasons x) one (Refusals.Unwritten y) refused source absent = absurd refused
-  refused_not_absent (of_reasons x) one Refusals.Pairs refused source absent = absurd refused
+  input_not_absent (of_schema c) one (Refusals.Unwritten x) (doc, held, lacks) source absent = not_absent c held.bytes held.file.held source absent
+  input_not_absent (of_schema c) one Refusals.Pairs refused source absent = absurd refused
+  input_not_absent (of_labels l) one (Refusals.Input refusal) (other, refused) source (read, absent) = one.left refusal refused source absent
+  input_not_absent (of_labels l) one (Refusals.Unwritten x) refused source absent = absurd refused
+  input_not_absent (of_labels l) one Refusals.Pairs (h, held, many) source (read, absent) = (one.taken h source held read).1 absent
+  input_not_absent (of_reasons x) one (Refusals.Input refusal) (read, refused) source (also, absent) = one.left refusal refused source absent
+  input_not_absent (of_reasons x) one (Refusals.Unwritten y) refused source absent = absurd refused
+  input_not_absent (of_reasons x) one Refusals.Pairs refused source absent = absurd refused
+  input_not_absent (of_schema c) one (Refusals.Shards refusal) refused source absent = absurd refused
+  input_not_absent (of_labels l) one (Refusals.Shards refusal) refused source absent = absurd refused
+  input_not_absent (of_reasons x) one (Refusals.Shards refusal) refused source absent = absurd refused
+  input_not_absent (of_shards s) one refusal refused source (none, absent) = absurd none
+
+  shards_not_absent : (s : ShardCall) (refusal : Refusal) → IsRefused told (of_shards s) refusal → (file : CallFile) → IsShardAbsent told s file → ⊥
+  shards_not_absent s (Refusals.Input refusal) refused file absent = absurd refused.0
+  shards_not_absent s (Refusals.Unwritten y) refused file absent = absurd refused
+  shards_not_absent s Refusals.Pairs refused file absent = absurd refused
+  shards_not_absent s (Refusals.Shards refusal) refused file absent = shard_refused_not_absent told contents e laws s refusal refused file absent
+
+  pub refused_not_absent : (call : ToolCall) → AreOne told (inputs_of call) → (refusal : Refusal) → IsRefused told call refusal → (file : CallFile) → IsAbsent told call file → ⊥
+  refused_not_absent (of_schema c) one refusal refused (Input source) absent = input_not_absent (of_schema c) one refusal refused source absent
+  refused_not_absent (of_labels l) one refusal refused (Input source) absent = input_not_absent (of_labels l) one refusal refused source absent
+  refused_not_absent (of_reasons x) one refusal refused (Input source) absent = input_not_absent (of_reasons x) one refusal refused source absent
+  refused_not_absent (of_schema c) one refusal refused (Cover file) absent = absurd absent
+  refused_not_absent (of_labels l) one refusal refused (Cover file) absent = absurd absent
+  refused_not_absent (of_reasons x) one refusal refused (Cover file) absent = absurd absent
+  refused_not_absent (of_shards s) one refusal refused file absent = shards_not_absent s refusal refused file absent

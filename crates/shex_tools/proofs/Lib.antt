@@ -9,6 +9,7 @@ pub mod Noted
 pub mod Reasoned
 pub mod Settled
 pub mod Places
+pub mod Rereading
 pub mod Spelled
 pub mod Stopped
 pub mod TrueReasons

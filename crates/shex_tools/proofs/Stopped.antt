@@ -2,7 +2,7 @@
 use Rattle.std.proofs.Common.{◌≡◌, ◌≢◌, sym, subst, refl, true, ℕ, List, inl, inr}
 use Rattle.std.proofs.lemmas.Bool.{and_parts}
 use Rattle.std.specs.Prelude.{Err, IfErr, IfOk, IsSome, Ok, Result}
-use Rattle.command_words.specs.Checks.{is_base}
+use Rattle.input_names.specs.Names.{is_base}
 use Rattle.iri_resolve.specs.Reference.{scheme_of}
 use Rattle.shex_io.specs.Files.{Told}
 use Rattle.shex_io.specs.declared.files.Act.{Act}
@@ -10,7 +10,7 @@ use Rattle.shex_io.specs.declared.files.FetchError.{FetchError}
 use Rattle.shex_io.specs.declared.files.FetchError.TheVariants as FetchErrors
 use Rattle.schema_documents.specs.declared.error.SchemaError.{SchemaError}
 use Rattle.schema_documents.specs.declared.error.SchemaError.TheVariants as SchemaErrors
-use Rattle.schema_files.specs.Files.{FetchStops, IsFile}
+use Rattle.shex_io.specs.Fetching.{FetchStops, IsFile}
 use Rattle.schema_files.specs.Refusals.{root}
 use Rattle.schema_files.specs.declared.error.SchemaFile.TheVariants.{Root}
 use Rattle.schema_reader.specs.Documents.{AreNone, Explains as ReaderExplains, IsSchema, Read}
@@ -23,9 +23,13 @@ use Rattle.shex_inputs.specs.Held.{Held}
 use Rattle.shex_inputs.specs.Outcomes.{Explains as ExplainsInput, FaultsAs as FaultsAsInput, IsBeforeMap}
 use Rattle.schema_documents.specs.Tree.{Document}
 use Rattle.shexj_writer.specs.Expressible.{IsExpressibleDocument}
-use Rattle.tool_words.specs.Asked.{Explaining, Listing, ToolCall, of_labels, of_reasons, of_schema}
+use Rattle.tool_words.specs.Asked.{Explaining, Listing, ShardCall, ToolCall, of_labels, of_reasons, of_schema, of_shards}
 use Rattle.tool_words.specs.Requests.{Converting}
 use Rattle.call_ends.specs.declared.response.Response.{Response}
+use Rattle.shard_answers.specs.declared.error.CallFile.TheVariants.{Input, Cover}
+use Rattle.shard_answers.specs.declared.error.ShardError.{ShardError}
+use Rattle.shard_answers.specs.declared.error.ShardError.TheVariants as ShardErrors
+use Rattle.shard_answers.specs.Stops.{Explains as ShardExplains, FaultsAs as ShardFaultsAs}
 use Rattle.shex_tools.specs.declared.stop.Refusal.{Refusal}
 use Rattle.shex_tools.specs.declared.stop.Refusal.TheVariants as Refusals
 use Rattle.shex_tools.specs.declared.stop.Stop.{Stop}
@@ -36,7 +40,7 @@ use Rattle.shex_tools.specs.Finding.{FindingStops}
 use Rattle.shex_tools.specs.Laws.{DocumentsAreExpressible}
 use Rattle.shex_tools.specs.Outcomes.{AreHeld}
 use Rattle.shex_tools.specs.Results.{IsListed, IsListedOf}
-use Rattle.shex_tools.specs.Stopping.{Explains, FaultsAs, IsDocumentStop, IsRefusalOf, fetch_stop, stop_of}
+use Rattle.shex_tools.specs.Stopping.{Explains, FaultsAs, IsDocumentStop, IsRefusalOf, fetch_stop, shard_stop, stop_of}
 
 -- a base has a scheme
 pub base_scheme : (text : List ℕ) → is_base text ≡ true → IsSome (scheme_of text)
@@ -95,6 +99,7 @@ pub finding_explains : (told : Told) (l : Listing) (h : Held) (stop : Stop) → 
 finding_explains told l h (Stops.Refused (Refusals.Input refusal)) held why = absurd why
 finding_explains told l h (Stops.Refused (Refusals.Unwritten e)) held why = absurd why
 finding_explains told l h (Stops.Refused Refusals.Pairs) held why = (h, held, why)
+finding_explains told l h (Stops.Refused (Refusals.Shards refusal)) held why = absurd why
 finding_explains told l h (Stops.Failed source) held why = absurd why
 finding_explains told l h Stops.Memory held why = tt
 
@@ -124,3 +129,17 @@ pub asking_explains : (told : Told) (x : Explaining) (e : InputError) (stop : St
 asking_explains told x (InputErrors.Refused refusal) stop why made = subst (Explains told (of_reasons x)) (sym made) (tt, why)
 asking_explains told x (InputErrors.Failed source) stop why made = subst (Explains told (of_reasons x)) (sym made) (tt, why)
 asking_explains told x InputErrors.Memory stop why made = subst (Explains told (of_reasons x)) (sym made) tt
+
+-- ---- calls about data in shards
+
+pub shards_explain : (told : Told) (s : ShardCall) (e : ShardError) (stop : Stop) → ShardExplains told s e → stop ≡ shard_stop e → Explains told (of_shards s) stop
+shards_explain told s (ShardErrors.Refused refusal) stop why made = subst (Explains told (of_shards s)) (sym made) why
+shards_explain told s (ShardErrors.Failed file) stop why made = subst (Explains told (of_shards s)) (sym made) why
+shards_explain told s ShardErrors.Memory stop why made = subst (Explains told (of_shards s)) (sym made) tt
+
+pub shards_faults : (s : ShardCall) (before after : ℕ) (blame : List ℕ) (act : Act) (e : ShardError) (stop : Stop) → ShardFaultsAs s before after blame act e → stop ≡ shard_stop e →
+    FaultsAs (of_shards s) before after blame act stop
+shards_faults s before after blame act (ShardErrors.Refused refusal) stop why made = subst (FaultsAs (of_shards s) before after blame act) (sym made) why
+shards_faults s before after blame act (ShardErrors.Failed (Input source)) stop why made = subst (FaultsAs (of_shards s) before after blame act) (sym made) why
+shards_faults s before after blame act (ShardErrors.Failed (Cover file)) stop why made = subst (FaultsAs (of_shards s) before after blame act) (sym made) why
+shards_faults s before after blame act ShardErrors.Memory stop why made = subst (FaultsAs (of_shards s) before after blame act) (sym made) why

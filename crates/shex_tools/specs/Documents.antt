@@ -2,7 +2,7 @@
 use Rattle.std.specs.Prelude.{ℕ, List, ◌≡◌, true, false}
 use Rattle.shex_io.specs.Files.{Told}
 use Rattle.schema_documents.specs.Tree.{Document}
-use Rattle.schema_files.specs.Files.{IsFile}
+use Rattle.shex_io.specs.Fetching.{IsFile}
 use Rattle.schema_reader.specs.Formats.{format_of}
 use Rattle.schema_reader.specs.declared.format.Format.{Format}
 use Rattle.schema_reader.specs.declared.format.Format.TheVariants.{Compact, Json}

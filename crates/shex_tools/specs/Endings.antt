@@ -1,6 +1,6 @@
 -- How a call ends, and what it has printed then.
-use Rattle.std.specs.Prelude.{ℕ, List, [], ◌++◌, Contains, Option, not, ◌≡◌}
-use Rattle.clap.specs.Words.{Text}
+use Rattle.std.specs.Prelude.{ℕ, List, [], ◌++◌, Contains, Option, not, ◌≡◌, Some}
+use Rattle.input_names.specs.Names.{Text}
 use Rattle.shex_io.specs.Faults.{Rose}
 use Rattle.shex_io.specs.Files.{Told}
 use Rattle.shex_io.specs.Sinks.{Gains}
@@ -11,11 +11,13 @@ use Rattle.call_ends.specs.Parts.{ArePrintedInPart, IsDueBy}
 use Rattle.idle_selectors.specs.Laws.{AreOfIdle, HaveLines}
 use Rattle.idle_selectors.specs.Texts.{idle_text}
 use Rattle.program_ends.specs.Printing.{SinkSeen}
-use Rattle.shex_inputs.specs.declared.error.Source.{Source}
+use Rattle.shard_answers.specs.declared.error.CallFile.{CallFile}
+use Rattle.shard_answers.specs.Answers.{CoversTo}
 use Rattle.schema_tree.specs.Truths.{IsTruth}
 use Rattle.shape_map.specs.declared.resolve.Association.{Association}
 use Rattle.shex_inputs.specs.Asked.{Question}
-use Rattle.tool_words.specs.Asked.{Explaining, IsToolCall, IsToolFault, ToolCall, of_labels, of_reasons, of_schema}
+use Rattle.tool_words.specs.Asked.{Explaining, IsToolCall, IsToolFault, ToolCall, of_labels, of_reasons, of_schema, of_cover, of_shards}
+use Rattle.tool_words.specs.Requests.{Covering}
 use Rattle.shex_tools.specs.declared.stop.Refusal.{Refusal}
 use Rattle.shex_tools.specs.Notes.{AreIdleNotes}
 use Rattle.shex_tools.specs.Outcomes.{IsQuestionOf, IsRefused, Reaches}
@@ -31,7 +33,7 @@ IsWordsLine words line = (f : Fault) × IsToolFault words f × (line ≡ words_l
 abbrev pub IsAnswered : Told → List Text → ℕ → List ℕ → List ℕ → Type 0
 IsAnswered told words status text notes = (call : ToolCall) × IsToolCall words call × IsAnswer told call status text notes
 
--- the text is that of the refusal of a file that the words name: its line, and, of `explain`, what is shown of the place that it names
+-- the text is that of the refusal of a file that the words name: its line, and, of `explain`, what is shown of the file
 pub record IsRefusedBy (told : Told) (words : List Text) (text : List ℕ) : Type 0 where
   pub call : ToolCall
   pub is_call : IsToolCall words call
@@ -44,7 +46,7 @@ pub record IsFailedBy (files : FilesSeen) (words : List Text) (line : List ℕ) 
   pub rose : Rose files.faults files.faults_after
   pub call : ToolCall
   pub is_call : IsToolCall words call
-  pub source : Source
+  pub source : CallFile
   pub reached : Reaches files.told call source
   pub name_is : files.blame ≡ name_of call source
   pub act_is : files.act ≡ Fetch
@@ -67,8 +69,9 @@ abbrev pub AreQuietNotes : Told → ToolCall → List ℕ → Type 0
 AreQuietNotes told (of_schema c) notes = notes ≡ []
 AreQuietNotes told (of_labels l) notes = notes ≡ []
 AreQuietNotes told (of_reasons e) notes = (q : Question) × (asked : IsQuestionOf told e q) × AreIdleNotes q.terms q.held.graph asked.items e.limit notes
+AreQuietNotes told (of_shards s) notes = notes ≡ []
 
--- so it is of a call for which the words ask
+-- what is noted quietly for a call for which the words ask
 abbrev pub AreNotedQuietly : Told → List Text → List ℕ → Type 0
 AreNotedQuietly told words notes = (call : ToolCall) × IsToolCall words call × AreQuietNotes told call notes
 
@@ -82,6 +85,13 @@ pub record TellsIdle (told : Told) (e : Explaining) (got after : Option (List �
   pub of_idle : AreOfIdle question.terms question.held.graph is_asked.items lines
   pub before : List ℕ
   pub gained : Gains got after (before ++ idle_text e.limit lines)
+
+-- the words ask whether shards have what a part of the data has at their nodes, and one of them lacks a line
+pub record HasLacking (told : Told) (words : List Text) : Type 0 where
+  pub covering : Covering
+  pub is_call : IsToolCall words (of_shards (of_cover covering))
+  pub text : List ℕ
+  pub covers : CoversTo told covering (Some text)
 
 -- how a call ends: the words are at fault; or there is an answer; or a file is refused; or one was not fetched; or memory ran out before
 -- anything was printed

@@ -6,6 +6,7 @@ pub mod Laws
 pub mod Outcomes
 pub mod Texts
 pub mod Notes
+pub mod Cycles
 pub mod Showing
 pub mod Finding
 pub mod Results

@@ -67,7 +67,7 @@ module _ (s : Schema) (terms : List Term) (g : List Triple) where
   IsTrueVerdict budget a No = IsTruth s terms g a.node a.expr false
   IsTrueVerdict budget a Unknown = ReachesWide s terms g budget a.node a.expr
 
-  -- so it is of what is told of the association
+  -- the verdict that is told of an association is true
   abbrev pub IsToldTruly : ℕ → Association → Told → Type 0
   IsToldTruly budget a t = IsTrueVerdict budget a t.verdict
 

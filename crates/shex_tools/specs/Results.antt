@@ -1,5 +1,6 @@
 -- What answers a call.
 use Rattle.std.specs.Prelude.{ℕ, List, [], ◌≡◌, ◌++◌, ◌⊎◌, codes}
+use Rattle.shard_answers.specs.Answers.{Concludes as ConcludesShard, IsAnswer as IsShardAnswer}
 use Rattle.shex_io.specs.Files.{Told}
 use Rattle.label_extents.specs.declared.finding.Extents.{Extents}
 use Rattle.schema_documents.specs.Tree.{Document}
@@ -18,7 +19,7 @@ use Rattle.shex_inputs.specs.Held.{Held}
 use Rattle.shexj_reader.specs.Bytes.{IsDocumentText}
 use Rattle.shexj_writer.specs.Documents.{document_data}
 use Rattle.shexj_writer.specs.Plain.{plain_document}
-use Rattle.tool_words.specs.Asked.{Explaining, Listing, ToolCall, of_labels, of_reasons, of_schema}
+use Rattle.tool_words.specs.Asked.{Explaining, Listing, ToolCall, of_labels, of_reasons, of_schema, of_shards}
 use Rattle.tool_words.specs.Requests.{Converting}
 use Rattle.shex_tools.specs.Documents.{HasText, HoldsDocument}
 use Rattle.shex_tools.specs.Finding.{IsFound}
@@ -48,7 +49,7 @@ pub record IsListedOf (h : Held) (budget : ℕ) (status : ℕ) (text notes : Lis
   pub text_is : text ≡ result_text h.terms extents.members
   pub notes_are : notes ≡ notes_by h.terms budget extents.undecided extents.wide
 
--- so it is for the schema and the graph that the files hold
+-- the text and the notes are those of the extents over the schema and the graph that the files hold
 pub record IsListed (told : Told) (l : Listing) (status : ℕ) (text notes : List ℕ) : Type 0 where
   pub held : Held
   pub taken : AreHeld told l held
@@ -67,7 +68,7 @@ module _ (s : Schema) (terms : List Term) (g : List Triple) (f : List ℕ) (aske
     pub text_is : IsPrinted s terms e asked explanation.answers text
     pub notes_are : AreNotes s terms g items e (are_undecided explanation.answers) wide notes
 
--- so it is of what the map asks of the schema and the graph that the files hold
+-- the text and the notes are those of what the map asks of the schema and the graph that the files hold
 pub record IsExplained (told : Told) (e : Explaining) (status : ℕ) (text notes : List ℕ) : Type 0 where
   pub question : Question
   pub is_asked : IsQuestionOf told e question
@@ -79,9 +80,11 @@ abbrev pub IsAnswer : Told → ToolCall → ℕ → List ℕ → List ℕ → Ty
 IsAnswer told (of_schema c) status text notes = IsConverted told c status text notes
 IsAnswer told (of_labels l) status text notes = IsListed told l status text notes
 IsAnswer told (of_reasons e) status text notes = IsExplained told e status text notes
+IsAnswer told (of_shards s) status text notes = IsShardAnswer told s status text × (notes ≡ [])
 
 -- the statuses of a call whose inputs are taken
 abbrev pub Concludes : ToolCall → ℕ → Type 0
 Concludes (of_schema c) status = status ≡ 0
 Concludes (of_labels l) status = IsAnswering status
 Concludes (of_reasons e) status = (status ≡ 0) ⊎ ((status ≡ 1) ⊎ (status ≡ 4))
+Concludes (of_shards s) status = ConcludesShard s status

@@ -1,30 +1,35 @@
--- The place in a file that a refusal names, and what is shown of it.
+-- What is shown of a file that is refused.
 use Rattle.std.specs.Prelude.{ℕ, List, [], ◌≡◌, ◌++◌, ◌⊎◌, Option, Some, None}
 use Rattle.graph_index.specs.declared.read_error.ReadError.{ReadError}
 use Rattle.graph_index.specs.declared.read_error.ReadError.TheVariants as ReadErrors
+use Rattle.key_paths.specs.declared.labels.LabelPlace.{LabelPlace}
+use Rattle.key_paths.specs.declared.labels.LabelPlace.TheVariants.{Declared, DeclaredAgain, Referred}
 use Rattle.refusal_places.specs.Texts.{place_text}
+use Rattle.schema_causes.specs.Labels.{ShowsLabel}
+use Rattle.schema_causes.specs.Shown.{ShowsCause}
 use Rattle.schema_documents.specs.declared.error.SchemaError.{SchemaError}
 use Rattle.schema_documents.specs.declared.error.SchemaError.TheVariants as SchemaErrors
-use Rattle.schema_files.specs.Files.{IsFile, IsTooLong}
-use Rattle.schema_files.specs.Named.{Asked, base_for}
-use Rattle.schema_places.specs.Edges.{IsEdge}
-use Rattle.schema_places.specs.Things.{thing_of}
-use Rattle.schema_places.specs.declared.kinds.Thing.{Thing}
-use Rattle.schema_reader.specs.Formats.{format_of}
-use Rattle.schema_reader.specs.declared.format.Format.TheVariants.{Compact}
+use Rattle.schema_documents.specs.declared.label.Label.{Label}
+use Rattle.shex_io.specs.Fetching.{IsFile, IsTooLong}
+use Rattle.schema_files.specs.Named.{Asked, base_for, name_of as schema_name}
+use Rattle.schema_load.specs.declared.error.LoadError.{LoadError}
+use Rattle.schema_load.specs.declared.error.LoadError.TheVariants as LoadErrors
+use Rattle.schema_tree.specs.declared.schema.Target.{Target}
+use Rattle.schema_tree.specs.declared.schema.Target.TheVariants as Targets
 use Rattle.shape_map.specs.declared.error.MapError.{MapError}
 use Rattle.shape_map.specs.declared.error.MapError.TheVariants as MapErrors
 use Rattle.shex_inputs.specs.declared.error.Refusal.{Refusal as InputRefusal}
 use Rattle.shex_inputs.specs.declared.error.Refusal.TheVariants as InputRefusals
 use Rattle.shex_inputs.specs.declared.error.Source.{Source}
 use Rattle.shex_inputs.specs.declared.error.Source.TheVariants as Sources
-use Rattle.shex_inputs.specs.Named.{asked_of}
+use Rattle.shex_inputs.specs.Named.{Inputs, asked_of}
 use Rattle.shex_io.specs.Files.{Told}
 use Rattle.tool_words.specs.Asked.{ToolCall, of_reasons}
 use Rattle.shex_tools.specs.declared.stop.Refusal.{Refusal}
 use Rattle.shex_tools.specs.declared.stop.Refusal.TheVariants as Refusals
 use Rattle.shex_tools.specs.Calls.{inputs_of}
-use Rattle.shex_tools.specs.Texts.{name_of, refusal_line, refused_source}
+use Rattle.shex_tools.specs.Cycles.{ShowsCycle}
+use Rattle.shex_tools.specs.Texts.{refusal_line}
 
 -- the place in the bytes of a schema document, of data and of a map that an error names
 abbrev pub schema_place : SchemaError → Option ℕ
@@ -43,26 +48,28 @@ map_place (MapErrors.Syntax at) = Some at
 map_place (MapErrors.Prefix at) = Some at
 map_place e = None
 
--- the place in the refused file that a refusal names
-abbrev pub file_place : InputRefusal → Option ℕ
-file_place (InputRefusals.Schema file e) = schema_place e
-file_place (InputRefusals.Data e) = data_place e
-file_place (InputRefusals.Map e) = map_place e
-file_place refusal = None
+-- the label of a target, which the start has not
+abbrev pub target_label : Target → Option Label
+target_label (Targets.Label l) = Some l
+target_label Targets.Start = None
 
--- the place that is shown: `explain` alone shows one
-abbrev pub place_in : ToolCall → Refusal → Option ℕ
-place_in (of_reasons e) (Refusals.Input refusal) = file_place refusal
-place_in call refusal = None
+-- the label of which the refusal of documents tells
+abbrev pub label_in : LoadError → Option Label
+label_in (LoadErrors.Twice l) = Some l
+label_in (LoadErrors.Missing l) = Some l
+label_in (LoadErrors.Circle l) = Some l
+label_in (LoadErrors.IncludeCircle l) = Some l
+label_in (LoadErrors.Deep t) = target_label t
+label_in (LoadErrors.Occurrences t) = target_label t
+label_in LoadErrors.Shapes = None
+label_in LoadErrors.Full = None
+label_in LoadErrors.Memory = None
 
--- a place in a file of this name is shown in the bytes that the file holds, and not at all in a file that is too long
-abbrev pub IsShown : Told → List ℕ → ℕ → List ℕ → Type 0
-IsShown told name at shown = ((bytes : List ℕ) × IsFile told name bytes × (shown ≡ place_text name bytes at)) ⊎ (IsTooLong told name × (shown ≡ []))
-
--- the thing in a schema document for which it is refused without a place: `explain` alone shows one
-abbrev pub thing_in : ToolCall → Refusal → Option Thing
-thing_in (of_reasons e) (Refusals.Input (InputRefusals.Schema file error)) = thing_of error
-thing_in call refusal = None
+-- the place of it that is looked for: a second declaration of what is declared twice, a reference to what is missing, and else a declaration
+abbrev pub label_place : LoadError → LabelPlace
+label_place (LoadErrors.Twice l) = DeclaredAgain
+label_place (LoadErrors.Missing l) = Referred
+label_place e = Declared
 
 -- the base of the document in a file of the schema, by what names them; data and maps have none
 abbrev pub source_base : Asked → Source → List ℕ
@@ -70,29 +77,56 @@ source_base a (Sources.Schema file) = base_for a file
 source_base a Sources.Data = []
 source_base a Sources.Map = []
 
--- so it is of the files of `explain`, of which alone a thing is shown
-abbrev pub base_in : ToolCall → Source → List ℕ
-base_in (of_reasons e) source = source_base (asked_of (inputs_of (of_reasons e))) source
-base_in call source = []
+-- what a file of this name holds, or that it is too long
+abbrev pub IsFetched : Told → List ℕ → Option (List ℕ) → Type 0
+IsFetched told name (Some bytes) = IsFile told name bytes
+IsFetched told name None = IsTooLong told name
 
--- the place of a thing is shown in the bytes of a document in ShExC of this name and base, or nothing is
-abbrev pub ShowsThing : List ℕ → List ℕ → Thing → List ℕ → List ℕ → Type 0
-ShowsThing name base thing bytes shown = (shown ≡ []) ⊎ ((at : ℕ) × (format_of name ≡ Compact) × IsEdge base thing bytes at × (shown ≡ place_text name bytes at))
+-- a place in a file of this name is shown in the bytes that the file holds, and not at all in a file that is too long
+abbrev pub IsShown : Told → List ℕ → ℕ → List ℕ → Type 0
+IsShown told name at shown = ((bytes : List ℕ) × IsFile told name bytes × (shown ≡ place_text name bytes at)) ⊎ (IsTooLong told name × (shown ≡ []))
 
--- so it is in the bytes that a file of this name holds, and nothing is shown of a file that is too long
-abbrev pub IsThingShown : Told → List ℕ → List ℕ → Thing → List ℕ → Type 0
-IsThingShown told name base thing shown = ((bytes : List ℕ) × IsFile told name bytes × ShowsThing name base thing bytes shown) ⊎ (IsTooLong told name × (shown ≡ []))
+-- what is shown of a place in a file of this name, if there is one
+abbrev pub ShowsPlace : Told → List ℕ → Option ℕ → List ℕ → Type 0
+ShowsPlace told name (Some at) shown = IsShown told name at shown
+ShowsPlace told name None shown = shown ≡ []
 
--- what is shown of a file of this name and base: the place that is named, or else that of the thing, or else nothing
-abbrev pub Shows : Told → List ℕ → List ℕ → Option ℕ → Option Thing → List ℕ → Type 0
-Shows told name base (Some at) thing shown = IsShown told name at shown
-Shows told name base None (Some thing) shown = IsThingShown told name base thing shown
-Shows told name base None None shown = shown ≡ []
+-- nothing is shown, or the cause of an error in the document that a file of this name and base holds
+abbrev pub IsCauseShown : Told → List ℕ → List ℕ → SchemaError → List ℕ → Type 0
+IsCauseShown told name base e shown = (shown ≡ []) ⊎ ((bytes : List ℕ) × IsFile told name bytes × ShowsCause name base e bytes shown)
 
--- so it is of the file that is refused
+-- the place that an error names, or else its cause
+abbrev pub ShowsDocument : Told → List ℕ → List ℕ → SchemaError → Option ℕ → List ℕ → Type 0
+ShowsDocument told name base e (Some at) shown = IsShown told name at shown
+ShowsDocument told name base e None shown = IsCauseShown told name base e shown
+
+-- nothing is shown, or a place of a label in the document that a file of this name and base holds
+abbrev pub IsLabelShown : Told → List ℕ → List ℕ → LabelPlace → Label → List ℕ → Type 0
+IsLabelShown told name base place l shown = (shown ≡ []) ⊎ ((bytes : List ℕ) × IsFile told name bytes × ShowsLabel place name base l bytes shown)
+
+-- what is shown of a label, if there is one, in the document that a file of this name and base holds
+abbrev pub ShowsAnyLabel : Told → List ℕ → List ℕ → LabelPlace → Option Label → List ℕ → Type 0
+ShowsAnyLabel told name base place (Some l) shown = IsLabelShown told name base place l shown
+ShowsAnyLabel told name base place None shown = shown ≡ []
+
+-- what is shown where documents are refused, in the schema file of this name and base: a place of the label of which the error tells
+abbrev pub ShowsLoad : Told → List ℕ → List ℕ → LoadError → List ℕ → Type 0
+ShowsLoad told name base e shown = ShowsAnyLabel told name base (label_place e) (label_in e) shown
+
+-- what is shown of a file of the inputs that is refused: the place, or else the cause, of what is wrong in it; where all documents of a schema are
+-- refused together, a place of a label in the schema file; and of a cycle the names of its Shapes
+abbrev pub ShowsInput : Told → Inputs → InputRefusal → List ℕ → Type 0
+ShowsInput told i (InputRefusals.Schema file e) shown = ShowsDocument told (schema_name (asked_of i) file) (base_for (asked_of i) file) e (schema_place e) shown
+ShowsInput told i (InputRefusals.Data e) shown = ShowsPlace told i.data_file (data_place e) shown
+ShowsInput told i (InputRefusals.Map e) shown = ShowsPlace told i.map_file (map_place e) shown
+ShowsInput told i (InputRefusals.Load e) shown = ShowsLoad told i.schema i.schema_base e shown
+ShowsInput told i (InputRefusals.NegatedCycle cycle) shown = ShowsCycle told (asked_of i) cycle shown
+ShowsInput told i refusal shown = shown ≡ []
+
+-- what is shown where a call refuses a file: `explain` alone shows something
 abbrev pub ShowsRefused : Told → ToolCall → Refusal → List ℕ → Type 0
-ShowsRefused told call refusal shown =
-    Shows told (name_of call (refused_source refusal)) (base_in call (refused_source refusal)) (place_in call refusal) (thing_in call refusal) shown
+ShowsRefused told (of_reasons e) (Refusals.Input refusal) shown = ShowsInput told (inputs_of (of_reasons e)) refusal shown
+ShowsRefused told call refusal shown = shown ≡ []
 
 -- the text for a file that is refused: its line, and what is shown of the file
 abbrev pub IsRefusalText : Told → ToolCall → Refusal → List ℕ → Type 0

@@ -2,7 +2,7 @@
 use Rattle.std.specs.Prelude.{ℕ, ◌≡◌, ◌⊎◌}
 use Rattle.call_ends.specs.Statuses.{IsInterrupted}
 
--- there is an answer: 0; 1, where some association is not as asked; or 4, where it leaves something out
+-- there is an answer: 0; 1, where some association is not as asked, or a shard lacks a line; or 4, where it leaves something out
 abbrev pub IsAnswering : ℕ → Type 0
 IsAnswering status = (status ≡ 0) ⊎ ((status ≡ 1) ⊎ (status ≡ 4))
 

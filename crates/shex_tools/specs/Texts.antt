@@ -14,14 +14,20 @@ use Rattle.schema_files.specs.declared.error.SchemaFile.TheVariants.{Root}
 use Rattle.schema_tree.specs.declared.schema.Schema.{Schema}
 use Rattle.serde_json.specs.Written.{compact_text}
 use Rattle.shape_map.specs.declared.resolve.Association.{Association}
-use Rattle.shex_inputs.specs.declared.error.Source.{Source}
 use Rattle.shex_inputs.specs.declared.error.Source.TheVariants as Sources
-use Rattle.shex_inputs.specs.Lines.{error_line, refusal_text}
+use Rattle.program_ends.specs.Lines.{error_line}
+use Rattle.shex_inputs.specs.Lines.{refusal_text}
 use Rattle.shex_inputs.specs.Named.{source_name, source_of}
 use Rattle.shexj_writer.specs.Messages.{write_text}
-use Rattle.tool_words.specs.Asked.{Explaining, ToolCall}
+use Rattle.tool_words.specs.Asked.{Explaining, ToolCall, of_shards}
 use Rattle.typing_refiner.specs.declared.building.WidePair.{WidePair}
 use Rattle.wide_pairs.specs.Lines.{wide_lines}
+use Rattle.shard_answers.specs.declared.error.CallFile.{CallFile}
+use Rattle.shard_answers.specs.declared.error.CallFile.TheVariants as CallFiles
+use Rattle.shard_answers.specs.declared.error.CoverFile.{CoverFile}
+use Rattle.shard_answers.specs.declared.error.ShardRefusal.{ShardRefusal}
+use Rattle.shard_answers.specs.declared.error.ShardRefusal.TheVariants as ShardRefusals
+use Rattle.shard_answers.specs.Sources.{name_of as shard_name_of, refused_source as refused_shard_source}
 use Rattle.shex_tools.specs.declared.stop.Refusal.{Refusal}
 use Rattle.shex_tools.specs.declared.stop.Refusal.TheVariants as Refusals
 use Rattle.shex_tools.specs.Calls.{inputs_of}
@@ -34,21 +40,34 @@ tool_line place what = error_line (codes "shextool") place what
 abbrev pub words_line : Fault → List ℕ
 words_line f = tool_line (codes "words") (fault_text f)
 
+-- the name of a file of `covers`, and the empty text for the files of other calls
+abbrev pub cover_name_of : ToolCall → CoverFile → List ℕ
+cover_name_of (of_shards s) file = shard_name_of s (CallFiles.Cover file)
+cover_name_of call file = []
+
 -- the name of a file of a call
-abbrev pub name_of : ToolCall → Source → List ℕ
-name_of call source = source_name (inputs_of call) source
+abbrev pub name_of : ToolCall → CallFile → List ℕ
+name_of call (CallFiles.Input source) = source_name (inputs_of call) source
+name_of call (CallFiles.Cover file) = cover_name_of call file
 
 -- the file that is refused: too many pairs are refused at the data
-abbrev pub refused_source : Refusal → Source
-refused_source (Refusals.Input refusal) = source_of refusal
-refused_source (Refusals.Unwritten e) = Sources.Schema Root
-refused_source Refusals.Pairs = Sources.Data
+abbrev pub refused_source : Refusal → CallFile
+refused_source (Refusals.Input refusal) = CallFiles.Input (source_of refusal)
+refused_source (Refusals.Unwritten e) = CallFiles.Input (Sources.Schema Root)
+refused_source Refusals.Pairs = CallFiles.Input Sources.Data
+refused_source (Refusals.Shards refusal) = refused_shard_source refusal
+
+-- why a call about data in shards refuses a file
+abbrev pub shard_cause_text : ShardRefusal → List ℕ
+shard_cause_text (ShardRefusals.Input refusal) = refusal_text refusal
+shard_cause_text (ShardRefusals.Size file) = codes "Size"
 
 -- why it is refused
 abbrev pub cause_text : Refusal → List ℕ
 cause_text (Refusals.Input refusal) = refusal_text refusal
 cause_text (Refusals.Unwritten e) = write_text e
 cause_text Refusals.Pairs = extents_text ExtentsErrors.Pairs
+cause_text (Refusals.Shards refusal) = shard_cause_text refusal
 
 -- the line for a file that is refused
 abbrev pub refusal_line : ToolCall → Refusal → List ℕ

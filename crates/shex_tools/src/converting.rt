@@ -1,10 +1,10 @@
 //! What answers `convert`.
 
 ghost use Rattle.std.specs.Prelude.{◌≡◌, ◌++◌, ◌<◌, IfErr, IfOk, IsSome, OnOk, codes, string_bytes, true};
-ghost use Rattle.command_words.specs.Checks.{is_base};
+ghost use Rattle.input_names.specs.Names.{is_base};
 ghost use Rattle.iri_resolve.specs.Reference.{scheme_of};
 ghost use Rattle.schema_documents.specs.Tree.{document_of};
-ghost use Rattle.schema_files.specs.Files.{IsFile};
+ghost use Rattle.shex_io.specs.Fetching.{IsFile};
 ghost use Rattle.schema_reader.specs.Documents.{AreNone, Explains as ReaderExplains};
 ghost use Rattle.serde_json.specs.Written.{compact_text};
 ghost use Rattle.shexj_reader.specs.Bytes.{IsDocumentText};
@@ -21,10 +21,11 @@ use crate::laws::documents_are_expressible;
 use crate::stop::{Refusal, Stop, document_stop, writing_stop};
 use call_ends::Response;
 use schema_documents::{Doc, SchemaError};
-use schema_files::{SchemaFile, fetch};
+use schema_files::SchemaFile;
 use schema_reader::Format;
+use shard_answers::CallFile;
 use shex_inputs::{Refusal as InputRefusal, Source};
-use shex_io::{FetchError, Files};
+use shex_io::{FetchError, Files, fetch};
 use shexj_reader::laws::refused_are_none;
 use shexj_writer::write;
 use std::alloc::{AllocError, Global};
@@ -35,7 +36,7 @@ fn fetch_stop(error: FetchError) -> Stop
     ensures { result ≡ fetch_stop error }
 {
     match error {
-        FetchError::Failed => Stop::Failed(Source::Schema(SchemaFile::Root)),
+        FetchError::Failed => Stop::Failed(CallFile::Input(Source::Schema(SchemaFile::Root))),
         FetchError::Long => Stop::Refused(Refusal::Input(InputRefusal::Size(Source::Schema(
             SchemaFile::Root,
         )))),

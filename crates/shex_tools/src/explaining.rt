@@ -1,7 +1,7 @@
 //! What answers `explain`.
 
 ghost use Rattle.std.specs.Prelude.{◌≡◌, ◌≤◌, ◌<◌, ◌++◌, All, IfErr, IfOk, IsSome, OnOk, codes, true};
-ghost use Rattle.command_words.specs.Checks.{is_base};
+ghost use Rattle.input_names.specs.Names.{is_base};
 ghost use Rattle.command_words.specs.Requests.{max_budget};
 ghost use Rattle.iri_resolve.specs.Reference.{scheme_of};
 ghost use Rattle.graph_index.specs.Laws.{IsOfTable};

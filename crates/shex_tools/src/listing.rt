@@ -8,7 +8,7 @@ ghost use Rattle.schema_tree.specs.Edges.{IsStratum};
 ghost use Rattle.schema_tree.specs.Loaded.{IsLoaded};
 ghost use Rattle.proof_file.specs.declared.head.Digests.{Digests};
 ghost use Rattle.shape_map.specs.Results.{result_text};
-ghost use Rattle.command_words.specs.Checks.{is_base};
+ghost use Rattle.input_names.specs.Names.{is_base};
 ghost use Rattle.command_words.specs.Requests.{max_budget};
 ghost use Rattle.shex_inputs.specs.Held.{held_by};
 ghost use Rattle.call_ends.specs.Statuses.{status_by};

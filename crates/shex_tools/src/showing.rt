@@ -1,53 +1,43 @@
-//! What `explain` shows of the place in a file where it is refused.
+//! What `explain` shows where it refuses a file.
 
-ghost use Rattle.std.specs.Prelude.{[], ◌≡◌, ◌++◌, ◌-◌, ◌<◌, ◌^◌, IfErr, IfOk, IfSome, List, OnOk, get_or, is_some, length, map, ℕ};
-ghost use Rattle.command_words.specs.Lent.{import_of};
-ghost use Rattle.iri_resolve.specs.Reference.{scheme_of};
+ghost use Rattle.std.specs.Prelude.{[], ◌≡◌, ◌++◌, IfErr, IfOk, List, OnOk, get_or, map, ℕ, true};
+ghost use Rattle.std.specs.Option.{option_map};
+ghost use Rattle.input_names.specs.Lent.{import_of};
 ghost use Rattle.schema_files.specs.Named.{base_for};
-ghost use Rattle.schema_places.specs.Edges.{IsEdge};
-ghost use Rattle.schema_reader.specs.Formats.{format_of};
-ghost use Rattle.schema_reader.specs.declared.format.Format.TheVariants.{Compact};
-ghost use Rattle.shex_inputs.specs.Named.{asked_of, inputs_with};
+ghost use Rattle.shex_inputs.specs.Named.{asked_of, inputs_with, source_name};
+ghost use Rattle.shex_inputs.specs.Refusals.{IsRefused as IsInputRefused};
+ghost use Rattle.shex_tools.specs.Calls.{inputs_of};
 ghost use Rattle.shex_tools.specs.Outcomes.{IsRefused};
-ghost use Rattle.shex_tools.specs.Showing.{IsRefusalText, IsShown, IsThingShown, ShowsRefused, ShowsThing};
-ghost use Rattle.shex_tools.specs.Showing.{base_in, data_place, file_place, map_place, place_in, schema_place, source_base, thing_in};
-ghost use Rattle.shex_tools.specs.Stopping.{IsUnshown, LeavesUnshown};
-ghost use Rattle.tool_words.specs.Lent.{tool_call_of};
+ghost use Rattle.shex_tools.specs.Showing.{IsCauseShown, IsFetched, IsLabelShown, IsRefusalText, IsShown, ShowsDocument, ShowsInput, ShowsLoad, ShowsPlace, ShowsRefused};
+ghost use Rattle.shex_tools.specs.Showing.{data_place, label_in, label_place, map_place, schema_place, source_base, target_label};
+ghost use Rattle.shex_tools.specs.Stopping.{IsFit, IsUnshown, LeavesUnshown};
+ghost use Rattle.tool_words.specs.Asked.{of_reasons};
+ghost use Rattle.tool_words.specs.Lent.{explaining_of, tool_call_of};
 
+use crate::cycles::push_cycle;
 use crate::report;
-use crate::stop::Refusal;
-use command_words::{Import, Inputs};
+use crate::stop::{Refusal, Unshown};
 use graph_index::read_error::ReadError;
-use iri_resolve::split;
+use input_names::{Import, Inputs};
 use refusal_places::push_place;
+use schema_causes::{LabelPlace, push_cause, push_label};
 use schema_documents::SchemaError;
-use schema_files::{SchemaFile, fetch};
-use schema_places::{Thing, thing_of, thing_place};
-use schema_reader::Format;
+use schema_files::SchemaFile;
+use schema_load::error::LoadError;
+use schema_tree::labels::Label;
+use schema_tree::schema::Target;
 use shape_map::MapError;
-use shex_inputs::{Refusal as InputRefusal, Source};
-use shex_io::{FetchError, Files};
+use shex_inputs::{Refusal as InputRefusal, Source, input_name};
+use shex_io::{FetchError, Files, fetch};
 use std::alloc::{AllocError, Global};
-use tool_words::ToolCall;
+use tool_words::{Explaining, ToolCall};
 
-/// Why a place is not shown.
-#[derive(Clone, Copy, Debug, Drop, PartialEq, Eq)]
-pub enum Unshown {
-    /// The file was not fetched once more.
-    Failed,
-    /// Memory ran out.
-    Memory,
-}
-
-impl From<AllocError> for Unshown {
-    ghost use Rattle.std.specs.Prelude.{◌≡◌};
-    ghost use Rattle.shex_tools.specs.declared.showing.Unshown.TheVariants.{Memory};
-
-    ghost from_gives = { λ _ e. e ≡ Memory };
-
-    fn from(_error: AllocError) -> Unshown {
-        Unshown::Memory
-    }
+/// A file of `explain`: its name, and the base of the document in it, if it is one of the schema.
+#[derive(Clone, Copy)]
+struct NamedFile<'a> {
+    source: Source,
+    name: &'a str,
+    base: &'a str,
 }
 
 /// The place in a schema document that an error names.
@@ -80,41 +70,38 @@ fn map_place(error: &MapError) -> Option<u64>
     }
 }
 
-/// The place in the refused file that a refusal names.
-fn file_place(refusal: &InputRefusal) -> Option<u64>
-    ensures { result ≡ file_place refusal.now }
+/// The label of a target, which the start has not.
+fn target_label(target: &Target) -> Option<&Label>
+    ensures { option_map (λ l. l.now) result ≡ target_label target.now }
 {
-    match refusal {
-        InputRefusal::Schema(_, error) => schema_place(error),
-        InputRefusal::Data(error) => data_place(error),
-        InputRefusal::Map(error) => map_place(error),
-        _ => None,
+    match target {
+        Target::Label(label) => Some(label),
+        Target::Start => None,
     }
 }
 
-/// The place that is shown: `explain` alone shows one.
-fn place_in(call: &ToolCall<'_>, refusal: &Refusal) -> Option<u64>
-    ensures { result ≡ place_in (tool_call_of call.now) refusal.now }
+/// The label of which the refusal of documents tells.
+fn label_in(error: &LoadError) -> Option<&Label>
+    ensures { option_map (λ l. l.now) result ≡ label_in error.now }
 {
-    match call {
-        ToolCall::Convert(_) | ToolCall::Extents(_) => None,
-        ToolCall::Explain(_) => match refusal {
-            Refusal::Input(refusal) => file_place(refusal),
-            Refusal::Unwritten(_) | Refusal::Pairs => None,
-        },
+    match error {
+        LoadError::Twice(label)
+        | LoadError::Missing(label)
+        | LoadError::Circle(label)
+        | LoadError::IncludeCircle(label) => Some(label),
+        LoadError::Deep(target) | LoadError::Occurrences(target) => target_label(target),
+        LoadError::Shapes | LoadError::Full | LoadError::Memory => None,
     }
 }
 
-/// The thing for which a schema document is refused without a place, where one is looked for: `explain` alone shows one.
-fn thing_in(call: &ToolCall<'_>, refusal: &Refusal) -> Option<Thing>
-    ensures { result ≡ thing_in (tool_call_of call.now) refusal.now }
+/// Which of the places of its label is looked for.
+fn label_place(error: &LoadError) -> LabelPlace
+    ensures { result ≡ label_place error.now }
 {
-    match call {
-        ToolCall::Convert(_) | ToolCall::Extents(_) => None,
-        ToolCall::Explain(_) => match refusal {
-            Refusal::Input(InputRefusal::Schema(_, error)) => thing_of(error),
-            _ => None,
-        },
+    match error {
+        LoadError::Twice(_) => LabelPlace::DeclaredAgain,
+        LoadError::Missing(_) => LabelPlace::Referred,
+        _ => LabelPlace::Declared,
     }
 }
 
@@ -148,114 +135,199 @@ fn source_base<'a>(inputs: &Inputs<'a>, source: Source) -> &'a str
     }
 }
 
-/// The base of the document in a file of `explain`, and the empty text for the files of other calls.
-fn base_in<'a>(call: &ToolCall<'a>, source: Source) -> &'a str
-    ensures { result.now ≡ base_in (tool_call_of call.now) source }
+/// A file of `explain` with its name and its base.
+fn named_file<'a>(explaining: &Explaining<'a>, source: Source) -> NamedFile<'a>
+    ensures source { result.source ≡ source }
+    ensures name { result.name.now ≡ source_name (inputs_of (of_reasons (explaining_of explaining.now))) source }
+    ensures base { result.base.now ≡ source_base (asked_of (inputs_of (of_reasons (explaining_of explaining.now)))) source }
 {
-    match call {
-        ToolCall::Convert(_) | ToolCall::Extents(_) => "",
-        ToolCall::Explain(explaining) => source_base(&explaining.inputs, source),
+    NamedFile {
+        source,
+        name: input_name(&explaining.inputs, explaining.map, source),
+        base: source_base(&explaining.inputs, source),
     }
 }
 
-/// Whether references can be resolved against the text.
-fn has_scheme(base: &str) -> bool
-    ensures { result ≡ is_some (scheme_of base.now) }
-{
-    split(base).scheme.is_some()
-}
-
-/// The place of a thing in the bytes of a schema document of this name and base: in ShExC alone, where the base has a scheme.
-fn place_of_thing(
+/// The bytes of a file that is refused, which is fetched once more, and `None` where it is too long by now.
+fn fetch_again<F: Files>(
     alloc: Global,
-    name: &str,
-    base: &str,
-    thing: Thing,
-    bytes: &[u8],
-) -> Result<Option<u64>, AllocError>
-    ensures { IfOk result (λ found. IfSome found (λ at. (format_of name.now ≡ Compact) × IsEdge base.now thing bytes.now at)) }
+    files: &mut F,
+    file: &NamedFile<'_>,
+) -> Result<Option<Vec<u8>>, Unshown>
+    ensures fetched { IfOk result (λ found. IsFetched (F.told files.old) file.now.name.now (option_map (λ v. v.items) found)) }
+    ensures unshown { IfErr result (IsUnshown file.now.name.now file.now.source (F.faults files.old) (F.faults files.new) (F.blame files.new) (F.act files.new)) }
+    ensures faults_stay { OnOk result (F.faults files.new ≡ F.faults files.old) }
+    ensures told_stays { F.told files.new ≡ F.told files.old }
 {
-    match Format::of_name(name) {
-        Format::Compact => {
-            if has_scheme(base) {
-                thing_place(alloc, bytes, base, thing)
-            } else {
-                Ok(None)
-            }
-        }
-        Format::Json => Ok(None),
+    match fetch(alloc, files, file.name) {
+        Ok(bytes) => Ok(Some(bytes)),
+        Err(FetchError::Failed) => Err(Unshown::Failed(file.source)),
+        Err(FetchError::Long) => Ok(None),
+        Err(FetchError::Memory) => Err(Unshown::Memory),
     }
 }
 
-/// Appends the lines that show the place of a thing in the bytes of a schema document of this name and base; none where it has none.
-fn show_thing(
+/// Appends the lines that show a place in a file, which is fetched for that; none where it is too long by now.
+fn push_at<F: Files>(
     alloc: Global,
-    name: &str,
-    base: &str,
-    thing: Thing,
-    bytes: &[u8],
+    files: &mut F,
+    file: &NamedFile<'_>,
+    at: u64,
     out: &mut Vec<u8>,
-) -> Result<(), AllocError>
-    requires { length bytes.now < 2 ^ 64 - 1 }
-    ensures { OnOk result ((shown : List ℕ) × ShowsThing name.now base.now thing bytes.now shown × (out.new.items ≡ out.old.items ++ shown)) }
+) -> Result<(), Unshown>
+    ensures shown { OnOk result ((shown : List ℕ) × IsShown (F.told files.old) file.now.name.now at shown × (out.new.items ≡ out.old.items ++ shown)) }
+    ensures unshown { IfErr result (IsUnshown file.now.name.now file.now.source (F.faults files.old) (F.faults files.new) (F.blame files.new) (F.act files.new)) }
+    ensures faults_stay { OnOk result (F.faults files.new ≡ F.faults files.old) }
+    ensures told_stays { F.told files.new ≡ F.told files.old }
 {
-    match place_of_thing(alloc, name, base, thing, bytes)? {
-        Some(at) => push_place(alloc, name, bytes, at as usize, out),
+    let Some(bytes) = fetch_again(alloc, files, file)? else {
+        return Ok(());
+    };
+    push_place(alloc, file.name, bytes.as_slice(), at as usize, out)?;
+    Ok(())
+}
+
+/// Appends the lines that show a place in a file, if there is one.
+fn push_at_any<F: Files>(
+    alloc: Global,
+    files: &mut F,
+    file: &NamedFile<'_>,
+    place: Option<u64>,
+    out: &mut Vec<u8>,
+) -> Result<(), Unshown>
+    ensures shown { OnOk result ((shown : List ℕ) × ShowsPlace (F.told files.old) file.now.name.now place shown × (out.new.items ≡ out.old.items ++ shown)) }
+    ensures unshown { IfErr result (IsUnshown file.now.name.now file.now.source (F.faults files.old) (F.faults files.new) (F.blame files.new) (F.act files.new)) }
+    ensures faults_stay { OnOk result (F.faults files.new ≡ F.faults files.old) }
+    ensures told_stays { F.told files.new ≡ F.told files.old }
+{
+    match place {
+        Some(at) => push_at(alloc, files, file, at, out),
         None => Ok(()),
     }
 }
 
-/// Appends the lines that show a place in a file of this name, which is fetched for that; none where it is too long by now.
-fn push_shown<F: Files>(
+/// Appends what is shown of a schema document that is refused for an error without a place, which is fetched for that.
+fn push_cause_in<F: Files>(
     alloc: Global,
     files: &mut F,
-    name: &str,
-    at: u64,
+    file: &NamedFile<'_>,
+    error: &SchemaError,
     out: &mut Vec<u8>,
 ) -> Result<(), Unshown>
-    ensures shown { OnOk result ((shown : List ℕ) × IsShown (F.told files.old) name.now at shown × (out.new.items ≡ out.old.items ++ shown)) }
-    ensures unshown { IfErr result (IsUnshown name.now (F.faults files.old) (F.faults files.new) (F.blame files.new) (F.act files.new)) }
+    ensures shown { OnOk result ((shown : List ℕ) × IsCauseShown (F.told files.old) file.now.name.now file.now.base.now error.now shown × (out.new.items ≡ out.old.items ++ shown)) }
+    ensures unshown { IfErr result (IsUnshown file.now.name.now file.now.source (F.faults files.old) (F.faults files.new) (F.blame files.new) (F.act files.new)) }
     ensures faults_stay { OnOk result (F.faults files.new ≡ F.faults files.old) }
     ensures told_stays { F.told files.new ≡ F.told files.old }
 {
-    match fetch(alloc, files, name) {
-        Ok(bytes) => {
-            push_place(alloc, name, bytes.as_slice(), at as usize, out)?;
-            Ok(())
-        }
-        Err(FetchError::Failed) => Err(Unshown::Failed),
-        Err(FetchError::Long) => Ok(()),
-        Err(FetchError::Memory) => Err(Unshown::Memory),
-    }
+    let Some(bytes) = fetch_again(alloc, files, file)? else {
+        return Ok(());
+    };
+    push_cause(alloc, file.name, file.base, error, bytes.as_slice(), out)?;
+    Ok(())
 }
 
-/// Appends the lines that show the place of a thing in a schema document of this name and base, which is fetched for that; none where it
-/// is too long by now.
-fn push_thing<F: Files>(
+/// Appends what is shown of a schema document that is refused: the place that the error names, or else its cause.
+fn push_document<F: Files>(
     alloc: Global,
     files: &mut F,
-    name: &str,
-    base: &str,
-    thing: Thing,
+    file: &NamedFile<'_>,
+    error: &SchemaError,
     out: &mut Vec<u8>,
 ) -> Result<(), Unshown>
-    ensures shown { OnOk result ((shown : List ℕ) × IsThingShown (F.told files.old) name.now base.now thing shown × (out.new.items ≡ out.old.items ++ shown)) }
-    ensures unshown { IfErr result (IsUnshown name.now (F.faults files.old) (F.faults files.new) (F.blame files.new) (F.act files.new)) }
+    ensures shown { OnOk result ((shown : List ℕ)
+        × ShowsDocument (F.told files.old) file.now.name.now file.now.base.now error.now (schema_place error.now) shown
+        × (out.new.items ≡ out.old.items ++ shown)) }
+    ensures unshown { IfErr result (IsUnshown file.now.name.now file.now.source (F.faults files.old) (F.faults files.new) (F.blame files.new) (F.act files.new)) }
     ensures faults_stay { OnOk result (F.faults files.new ≡ F.faults files.old) }
     ensures told_stays { F.told files.new ≡ F.told files.old }
 {
-    match fetch(alloc, files, name) {
-        Ok(bytes) => {
-            show_thing(alloc, name, base, thing, bytes.as_slice(), out)?;
-            Ok(())
-        }
-        Err(FetchError::Failed) => Err(Unshown::Failed),
-        Err(FetchError::Long) => Ok(()),
-        Err(FetchError::Memory) => Err(Unshown::Memory),
+    match schema_place(error) {
+        Some(at) => push_at(alloc, files, file, at, out),
+        None => push_cause_in(alloc, files, file, error, out),
     }
 }
 
-/// Appends what is shown of the file that is refused: the place that the refusal names, or else that of the thing for which it is refused.
+/// Appends what is shown of the schema's own document for a label, which is fetched for that.
+fn push_label_in<F: Files>(
+    alloc: Global,
+    files: &mut F,
+    file: &NamedFile<'_>,
+    label: &Label,
+    place: LabelPlace,
+    out: &mut Vec<u8>,
+) -> Result<(), Unshown>
+    ensures shown { OnOk result ((shown : List ℕ) × IsLabelShown (F.told files.old) file.now.name.now file.now.base.now place label.now shown × (out.new.items ≡ out.old.items ++ shown)) }
+    ensures unshown { IfErr result (IsUnshown file.now.name.now file.now.source (F.faults files.old) (F.faults files.new) (F.blame files.new) (F.act files.new)) }
+    ensures faults_stay { OnOk result (F.faults files.new ≡ F.faults files.old) }
+    ensures told_stays { F.told files.new ≡ F.told files.old }
+{
+    let Some(bytes) = fetch_again(alloc, files, file)? else {
+        return Ok(());
+    };
+    push_label(
+        alloc,
+        file.name,
+        file.base,
+        label,
+        place,
+        bytes.as_slice(),
+        out,
+    )?;
+    Ok(())
+}
+
+/// Appends what is shown where the documents of a schema are refused together: in the schema's own document a place of the label of which
+/// the error tells.
+fn push_load<F: Files>(
+    alloc: Global,
+    files: &mut F,
+    file: &NamedFile<'_>,
+    error: &LoadError,
+    out: &mut Vec<u8>,
+) -> Result<(), Unshown>
+    ensures shown { OnOk result ((shown : List ℕ) × ShowsLoad (F.told files.old) file.now.name.now file.now.base.now error.now shown × (out.new.items ≡ out.old.items ++ shown)) }
+    ensures unshown { IfErr result (IsUnshown file.now.name.now file.now.source (F.faults files.old) (F.faults files.new) (F.blame files.new) (F.act files.new)) }
+    ensures faults_stay { OnOk result (F.faults files.new ≡ F.faults files.old) }
+    ensures told_stays { F.told files.new ≡ F.told files.old }
+{
+    match label_in(error) {
+        Some(label) => push_label_in(alloc, files, file, label, label_place(error), out),
+        None => Ok(()),
+    }
+}
+
+/// Appends what is shown where a file of the inputs is refused.
+fn push_input<F: Files>(
+    alloc: Global,
+    files: &mut F,
+    explaining: &Explaining<'_>,
+    refusal: &InputRefusal,
+    out: &mut Vec<u8>,
+) -> Result<(), Unshown>
+    requires fit { IsFit (of_reasons (explaining_of explaining.now)) }
+    requires refused { IsInputRefused (F.told files.old) (inputs_of (of_reasons (explaining_of explaining.now))) refusal.now }
+    ensures shown { OnOk result ((shown : List ℕ)
+        × ShowsInput (F.told files.old) (inputs_of (of_reasons (explaining_of explaining.now))) refusal.now shown
+        × (out.new.items ≡ out.old.items ++ shown)) }
+    ensures unshown { IfErr result (LeavesUnshown (F.told files.old) (of_reasons (explaining_of explaining.now))
+        (F.faults files.old) (F.faults files.new) (F.blame files.new) (F.act files.new)) }
+    ensures faults_stay { OnOk result (F.faults files.new ≡ F.faults files.old) }
+    ensures told_stays { F.told files.new ≡ F.told files.old }
+{
+    let file = named_file(explaining, refusal.source());
+    match refusal {
+        InputRefusal::Schema(_, error) => push_document(alloc, files, &file, error, out),
+        InputRefusal::Data(error) => push_at_any(alloc, files, &file, data_place(error), out),
+        InputRefusal::Map(error) => push_at_any(alloc, files, &file, map_place(error), out),
+        InputRefusal::Load(error) => push_load(alloc, files, &file, error, out),
+        InputRefusal::NegatedCycle(cycle) => {
+            push_cycle(alloc, files, explaining, cycle.as_slice(), out)
+        }
+        InputRefusal::Size(_) | InputRefusal::Import(_, _) | InputRefusal::Pairs => Ok(()),
+    }
+}
+
+/// Appends what is shown where a file is refused: `explain` alone shows something.
 fn push_refused<F: Files>(
     alloc: Global,
     files: &mut F,
@@ -263,34 +335,34 @@ fn push_refused<F: Files>(
     refusal: &Refusal,
     out: &mut Vec<u8>,
 ) -> Result<(), Unshown>
-    requires { IsRefused (F.told files.old) (tool_call_of call.now) refusal.now }
+    requires fit { IsFit (tool_call_of call.now) }
+    requires refused { IsRefused (F.told files.old) (tool_call_of call.now) refusal.now }
     ensures shown { OnOk result ((shown : List ℕ) × ShowsRefused (F.told files.old) (tool_call_of call.now) refusal.now shown × (out.new.items ≡ out.old.items ++ shown)) }
-    ensures unshown { IfErr result (LeavesUnshown (F.told files.old) (tool_call_of call.now) refusal.now
+    ensures unshown { IfErr result (LeavesUnshown (F.told files.old) (tool_call_of call.now)
         (F.faults files.old) (F.faults files.new) (F.blame files.new) (F.act files.new)) }
     ensures faults_stay { OnOk result (F.faults files.new ≡ F.faults files.old) }
     ensures told_stays { F.told files.new ≡ F.told files.old }
 {
-    let source = refusal.source();
-    let name = report::name(call, source);
-    match place_in(call, refusal) {
-        Some(at) => push_shown(alloc, files, name, at, out),
-        None => match thing_in(call, refusal) {
-            Some(thing) => push_thing(alloc, files, name, base_in(call, source), thing, out),
-            None => Ok(()),
+    match call {
+        ToolCall::Convert(_) | ToolCall::Extents(_) | ToolCall::Shards(_) => Ok(()),
+        ToolCall::Explain(explaining) => match refusal {
+            Refusal::Input(refusal) => push_input(alloc, files, explaining, refusal, out),
+            Refusal::Unwritten(_) | Refusal::Pairs | Refusal::Shards(_) => Ok(()),
         },
     }
 }
 
-/// The line for a file that is refused, and what is shown of the place that the refusal names.
+/// The line for a file that is refused, and what is shown of it.
 pub fn refusal_text<F: Files>(
     alloc: Global,
     files: &mut F,
     call: &ToolCall<'_>,
     refusal: &Refusal,
 ) -> Result<Vec<u8>, Unshown>
-    requires { IsRefused (F.told files.old) (tool_call_of call.now) refusal.now }
+    requires fit { IsFit (tool_call_of call.now) }
+    requires refused { IsRefused (F.told files.old) (tool_call_of call.now) refusal.now }
     ensures text { IfOk result (λ text. IsRefusalText (F.told files.old) (tool_call_of call.now) refusal.now text.items) }
-    ensures unshown { IfErr result (LeavesUnshown (F.told files.old) (tool_call_of call.now) refusal.now
+    ensures unshown { IfErr result (LeavesUnshown (F.told files.old) (tool_call_of call.now)
         (F.faults files.old) (F.faults files.new) (F.blame files.new) (F.act files.new)) }
     ensures faults_stay { OnOk result (F.faults files.new ≡ F.faults files.old) }
     ensures told_stays { F.told files.new ≡ F.told files.old }

@@ -1,11 +1,12 @@
 //! Why a call ends before its answer.
 
 ghost use Rattle.std.specs.Prelude.{◌≡◌};
-ghost use Rattle.shex_tools.specs.Stopping.{IsDocumentStop, IsWritingStop, extents_stop, stop_of};
+ghost use Rattle.shex_tools.specs.Stopping.{IsDocumentStop, IsWritingStop, extents_stop, shard_stop, stop_of};
 
 use label_extents::ExtentsError;
 use schema_documents::SchemaError;
 use schema_files::SchemaFile;
+use shard_answers::{CallFile, ShardError, ShardRefusal};
 use shex_inputs::{InputError, Refusal as InputRefusal, Source};
 use shexj_writer::WriteError;
 use std::alloc::AllocError;
@@ -19,6 +20,8 @@ pub enum Refusal {
     Unwritten(WriteError),
     /// The extents ask for more than 4,194,304 pairs of a node and a Shape.
     Pairs,
+    /// A file of a call about data in shards is not taken.
+    Shards(ShardRefusal),
 }
 
 impl Refusal {
@@ -26,13 +29,14 @@ impl Refusal {
     ghost use Rattle.shex_tools.specs.Texts.{refused_source};
 
     /// The file that is refused: the data, where the extents ask for too many pairs.
-    pub fn source(&self) -> Source
+    pub fn source(&self) -> CallFile
         ensures { result ≡ refused_source self.now }
     {
         match self {
-            Refusal::Input(refusal) => refusal.source(),
-            Refusal::Unwritten(_) => Source::Schema(SchemaFile::Root),
-            Refusal::Pairs => Source::Data,
+            Refusal::Input(refusal) => CallFile::Input(refusal.source()),
+            Refusal::Unwritten(_) => CallFile::Input(Source::Schema(SchemaFile::Root)),
+            Refusal::Pairs => CallFile::Input(Source::Data),
+            Refusal::Shards(refusal) => refusal.source(),
         }
     }
 }
@@ -43,7 +47,7 @@ pub enum Stop {
     /// A file is refused.
     Refused(Refusal),
     /// The file was not fetched.
-    Failed(Source),
+    Failed(CallFile),
     /// Memory ran out.
     Memory,
 }
@@ -59,14 +63,45 @@ impl From<AllocError> for Stop {
     }
 }
 
+/// Why nothing is shown of a file that is refused.
+#[derive(Clone, Copy, Debug, Drop, PartialEq, Eq)]
+pub enum Unshown {
+    /// This file was not fetched once more.
+    Failed(Source),
+    /// Memory ran out.
+    Memory,
+}
+
+impl From<AllocError> for Unshown {
+    ghost use Rattle.std.specs.Prelude.{◌≡◌};
+    ghost use Rattle.shex_tools.specs.declared.stop.Unshown.TheVariants.{Memory};
+
+    ghost from_gives = { λ _ e. e ≡ Memory };
+
+    fn from(_error: AllocError) -> Unshown {
+        Unshown::Memory
+    }
+}
+
 /// Why there is no answer where the inputs are not taken.
 pub fn stop_of(error: InputError) -> Stop
     ensures { result ≡ stop_of error }
 {
     match error {
         InputError::Refused(refusal) => Stop::Refused(Refusal::Input(refusal)),
-        InputError::Failed(source) => Stop::Failed(source),
+        InputError::Failed(source) => Stop::Failed(CallFile::Input(source)),
         InputError::Memory => Stop::Memory,
+    }
+}
+
+/// Why there is no answer where a call about data in shards has none.
+pub fn shard_stop(error: ShardError) -> Stop
+    ensures { result ≡ shard_stop error }
+{
+    match error {
+        ShardError::Refused(refusal) => Stop::Refused(Refusal::Shards(refusal)),
+        ShardError::Failed(file) => Stop::Failed(file),
+        ShardError::Memory => Stop::Memory,
     }
 }
 

@@ -12,13 +12,14 @@ ghost use Rattle.call_ends.specs.Parts.{AreQuiet};
 ghost use Rattle.call_ends.specs.Statuses.{IsCutOff, IsInterrupted};
 ghost use Rattle.call_ends.specs.Words.{RefusesWords};
 ghost use Rattle.program_ends.specs.Printing.{IsQuiet, SinkSeen, sink_seen};
+ghost use Rattle.shard_answers.specs.declared.error.CallFile.{CallFile};
 ghost use Rattle.shex_inputs.specs.Asked.{Question};
 ghost use Rattle.shex_inputs.specs.Held.{Held};
 ghost use Rattle.shex_io.specs.Faults.{Rose};
 ghost use Rattle.shex_io.specs.Sinks.{Gains};
 ghost use Rattle.tool_words.specs.Asked.{Explaining as Explained, IsToolCall, IsToolFault, Listing as Listed, ToolCall as Asked, of_labels, of_reasons};
 ghost use Rattle.tool_words.specs.Lent.{tool_call_of};
-ghost use Rattle.shex_tools.specs.Endings.{AreNotedQuietly, HasFailing, IsAnswered, IsFailedBy, IsPrintedInPart, IsRefusedBy, IsWordsLine, TellsIdle, ToolEnds};
+ghost use Rattle.shex_tools.specs.Endings.{AreNotedQuietly, HasFailing, IsAnswered, IsFailedBy, IsPrintedInPart, IsRefusedBy, IsWordsLine, TellsIdle, ToolEnds, HasLacking};
 ghost use Rattle.shex_tools.specs.Outcomes.{AreHeld, AreTaken, IsAbsent, IsQuestionOf, IsRefused};
 ghost use Rattle.shex_tools.specs.Reasons.{AreAsAsked, HaveFailing, HaveUnknown};
 ghost use Rattle.shex_tools.specs.Results.{Concludes, IsAnswer};
@@ -32,14 +33,16 @@ use crate::explaining::explain;
 use crate::laws::documents_are_one;
 use crate::listing::list;
 use crate::report;
-use crate::showing::{Unshown, refusal_text};
-use crate::stop::{Refusal, Stop};
+use crate::sharding::answer_shards;
+use crate::showing::refusal_text;
+use crate::stop::{Refusal, Stop, Unshown};
 use call_ends::Response;
 use command_words::WordsError;
 use idle_selectors::laws::lines_are_exact;
 use program_ends::{print, say};
 use schema_tree::laws::{layers_are_meanings, refinement_is_one, verdict_is_one};
-use shex_inputs::{Source, inputs_are_one, taken_is_loaded};
+use shard_answers::{CallFile, calls_end_in_one_way};
+use shex_inputs::{inputs_are_one, taken_is_loaded};
 use shex_io::{Files, Sink};
 use std::alloc::Global;
 use tool_words::{ToolCall, answers_are_one, read_tool};
@@ -59,6 +62,7 @@ fn respond<F: Files>(alloc: Global, files: &mut F, call: &ToolCall<'_>) -> Resul
         ToolCall::Convert(converting) => convert(alloc, files, converting),
         ToolCall::Extents(listing) => list(alloc, files, listing),
         ToolCall::Explain(explaining) => explain(alloc, files, explaining),
+        ToolCall::Shards(call) => answer_shards(alloc, files, call),
     }
 }
 
@@ -72,8 +76,8 @@ fn refuse<S: Sink>(alloc: Global, error: WordsError<'_>, sink: &mut S) -> u8
     }
 }
 
-/// Says why a file is refused and, of `explain`, shows the place that the refusal names, or says that the file was not fetched once more
-/// for that, and gives the status.
+/// Says why a file is refused and, of `explain`, shows where it is wrong, or says which file was not fetched once more for that, and gives
+/// the status.
 fn end_refusal<F: Files, E: Sink>(
     alloc: Global,
     call: &ToolCall<'_>,
@@ -81,7 +85,8 @@ fn end_refusal<F: Files, E: Sink>(
     files: &mut F,
     err: &mut E,
 ) -> u8
-    requires { IsRefused (F.told files.old) (tool_call_of call.now) refusal.now }
+    requires fit { IsFit (tool_call_of call.now) }
+    requires refused { IsRefused (F.told files.old) (tool_call_of call.now) refusal.now }
     ensures { (words : List (List ℕ)) → IsToolCall words (tool_call_of call.now) → (out : SinkSeen) → IsQuiet out → ToolEnds
         words
         (files_seen F.told F.faults F.blame F.act files.old files.new)
@@ -91,7 +96,9 @@ fn end_refusal<F: Files, E: Sink>(
 {
     match refusal_text(alloc, files, call, refusal) {
         Ok(text) => print(err, text.as_slice(), 3),
-        Err(Unshown::Failed) => say(report::failed(alloc, call, refusal.source()), 5, err),
+        Err(Unshown::Failed(source)) => {
+            say(report::failed(alloc, call, CallFile::Input(source)), 5, err)
+        }
         Err(Unshown::Memory) => 8,
     }
 }
@@ -162,17 +169,33 @@ fn end<F: Files, O: Sink, E: Sink>(
 /// matches no triple, and `not in the data: NODE` for a node that is neither the subject nor the object of a triple. Of more than the
 /// limit the first are named, and how many more there are.
 ///
-/// A refusal, and a file that is not fetched, are told by one line on `err`, unless memory ran out. Where `explain` refuses a file that
-/// is wrong at a place, or a schema in ShExC for a thing in it, the file is fetched once more, and behind that line `err` gets
-/// `FILE:LINE:COLUMN` and lines that show the place, or that of the thing, in what the file holds then. N of `--budget` is from 1 to
-/// 1,099,511,627,776, and 1,048,576 where none is given; N of `--limit`, how much is printed in one place, is as great, and 20 where none
-/// is given.
+/// `lines --data F [--prefix P] [--data-base I]` prints to `out` the triples of the data, a line of N-Triples each (RDF 1.1 N-Triples,
+/// section 4), in the order in which they stand first. Labels of blank nodes stay as they are, or P goes before the printed name of each
+/// blank node.
 ///
-/// The status is 0 where there is an answer; of `explain`, 1 where some association is not as asked; 4 where the membership of some
-/// node in the extents is not told, or whether some association is as asked, since it depends on a pair that is wider than the
-/// budget, and then `err` gets a line for each wide pair that the nodes with the labels, or the associations, reach, of `explain` with
-/// the name of the Shape; 2 where the words are refused, 3 where a file is refused, 5 where a file was not fetched, 7 where a sink
-/// failed, 8 where memory ran out.
+/// `followed --schema F [--schema-base I] [IRI=FILE ..]` prints a line for each way that the triple constraints of the schema read
+/// (ShEx 2.1, section 5.5.2): `follow <P>` where a Shape is asked of the objects of triples, `follow ^<P>` where one is asked of the
+/// subjects, and `read ^<P>` where the constraint is inverse.
+///
+/// `reached --schema F --data F --map F [--schema-base I] [--data-base I] [IRI=FILE ..]` prints the nodes at which the associations of the
+/// shape map reach a Shape over the graph, a line each.
+///
+/// `covers --followed F --part F [NODES=SHARD ..]` looks in each file SHARD in turn for the lines of the part that are read at the nodes of
+/// the file NODES: those with such a subject, and those with such an object whose predicate stands behind `read ^` in a line of the ways.
+/// Where a shard lacks one, its name and the first line that it lacks are printed, and no further shard is looked at.
+///
+/// A refusal, and a file that is not fetched, are told by one line on `err`, unless memory ran out. Where `explain` refuses a file that
+/// is wrong at a place, or a schema for a thing in it or for a label, the file is fetched once more, and behind that line `err` gets
+/// `FILE:LINE:COLUMN` and lines that show the place in what the file holds then, or in ShExJ `FILE: ` and the keys that lead there. Where
+/// the Shapes of a schema refer to one another in a circle with a negation, its files are fetched once more, and `err` gets a line
+/// `#N is NAME` for each of these Shapes that has a name. N of `--budget` is from 1 to 1,099,511,627,776, and 1,048,576 where none is
+/// given; N of `--limit`, how much is printed in one place, is as great, and 20 where none is given.
+///
+/// The status is 0 where there is an answer; 1 of `explain` where some association is not as asked, and of `covers` where a shard lacks a
+/// line; 4 where the membership of some node in the extents is not told, or whether some association is as asked, since it depends on a
+/// pair that is wider than the budget, and then `err` gets a line for each wide pair that the nodes with the labels, or the associations,
+/// reach, of `explain` with the name of the Shape; 2 where the words are refused, 3 where a file is refused, 5 where a file was not
+/// fetched, 7 where a sink failed, 8 where memory ran out.
 pub fn run_tool<F: Files, O: Sink, E: Sink>(
     alloc: Global,
     words: &[String],
@@ -198,7 +221,9 @@ pub fn run_tool<F: Files, O: Sink, E: Sink>(
     // refinement are Unknown, so that they depend on a pair whose Width is above the budget, and then each such pair that the nodes
     // with the labels reach is noted, of which there is one at least. The text of `explain` is that of the explanation of the map's
     // associations by the verdicts of refinement, each of which is true: what each block is about is denied by the complete typing,
-    // each verdict is that of the complete typing, and it is Unknown, with status 4, only where it depends on such a pair.
+    // each verdict is that of the complete typing, and it is Unknown, with status 4, only where it depends on such a pair. The text of
+    // `lines` is the triples of the data file, that of `followed` the ways that the schema reads, that of `reached` the nodes that the
+    // associations reach, and that of `covers` the first line that a shard lacks, if one does.
     ensures answered { IsAnswering result →
         (text notes : List ℕ)
         × IsAnswered (F.told files.old) (map string_bytes words.now) result text notes
@@ -217,8 +242,8 @@ pub fn run_tool<F: Files, O: Sink, E: Sink>(
     ensures noted { result ≡ 4 → (text notes : List ℕ) →
         IsAnswered (F.told files.old) (map string_bytes words.now) result text notes → notes ≢ [] }
 
-    // Each other status has its cause. With 2 and 5 its line is all that is printed, with 3 its line and, of `explain`, what shows the
-    // place that the refusal names; with 7 and 8 a part of what is due.
+    // Each other status has its cause. With 2 and 5 its line is all that is printed, with 3 its line and, of `explain`, what shows where
+    // the file is wrong; with 7 and 8 a part of what is due.
     ensures arguments { result ≡ 2 →
         (line : List ℕ)
         × IsWordsLine (map string_bytes words.now) line
@@ -264,9 +289,9 @@ pub fn run_tool<F: Files, O: Sink, E: Sink>(
     ensures refuses { (contents : List ℕ → Option (List ℕ)) (call : Asked) (refusal : Refusal) →
         F.told files.old ≡ Some contents → IsToolCall (map string_bytes words.now) call →
         IsRefused (F.told files.old) call refusal → (result ≡ 3) ⊎ IsInterrupted result }
-    ensures misses { (contents : List ℕ → Option (List ℕ)) (call : Asked) (source : Source) →
+    ensures misses { (contents : List ℕ → Option (List ℕ)) (call : Asked) (file : CallFile) →
         F.told files.old ≡ Some contents → IsToolCall (map string_bytes words.now) call →
-        IsAbsent (F.told files.old) call source → IsInterrupted result }
+        IsAbsent (F.told files.old) call file → IsInterrupted result }
 
     // Extents end with 4 exactly where a verdict of refinement over the demanded pairs is Unknown.
     ensures undecided { (contents : List ℕ → Option (List ℕ)) (l : Listed) (h : Held) (pairs : List Pair) (verdicts : Known) →
@@ -296,8 +321,9 @@ pub fn run_tool<F: Files, O: Sink, E: Sink>(
         ¬ HaveUnknown q.held.schema q.terms verdicts q.associations →
         HaveFailing q.held.schema q.terms verdicts q.associations → (result ≡ 1) ⊎ IsInterrupted result }
 
-    // With 1 some association is not as asked by the complete typing.
-    ensures failing { result ≡ 1 → HasFailing (F.told files.old) (map string_bytes words.now) }
+    // With 1 some association is not as asked by the complete typing, or a shard lacks a line.
+    ensures failing { result ≡ 1 →
+        HasFailing (F.told files.old) (map string_bytes words.now) ⊎ HasLacking (F.told files.old) (map string_bytes words.now) }
 
     // Faults that came are said.
     ensures files_fault { F.faults files.old < F.faults files.new → IsInterrupted result }
@@ -310,6 +336,7 @@ pub fn run_tool<F: Files, O: Sink, E: Sink>(
     inputs_are_one();
     taken_is_loaded();
     documents_are_one();
+    calls_end_in_one_way();
     refinement_is_one();
     layers_are_meanings();
     verdict_is_one();

@@ -1,5 +1,5 @@
 use Rattle.std.proofs.Common.{[]}
-use Rattle.command_words.specs.Lent.{import_of}
+use Rattle.input_names.specs.Lent.{import_of}
 use Rattle.shex_tools.proofs.Bases.{seen_twice}
 use Rattle.shex_tools.proofs.showing.import_base.Goals as goal
 

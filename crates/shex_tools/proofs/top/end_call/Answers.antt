@@ -11,8 +11,8 @@ returns-in-Ok g c = λ words is_call.
     with_answer words (tool_call_of c.args.call.now) is_call _ _ _ _ c.in-Ok.response.text.items c.in-Ok.response.notes.items c.in-Ok.response.status c.in-Ok.ensures.answer
     (record { told_same = c.in-Ok.ensures.told_stays; faults_same = c.in-Ok.ensures.faults_stay }) c.print.ensures
 
-pub end_refusal-requires : goal.end_refusal-requires
-end_refusal-requires g c =
+pub end_refusal-requires-clause-refused : goal.end_refusal-requires-clause-refused
+end_refusal-requires-clause-refused g c =
     let k = tool_call_of c.args.call.now in
     let C : Stop → Type 0 = λ s. Explains (g.F.Files.told c.args.files.now) k s in
     subst (λ t. IsRefused t k c.in-Err-Refused.refusal) (sym c.respond.ensures.told_stays) (subst C c.in-Err-Refused.field-0-is c.in-Err-Refused.ensures.cause)

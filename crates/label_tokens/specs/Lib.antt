@@ -1,0 +1,5 @@
+pub mod Roles
+pub mod Spots
+pub mod Scenes
+pub mod Views
+pub mod Places
