@@ -87,6 +87,8 @@ def main():
     program = built(words.program, "shex")
     if program is None or not shutil.which("valgrind"):
         sys.exit("costs: the program or valgrind is not there")
+    if words.keep:
+        os.makedirs(words.keep, exist_ok=True)
     own, called = {}, {}
     for family in words.families:
         with tempfile.TemporaryDirectory() as folder:
