@@ -277,9 +277,11 @@ def shard(task: Task) -> Result:
     triples, size = int(shell("wc -l <data.nt")), os.path.getsize("data.nt")
     if triples > task.call["most_triples"] or size > task.call["most_bytes"]:
         raise too_large(read_rows(f"{front}.asked")[0], triples, size)
+    # A name that begins with `anon` alone is of no node of N-Triples, and no line can be missing there; a label may look like it in lines.
+    shell("sed '/^_:anon[^_]/d' \"$1\" | sed '$!s/$/,/' >named", f"{front}.asked")
     with open("reached", "wb") as file:
-        file.write(reached(task.programs, "data.nt", "map"))
-    shell("sort -u -o nodes reached; rm reached")
+        file.write(reached(task.programs, "data.nt", "named"))
+    shell("sort -u -o nodes reached; rm reached named")
     done = validate(task.programs, "data.nt", "map", [*task.call["budget"], *(["--proof", "proof"] if task.call["proofs"] else [])])
     if task.call["proofs"] and check(task.programs, "data.nt", "proof") != done.stdout:
         raise ValueError("the claims of the proof are not the answers")
