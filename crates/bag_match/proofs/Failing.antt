@@ -12,13 +12,11 @@ use Rattle.std.specs.Prelude.{Contains, Some, ◌↔◌, slice_get, slice_set}
 use Rattle.schema_tree.specs.declared.verdicts.Place.{Place}
 use Rattle.tally.specs.Plan.{Plan}
 use Rattle.std.specs.Prelude.{Option}
-use Rattle.lists.proofs.Members.{not_in_none}
 use Rattle.bag_match.specs.Counts.{raised}
 use Rattle.bag_match.specs.Hopes.{IsHopeless}
 use Rattle.bag_match.specs.Sets.{lists_of}
 use Rattle.bag_match.specs.Searches.{AreLost, HasFailed, IsLost, IsOpenFrom}
-use Rattle.bag_match.proofs.Layering.{got_push}
-use Rattle.bag_match.proofs.Putting.{held_there, lists}
+use Rattle.bag_match.proofs.Putting.{held_there}
 use Rattle.bag_match.proofs.Rising.{in_push}
 
 -- an item that is read
@@ -29,13 +27,6 @@ got_read xs i x within is = slice_get-get_or xs i x (ltb-true i (length xs) (sym
 pub has_failed_is : (failed : List (BTreeSet (Vec ℕ))) (left : ℕ) (s : BTreeSet (Vec ℕ)) (counts : List ℕ) → slice_get failed left ≡ Some s →
     list_any (λ k. is_eq (slice_cmp nat_cmp counts k.items)) s.keys ≡ true → HasFailed failed left counts
 has_failed_is failed left s counts at has = (s, at, held_there s.keys counts has)
-
--- one more set that has nothing
-pub failed_push : (old new : List (BTreeSet (Vec ℕ))) (s : BTreeSet (Vec ℕ)) → new ≡ old ++ s ∷ [] → s.keys ≡ [] → (k : ℕ) (c : List ℕ) → HasFailed new k c → HasFailed old k c
-failed_push old new s is none k c (x, at, held) = elim (got_push old s x k (subst (λ z. slice_get z k ≡ Some x) is at)) [
-  | inl before ↦ (x, before, held)
-  | inr last ↦ absurd (not_in_none c (subst (λ z. Contains (lists z) c) none (subst (λ z. Contains (lists z.keys) c) (sym last.1) held)))
-]
 
 -- one of the items is another
 got_set_same : {X : Type 0} (xs : List X) (i : ℕ) (x : X) → i < length xs → slice_get (slice_set xs i x) i ≡ Some x

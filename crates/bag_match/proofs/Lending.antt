@@ -94,6 +94,3 @@ module _ (p : Triple → Bool) (ts : List Triple) (i : ℕ) (t : Triple) (places
 
   pub inside_more : AreInside ts places → (new : List ℕ) → new ≡ places ++ i ∷ [] → AreInside ts new
   inside_more h new is = subst (λ z. AreInside ts z) (sym is) (inside_push ts places i h within)
-
-pub inside_same : (ts : List Triple) (places new : List ℕ) → new ≡ places → AreInside ts places → AreInside ts new
-inside_same ts places new is h = subst (λ z. AreInside ts z) (sym is) h

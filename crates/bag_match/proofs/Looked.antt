@@ -121,8 +121,5 @@ module _ (hold fail : TermId → Option ExprId → Type 0) (sh : Shape) (n : Ter
 
 -- ---- ticks
 
-pub looked_first : (start now bound : ℕ) → now ≡ start + 1 → 1 ≤ bound → now ≤ start + (0 + 1) * bound
-looked_first start now bound is some = omega (arith, is, some)
-
 pub looked_next : (start before now done own bound : ℕ) → before ≤ start + (done + 1) * bound → now ≤ before + own → own ≤ bound → now ≤ start + (done + 1 + 1) * bound
 looked_next start before now done own bound h k few = omega (arith, h, k, few)

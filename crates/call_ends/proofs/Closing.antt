@@ -156,7 +156,8 @@ module _ (Faulty Refused Failed : List ℕ → Type 0) (Answers : ℕ → List �
   -- what is so of the status that is wanted is so of the status, where a failed call leaves nothing to say
   pub concludes : (C : ℕ → Type 0) → ((line : List ℕ) → Faulty line → C 2) → ((text notes : List ℕ) (wanted : ℕ) → Answers wanted text notes → C wanted) →
       ((line : List ℕ) → Refused line → C 3) → Ends → C status ⊎ IsInterrupted status
-  concludes C two with three ends = go (comes_to (λ n. C n ⊎ (n ≡ 5)) (λ line by. inl (two line by)) (λ text notes wanted by. inl (with text notes wanted by)) (λ line by. inl (three line by)) (λ line by. inr refl) ends)
+  concludes C two with three ends =
+      go (comes_to (λ n. C n ⊎ (n ≡ 5)) (λ line by. inl (two line by)) (λ text notes wanted by. inl (with text notes wanted by)) (λ line by. inl (three line by)) (λ line by. inr refl) ends)
     where
       go : (C status ⊎ (status ≡ 5)) ⊎ IsCutOff status → C status ⊎ IsInterrupted status
       go (inl (inl so)) = inl so

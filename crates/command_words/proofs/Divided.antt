@@ -19,7 +19,8 @@ pub record Parts (word front back : Text) : Type 0 where
 
 pub parts : (word front back : Text) → SplitsAroundMatch (RFindsChar 61) word front back → Parts word front back
 parts word front back h = record {
-  whole = sym (take-append-drop h.0 word) ∙ ap (λ t. take h.0 word ++ t) (drop_at_char 61 word h.0 h.1 h.2.1 (lit< tt)) ∙ ap (λ t. t ++ (61 ∷ drop h.1 word)) (sym h.3) ∙ ap (λ t. front ++ (61 ∷ t)) (sym h.4);
+  whole = sym (take-append-drop h.0 word) ∙ ap (λ t. take h.0 word ++ t) (drop_at_char 61 word h.0 h.1 h.2.1 (lit< tt)) ∙ ap (λ t. t ++ (61 ∷ drop h.1 word))
+      (sym h.3) ∙ ap (λ t. front ++ (61 ∷ t)) (sym h.4);
   last = All-from_get_or (λ b. b ≢ 61) back 0 (λ k l e. NoCharPasses-char 61 back k (subst (NoCharPasses (λ d. d == 61)) (sym h.4) h.2.0) (lit< tt) l e);
 }
 

@@ -94,7 +94,8 @@ pub imports_failed : (g : Given) (ws : List Text) (r : Result LentInputs WordsEr
     → IfErr r (Because (IsGivenFault g))
 imports_failed g ws r e h endings same = handed_on (IsImportFault [] ws) (IsGivenFault g) r e h (λ f bad. import_words f endings (subst (λ (all : List Text). IsImportFault [] all f) same bad))
 
-pub with_imports : (g : Given) (ws : List Text) (imports : List Import) → is_schema_name g.schema ≡ true → is_data_name g.data_file ≡ true → ws ≡ g.import_words → AreImports [] ws imports → HasImports g imports
+pub with_imports : (g : Given) (ws : List Text) (imports : List Import) → is_schema_name g.schema ≡ true → is_data_name g.data_file ≡ true →
+    ws ≡ g.import_words → AreImports [] ws imports → HasImports g imports
 with_imports g ws imports s d same given = record { endings = record { schema = s; data_file = d }; imports_given = subst (λ (all : List Text). AreImports [] all imports) same given }
 
 -- what is given is at fault

@@ -5,25 +5,7 @@ use Rattle.clap.specs.Words.{App, HasKind, HasMatchesOf, Kinds, Text, fault_of, 
 use Rattle.clap.specs.declared.error.Error.{Error}
 use Rattle.clap.specs.declared.error.kind.ErrorKind.TheVariants as kind
 use Rattle.clap.specs.declared.parser.matches.ArgMatches.{ArgMatches}
-use Rattle.clap.proofs.OnLiterals.{clap_on_literals}
-use Rattle.command_words.specs.Commands.{IsCovered, check, faults, rows, upgrade, validate}
-use Rattle.command_words.specs.Drills.{drill}
-
-pub validate_covered : IsCovered validate
-unfolding clap_on_literals
-validate_covered = record { simple = refl; free = refl }
-
-pub check_covered : IsCovered check
-unfolding clap_on_literals
-check_covered = record { simple = refl; free = refl }
-
-pub upgrade_covered : IsCovered upgrade
-unfolding clap_on_literals
-upgrade_covered = record { simple = refl; free = refl }
-
-pub drill_covered : IsCovered drill
-unfolding clap_on_literals
-drill_covered = record { simple = refl; free = refl }
+use Rattle.command_words.specs.Commands.{IsCovered, faults, rows}
 
 pub taken : (a : App) (ws : List Text) → IsCovered a → (is_simple_and_free a ≡ true → fault_of a ws ≡ []) → faults a ws ≡ []
 unfolding faults

@@ -64,7 +64,8 @@ chosen false true = refl
 chosen false false = refl
 
 -- one more IRI
-pub knows_next : (old new : BTreeSet (Bor Text)) (earlier : List Text) (x : Bor Text) → Knows old earlier → ((iri : Bor Text) → contains text_order new iri ≡ cond (is_eq (text_order x iri)) true (contains text_order old iri))
+pub knows_next : (old new : BTreeSet (Bor Text)) (earlier : List Text) (x : Bor Text) → Knows old earlier →
+    ((iri : Bor Text) → contains text_order new iri ≡ cond (is_eq (text_order x iri)) true (contains text_order old iri))
     → Knows new (earlier ++ x.now ∷ [])
 knows_next old new earlier x h changed = λ iri.
     changed iri
@@ -95,14 +96,16 @@ goes_first words given imports e f = record {
   known = knows_none given imports e f;
 }
 
-pub was_new : (given : BTreeSet (Bor Text)) (earlier : List Text) (x : Bor Text) (added : Bool) → Knows given earlier → added ≡ not (contains text_order given x) → added ≡ true → is_among x.now earlier ≡ false
+pub was_new : (given : BTreeSet (Bor Text)) (earlier : List Text) (x : Bor Text) (added : Bool) → Knows given earlier →
+    added ≡ not (contains text_order given x) → added ≡ true → is_among x.now earlier ≡ false
 was_new given earlier x added h e new = sym (h x) ∙ by (contains text_order given x) (sym e ∙ new)
   where
     by : (b : Bool) → not b ≡ true → b ≡ false
     by true e = sym e
     by false e = refl
 
-pub was_known : (given : BTreeSet (Bor Text)) (earlier : List Text) (x : Bor Text) (added : Bool) → Knows given earlier → added ≡ not (contains text_order given x) → added ≡ false → is_among x.now earlier ≡ true
+pub was_known : (given : BTreeSet (Bor Text)) (earlier : List Text) (x : Bor Text) (added : Bool) → Knows given earlier →
+    added ≡ not (contains text_order given x) → added ≡ false → is_among x.now earlier ≡ true
 was_known given earlier x added h e old = sym (h x) ∙ by (contains text_order given x) (sym e ∙ old)
   where
     by : (b : Bool) → not b ≡ false → b ≡ true
@@ -132,6 +135,7 @@ fault_here words i d given imports f inside h bad =
     h.stands.fault f (subst (λ (ws : List Text). IsImportFault (iris imports) ws f) (sym (next_left words i d inside)) (inl bad))
 
 -- all words are read
-pub goes_last : (words : List (Bor Text)) (i : ℕ) (given : BTreeSet (Bor Text)) (imports : List LentImport) → length words ≤ i → Goes words i given imports → AreImports [] (map (λ w. w.now) words) (map import_of imports)
+pub goes_last : (words : List (Bor Text)) (i : ℕ) (given : BTreeSet (Bor Text)) (imports : List LentImport) → length words ≤ i → Goes words i given imports →
+    AreImports [] (map (λ w. w.now) words) (map import_of imports)
 goes_last words i given imports all h =
     stands_last (map (λ w. w.now) words) imports (map (λ w. w.now) (drop i words)) (ap (map (λ w. w.now)) (drop_all i words all)) h.stands

@@ -18,7 +18,8 @@ among_both name names f xs =
 
 -- a name that is none of these is among all where it is that of one of some things
 pub named_by : {X Y : Type 0} (name schema source : Text) (maps : List Text) (f : Y → Text) (g : X → Y) (xs : List X) (r : Bool)
-    → bytes_eq schema name ≡ false → bytes_eq source name ≡ false → is_among name maps ≡ false → r ≡ list_any (λ x. bytes_eq (f (g x)) name) xs → r ≡ is_among name (schema ∷ source ∷ maps ++ map f (map g xs))
+    → bytes_eq schema name ≡ false → bytes_eq source name ≡ false → is_among name maps ≡ false → r ≡ list_any (λ x. bytes_eq (f (g x)) name) xs → r ≡
+    is_among name (schema ∷ source ∷ maps ++ map f (map g xs))
 named_by name schema source maps f g xs r a b m e = e ∙ sym whole
   where
     mapped : is_among name (maps ++ map f (map g xs)) ≡ (is_among name maps || list_any (λ x. bytes_eq (f (g x)) name) xs)

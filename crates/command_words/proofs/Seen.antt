@@ -57,7 +57,8 @@ module _ (n : Text) (a b : App) (owns : (t : Task) → name_of t ≡ n → comma
   -- an error that is handed on, where `clap` refuses the words
   pub not_accepted : (r : Result LentRequest WordsError) (x : WordsError) → IsErrAnd r (λ y. y ≡ x) → Because (λ f. (f ≡ arguments) × (faults b words ≢ [])) x
       → IfErr r (Because (λ f. (f ≡ arguments) × ((q : Request) → name_of q.task ≡ n → ¬ IsFound words q)))
-  not_accepted r x h = handed_on (λ f. (f ≡ arguments) × (faults b words ≢ [])) (λ f. (f ≡ arguments) × ((q : Request) → name_of q.task ≡ n → ¬ IsFound words q)) r x h (λ f (is, refused). (is, not_taken refused))
+  not_accepted r x h = handed_on (λ f. (f ≡ arguments) × (faults b words ≢ [])) (λ f. (f ≡ arguments) ×
+      ((q : Request) → name_of q.task ≡ n → ¬ IsFound words q)) r x h (λ f (is, refused). (is, not_taken refused))
 
   -- what is given and what is asked, if it is, put together
   pub found_with : (seen : List Row) (o : Option LentTask) (r : Result LentRequest WordsError) → faults b words ≡ [] → seen ≡ rows b words → IfSome o (λ t. IsTask seen (task_of t))
@@ -80,10 +81,6 @@ module _ (n : Text) (a b : App) (owns : (t : Task) → name_of t ≡ n → comma
       → IfErr r (Because (λ f. (f ≡ arguments) × (IsNone o ⊎ ((g : Given) → ¬ IsGiven seen g)))) → IfErr r (Because (λ f. (f ≡ arguments) × ((q : Request) → name_of q.task ≡ n → ¬ IsFound words q)))
   not_with seen o (Ok q) same missed fault = tt
   not_with seen o (Err e) same missed fault = because _ _ e (not_found seen o same missed) fault
-
--- no words, or a first word that is no command's name
-pub no_words : (r : Request) → ¬ Asks [] r
-no_words r a = absurd (let e : [] ≡ name_of r.task ∷ a.behind = a.named in cc)
 
 pub heads : {x y : Text} {xs ys : List Text} → x ∷ xs ≡ y ∷ ys → x ≡ y
 heads e = cc
@@ -120,7 +117,8 @@ first_and_rest f (w ∷ ws) x l e =
     ap (λ z. z ∷ map f ws) (ap f (sym e)) ∙ ap (λ z. f x ∷ map f z) (sym (ap (λ k. take k ws) n ∙ take_all ws))
 
 -- a request behind a command's name is one of all words
-pub requested : (words behind : List Text) (n : Text) (r : Result LentRequest WordsError) → words ≡ n ∷ behind → IfOk r (λ q. IsFound behind (request_of q)) → IfOk r (λ q. name_of (task_of q.task) ≡ n)
+pub requested : (words behind : List Text) (n : Text) (r : Result LentRequest WordsError) → words ≡ n ∷ behind → IfOk r (λ q. IsFound behind (request_of q)) →
+    IfOk r (λ q. name_of (task_of q.task) ≡ n)
     → IfOk r (λ q. Asks words (request_of q))
 requested words behind n (Ok q) e found named = asks_behind words behind n (request_of q) e found named
 requested words behind n (Err x) e found named = tt

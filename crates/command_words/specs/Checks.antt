@@ -105,6 +105,7 @@ pub record Passes (r : Request) (imports : List Import) : Type 0 where
 -- the first check that a request fails
 pub data IsRequestFault (r : Request) : Fault → Type 0 where
   of_given : (f : Fault) → IsGivenFault r.given f → IsRequestFault r f
-  same_name : (imports : List Import) → PassesBases r.given imports → (name : Text) → proof_of r.task ≡ Some name → is_among name (other_names (inputs_by r.given imports) r.task) ≡ true → IsRequestFault r (same name)
+  same_name : (imports : List Import) → PassesBases r.given imports → (name : Text) → proof_of r.task ≡ Some name →
+      is_among name (other_names (inputs_by r.given imports) r.task) ≡ true → IsRequestFault r (same name)
   same_to : (imports : List Import) → PassesBases r.given imports → IsApart (proof_of r.task) (other_names (inputs_by r.given imports) r.task) → (name : Text) → to_of r.task ≡ Some name
       → is_among name (names_with_proof (inputs_by r.given imports) r.task) ≡ true → IsRequestFault r (same name)

@@ -32,10 +32,6 @@ zip_back R (z ∷ xs) (w ∷ ys) h (suc i) y a = zip_back R xs ys h.1 i y a
 
 -- ---- members
 
-pub map_more : {X Y : Type 0} (f : X → Y) (xs : List X) (i : ℕ) (x : X) → i < length xs → x ≡ get_or xs i x → map f (take (i + 1) xs) ≡ map f (take i xs) ++ f x ∷ []
-map_more f xs i x inside read =
-    ap (map f) (take_more xs i x inside ∙ ap (λ z. take i xs ++ z ∷ []) (sym read)) ∙ map-append f (take i xs) (x ∷ [])
-
 pub none_more : {X : Type 0} (xs : List X) (q : X) → Contains xs q ↔ (Contains xs q ⊎ Contains [] q)
 none_more xs q = (inl, (λ h. elim h [ inl l ↦ l | inr n ↦ absurd (not_in_none q n) ]))
 

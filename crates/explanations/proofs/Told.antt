@@ -1,21 +1,14 @@
 -- What is told of items, one after the other, while subjects are numbered.
 use Rattle.std.proofs.Common.{◌≡◌, ◌∙◌, ℕ, ◌<◌, ◌≤◌, ◌+◌, sym, subst, ap, get_or, take, length, List, [], ◌∷◌, ◌++◌}
 use Rattle.std.proofs.lemmas.List.{append-nil, nil_from_length, take_all}
-use Rattle.std.proofs.lemmas.Option.{slice_get-get_or}
-use Rattle.std.specs.List.{AllByRecursion, AllZip, flat_map}
+use Rattle.std.specs.List.{AllZip, flat_map}
 use Rattle.lists.proofs.Beside.{zip_on, zip_push}
-use Rattle.lists.proofs.Members.{got_in}
-use Rattle.lists.proofs.Quantifiers.{all_at}
 use Rattle.rdf_terms.specs.declared.terms.Term.{Term}
 use Rattle.schema_tree.specs.declared.schema.Schema.{Schema}
 use Rattle.schema_tree.specs.Sure.{Known}
 use Rattle.explanations.specs.declared.subject.Subject.{Subject}
 use Rattle.explanations.specs.Numbers.{GoesOn, Numbers}
 use Rattle.explanations.proofs.Numbering.{goes_on, numbers_more, numbers_none}
-
--- what holds of all items holds of the one at a place
-pub all_get : {X : Type 0} (P : X → Type 0) (xs : List X) (i : ℕ) (d : X) → i < length xs → AllByRecursion P xs → P (get_or xs i d)
-all_get P xs i d inside h = all_at P xs (get_or xs i d) h (got_in xs i (get_or xs i d) (slice_get-get_or xs i d inside))
 
 -- where nothing is left, all was given
 pub yielded_all : {X : Type 0} (all yielded rest : List X) → all ≡ yielded ++ rest → length rest ≡ 0 → yielded ≡ all

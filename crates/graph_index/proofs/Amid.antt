@@ -14,7 +14,8 @@ use Rattle.graph_index.specs.declared.ends.End.{End}
 use Rattle.graph_index.proofs.KeptUp.{more_sorted}
 
 -- room in a node's own rows
-pub room_of : (a : Incidence) (n m : TermId) (fresh : Option (Vec Triple)) (es : List (TermId × Vec Triple)) (v : Vec Triple) → ((w : Vec Triple) → fresh ≡ Some w → ⊥) → a.edited ≡ es → n ≡ m → lookup (same_id m) es ≡ Some v
+pub room_of : (a : Incidence) (n m : TermId) (fresh : Option (Vec Triple)) (es : List (TermId × Vec Triple)) (v : Vec Triple) →
+    ((w : Vec Triple) → fresh ≡ Some w → ⊥) → a.edited ≡ es → n ≡ m → lookup (same_id m) es ≡ Some v
     → IsReady n fresh a → vec_len v < vec_capacity v
 room_of a n m None es v other held same look ready =
     subst (λ (o : Option (Vec Triple)). IsSomeAnd o (λ own. vec_len own < vec_capacity own))
@@ -48,7 +49,8 @@ module _ (a : Incidence) (terms : List Term) (t : Triple) (end : End) (at : end 
   pub one_here : (rows : List Triple) → rows ≡ own → (ts : List Triple) → IsOneOf ts → rows ≡ sorted_by (by_texts end terms) (t ∷ arcs_at a.end ts (node_at a.end t))
   one_here rows here ts is = here ∙ is ∙ ap (λ (z : End). sorted_by (by_texts z terms) (t ∷ arcs_at a.end ts (node_at a.end t))) (sym at)
 
-  pub is_taken : (new rows : List Triple) → rows ≡ own → ((us : List Triple) → rows ≡ sorted_by (by_texts end terms) (t ∷ us) → new ≡ sorted_by (by_texts end terms) us) → (ts : List Triple) → IsOneOf ts
+  pub is_taken : (new rows : List Triple) → rows ≡ own → ((us : List Triple) → rows ≡ sorted_by (by_texts end terms) (t ∷ us) →
+      new ≡ sorted_by (by_texts end terms) us) → (ts : List Triple) → IsOneOf ts
       → new ≡ sorted_by (by_texts a.end terms) (arcs_at a.end ts (node_at a.end t))
   is_taken new rows here takes ts is = takes (arcs_at a.end ts (node_at a.end t)) (one_here rows here ts is) ∙ ap (λ (z : End). sorted_by (by_texts z terms) (arcs_at a.end ts (node_at a.end t))) at
 

@@ -1,5 +1,5 @@
 -- Rows of one node in the order of texts.
-use Rattle.std.proofs.Common.{◌≡◌, ℕ, ◌+◌, ◌≤◌, ◌<◌, List, refl, ap, sym, ◌∙◌, length, drop, length-drop, get_or, get_or-drop, arith, Bool, false, filter, subst}
+use Rattle.std.proofs.Common.{◌≡◌, ℕ, ◌+◌, ◌≤◌, ◌<◌, List, refl, ap, sym, ◌∙◌, length, drop, length-drop, get_or, get_or-drop, arith, false, subst}
 use Rattle.std.specs.Ordering.{is_lt, ordering_then}
 use Rattle.std.specs.declared.cmp.Ordering.{Ordering}
 use Rattle.std.specs.declared.cmp.Ordering.TheVariants.{Less, Equal, Greater}
@@ -10,7 +10,7 @@ use Rattle.rdf_terms.specs.Graphs.{same_id}
 use Rattle.rdf_terms.specs.Order.{compare_at}
 use Rattle.rdf_terms.proofs.Orders.{id_total}
 use Rattle.lists.specs.Sorting.{sorted_by}
-use Rattle.lists.proofs.Filters.{filter_all, filter_comm, in_filter}
+use Rattle.lists.proofs.Filters.{filter_all, in_filter}
 use Rattle.lists.proofs.Sorting.{filter_sorted_by, lower, rises_far, rises_sorted, weak}
 use Rattle.graph_index.specs.Edits.{AreInTexts, IsGrouped}
 use Rattle.graph_index.specs.Rows.{arcs_at, by_texts, node_across, node_at}
@@ -47,7 +47,8 @@ grouped_rows end n rows (terms, ts, is) = subst IsGrouped (sym is) (grouped_sort
 pub grouped_behind : (rows rest : List Triple) (n : ℕ) → rest ≡ drop n rows → IsGrouped rows → IsGrouped rest
 grouped_behind rows rest n is h = subst IsGrouped (sym is) (λ i j k d a b l e.
     rw (get_or-drop n rows j d, get_or-drop n rows k d)
-    (h (n + i) (n + j) (n + k) d (omega (arith, a)) (omega (arith, b)) (omega (arith, l, length-drop n rows)) (sym (ap (λ (t : Triple). t.p.0) (get_or-drop n rows i d)) ∙ e ∙ ap (λ (t : Triple). t.p.0) (get_or-drop n rows k d))))
+    (h (n + i) (n + j) (n + k) d (omega (arith, a)) (omega (arith, b)) (omega (arith, l, length-drop n rows)) (sym (ap (λ (t : Triple). t.p.0) (get_or-drop n rows i d)) ∙ e
+    ∙ ap (λ (t : Triple). t.p.0) (get_or-drop n rows k d))))
 
 own_again : (end : End) (n : TermId) (ts : List Triple) → arcs_at end (arcs_at end ts n) n ≡ arcs_at end ts n
 own_again end n ts = filter_all (λ t. same_id (node_at end t) n) (arcs_at end ts n) (λ t h. (in_filter (λ t. same_id (node_at end t) n) ts t h).1)
@@ -58,13 +59,3 @@ own_rows end n rows (terms, ts, is) =
     ap (λ (v : List Triple). arcs_at end v n) is
     ∙ filter_sorted_by (by_texts end terms) (texts_total end terms) (λ t. same_id (node_at end t) n) (arcs_at end ts n)
     ∙ ap (sorted_by (by_texts end terms)) (own_again end n ts) ∙ sym is
-
--- those that pass a test are in order too
-pub fewer_rows : (end : End) (n : TermId) (q : Triple → Bool) (rows own : List Triple) → own ≡ filter q rows → AreInTexts end n rows → AreInTexts end n own
-fewer_rows end n q rows own e (terms, ts, is) = (
-  terms,
-  filter q ts,
-  e ∙ ap (filter q) is
-      ∙ filter_sorted_by (by_texts end terms) (texts_total end terms) q (arcs_at end ts n)
-      ∙ ap (sorted_by (by_texts end terms)) (filter_comm q (λ t. same_id (node_at end t) n) ts),
-)

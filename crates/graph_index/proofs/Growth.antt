@@ -69,8 +69,10 @@ module _ (terms more : List Term) where
 
   arranged : (ts : List Triple) (a : Arrangement) → All (IsOfTable terms) ts → IsArranged terms ts a → IsArranged (terms ++ more) ts a
   arranged ts a h k = record {
-    outward = λ n. k.outward n ∙ sorted_alike (by_object terms) (object_total terms) (by_object (terms ++ more)) within objects_stay (outs ts n) (outs_pass (outs ts n) (All-filter (λ t. same_id t.s n) (IsOfTable terms) ts h));
-    inward = λ n. k.inward n ∙ sorted_alike (by_subject terms) (subject_total terms) (by_subject (terms ++ more)) within subjects_stay (ins ts n) (ins_pass (ins ts n) (All-filter (λ t. same_id t.o n) (IsOfTable terms) ts h));
+    outward = λ n. k.outward n ∙ sorted_alike (by_object terms) (object_total terms) (by_object (terms ++ more)) within objects_stay (outs ts n)
+        (outs_pass (outs ts n) (All-filter (λ t. same_id t.s n) (IsOfTable terms) ts h));
+    inward = λ n. k.inward n ∙ sorted_alike (by_subject terms) (subject_total terms) (by_subject (terms ++ more)) within subjects_stay (ins ts n)
+        (ins_pass (ins ts n) (All-filter (λ t. same_id t.o n) (IsOfTable terms) ts h));
   }
 
 pub outlives : SealingOutlivesGrowth

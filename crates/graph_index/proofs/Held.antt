@@ -44,7 +44,8 @@ held_exactly xs t r is = (λ h. held xs t (sym is ∙ h), λ there. is ∙ list_
 
 -- what an insertion says of a triple: it was not held, or it was
 pub told_new : (xs ys : List Triple) (t : Triple) (r : Bool) → xs ≡ ys → r ≡ not (list_any (same_triple t) xs) → r ≡ true → ¬ Contains ys t
-told_new xs ys t r same is e = λ there. by (list_any (same_triple t) xs) (list_any-from_Contains (decided_equiv same_triple triple_decides) t xs (subst (λ zs. Contains zs t) (sym same) there)) (sym is ∙ e)
+told_new xs ys t r same is e = λ there. by (list_any (same_triple t) xs)
+    (list_any-from_Contains (decided_equiv same_triple triple_decides) t xs (subst (λ zs. Contains zs t) (sym same) there)) (sym is ∙ e)
   where
     by : (b : Bool) → b ≡ true → not b ≡ true → ⊥
     by true h n = true≢false (sym n)

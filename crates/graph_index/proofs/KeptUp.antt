@@ -67,19 +67,6 @@ module _ (end : End) (terms : List Term) (t : Triple) (old new own : List Triple
 
 -- ---- what stays so of the rows
 
-pub same_but_room : (places : List ℕ) (a a' b b' c c' : Incidence) → HasSameRows a a' → HasSameRows b b' → HasSameRows c c' → AreKept places a b c → AreKept places a' b' c'
-same_but_room places a a' b b' c c' h k l kept = record {
-  apart = kept.apart;
-  outward_placed = subst (All (IsPlaced places)) (sym h.sealed) kept.outward_placed;
-  inward_placed = subst (All (IsPlaced places)) (sym k.sealed) kept.inward_placed;
-  outward_by_predicate = λ n. subst (λ (v : List Triple). IsByPredicate places (arcs_at Subject v n)) (sym h.sealed) (kept.outward_by_predicate n);
-  inward_by_predicate = λ n. subst (λ (v : List Triple). IsByPredicate places (arcs_at Object v n)) (sym k.sealed) (kept.inward_by_predicate n);
-  outward_end = h.end ∙ kept.outward_end;
-  inward_end = k.end ∙ kept.inward_end;
-  others_end = l.end ∙ kept.others_end;
-  others = λ n. ap (λ (v : List Triple). arcs_at Object v n) l.rows ∙ kept.others n ∙ ap (λ (v : List Triple). filter (λ t. not (is_loop t)) (arcs_at Object v n)) (sym k.rows);
-}
-
 others_put : (old new old_in new_in own own_in : List Triple) (n : TermId) → GivesRows Object n own old new → GivesRows Object n own_in old_in new_in → own ≡ filter (λ t. not (is_loop t)) own_in
     → ((m : TermId) → arcs_at Object old m ≡ filter (λ t. not (is_loop t)) (arcs_at Object old_in m)) → (m : TermId) → arcs_at Object new m ≡ filter (λ t. not (is_loop t)) (arcs_at Object new_in m)
 others_put old new old_in new_in own own_in n h k e others m = h m ∙ by (same_id n m) ∙ ap (filter (λ t. not (is_loop t))) (sym (k m))
@@ -151,7 +138,8 @@ arranged_less terms t old new triples left p gives_out gives_in arranged = recor
 
 -- what an edit put holds of what there was before the rows were made ready
 pub from_same :
-    (N : End → TermId) (F : End → List Triple → List Triple) (a ready new : Incidence) → HasSameRows a ready → PutsRows (N ready.end) (F ready.end ready.rows) ready new → PutsRows (N a.end) (F a.end a.rows) a new
+    (N : End → TermId) (F : End → List Triple → List Triple) (a ready new : Incidence) → HasSameRows a ready → PutsRows (N ready.end)
+    (F ready.end ready.rows) ready new → PutsRows (N a.end) (F a.end a.rows) a new
 from_same N F a ready new same puts = record {
   end = puts.end ∙ same.end;
   sealed = puts.sealed ∙ same.sealed;
@@ -172,7 +160,8 @@ nl t = not (is_loop t)
 others_sorted : (terms : List Term) (us rows others : List Triple) → rows ≡ sorted_by (by_texts Object terms) us → others ≡ filter nl rows → others ≡ sorted_by (by_texts Object terms) (filter nl us)
 others_sorted terms us rows others is e = e ∙ ap (filter nl) is ∙ filter_sorted_by (by_texts Object terms) (texts_total Object terms) nl us
 
-pub others_in_texts : (terms : List Term) (n : TermId) (ts rows others : List Triple) → rows ≡ sorted_by (by_texts Object terms) (ins ts n) → others ≡ filter nl rows → AreInTextsOf terms Object n others
+pub others_in_texts : (terms : List Term) (n : TermId) (ts rows others : List Triple) → rows ≡ sorted_by (by_texts Object terms) (ins ts n) →
+    others ≡ filter nl rows → AreInTextsOf terms Object n others
 others_in_texts terms n ts rows others is e =
     (filter nl ts, others_sorted terms (ins ts n) rows others is e ∙ ap (sorted_by (by_texts Object terms)) (filter_comm nl (λ t. same_id t.o n) ts))
 
@@ -207,4 +196,8 @@ others_less terms t left =
 pub lent_arranged :
     (terms : List Term) (triples out_rows in_rows outward inward : List Triple) → outward ≡ out_rows → inward ≡ in_rows → IsArranged terms triples (record { outward = out_rows; inward = in_rows })
     → IsArranged terms triples (record { outward = outward; inward = inward })
-lent_arranged terms triples out_rows in_rows outward inward e f h = record { outward = λ n. ap (λ (v : List Triple). outs v n) e ∙ h.outward n; inward = λ n. ap (λ (v : List Triple). ins v n) f ∙ h.inward n }
+lent_arranged terms triples out_rows in_rows outward inward e f h = record {
+  outward = λ n. ap (λ (v : List Triple). outs v n) e
+      ∙ h.outward n;
+  inward = λ n. ap (λ (v : List Triple). ins v n) f ∙ h.inward n;
+}

@@ -30,7 +30,8 @@ none_unplaced places rows p all none =
     let same : place_of places (get_or rows k d).p ≡ place_of places p = ap (place_of places) (id_is (get_or rows k d).p p e) in
     omega (arith, placed, same, none)))
 
-pub of_one_place : (places : List ℕ) (rows : List Triple) (p : TermId) (place : ℕ) → AreApart places → place ≡ place_of places p → place ≢ 0 → filter (λ t. nat_eq (place_of places t.p) place) rows ≡ filter (λ t. same_id t.p p) rows
+pub of_one_place : (places : List ℕ) (rows : List Triple) (p : TermId) (place : ℕ) → AreApart places → place ≡ place_of places p → place ≢ 0 →
+    filter (λ t. nat_eq (place_of places t.p) place) rows ≡ filter (λ t. same_id t.p p) rows
 of_one_place places rows p place apart is some = filter_alike (λ t. nat_eq (place_of places t.p) place) (λ t. same_id t.p p) (λ t. by t (same_or t.p.0 p.0)) rows
   where
     by : (t : Triple) → (t.p.0 ≡ p.0) ⊎ (t.p.0 ≢ p.0) → nat_eq (place_of places t.p) place ≡ same_id t.p p
@@ -59,7 +60,8 @@ sealed_rows terms g a is sealed = subst (λ (o : Option Arrangement). IsSomeAnd 
 
 -- the neighbourhood that they lend
 pub lent_neighbourhood :
-    (terms : List Term) (g : Contents) (a : Arrangement) (n : TermId) → IsArranged terms g.triples a → outs a.outward n ++ filter (λ t. not (is_loop t)) (ins a.inward n) ≡ neighbourhood terms g.triples n
+    (terms : List Term) (g : Contents) (a : Arrangement) (n : TermId) → IsArranged terms g.triples a → outs a.outward n ++ filter (λ t. not (is_loop t))
+    (ins a.inward n) ≡ neighbourhood terms g.triples n
 lent_neighbourhood terms g a n h =
     ap (λ (ts : List Triple). ts ++ filter (λ t. not (is_loop t)) (ins a.inward n)) (h.outward n)
     ∙ ap (λ (ts : List Triple). sorted_by (by_object terms) (outs g.triples n) ++ filter (λ t. not (is_loop t)) ts) (h.inward n)

@@ -45,7 +45,8 @@ pub loads_one : (terms a b : List Term) (graph c d : List Triple) (ts : List Ter
 loads_one terms a b graph c d ts dis h k = ones terms a b graph c d ts ts refl dis h k
 
 -- what was there keeps its place
-pub loads_grow : (terms a : List Term) (graph b : List Triple) (ts : List TermTriple) → Loads terms graph ts a b → ((behind : List Term) × (a ≡ terms ++ behind)) × ((behind : List Triple) × (b ≡ graph ++ behind))
+pub loads_grow : (terms a : List Term) (graph b : List Triple) (ts : List TermTriple) → Loads terms graph ts a b →
+    ((behind : List Term) × (a ≡ terms ++ behind)) × ((behind : List Triple) × (b ≡ graph ++ behind))
 loads_grow terms a graph b ts nothing = (([], sym (append-nil terms)), ([], sym (append-nil graph)))
 loads_grow terms a graph b ts (triple {mid = m} {grown = g} {t = t} {ts = us} n h k l rest) =
     let r = loads_grow m a g b us rest in
@@ -66,7 +67,8 @@ pub record Split (terms : List Term) (graph : List Triple) (ts us : List TermTri
   pub before : Loads terms graph ts mid_terms mid_graph
   pub behind : Loads mid_terms mid_graph us c d
 
-one_before : (terms m : List Term) (graph g : List Triple) (t : TermTriple) (ts us : List TermTriple) (c : List Term) (d : List Triple) (n : Triple) → AddsAll terms (terms_of t) m → IsNumbered m t n → Adds graph n g
+one_before : (terms m : List Term) (graph g : List Triple) (t : TermTriple) (ts us : List TermTriple) (c : List Term) (d : List Triple) (n : Triple) →
+    AddsAll terms (terms_of t) m → IsNumbered m t n → Adds graph n g
     → Split m g ts us c d → Split terms graph (t ∷ ts) us c d
 one_before terms m graph g t ts us c d n h k l s = record { mid_terms = s.mid_terms; mid_graph = s.mid_graph; before = triple n h k l s.before; behind = s.behind }
 
@@ -98,14 +100,16 @@ no_room_behind terms a c graph b d ts us t dis before full all within =
 pub second_fills : (limit : ℕ) (old mid new : List Term) (x y z : Term) → Adds old x mid → ((¬ Contains mid y) × (length mid ≡ limit)) → AddsAll old (x ∷ y ∷ z ∷ []) new → ¬ (length new ≤ limit)
 second_fills limit old mid new x y z a full all = first_fills limit mid new (z ∷ []) y full (all_behind old mid new (y ∷ z ∷ []) x a all)
 
-pub third_fills : (limit : ℕ) (old mid behind new : List Term) (x y z : Term) → Adds old x mid → Adds mid y behind → ((¬ Contains behind z) × (length behind ≡ limit)) → AddsAll old (x ∷ y ∷ z ∷ []) new → ¬ (length new ≤ limit)
+pub third_fills : (limit : ℕ) (old mid behind new : List Term) (x y z : Term) → Adds old x mid → Adds mid y behind →
+    ((¬ Contains behind z) × (length behind ≡ limit)) → AddsAll old (x ∷ y ∷ z ∷ []) new → ¬ (length new ≤ limit)
 third_fills limit old mid behind new x y z a b full all =
     first_fills limit behind new [] z full (all_behind mid behind new (z ∷ []) y b (all_behind old mid new (y ∷ z ∷ []) x a all))
 
 pub three_added : (old mid behind new : List Term) (t : TermTriple) → Adds old t.subject mid → Adds mid t.predicate behind → Adds behind t.object new → AddsAll old (terms_of t) new
 three_added old mid behind new t a b c = more a (more b (more c none))
 
-pub three_numbered : (mid behind new : List Term) (t : TermTriple) (n : Triple) → Adds mid t.predicate behind → Adds behind t.object new → slice_get mid n.s.0 ≡ Some t.subject → slice_get behind n.p.0 ≡ Some t.predicate
+pub three_numbered : (mid behind new : List Term) (t : TermTriple) (n : Triple) → Adds mid t.predicate behind → Adds behind t.object new →
+    slice_get mid n.s.0 ≡ Some t.subject → slice_get behind n.p.0 ≡ Some t.predicate
     → slice_get new n.o.0 ≡ Some t.object → IsNumbered new t n
 three_numbered mid behind new t n a b s p o =
     let g = adds_grows mid behind t.predicate a in
@@ -123,7 +127,8 @@ pub grows_two_same : (old mid behind new : List Term) (x y : Term) → Adds old 
 grows_two_same old mid behind new x y a b e = let (m, f) = grows_two old mid behind x y a b in (m, e ∙ f)
 
 -- one triple
-pub one_loaded : (terms mid : List Term) (graph grown : List Triple) (t : TermTriple) (n : Triple) → AddsAll terms (terms_of t) mid → IsNumbered mid t n → Adds graph n grown → Loads terms graph (t ∷ []) mid grown
+pub one_loaded : (terms mid : List Term) (graph grown : List Triple) (t : TermTriple) (n : Triple) → AddsAll terms (terms_of t) mid → IsNumbered mid t n →
+    Adds graph n grown → Loads terms graph (t ∷ []) mid grown
 one_loaded terms mid graph grown t n a k l = triple n a k l nothing
 
 record One (terms : List Term) (graph : List Triple) (t : TermTriple) (new_terms : List Term) (new_graph : List Triple) : Type 0 where
@@ -138,7 +143,8 @@ one_parts terms a graph b t (triple n h k l nothing) = record { n = n; added = h
 pub table_full : (terms : List Term) (graph : List Triple) (t : TermTriple) → ((new : List Term) → AddsAll terms (terms_of t) new → ¬ (length new ≤ max_terms)) → FindsNoRoom terms graph t
 table_full terms graph t full a b h within = full a (one_parts terms a graph b t h).added within.0
 
-pub graph_full : (terms mid : List Term) (graph : List Triple) (t : TermTriple) (n : Triple) → AreDistinct mid → AddsAll terms (terms_of t) mid → IsNumbered mid t n → ((¬ Contains graph n) × (length graph ≡ max_triples)) → FindsNoRoom terms graph t
+pub graph_full : (terms mid : List Term) (graph : List Triple) (t : TermTriple) (n : Triple) → AreDistinct mid → AddsAll terms (terms_of t) mid →
+    IsNumbered mid t n → ((¬ Contains graph n) × (length graph ≡ max_triples)) → FindsNoRoom terms graph t
 graph_full terms mid graph t n dis added numbered (c, full) a b h within =
     let p = one_parts terms a graph b t h in
     let same : a ≡ mid = all_one terms a mid (terms_of t) p.added added in
@@ -154,7 +160,8 @@ graph_full terms mid graph t n dis added numbered (c, full) a b h within =
 
 -- what the graph holds
 numbered_kept : (old new : List Term) (t : TermTriple) (n : Triple) → ((behind : List Term) × (new ≡ old ++ behind)) → IsNumbered old t n → IsNumbered new t n
-numbered_kept old new t n g h = record { subject = kept_at old new n.s.0 t.subject g h.subject; predicate = kept_at old new n.p.0 t.predicate g h.predicate; object = kept_at old new n.o.0 t.object g h.object }
+numbered_kept old new t n g h =
+    record { subject = kept_at old new n.s.0 t.subject g h.subject; predicate = kept_at old new n.p.0 t.predicate g h.predicate; object = kept_at old new n.o.0 t.object g h.object }
 
 abbrev Holds : List Term → List Triple → List TermTriple → Triple → Type 0
 Holds terms graph ts n = Contains graph n ⊎ ((t : TermTriple) × Contains ts t × IsNumbered terms t n)
@@ -183,7 +190,8 @@ old_held : (graph grown : List Triple) (k n : Triple) → Adds graph k grown →
 old_held graph grown k n (inl (c, e)) h = subst (λ (v : List Triple). Contains v n) (sym e) h
 old_held graph grown k n (inr (c, e)) h = subst (λ (v : List Triple). Contains v n) (sym e) (Contains-append_left graph (k ∷ []) n h)
 
-on_back : (a : List Term) (graph grown : List Triple) (t : TermTriple) (us : List TermTriple) (k n : Triple) → AreDistinct a → Adds graph k grown → IsNumbered a t k → Holds a graph (t ∷ us) n → Holds a grown us n
+on_back : (a : List Term) (graph grown : List Triple) (t : TermTriple) (us : List TermTriple) (k n : Triple) → AreDistinct a → Adds graph k grown →
+    IsNumbered a t k → Holds a graph (t ∷ us) n → Holds a grown us n
 on_back a graph grown t us k n dis add num (inl h) = inl (old_held graph grown k n add h)
 on_back a graph grown t us k n dis add num (inr (u, c, h)) = by (Contains-append_cases (t ∷ []) us u c)
   where
@@ -197,7 +205,8 @@ nothing_held : (a : List Term) (graph : List Triple) (n : Triple) → Holds a gr
 nothing_held a graph n (inl h) = h
 nothing_held a graph n (inr (t, (i, lt, e), h)) = absurd (omega arith)
 
-pub loads_hold : (terms a : List Term) (graph b : List Triple) (ts : List TermTriple) → AreDistinct terms → Loads terms graph ts a b → (n : Triple) → (Contains b n → Holds a graph ts n) × (Holds a graph ts n → Contains b n)
+pub loads_hold : (terms a : List Term) (graph b : List Triple) (ts : List TermTriple) → AreDistinct terms → Loads terms graph ts a b → (n : Triple) →
+    (Contains b n → Holds a graph ts n) × (Holds a graph ts n → Contains b n)
 loads_hold terms a graph b ts dis nothing n = (inl, nothing_held a graph n)
 loads_hold terms a graph b ts dis (triple {mid = m} {grown = g} {t = t} {ts = us} k h num l rest) n =
     let dis2 : AreDistinct m = all_distinct terms m (terms_of t) dis h in

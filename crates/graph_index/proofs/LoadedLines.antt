@@ -78,7 +78,8 @@ number_kept old new g i (x, e, h) = (x, kept_at old new i x g e, h)
 ends_kept : (old new : List Term) (graph : List Triple) → ((behind : List Term) × (new ≡ old ++ behind)) → AllEndsNumberLines old graph → AllEndsNumberLines new graph
 ends_kept old new graph g h n c = let i = h n c in record { subject = number_kept old new g n.s.0 i.subject; object = number_kept old new g n.o.0 i.object }
 
-one_loaded : (mid : List Term) (graph grown : List Triple) (t : TermTriple) (n : Triple) → IsNumbered mid t n → HaveOneLine t → Adds graph n grown → AllEndsNumberLines mid graph → AllEndsNumberLines mid grown
+one_loaded : (mid : List Term) (graph grown : List Triple) (t : TermTriple) (n : Triple) → IsNumbered mid t n → HaveOneLine t → Adds graph n grown →
+    AllEndsNumberLines mid graph → AllEndsNumberLines mid grown
 one_loaded mid graph grown t n m h (inl (c, e)) k = subst (AllEndsNumberLines mid) (sym e) k
 one_loaded mid graph grown t n m h (inr (c, e)) k = subst (AllEndsNumberLines mid) (sym e) (λ p d. by p (Contains-push_cases graph n p d))
   where

@@ -43,7 +43,8 @@ own_place places n m p fits same = place_is (set places n.0 p) m ∙ ap (λ z. g
 other_place : (places : List ℕ) (n m : TermId) (p : ℕ) → m.0 ≢ n.0 → place_of (set places n.0 p) m ≡ place_of places m
 other_place places n m p other = place_is (set places n.0 p) m ∙ get_or-set_other places n.0 m.0 p 0 other ∙ sym (place_is places m)
 
-pub writes_more : (len : ℕ) (ids : List TermId) (i : ℕ) (places : List ℕ) (n : TermId) → i < length ids → n.0 < len → ((d : TermId) → n ≡ get_or ids i d) → Written len ids i places → Written len ids (i + 1) (set places n.0 (i + 1))
+pub writes_more : (len : ℕ) (ids : List TermId) (i : ℕ) (places : List ℕ) (n : TermId) → i < length ids → n.0 < len → ((d : TermId) → n ≡ get_or ids i d) →
+    Written len ids i places → Written len ids (i + 1) (set places n.0 (i + 1))
 writes_more len ids i places n here fits own h = record {
   size = length-set places n.0 (i + 1) ∙ h.size;
   are = λ m k e. met m k e (same_or m.0 n.0);
@@ -79,7 +80,8 @@ pub still_below : (len : ℕ) (ids sorted lent : List TermId) → lent ≡ sorte
 still_below len ids sorted lent is same below n h = below n (Contains-permutation sorted ids n (IsPermutation-sym ids sorted same) (subst (λ (v : List TermId). Contains v n) is h))
 
 pub all_placed :
-    (ids sorted lent : List TermId) (places : List ℕ) (triples : List Triple) → lent ≡ sorted → IsPermutation ids sorted → All (IsOf ids) triples → ((n : TermId) → Contains lent n → 0 < place_of places n) → All (IsPlaced places) triples
+    (ids sorted lent : List TermId) (places : List ℕ) (triples : List Triple) → lent ≡ sorted → IsPermutation ids sorted → All (IsOf ids) triples →
+    ((n : TermId) → Contains lent n → 0 < place_of places n) → All (IsPlaced places) triples
 all_placed ids sorted lent places triples is same all placed k d l =
     let h = all k d l in
     record { subject = there _ h.subject; predicate = there _ h.predicate; object = there _ h.object }

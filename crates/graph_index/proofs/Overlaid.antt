@@ -216,7 +216,8 @@ module _ (end : End) (sealed : List Triple) (es : List (TermId × Vec Triple)) (
     sealed = refl;
   })
 
-  pub copied : (own : List Triple) (n : TermId) → lookup (same_id n) es ≡ None → own ≡ arcs_at end sealed n → (new : List (TermId × Vec Triple)) → new ≡ es → own ≡ arcs_at end (rows_of end sealed new) n
+  pub copied : (own : List Triple) (n : TermId) → lookup (same_id n) es ≡ None → own ≡ arcs_at end sealed n → (new : List (TermId × Vec Triple)) → new ≡ es →
+      own ≡ arcs_at end (rows_of end sealed new) n
   copied own n none here new same = here ∙ sym (sealed_at end sealed es n edits none) ∙ ap (λ (v : List (TermId × Vec Triple)). arcs_at end (rows_of end sealed v) n) (sym same)
 
   pub room_in : (new : List (TermId × Vec Triple)) (more : ℕ) (n : TermId) (w v : Vec Triple) → lookup (same_id n) es ≡ Some v → w.items ≡ v.items → new ≡ set_value (same_id n) es w

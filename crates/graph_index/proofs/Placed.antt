@@ -50,8 +50,10 @@ module _ (terms : List Term) (ids : List TermId) (up : IsSortedBy (lower (compar
   -- of two places the later one has the greater number
   later : (a b : TermId) (i j : ℕ) → slice_get ids i ≡ Some a → slice_get ids j ≡ Some b → i < j → a.0 ≢ b.0 → compare_at terms b a ≡ Greater
   later a b i j at_i at_j less other =
-      let far : is_lt (compare_at terms (get_or ids j a) (get_or ids i a)) ≡ false = sorted_far (lower (compare_at terms) (id_total terms)) (weak (compare_at terms) (id_total terms)) ids up i j a (omega arith) (slice_get_within ids j b at_j) in
-      let here : is_lt (compare_at terms b a) ≡ false = ap (λ z. is_lt (compare_at terms z a)) (sym (get_or_from_slice_get ids j b a at_j)) ∙ (ap (λ z. is_lt (compare_at terms (get_or ids j a) z)) (sym (get_or_from_slice_get ids i a a at_i)) ∙ far) in
+      let far : is_lt (compare_at terms (get_or ids j a) (get_or ids i a)) ≡ false = sorted_far (lower (compare_at terms) (id_total terms))
+      (weak (compare_at terms) (id_total terms)) ids up i j a (omega arith) (slice_get_within ids j b at_j) in
+      let here : is_lt (compare_at terms b a) ≡ false = ap (λ z. is_lt (compare_at terms z a)) (sym (get_or_from_slice_get ids j b a at_j))
+      ∙ (ap (λ z. is_lt (compare_at terms (get_or ids j a) z)) (sym (get_or_from_slice_get ids i a a at_i)) ∙ far) in
       only_above (compare_at terms b a) here (λ e. other (sym (id_alone terms b a e)))
 
   some_same : (a b : TermId) → Path (Option TermId) (Some a) (Some b) → a ≡ b

@@ -15,7 +15,8 @@ cut_back true c front rest bs h g = h refl
 cut_back false c front rest bs h g = append-nil front ∙ g refl
 
 -- the same of the part before the mark
-cut_front : (b : Bool) (c : ℕ) (front rest bs : List ℕ) → (b ≡ true → front ++ c ∷ rest ≡ bs) → with_mark_after (c ∷ []) (cond b (Some front) None) ++ cond (is_some (cond b (Some front) None)) rest bs ≡ bs
+cut_front : (b : Bool) (c : ℕ) (front rest bs : List ℕ) → (b ≡ true → front ++ c ∷ rest ≡ bs) →
+    with_mark_after (c ∷ []) (cond b (Some front) None) ++ cond (is_some (cond b (Some front) None)) rest bs ≡ bs
 cut_front true c front rest bs h = append_assoc front (c ∷ []) rest ∙ h refl
 cut_front false c front rest bs h = refl
 

@@ -43,7 +43,8 @@ rooted_from text = go (has slash text) refl
     go true e = inr (after slash text, from-has slash text e)
     go false e = inl (from-none slash text (Lacks-has slash text e))
 
-rooted_path : (b : Bool) (text hierarchy : List ℕ) → IsSome (cond b (Some (before slash text)) None) → (cond b (from slash text) hierarchy ≡ []) ⊎ BeginsWith (cond b (from slash text) hierarchy) (codes "/")
+rooted_path : (b : Bool) (text hierarchy : List ℕ) → IsSome (cond b (Some (before slash text)) None) → (cond b (from slash text) hierarchy ≡ []) ⊎
+    BeginsWith (cond b (from slash text) hierarchy) (codes "/")
 rooted_path true text hierarchy h = rooted_from text
 rooted_path false text hierarchy h = absurd (false≢true h)
 
@@ -81,7 +82,8 @@ module _ (text : List ℕ) where
       let hash_left = Lacks-after_scheme hash front front_lacks.1 in
       record {
         whole = sym (text_of-components_of text);
-        scheme = if_taken (λ name. IsTrue (is_scheme name)) (has colon front && is_scheme (before colon front)) (before colon front) (λ e. (both (has colon front) (is_scheme (before colon front)) e).1);
+        scheme = if_taken (λ name. IsTrue (is_scheme name)) (has colon front && is_scheme (before colon front)) (before colon front)
+            (λ e. (both (has colon front) (is_scheme (before colon front)) e).1);
         no_scheme = λ h name e w. no_scheme_left text name h e w;
         authority = if_taken IsAuthority (has_authority hierarchy) (before slash (drop 2 hierarchy)) (λ _. record {
           slash = Lacks-before slash (drop 2 hierarchy);
@@ -92,5 +94,6 @@ module _ (text : List ℕ) where
         no_authority = no_slashes (has_authority hierarchy) (drop 2 hierarchy) hierarchy refl;
         path_question = Lacks-path_of question hierarchy question_left;
         path_hash = Lacks-path_of hash hierarchy hash_left;
-        query = if_taken (Lacks hash) (has question (before hash text)) (after question (before hash text)) (λ _. All-drop (λ b. b ≢ hash) (position_or_len (λ b. eqb b question) (before hash text) + 1) (before hash text) (Lacks-before hash text));
+        query = if_taken (Lacks hash) (has question (before hash text)) (after question (before hash text))
+            (λ _. All-drop (λ b. b ≢ hash) (position_or_len (λ b. eqb b question) (before hash text) + 1) (before hash text) (Lacks-before hash text));
       }

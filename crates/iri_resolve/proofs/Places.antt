@@ -15,12 +15,14 @@ abbrev pub StandsNowhere : ℕ → List ℕ → Type 0
 StandsNowhere c bs = (i : ℕ) → i < length bs → get_or bs i 0 ≢ c
 
 -- the first place, as `find` answers it
-pub first_place : (c : ℕ) (bs : List ℕ) (r : Option ℕ) → MatchOption r (StandsNowhere c bs) (λ k. (k < length bs) × (get_or bs k 0 ≡ c) × ((i : ℕ) → i < k → get_or bs i 0 ≢ c)) → position_or_len (λ b. eqb b c) bs ≡ unwrap_or r (length bs)
+pub first_place : (c : ℕ) (bs : List ℕ) (r : Option ℕ) → MatchOption r (StandsNowhere c bs) (λ k. (k < length bs) × (get_or bs k 0 ≡ c) ×
+    ((i : ℕ) → i < k → get_or bs i 0 ≢ c)) → position_or_len (λ b. eqb b c) bs ≡ unwrap_or r (length bs)
 first_place c bs None h = position_or_len_is (λ b. eqb b c) bs (length bs) 0 (omega arith) (λ k l. ne_eqb (get_or bs k 0) c (h k l)) (λ l. absurd (omega arith))
 first_place c bs (Some k) h = position_or_len_is (λ b. eqb b c) bs k 0 (omega (arith, h.0)) (λ i l. ne_eqb (get_or bs i 0) c (h.2 i l)) (λ _. grind (arith, nat_tests, h.1))
 
 -- how long the text is up to the last place and with it, as `rfind` answers it
-pub last_place : (c : ℕ) (bs : List ℕ) (r : Option ℕ) → MatchOption r (StandsNowhere c bs) (λ k. (k < length bs) × (get_or bs k 0 ≡ c) × ((i : ℕ) → k < i → i < length bs → get_or bs i 0 ≢ c)) → MatchOption r (length bs - suffix_len (λ b. not (eqb b c)) bs ≡ 0) (λ k. length bs - suffix_len (λ b. not (eqb b c)) bs ≡ k + 1)
+pub last_place : (c : ℕ) (bs : List ℕ) (r : Option ℕ) → MatchOption r (StandsNowhere c bs) (λ k. (k < length bs) × (get_or bs k 0 ≡ c) ×
+    ((i : ℕ) → k < i → i < length bs → get_or bs i 0 ≢ c)) → MatchOption r (length bs - suffix_len (λ b. not (eqb b c)) bs ≡ 0) (λ k. length bs - suffix_len (λ b. not (eqb b c)) bs ≡ k + 1)
 last_place c bs None h =
     let e = suffix_len_is (λ b. not (eqb b c)) bs 0 0 (omega arith) (λ k _ l. ap not (ne_eqb (get_or bs k 0) c (h k l))) (λ l. absurd (omega arith)) in
     omega arith
@@ -32,7 +34,8 @@ last_place c bs (Some k) h =
     before_is k c bs e = let m : k + 1 - 1 ≡ k = omega arith in rw m (rw e (ap not (eq-eqb c c refl)))
 
 -- what stands before the last place, as `rfind` answers it
-pub until_last_place : (c : ℕ) (bs : List ℕ) (r : Option ℕ) → MatchOption r (StandsNowhere c bs) (λ k. (k < length bs) × (get_or bs k 0 ≡ c) × ((i : ℕ) → k < i → i < length bs → get_or bs i 0 ≢ c)) → until_last c bs ≡ take (unwrap_or r 0) bs
+pub until_last_place : (c : ℕ) (bs : List ℕ) (r : Option ℕ) → MatchOption r (StandsNowhere c bs) (λ k. (k < length bs) × (get_or bs k 0 ≡ c) ×
+    ((i : ℕ) → k < i → i < length bs → get_or bs i 0 ≢ c)) → until_last c bs ≡ take (unwrap_or r 0) bs
 until_last_place c bs None h =
     let e = last_place c bs None h in
     let n : length bs - suffix_len (λ b. not (eqb b c)) bs - 1 ≡ 0 = omega arith in

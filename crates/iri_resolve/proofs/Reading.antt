@@ -29,7 +29,8 @@ taken_back-nil zero = refl
 taken_back-nil (suc n) = taken_back-nil n
 
 -- a segment that is kept stands behind the text, or is the first that is taken back
-outcome-with_name : (text segment : List ℕ) (n : ℕ) (segments : List (List ℕ)) → Lacks slash segment → outcome text (with_name segment n segments) ≡ outcome (text ++ slash ∷ segment) (record { taken_back = n; segments = segments })
+outcome-with_name : (text segment : List ℕ) (n : ℕ) (segments : List (List ℕ)) → Lacks slash segment →
+    outcome text (with_name segment n segments) ≡ outcome (text ++ slash ∷ segment) (record { taken_back = n; segments = segments })
 outcome-with_name text segment zero segments h = sym (append_assoc text (slash ∷ segment) (behind_slashes segments))
 outcome-with_name text segment (suc n) segments h = ap (λ t. taken_back n t ++ behind_slashes segments) (sym (until_last-append slash text segment h))
 
@@ -37,7 +38,8 @@ outcome-with_name text segment (suc n) segments h = ap (λ t. taken_back n t ++ 
 pub outcome-with_segment : (text segment : List ℕ) (left : Left) → Lacks slash segment → outcome text (with_segment segment left) ≡ outcome (with_read text segment) left
 outcome-with_segment text segment left h = go (is_dot segment) (is_dot_dot segment)
   where
-    go : (a b : Bool) → outcome text (cond a left (cond b (record { taken_back = suc left.taken_back; segments = left.segments }) (with_name segment left.taken_back left.segments))) ≡ outcome (cond a text (cond b (until_last slash text) (text ++ slash ∷ segment))) left
+    go : (a b : Bool) → outcome text (cond a left (cond b (record { taken_back = suc left.taken_back; segments = left.segments }) (with_name segment left.taken_back left.segments))) ≡
+        outcome (cond a text (cond b (until_last slash text) (text ++ slash ∷ segment))) left
     go true b = refl
     go false true = refl
     go false false = outcome-with_name text segment left.taken_back left.segments h
@@ -77,7 +79,8 @@ with_end-cons segment path =
     ap (λ ss. with_end (segment ∷ ss)) w.2 ∙ ap (λ ss. segment ∷ with_end ss) (sym w.2)
 
 -- the text so far, once a segment that is not the last is read
-outcome-more : (text rest path : List ℕ) → has slash rest ≡ true → outcome text (left_of (with_end (segments_of rest))) ≡ path → outcome (with_read text (before slash rest)) (left_of (with_end (segments_of (after slash rest)))) ≡ path
+outcome-more : (text rest path : List ℕ) → has slash rest ≡ true → outcome text (left_of (with_end (segments_of rest))) ≡ path →
+    outcome (with_read text (before slash rest)) (left_of (with_end (segments_of (after slash rest)))) ≡ path
 outcome-more text rest path e h =
     let behind = after slash rest in
     sym (outcome-with_segment text (before slash rest) (left_of (with_end (segments_of behind))) (Lacks-before slash rest))
@@ -85,14 +88,16 @@ outcome-more text rest path e h =
     ∙ ap (λ ss. outcome text (left_of (with_end ss))) (sym (segments_of-has rest e))
     ∙ h
 
-pub outcome-step : (was now segment behind rest path : List ℕ) → has slash rest ≡ true → segment ≡ before slash rest → behind ≡ after slash rest → now ≡ with_read was segment → outcome was (left_of (with_end (segments_of rest))) ≡ path → outcome now (left_of (with_end (segments_of behind))) ≡ path
+pub outcome-step : (was now segment behind rest path : List ℕ) → has slash rest ≡ true → segment ≡ before slash rest → behind ≡ after slash rest →
+    now ≡ with_read was segment → outcome was (left_of (with_end (segments_of rest))) ≡ path → outcome now (left_of (with_end (segments_of behind))) ≡ path
 outcome-step was now segment behind rest path e s b n h =
     ap (λ ss. outcome now (left_of (with_end (segments_of ss)))) b
     ∙ ap (λ t. outcome t (left_of (with_end (segments_of (after slash rest))))) (n ∙ ap (with_read was) s)
     ∙ outcome-more was rest path e h
 
 -- and once the last is read, behind which a dot segment leaves a `/`
-pub outcome-last : (text rest path : List ℕ) → has slash rest ≡ false → outcome text (left_of (with_end (segments_of rest))) ≡ path → with_read text rest ++ cond (is_dot_segment rest) (slash ∷ []) [] ≡ path
+pub outcome-last : (text rest path : List ℕ) → has slash rest ≡ false → outcome text (left_of (with_end (segments_of rest))) ≡ path →
+    with_read text rest ++ cond (is_dot_segment rest) (slash ∷ []) [] ≡ path
 outcome-last text rest path e h =
     last text rest (is_dot_segment rest) refl (Lacks-has slash rest e)
     ∙ ap (λ ss. outcome text (left_of (with_end ss))) (sym (segments_of-lacks rest e))
@@ -111,12 +116,6 @@ outcome-start path e =
 -- and one without
 pub path_of_segments-one : (path : List ℕ) → has slash path ≡ false → path_of_segments (segments_of path) ≡ path
 path_of_segments-one path e = ap path_of_segments (segments_of-lacks path e) ∙ append-nil path
-
--- a leading dot segment is passed over
-pub after_leading_dots-more : (path : List ℕ) → has slash path ≡ true → is_dot_segment (before slash path) ≡ true → after_leading_dots (segments_of path) ≡ after_leading_dots (segments_of (after slash path))
-after_leading_dots-more path e d =
-    ap after_leading_dots (segments_of-has path e)
-    ∙ ap (λ b. cond b (after_leading_dots (segments_of (after slash path))) (before slash path ∷ segments_of (after slash path))) d
 
 -- and any other ends that
 pub after_leading_dots-end : (path : List ℕ) → has slash path ≡ true → is_dot_segment (before slash path) ≡ false → after_leading_dots (segments_of path) ≡ segments_of path

@@ -178,7 +178,8 @@ clean_path_of : (segments : List (List ℕ)) → AllClean segments → Clean (pa
 clean_path_of [] h = clean_nil
 clean_path_of (first ∷ segments) h =
     let left = left_of (with_end segments) in
-    clean_append (cond (eqb left.taken_back 0) first []) (flat_map (λ segment. slash ∷ segment) left.segments) (by (eqb left.taken_back 0)) (clean_slashed left.segments (clean_left (with_end segments) (clean_with_end segments h.1)))
+    clean_append (cond (eqb left.taken_back 0) first []) (flat_map (λ segment. slash ∷ segment) left.segments) (by (eqb left.taken_back 0))
+    (clean_slashed left.segments (clean_left (with_end segments) (clean_with_end segments h.1)))
   where
     by : (b : Bool) → Clean (cond b first [])
     by true = h.0
@@ -242,7 +243,8 @@ clean_target base reference h k =
     (chosen_components (is_absolute reference.path) _ _ (with_parts base.authority (without_dot_segments reference.path) reference.query h.authority (clean_without_dots reference.path k.path) k.query)
     (with_parts base.authority (without_dot_segments (merged_path base reference.path)) reference.query h.authority (clean_without_dots (merged_path base reference.path) (clean_merged base reference.path h.path k.path)) k.query))))
   where
-    with_parts : (authority : Option (List ℕ)) (path : List ℕ) (query : Option (List ℕ)) → CleanPart authority → Clean path → CleanPart query → CleanComponents (target_with base reference authority path query)
+    with_parts : (authority : Option (List ℕ)) (path : List ℕ) (query : Option (List ℕ)) → CleanPart authority → Clean path → CleanPart query →
+        CleanComponents (target_with base reference authority path query)
     with_parts authority path query a p q = record { scheme = h.scheme; authority = a; path = p; query = q; fragment = k.fragment }
 
 -- a reference that is resolved

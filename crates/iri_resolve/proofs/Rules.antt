@@ -73,7 +73,8 @@ no_input : (output : List ℕ) → remaining [] output ≡ output
 no_input output = append-nil (output ++ []) ∙ append-nil output
 
 -- behind a text, an input that is empty or begins with `/`
-behind_text : (text input : List ℕ) (segments : List (List ℕ)) → (input ≡ []) × (segments ≡ []) ⊎ (rest : List ℕ) × (input ≡ slash ∷ rest) × (segments ≡ segments_of rest) → outcome text (left_of (with_end segments)) ≡ remaining input text
+behind_text : (text input : List ℕ) (segments : List (List ℕ)) → (input ≡ []) × (segments ≡ []) ⊎ (rest : List ℕ) × (input ≡ slash ∷ rest) ×
+    (segments ≡ segments_of rest) → outcome text (left_of (with_end segments)) ≡ remaining input text
 behind_text text input segments (inl w) =
     ap (λ ss. outcome text (left_of (with_end ss))) w.1
     ∙ ap (λ t. t ++ []) (sym (append-nil text))
@@ -84,10 +85,12 @@ behind_text text input segments (inr w) =
     ∙ ap (λ t. remaining t text) (sym w.1)
 
 -- the segments of a segment and such an input
-segments_of-moved : (segment input : List ℕ) → IsMoved segment input → (segments : List (List ℕ)) × (segments_of (segment ++ input) ≡ segment ∷ segments) × ((input ≡ []) × (segments ≡ []) ⊎ (rest : List ℕ) × (input ≡ slash ∷ rest) × (segments ≡ segments_of rest))
+segments_of-moved : (segment input : List ℕ) → IsMoved segment input → (segments : List (List ℕ)) × (segments_of (segment ++ input) ≡ segment ∷ segments) ×
+    ((input ≡ []) × (segments ≡ []) ⊎ (rest : List ℕ) × (input ≡ slash ∷ rest) × (segments ≡ segments_of rest))
 segments_of-moved segment input m = go m.ends
   where
-    go : (input ≡ []) ⊎ BeginsWith input (codes "/") → (segments : List (List ℕ)) × (segments_of (segment ++ input) ≡ segment ∷ segments) × ((input ≡ []) × (segments ≡ []) ⊎ (rest : List ℕ) × (input ≡ slash ∷ rest) × (segments ≡ segments_of rest))
+    go : (input ≡ []) ⊎ BeginsWith input (codes "/") → (segments : List (List ℕ)) × (segments_of (segment ++ input) ≡ segment ∷ segments) ×
+        ((input ≡ []) × (segments ≡ []) ⊎ (rest : List ℕ) × (input ≡ slash ∷ rest) × (segments ≡ segments_of rest))
     go (inl e) = ([], ap (λ t. segments_of (segment ++ t)) e ∙ ap segments_of (append-nil segment) ∙ segments_of-last segment m.no_slash, inl (e, refl))
     go (inr w) = (segments_of w.0, ap (λ t. segments_of (segment ++ t)) w.1 ∙ segments_of-more segment w.0 m.no_slash, inr (w.0, w.1, refl))
 
@@ -120,7 +123,8 @@ moved segment input output m =
     with_end-other segment [] e = ap (λ b. cond b (segment ∷ [] ∷ []) (segment ∷ [])) e
     with_end-other segment (next ∷ segments) e = refl
 
-    read : (output segment : List ℕ) (segments : List (List ℕ)) → is_dot_segment segment ≡ false → Lacks slash segment → outcome output (left_of (with_end (segment ∷ segments))) ≡ outcome (output ++ slash ∷ segment) (left_of (with_end segments))
+    read : (output segment : List ℕ) (segments : List (List ℕ)) → is_dot_segment segment ≡ false → Lacks slash segment →
+        outcome output (left_of (with_end (segment ∷ segments))) ≡ outcome (output ++ slash ∷ segment) (left_of (with_end segments))
     read output segment segments e h =
         ap (λ ss. outcome output (left_of ss)) (with_end-other segment segments e)
         ∙ outcome-with_segment output segment (left_of (with_end segments)) h
@@ -265,7 +269,8 @@ from_nothing : (segments : List (List ℕ)) → AllByRecursion (Lacks slash) seg
 from_nothing [] h = refl
 from_nothing (segment ∷ segments) h = go (is_dot_segment segment) (from_nothing segments h.1)
   where
-    go : (c : Bool) → with_output [] (after_leading_dots segments) ≡ path_of_segments (after_leading_dots segments) → with_output [] (cond c (after_leading_dots segments) (segment ∷ segments)) ≡ path_of_segments (cond c (after_leading_dots segments) (segment ∷ segments))
+    go : (c : Bool) → with_output [] (after_leading_dots segments) ≡ path_of_segments (after_leading_dots segments) →
+        with_output [] (cond c (after_leading_dots segments) (segment ∷ segments)) ≡ path_of_segments (cond c (after_leading_dots segments) (segment ∷ segments))
     go true r = r
     go false r = outcome-first segment (left_of (with_end segments)) h.0
 

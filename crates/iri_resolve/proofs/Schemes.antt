@@ -29,7 +29,8 @@ scheme-text_of c name s e =
 scheme-target : (base reference : Components) → (target base reference).scheme ≡ option_or reference.scheme base.scheme
 scheme-target base reference = go reference.scheme (is_some reference.authority) (is_empty reference.path) (is_absolute reference.path) refl
   where
-    go : (o : Option (List ℕ)) (a b c : Bool) → reference.scheme ≡ o → ◌≡◌ {A = Option (List ℕ)} (cond (is_some o) reference (cond a (target_with base reference reference.authority (without_dot_segments reference.path) reference.query) (cond b (target_with base reference base.authority base.path (option_or reference.query base.query)) (cond c (target_with base reference base.authority (without_dot_segments reference.path) reference.query) (target_with base reference base.authority (without_dot_segments (merged_path base reference.path)) reference.query))))).scheme (option_or o base.scheme)
+    go : (o : Option (List ℕ)) (a b c : Bool) → reference.scheme ≡ o →
+        ◌≡◌ {A = Option (List ℕ)} (cond (is_some o) reference (cond a (target_with base reference reference.authority (without_dot_segments reference.path) reference.query) (cond b (target_with base reference base.authority base.path (option_or reference.query base.query)) (cond c (target_with base reference base.authority (without_dot_segments reference.path) reference.query) (target_with base reference base.authority (without_dot_segments (merged_path base reference.path)) reference.query))))).scheme (option_or o base.scheme)
     go (Some name) a b c e = e
     go None true b c e = refl
     go None false true c e = refl
@@ -41,11 +42,13 @@ if_either P None p h k = k
 if_either P (Some name) p h k = h
 
 -- where either has a scheme, it is that of the text as well
-pub scheme-resolved_text : (base reference : List ℕ) → IsSome (option_or (components_of reference).scheme (components_of base).scheme) → (components_of (resolved_text base reference)).scheme ≡ option_or (components_of reference).scheme (components_of base).scheme
+pub scheme-resolved_text : (base reference : List ℕ) → IsSome (option_or (components_of reference).scheme (components_of base).scheme) →
+    (components_of (resolved_text base reference)).scheme ≡ option_or (components_of reference).scheme (components_of base).scheme
 scheme-resolved_text base reference h =
     go (option_or (components_of reference).scheme (components_of base).scheme) refl h
     (if_either (λ name. IsTrue (is_scheme name)) (components_of reference).scheme (components_of base).scheme (decomposition reference).scheme (decomposition base).scheme)
   where
-    go : (o : Option (List ℕ)) → option_or (components_of reference).scheme (components_of base).scheme ≡ o → IsSome o → IfSome o (λ name. IsTrue (is_scheme name)) → (components_of (resolved_text base reference)).scheme ≡ o
+    go : (o : Option (List ℕ)) → option_or (components_of reference).scheme (components_of base).scheme ≡ o → IsSome o →
+        IfSome o (λ name. IsTrue (is_scheme name)) → (components_of (resolved_text base reference)).scheme ≡ o
     go None e h s = absurd (false≢true h)
     go (Some name) e h s = scheme-text_of (target (components_of base) (components_of reference)) name (scheme-target (components_of base) (components_of reference) ∙ e) s

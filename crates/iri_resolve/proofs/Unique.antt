@@ -55,11 +55,13 @@ front_scheme-front name rest e =
     ∙ ap (λ t. cond (is_scheme t) (Some t) None) (before-append colon name rest h)
     ∙ ap (λ b. cond b (Some name) None) e
 
-front_scheme-ended : (o : Option (List ℕ)) (rest : List ℕ) → IfSome o (λ name. IsTrue (is_scheme name)) → (IsNone o → front_scheme rest ≡ None) → front_scheme (with_mark_after (codes ":") o ++ rest) ≡ o
+front_scheme-ended : (o : Option (List ℕ)) (rest : List ℕ) → IfSome o (λ name. IsTrue (is_scheme name)) → (IsNone o → front_scheme rest ≡ None) →
+    front_scheme (with_mark_after (codes ":") o ++ rest) ≡ o
 front_scheme-ended None rest h n = n refl
 front_scheme-ended (Some name) rest h n = ap front_scheme (append_assoc name (codes ":") rest) ∙ front_scheme-front name rest h
 
-after_scheme-ended : (o : Option (List ℕ)) (rest : List ℕ) → IfSome o (λ name. IsTrue (is_scheme name)) → (IsNone o → front_scheme rest ≡ None) → after_scheme (with_mark_after (codes ":") o ++ rest) ≡ rest
+after_scheme-ended : (o : Option (List ℕ)) (rest : List ℕ) → IfSome o (λ name. IsTrue (is_scheme name)) → (IsNone o → front_scheme rest ≡ None) →
+    after_scheme (with_mark_after (codes ":") o ++ rest) ≡ rest
 after_scheme-ended None rest h n = ap (λ o. cond (is_some o) (after colon rest) rest) (n refl)
 after_scheme-ended (Some name) rest h n =
     ap after_scheme (append_assoc name (codes ":") rest)
@@ -82,11 +84,13 @@ has_authority-no path never = go (has_authority path) refl
     go true e = absurd (never (drop 2 path, (starts_is Decides-eqb path (codes "//") (has_authority path) refl).0 e))
     go false e = refl
 
-authority_of-led : (o : Option (List ℕ)) (path : List ℕ) → IfSome o IsAuthority → (IsSome o → (path ≡ []) ⊎ BeginsWith path (codes "/")) → (IsNone o → ¬ (BeginsWith path (codes "//"))) → authority_of (with_mark_before (codes "//") o ++ path) ≡ o
+authority_of-led : (o : Option (List ℕ)) (path : List ℕ) → IfSome o IsAuthority → (IsSome o → (path ≡ []) ⊎ BeginsWith path (codes "/")) →
+    (IsNone o → ¬ (BeginsWith path (codes "//"))) → authority_of (with_mark_before (codes "//") o ++ path) ≡ o
 authority_of-led None path h r n = ap (λ b. cond b (Some (before slash (drop 2 path))) None) (has_authority-no path (n refl))
 authority_of-led (Some authority) path h r n = ap (λ t. Some t) (before-path authority path h.slash (r refl))
 
-path_of-led : (o : Option (List ℕ)) (path : List ℕ) → IfSome o IsAuthority → (IsSome o → (path ≡ []) ⊎ BeginsWith path (codes "/")) → (IsNone o → ¬ (BeginsWith path (codes "//"))) → path_of (with_mark_before (codes "//") o ++ path) ≡ path
+path_of-led : (o : Option (List ℕ)) (path : List ℕ) → IfSome o IsAuthority → (IsSome o → (path ≡ []) ⊎ BeginsWith path (codes "/")) →
+    (IsNone o → ¬ (BeginsWith path (codes "//"))) → path_of (with_mark_before (codes "//") o ++ path) ≡ path
 path_of-led None path h r n = ap (λ b. cond b (from slash (drop 2 path)) path) (has_authority-no path (n refl))
 path_of-led (Some authority) path h r n = from-path authority path h.slash (r refl)
 
@@ -128,8 +132,10 @@ front_scheme-none front never = go (has colon front && is_scheme (before colon f
     go false e = refl
 
 module _ (text : List ℕ) (c : Components) (d : IsDecomposition text c) where
-  Lacks-front : (mark : ℕ) → Lacks mark (with_mark_after (codes ":") c.scheme) → Lacks mark (with_mark_before (codes "//") c.authority) → Lacks mark c.path → Lacks mark (with_mark_after (codes ":") c.scheme ++ with_mark_before (codes "//") c.authority ++ c.path)
-  Lacks-front mark s a p = All-append (λ b. b ≢ mark) (with_mark_after (codes ":") c.scheme ++ with_mark_before (codes "//") c.authority) c.path (All-append (λ b. b ≢ mark) (with_mark_after (codes ":") c.scheme) (with_mark_before (codes "//") c.authority) s a) p
+  Lacks-front : (mark : ℕ) → Lacks mark (with_mark_after (codes ":") c.scheme) → Lacks mark (with_mark_before (codes "//") c.authority) → Lacks mark c.path →
+      Lacks mark (with_mark_after (codes ":") c.scheme ++ with_mark_before (codes "//") c.authority ++ c.path)
+  Lacks-front mark s a p = All-append (λ b. b ≢ mark)
+      (with_mark_after (codes ":") c.scheme ++ with_mark_before (codes "//") c.authority) c.path (All-append (λ b. b ≢ mark) (with_mark_after (codes ":") c.scheme) (with_mark_before (codes "//") c.authority) s a) p
 
   front-question : Lacks question (with_mark_after (codes ":") c.scheme ++ with_mark_before (codes "//") c.authority ++ c.path)
   front-question =

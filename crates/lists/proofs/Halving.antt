@@ -89,10 +89,12 @@ module _ {X K : Type 0} (R : K → K → Ordering) (o : IsTotalOrder R) (key : X
       cc
 
 -- what is found by halving has the key that is sought, where two keys tie only if they are one
-pub met : {X K : Type 0} (R : K → K → Ordering) (key : X → K) (xs : List X) → ((a b : K) → R a b ≡ Equal → a ≡ b) → (k : K) (i : ℕ) (x : X) → slice_get xs i ≡ Some x → IsBinarySearchResult (λ y. R (key y) k) xs (Ok i) → key x ≡ k
+pub met : {X K : Type 0} (R : K → K → Ordering) (key : X → K) (xs : List X) → ((a b : K) → R a b ≡ Equal → a ≡ b) → (k : K) (i : ℕ) (x : X) →
+    slice_get xs i ≡ Some x → IsBinarySearchResult (λ y. R (key y) k) xs (Ok i) → key x ≡ k
 met R key xs one k i x at found = one (key x) k (ap (λ y. R (key y) k) (sym (get_or_from_slice_get xs i x x at)) ∙ found x)
 
 -- ---- the clause of a search whose closure answers by an order
-pub halves : {X : Type 0} (ord : X → Ordering) {F : Type 0} {g : Mut F (Bor X × Unit {0}) Ordering} {f : F} (xs : List X) (r : Result ℕ ℕ) → ((by : X → Ordering) → ComputesKey g by f → IsBinarySearchResult by xs r) →
+pub halves : {X : Type 0} (ord : X → Ordering) {F : Type 0} {g : Mut F (Bor X × Unit {0}) Ordering} {f : F} (xs : List X) (r : Result ℕ ℕ) →
+    ((by : X → Ordering) → ComputesKey g by f → IsBinarySearchResult by xs r) →
     ((a : Bor X × Unit {0}) (q : Ordering) (f' : F) → Called g f a q f' → (q ≡ ord a.0.now) × (f' ≡ f)) → IsBinarySearchResult ord xs r
 halves ord {g = g} {f = f} xs r clause answers = clause ord (always_returns_same g (λ a q. q ≡ ord a.0.now) f answers)

@@ -1,5 +1,5 @@
 -- How the loop over lines goes on and ends.
-use Rattle.std.proofs.Common.{append_assoc, ◌≡◌, true, false, List, [], ◌∷◌, ◌++◌, Result, Ok, Err, Option, Some, None, refl, sym, ap, subst, ◌∙◌}
+use Rattle.std.proofs.Common.{append_assoc, ◌≡◌, true, false, List, [], ◌∷◌, ◌++◌, Result, Ok, Err, Option, None, refl, sym, ap, subst, ◌∙◌}
 use Rattle.std.proofs.lemmas.List.{append-nil}
 use Rattle.std.specs.Option.{option_to_list}
 use Rattle.rdf_terms.specs.declared.terms.Term.{Term}
@@ -113,16 +113,6 @@ line_is ahead rest o p e is = e ∙ ap (λ (v : Option TermTriple). Ok (option_t
 pub blank_steps : (ahead rest : Ahead Spelled) (terms : List Term) (graph : List Triple) (o : Option TermTriple) →
     line true ahead ≡ Ok (option_to_list o, rest) → o ≡ None → Steps (Ok tt) ahead rest terms graph terms graph
 blank_steps ahead rest terms graph o e is = ([], line_is ahead rest o None e is, nothing)
-
-pub triple_steps : (ahead rest : Ahead Spelled) (terms new_terms : List Term) (graph new_graph : List Triple) (o : Option TermTriple) (x : TermTriple) →
-    line true ahead ≡ Ok (option_to_list o, rest) → o ≡ Some x
-    → Loads terms graph (x ∷ []) new_terms new_graph → Steps (Ok tt) ahead rest terms graph new_terms new_graph
-triple_steps ahead rest terms new_terms graph new_graph o x e is l = (x ∷ [], line_is ahead rest o (Some x) e is, l)
-
-pub line_stops : (ahead rest : Ahead Spelled) (e : Stop) (r : Refusal) (terms : List Term) (graph : List Triple) → StopsAs e rest (line true ahead) →
-    r ≡ from_stop e → Steps (Err r) ahead rest terms graph terms graph
-line_stops ahead rest stop.Memory r terms graph s is = subst (λ (v : Refusal). Steps (Err v) ahead rest terms graph terms graph) (sym is) tt
-line_stops ahead rest (stop.Fault f) r terms graph s is = subst (λ (v : Refusal). Steps (Err v) ahead rest terms graph terms graph) (sym is) s
 
 pub load_stops : (ahead rest : Ahead Spelled) (x : TermTriple) (e : LoadError) (r : Refusal) (terms new_terms : List Term) (graph new_graph : List Triple) → line true ahead ≡ Ok (x ∷ [], rest)
     → (Path (Result (Unit {0}) LoadError) (Err e) (Err load.Full) → FindsNoRoom terms graph x) → r ≡ from_load e → Steps (Err r) ahead rest terms graph new_terms new_graph

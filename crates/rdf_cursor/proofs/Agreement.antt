@@ -60,12 +60,14 @@ module _ {T F : Type 0} (Common : F → Type 0) (Alone : F → Ahead T → Type 
     turn n s ts true le ih = behind n s ts (p s ts) (q s ts) refl (h s ts) le ih
     turn n s ts false le ih = refl
 
-    no_turn : (s : S) (ts : Ahead T) → count ts ≤ 0 → AgreesAt Common Alone (cond (next_is class ts) (and_then (p s ts) (loop class p)) (Ok (s, ts))) (cond (next_is class ts) (and_then (q s ts) (loop class q)) (Ok (s, ts)))
+    no_turn : (s : S) (ts : Ahead T) → count ts ≤ 0 →
+        AgreesAt Common Alone (cond (next_is class ts) (and_then (p s ts) (loop class p)) (Ok (s, ts))) (cond (next_is class ts) (and_then (q s ts) (loop class q)) (Ok (s, ts)))
     no_turn s finished le = refl
     no_turn s broken le = refl
     no_turn s (token t ts) le = absurd (omega arith)
 
-    steps : (s : S) (ts : Ahead T) → AgreesAt Common Alone (cond (next_is class ts) (and_then (p s ts) (loop class p)) (Ok (s, ts))) (cond (next_is class ts) (and_then (q s ts) (loop class q)) (Ok (s, ts)))
+    steps : (s : S) (ts : Ahead T) →
+        AgreesAt Common Alone (cond (next_is class ts) (and_then (p s ts) (loop class p)) (Ok (s, ts))) (cond (next_is class ts) (and_then (q s ts) (loop class q)) (Ok (s, ts)))
         → AgreesAt Common Alone (loop class p s ts) (loop class q s ts)
     steps s ts a =
         subst (λ (v : Answer T F S). AgreesAt Common Alone (loop class p s ts) v) (sym (loop_step class q eats_q s ts))

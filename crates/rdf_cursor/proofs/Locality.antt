@@ -91,7 +91,8 @@ pub right_at : {T F A : Type 0} (class : T → Bool) (p q : Reader T F A) (ts : 
 right_at class p q ts (Ok x) e l = (l.0, l.1, λ u h. rw (sym (same_next_prepend class l.0 x.1 u h) ∙ ap (next_is class) (sym l.1) ∙ e) (l.2 u h))
 right_at class p q ts (Err x) e l = (l.0, l.1, λ u h. rw (sym (same_next_prepend class l.0 x.1 u h) ∙ ap (next_is class) (sym l.1) ∙ e) (l.2 u h))
 
-choose_at : {T F A : Type 0} (class : T → Bool) (p q : Reader T F A) (ts : Ahead T) (b : Bool) → next_is class ts ≡ b → IsLocalAt p ts (p ts) → IsLocalAt q ts (q ts) → IsLocalAt (either class p q) ts (cond b (p ts) (q ts))
+choose_at : {T F A : Type 0} (class : T → Bool) (p q : Reader T F A) (ts : Ahead T) (b : Bool) → next_is class ts ≡ b → IsLocalAt p ts (p ts) →
+    IsLocalAt q ts (q ts) → IsLocalAt (either class p q) ts (cond b (p ts) (q ts))
 choose_at class p q ts true e l m = left_at class p q ts (p ts) e l
 choose_at class p q ts false e l m = right_at class p q ts (q ts) e m
 

@@ -65,7 +65,8 @@ module _ {T F S : Type 0} (class : T → Bool) (step : S → Reader T F S) (cons
 
     local_to : (n : ℕ) (s : S) (ts : Ahead T) → count ts ≤ n → IsLocalAt (loop class step s) ts (loop class step s ts)
     local_to zero s ts h =
-        let stops : loop class step s ts ≡ Ok (s, ts) = loop_stop s ts (none_left ts h) in rw stops (moved s ts (Ok (s, ts)) (right_at class (step s >>= loop class step) (give s) ts (Ok (s, ts)) (none_left ts h) (local_give s ts)))
+        let stops : loop class step s ts ≡ Ok (s, ts) = loop_stop s ts (none_left ts h) in
+        rw stops (moved s ts (Ok (s, ts)) (right_at class (step s >>= loop class step) (give s) ts (Ok (s, ts)) (none_left ts h) (local_give s ts)))
     local_to (suc n) s ts h =
         rw (as_either s ts) (moved s ts (either class (step s >>= loop class step) (give s) ts) (local_cases n s ts (next_is class ts) (λ x r k. local_to n x r k) refl h))
 

@@ -46,7 +46,8 @@ reached_on m source next r t at u e f is had =
 pub cut_next : (m : Mode) (source : List ℕ) (at : ℕ) (r : Lexed) → ∥ IsUtf8 source ∥₁ → Lexes m source at r → IsCharBoundary source (behind_place source r)
 cut_next m source at r u h = cut_lexed m source (IsUtf8-had source u) at r h
 
-pub ahead_on : (m : Mode) (source : List ℕ) (next r : Lexed) (t : Token) (at : ℕ) → ∥ IsUtf8 source ∥₁ → next ≡ lexed.Token t → at ≡ t.at + length t.text.now → IsCharBoundary source (behind_place source next)
+pub ahead_on : (m : Mode) (source : List ℕ) (next r : Lexed) (t : Token) (at : ℕ) → ∥ IsUtf8 source ∥₁ → next ≡ lexed.Token t → at ≡ t.at + length t.text.now →
+    IsCharBoundary source (behind_place source next)
     → seen r ≡ next_of m source at → ahead_of m source r ≡ behind_next (ahead_of m source next)
 ahead_on m source next r t at u e f cut is =
     let b : IsCharBoundary source (t.at + length t.text.now) = subst (λ (l : Lexed). IsCharBoundary source (behind_place source l)) e cut in

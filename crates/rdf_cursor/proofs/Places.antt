@@ -114,7 +114,8 @@ module _ (m : Mode) (source : List ℕ) (u : IsUtf8 source) where
     begun front t rest x more none same s = none (token t (prepend more finished)) same (subst (Spells x) (prepend-append front (t ∷ more) finished) s)
 
     stops_on : (front : List Spelled) (from : ℕ) (rest : Ahead Spelled) (x : Next) → IsCharBoundary source from → Between m source 0 front from → x ≡ next_of m source from
-        → stream_from m source 0 ≡ prepend front rest → stream_on (stream_from m source) x ≡ rest → ((y : A) (other : Ahead Spelled) → SameNext rest other → ¬ Spells y (prepend front other)) → Stops (place_in x)
+        → stream_from m source 0 ≡ prepend front rest → stream_on (stream_from m source) x ≡ rest →
+        ((y : A) (other : Ahead Spelled) → SameNext rest other → ¬ Spells y (prepend front other)) → Stops (place_in x)
     stops_on front from rest (at_token k text p) b passed e parts is none =
         let t : Spelled = record { kind = k; text = text } in
         fault.at_token front from t passed (is_next m source from (at_token k text p) u b e)

@@ -15,7 +15,8 @@ use Rattle.rdf_cursor.specs.Streams.{stream_on, stream_within, stream_from}
 use Rattle.rdf_cursor.specs.Lent.{ahead_of, behind_place}
 
 -- what comes next, by the token that comes first
-pub first_next : (m : Mode) (source : List ℕ) (at : ℕ) (k : Kind) (text : List ℕ) (place : ℕ) → IsUtf8 source → IsCharBoundary source at → IsFirst m source at k text place → at_token k text place ≡ next_of m source at
+pub first_next : (m : Mode) (source : List ℕ) (at : ℕ) (k : Kind) (text : List ℕ) (place : ℕ) → IsUtf8 source → IsCharBoundary source at →
+    IsFirst m source at k text place → at_token k text place ≡ next_of m source at
 first_next m source at k text place u b f = lexed_one m source at (lexed.Token (record { kind = k; text = record { ref_ptr = (0, 0); now = text }; at = place })) u b f
 
 pub end_next : (m : Mode) (source : List ℕ) (at : ℕ) → IsUtf8 source → IsCharBoundary source at → IsSkipped m source at (length source) → at_end ≡ next_of m source at
@@ -77,7 +78,8 @@ module _ (m : Mode) (source : List ℕ) (u : IsUtf8 source) where
       → Found (p + length text) ts rest → Found at (t ∷ ts) rest
   one_found at t ts rest k text p e f g = subst (λ (v : Spelled). Found at (v ∷ ts) rest) e (record { to = g.to; passed = onward f g.passed; left = g.left })
 
-  found_on : (at : ℕ) (t : Spelled) (ts : List Spelled) (rest : Ahead Spelled) (x : Next) → IsCharBoundary source at → next_of m source at ≡ x → stream_on (stream_from m source) x ≡ token t (prepend ts rest)
+  found_on : (at : ℕ) (t : Spelled) (ts : List Spelled) (rest : Ahead Spelled) (x : Next) → IsCharBoundary source at → next_of m source at ≡ x →
+      stream_on (stream_from m source) x ≡ token t (prepend ts rest)
       → ((b : ℕ) → IsCharBoundary source b → stream_from m source b ≡ prepend ts rest → Found b ts rest) → Found at (t ∷ ts) rest
   found_on at t ts rest at_end b e is ih = absurd cc
   found_on at t ts rest (at_bad p) b e is ih = absurd cc

@@ -35,7 +35,8 @@ one_good {T = T} {F = F} {A = A} z class Q (token t ts) h y e = by (class t) ref
     by (Ok x) is e = subst (λ (v : A × Ahead T). Q v.0 v.1) (ok_is (x, ts) y e) (h t ts x refl is)
     by (Err d) is e = absurd (apart y (d, token t ts) (sym e))
 
-one_bad : {T F A : Type 0} (z : F) (class : T → Result A F) (P : F → Ahead T → Type 0) (ts : Ahead T) → P z ts → ((t : T) (rest : Ahead T) (f : F) → ts ≡ token t rest → class t ≡ Err f → P f (token t rest))
+one_bad : {T F A : Type 0} (z : F) (class : T → Result A F) (P : F → Ahead T → Type 0) (ts : Ahead T) → P z ts →
+    ((t : T) (rest : Ahead T) (f : F) → ts ≡ token t rest → class t ≡ Err f → P f (token t rest))
     → (e : F × Ahead T) → one z class ts ≡ Err e → P e.0 e.1
 one_bad {T = T} {F = F} z class P finished s h e is = subst (λ (v : F × Ahead T). P v.0 v.1) (err_is (z, finished) e is) s
 one_bad {T = T} {F = F} z class P broken s h e is = subst (λ (v : F × Ahead T). P v.0 v.1) (err_is (z, broken) e is) s
@@ -46,7 +47,8 @@ one_bad {T = T} {F = F} {A = A} z class P (token t ts) s h e is = by (class t) r
     by (Err d) k is = subst (λ (v : F × Ahead T). P v.0 v.1) (err_is (d, token t ts) e is) (h t ts d refl k)
 
 pub tells_one : {T F A : Type 0} {z : F} {class : T → Result A F} {Q : A → Ahead T → Type 0} {P : F → Ahead T → Type 0} {ts : Ahead T} → P z ts
-    → ((t : T) (rest : Ahead T) (x : A) → ts ≡ token t rest → class t ≡ Ok x → Q x rest) → ((t : T) (rest : Ahead T) (f : F) → ts ≡ token t rest → class t ≡ Err f → P f (token t rest)) → Tells (one z class) Q P ts
+    → ((t : T) (rest : Ahead T) (x : A) → ts ≡ token t rest → class t ≡ Ok x → Q x rest) →
+    ((t : T) (rest : Ahead T) (f : F) → ts ≡ token t rest → class t ≡ Err f → P f (token t rest)) → Tells (one z class) Q P ts
 tells_one {z = z} {class = class} {Q = Q} {P = P} {ts = ts} s h k = record { good = λ y e. one_good z class Q ts h y e; bad = λ e is. one_bad z class P ts s k e is }
 
 pub tells_bind : {T F A B : Type 0} {p : Reader T F A} {f : A → Reader T F B} {Q : A → Ahead T → Type 0} {S : B → Ahead T → Type 0} {P : F → Ahead T → Type 0} {ts : Ahead T} → Tells p Q P ts
@@ -65,7 +67,8 @@ tells_chosen : {T F A : Type 0} (b : Bool) (p q : Reader T F A) (Q : A → Ahead
 tells_chosen true p q Q P ts a b = ((a refl).good, (a refl).bad)
 tells_chosen false p q Q P ts a b = ((b refl).good, (b refl).bad)
 
-pub tells_either : {T F A : Type 0} {class : T → Bool} {p q : Reader T F A} {Q : A → Ahead T → Type 0} {P : F → Ahead T → Type 0} {ts : Ahead T} → (next_is class ts ≡ true → Tells p Q P ts) → (next_is class ts ≡ false → Tells q Q P ts)
+pub tells_either : {T F A : Type 0} {class : T → Bool} {p q : Reader T F A} {Q : A → Ahead T → Type 0} {P : F → Ahead T → Type 0} {ts : Ahead T} →
+    (next_is class ts ≡ true → Tells p Q P ts) → (next_is class ts ≡ false → Tells q Q P ts)
     → Tells (either class p q) Q P ts
 tells_either {class = class} {p = p} {q = q} {Q = Q} {P = P} {ts = ts} a b = let c = tells_chosen (next_is class ts) p q Q P ts a b in record { good = c.0; bad = c.1 }
 
@@ -82,6 +85,7 @@ unfolding loop
 tells_loop class step Q P h s ts q = let w = tells_within class step Q P h (count ts) s ts q in record { good = w.good; bad = w.bad }
 
 -- what follows from what is satisfied
-pub tells_so : {T F A : Type 0} {p : Reader T F A} {Q S : A → Ahead T → Type 0} {P O : F → Ahead T → Type 0} {ts : Ahead T} → ((x : A) (r : Ahead T) → Q x r → S x r) → ((f : F) (r : Ahead T) → P f r → O f r)
+pub tells_so : {T F A : Type 0} {p : Reader T F A} {Q S : A → Ahead T → Type 0} {P O : F → Ahead T → Type 0} {ts : Ahead T} →
+    ((x : A) (r : Ahead T) → Q x r → S x r) → ((f : F) (r : Ahead T) → P f r → O f r)
     → Tells p Q P ts → Tells p S O ts
 tells_so g h t = record { good = λ y e. g y.0 y.1 (t.good y e); bad = λ e is. h e.0 e.1 (t.bad e is) }

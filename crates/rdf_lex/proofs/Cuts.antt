@@ -43,8 +43,10 @@ cut_at bs front rest u e =
     let fs = first_scalars front rest all in
     let ls = last_scalars front rest all in
     let n = size-length front in
-    let t : take (size front) bs ≡ encode_utf8_all front = ap (λ (i : ℕ). take i bs) (sym n) ∙ ap (take (length (encode_utf8_all front))) parts ∙ take_front (encode_utf8_all front) (encode_utf8_all rest) in
-    let d : drop (size front) bs ≡ encode_utf8_all rest = ap (λ (i : ℕ). drop i bs) (sym n) ∙ ap (drop (length (encode_utf8_all front))) parts ∙ drop_front (encode_utf8_all front) (encode_utf8_all rest) in
+    let t : take (size front) bs ≡ encode_utf8_all front = ap (λ (i : ℕ). take i bs) (sym n) ∙ ap (take (length (encode_utf8_all front))) parts
+    ∙ take_front (encode_utf8_all front) (encode_utf8_all rest) in
+    let d : drop (size front) bs ≡ encode_utf8_all rest = ap (λ (i : ℕ). drop i bs) (sym n) ∙ ap (drop (length (encode_utf8_all front))) parts
+    ∙ drop_front (encode_utf8_all front) (encode_utf8_all rest) in
     let len : length bs ≡ length (encode_utf8_all front) + length (encode_utf8_all rest) = ap length parts ∙ length-append (encode_utf8_all front) (encode_utf8_all rest) in
     record {
       taken = t;

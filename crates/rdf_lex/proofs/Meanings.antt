@@ -59,7 +59,8 @@ named_behind text (inr (front, rest, e, h, k)) =
     let s = local_stands.stands body l in
     (body, s.0, (front, e ∙ ap (λ (v : List ℕ). front ++ v) f, no_colon front h), s.1)
 
-name_means : (k : Kind) (text : List ℕ) → ((body : List ℕ) → IsBehindColon text body → Body k text body) → inside_of k ≡ Local → Spells pname_ns text ⊎ Spells pname_ln text → (out : List ℕ) × Means k text out
+name_means : (k : Kind) (text : List ℕ) → ((body : List ℕ) → IsBehindColon text body → Body k text body) → inside_of k ≡ Local → Spells pname_ns text ⊎
+    Spells pname_ln text → (out : List ℕ) × Means k text out
 name_means k text f e h = let (body, out, b, s) = named_behind text h in (out, (body, f body b, subst (λ (w : Inside). StandsFor w body out) (sym e) s))
 
 at_name_means : (text : List ℕ) → Spells at_name text → (out : List ℕ) × Means kinds.AtName text out

@@ -111,8 +111,10 @@ pass_between m c cs n true q r e f g ih = one_more (Blanks m (c ∷ cs)) (Blanks
 pass_between m c cs n false true r e f g ih = one_more (Blanks m (c ∷ cs)) (Noted m cs) c cs n _ (λ rest h. hash_begins m c cs rest f h) (ih blank.Line)
 pass_between m c cs n false false true e f g ih = by (ih (blank.Slash n))
   where
-    by : Blocked m (behind_open (47 ∷ cs)) n cs (n + len_utf8 c) (blank_from m cs (blank.Slash n) (n + len_utf8 c)) → Leads (Blanks m (c ∷ cs)) (c ∷ cs) n (blank_from m cs (blank.Slash n) (n + len_utf8 c))
-    by (inl l) = one_more (Blanks m (c ∷ cs)) (Ended m (behind_open (47 ∷ cs))) c cs n _ (λ rest h. block_begins m c cs rest (and_true (has_blocks m) (nat_eq c 47) g).0 (and_true (has_blocks m) (nat_eq c 47) g).1 h) l
+    by : Blocked m (behind_open (47 ∷ cs)) n cs (n + len_utf8 c) (blank_from m cs (blank.Slash n) (n + len_utf8 c)) →
+        Leads (Blanks m (c ∷ cs)) (c ∷ cs) n (blank_from m cs (blank.Slash n) (n + len_utf8 c))
+    by (inl l) = one_more (Blanks m (c ∷ cs))
+        (Ended m (behind_open (47 ∷ cs))) c cs n _ (λ rest h. block_begins m c cs rest (and_true (has_blocks m) (nat_eq c 47) g).0 (and_true (has_blocks m) (nat_eq c 47) g).1 h) l
     by (inr (none, at)) = no_more (Blanks m (c ∷ cs)) (c ∷ cs) n _ (sym at) (stops e f (slashed m c cs (and_true (has_blocks m) (nat_eq c 47) g).0 (and_true (has_blocks m) (nat_eq c 47) g).1 ∙ none))
 pass_between m c cs n false false false e f g ih = no_more (Blanks m (c ∷ cs)) (c ∷ cs) n n refl (stops e f (comment_none m c cs (has_blocks m) refl g))
 

@@ -78,7 +78,8 @@ none_some o k e f = cc
 over_stuck : (m : Mode) (front : List ℕ) (t : State) (c : ℕ) (rest : List ℕ) → state_after Start front ≡ Some t → step_of t c ≡ None → IsOver m front (c ∷ rest)
 over_stuck m front t c rest at stuck = λ j piece behind e h. by j piece behind e h (order (length piece) (length front))
   where
-    by : (j : Kind) (piece behind : List ℕ) → front ++ c ∷ rest ≡ piece ++ behind → Spells (Spelling m j) piece → (length piece ≤ length front) ⊎ (length front < length piece) → length piece ≤ length front
+    by : (j : Kind) (piece behind : List ℕ) → front ++ c ∷ rest ≡ piece ++ behind → Spells (Spelling m j) piece → (length piece ≤ length front) ⊎
+        (length front < length piece) → length piece ≤ length front
     by j piece behind e h (inl le) = le
     by j piece behind e h (inr lt) =
         let more = goes_on front piece behind c rest e lt in

@@ -43,12 +43,14 @@ next_alike m s k c =
 to_next : (m : Mode) (s : State) (k : Kind) (c : ℕ) (cs : List ℕ) → Spells (residual m s k) (c ∷ cs) → Spells (residual_on m (step_of s c) k) cs
 to_next m s k c cs h =
     let p = subst (λ (r : Phrase). Spells r cs) (past_sample (residual m s k) c (residual_plain m s k c)) (to_past (residual m s k) c cs h) in
-    let e = and_true (covered (past (sample c) (residual m s k)) (residual_on m (step_of s (sample c)) k)) (covered (residual_on m (step_of s (sample c)) k) (past (sample c) (residual m s k))) (next_alike m s k c) in
+    let e = and_true (covered (past (sample c) (residual m s k)) (residual_on m (step_of s (sample c)) k))
+    (covered (residual_on m (step_of s (sample c)) k) (past (sample c) (residual m s k))) (next_alike m s k c) in
     subst (λ (o : Option State). Spells (residual_on m o k) cs) (sym (step_sample s c)) (from_covered (past (sample c) (residual m s k)) (residual_on m (step_of s (sample c)) k) cs e.0 p)
 
 from_next : (m : Mode) (s : State) (k : Kind) (c : ℕ) (cs : List ℕ) → Spells (residual_on m (step_of s c) k) cs → Spells (residual m s k) (c ∷ cs)
 from_next m s k c cs h =
-    let e = and_true (covered (past (sample c) (residual m s k)) (residual_on m (step_of s (sample c)) k)) (covered (residual_on m (step_of s (sample c)) k) (past (sample c) (residual m s k))) (next_alike m s k c) in
+    let e = and_true (covered (past (sample c) (residual m s k)) (residual_on m (step_of s (sample c)) k))
+    (covered (residual_on m (step_of s (sample c)) k) (past (sample c) (residual m s k))) (next_alike m s k c) in
     let p = from_covered (residual_on m (step_of s (sample c)) k) (past (sample c) (residual m s k)) cs e.1 (subst (λ (o : Option State). Spells (residual_on m o k) cs) (step_sample s c) h) in
     from_past (residual m s k) c cs (subst (λ (r : Phrase). Spells r cs) (sym (past_sample (residual m s k) c (residual_plain m s k c))) p)
 
@@ -57,7 +59,8 @@ ends_here m s k =
     let e = and_true (every (agrees m s) samples) (labelled m s) (is_steady m s) in
     alike_bools (ends (residual m s k)) (is_kind k (label_of m s)) (every_kind_is (λ k. both_or_none (ends (residual m s k)) (is_kind k (label_of m s))) e.1 k)
 
-to_kind_on : (m : Mode) (k : Kind) (cs : List ℕ) (o : Option State) → ((t : State) → Spells (residual m t k) cs → kind_from m t cs ≡ Some k) → Spells (residual_on m o k) cs → then_from o (λ t. kind_from m t cs) ≡ Some k
+to_kind_on : (m : Mode) (k : Kind) (cs : List ℕ) (o : Option State) → ((t : State) → Spells (residual m t k) cs → kind_from m t cs ≡ Some k) →
+    Spells (residual_on m o k) cs → then_from o (λ t. kind_from m t cs) ≡ Some k
 to_kind_on m k cs None ih h = absurd h
 to_kind_on m k cs (Some t) ih h = ih t h
 
@@ -65,7 +68,8 @@ to_kind_from : (m : Mode) (k : Kind) (cs : List ℕ) (s : State) → Spells (res
 to_kind_from m k [] s h = is_kind_some k (label_of m s) (sym (ends_here m s k) ∙ to_ends (residual m s k) h)
 to_kind_from m k (c ∷ cs) s h = to_kind_on m k cs (step_of s c) (λ t g. to_kind_from m k cs t g) (to_next m s k c cs h)
 
-from_kind_on : (m : Mode) (k : Kind) (cs : List ℕ) (o : Option State) → ((t : State) → kind_from m t cs ≡ Some k → Spells (residual m t k) cs) → then_from o (λ t. kind_from m t cs) ≡ Some k → Spells (residual_on m o k) cs
+from_kind_on : (m : Mode) (k : Kind) (cs : List ℕ) (o : Option State) → ((t : State) → kind_from m t cs ≡ Some k → Spells (residual m t k) cs) →
+    then_from o (λ t. kind_from m t cs) ≡ Some k → Spells (residual_on m o k) cs
 from_kind_on m k cs None ih h = absurd cc
 from_kind_on m k cs (Some t) ih h = ih t h
 

@@ -158,20 +158,34 @@ abbrev pub every_kind : (Kind → Bool) → Bool
 every_kind p = p kinds.IriRef && (p kinds.PnameNs && (p kinds.PnameLn && (p kinds.BlankLabel && (p kinds.LangTag && (p kinds.AtName && (p kinds.Str && (p kinds.Integer && (p kinds.Decimal && (p kinds.Double && (p kinds.Word && (p kinds.Punct && (p kinds.Line && p kinds.Pattern))))))))))))
 
 pub every_kind_is : (p : Kind → Bool) → every_kind p ≡ true → (v : Kind) → p v ≡ true
-every_kind_is p e kinds.IriRef = (and_true (p kinds.IriRef) (p kinds.PnameNs && (p kinds.PnameLn && (p kinds.BlankLabel && (p kinds.LangTag && (p kinds.AtName && (p kinds.Str && (p kinds.Integer && (p kinds.Decimal && (p kinds.Double && (p kinds.Word && (p kinds.Punct && (p kinds.Line && p kinds.Pattern)))))))))))) e).0
-every_kind_is p e kinds.PnameNs = let e1 = (and_true (p kinds.IriRef) (p kinds.PnameNs && (p kinds.PnameLn && (p kinds.BlankLabel && (p kinds.LangTag && (p kinds.AtName && (p kinds.Str && (p kinds.Integer && (p kinds.Decimal && (p kinds.Double && (p kinds.Word && (p kinds.Punct && (p kinds.Line && p kinds.Pattern)))))))))))) e).1 in (and_true (p kinds.PnameNs) (p kinds.PnameLn && (p kinds.BlankLabel && (p kinds.LangTag && (p kinds.AtName && (p kinds.Str && (p kinds.Integer && (p kinds.Decimal && (p kinds.Double && (p kinds.Word && (p kinds.Punct && (p kinds.Line && p kinds.Pattern))))))))))) e1).0
-every_kind_is p e kinds.PnameLn = let e1 = (and_true (p kinds.IriRef) (p kinds.PnameNs && (p kinds.PnameLn && (p kinds.BlankLabel && (p kinds.LangTag && (p kinds.AtName && (p kinds.Str && (p kinds.Integer && (p kinds.Decimal && (p kinds.Double && (p kinds.Word && (p kinds.Punct && (p kinds.Line && p kinds.Pattern)))))))))))) e).1 in let e2 = (and_true (p kinds.PnameNs) (p kinds.PnameLn && (p kinds.BlankLabel && (p kinds.LangTag && (p kinds.AtName && (p kinds.Str && (p kinds.Integer && (p kinds.Decimal && (p kinds.Double && (p kinds.Word && (p kinds.Punct && (p kinds.Line && p kinds.Pattern))))))))))) e1).1 in (and_true (p kinds.PnameLn) (p kinds.BlankLabel && (p kinds.LangTag && (p kinds.AtName && (p kinds.Str && (p kinds.Integer && (p kinds.Decimal && (p kinds.Double && (p kinds.Word && (p kinds.Punct && (p kinds.Line && p kinds.Pattern)))))))))) e2).0
-every_kind_is p e kinds.BlankLabel = let e1 = (and_true (p kinds.IriRef) (p kinds.PnameNs && (p kinds.PnameLn && (p kinds.BlankLabel && (p kinds.LangTag && (p kinds.AtName && (p kinds.Str && (p kinds.Integer && (p kinds.Decimal && (p kinds.Double && (p kinds.Word && (p kinds.Punct && (p kinds.Line && p kinds.Pattern)))))))))))) e).1 in let e2 = (and_true (p kinds.PnameNs) (p kinds.PnameLn && (p kinds.BlankLabel && (p kinds.LangTag && (p kinds.AtName && (p kinds.Str && (p kinds.Integer && (p kinds.Decimal && (p kinds.Double && (p kinds.Word && (p kinds.Punct && (p kinds.Line && p kinds.Pattern))))))))))) e1).1 in let e3 = (and_true (p kinds.PnameLn) (p kinds.BlankLabel && (p kinds.LangTag && (p kinds.AtName && (p kinds.Str && (p kinds.Integer && (p kinds.Decimal && (p kinds.Double && (p kinds.Word && (p kinds.Punct && (p kinds.Line && p kinds.Pattern)))))))))) e2).1 in (and_true (p kinds.BlankLabel) (p kinds.LangTag && (p kinds.AtName && (p kinds.Str && (p kinds.Integer && (p kinds.Decimal && (p kinds.Double && (p kinds.Word && (p kinds.Punct && (p kinds.Line && p kinds.Pattern))))))))) e3).0
-every_kind_is p e kinds.LangTag = let e1 = (and_true (p kinds.IriRef) (p kinds.PnameNs && (p kinds.PnameLn && (p kinds.BlankLabel && (p kinds.LangTag && (p kinds.AtName && (p kinds.Str && (p kinds.Integer && (p kinds.Decimal && (p kinds.Double && (p kinds.Word && (p kinds.Punct && (p kinds.Line && p kinds.Pattern)))))))))))) e).1 in let e2 = (and_true (p kinds.PnameNs) (p kinds.PnameLn && (p kinds.BlankLabel && (p kinds.LangTag && (p kinds.AtName && (p kinds.Str && (p kinds.Integer && (p kinds.Decimal && (p kinds.Double && (p kinds.Word && (p kinds.Punct && (p kinds.Line && p kinds.Pattern))))))))))) e1).1 in let e3 = (and_true (p kinds.PnameLn) (p kinds.BlankLabel && (p kinds.LangTag && (p kinds.AtName && (p kinds.Str && (p kinds.Integer && (p kinds.Decimal && (p kinds.Double && (p kinds.Word && (p kinds.Punct && (p kinds.Line && p kinds.Pattern)))))))))) e2).1 in let e4 = (and_true (p kinds.BlankLabel) (p kinds.LangTag && (p kinds.AtName && (p kinds.Str && (p kinds.Integer && (p kinds.Decimal && (p kinds.Double && (p kinds.Word && (p kinds.Punct && (p kinds.Line && p kinds.Pattern))))))))) e3).1 in (and_true (p kinds.LangTag) (p kinds.AtName && (p kinds.Str && (p kinds.Integer && (p kinds.Decimal && (p kinds.Double && (p kinds.Word && (p kinds.Punct && (p kinds.Line && p kinds.Pattern)))))))) e4).0
-every_kind_is p e kinds.AtName = let e1 = (and_true (p kinds.IriRef) (p kinds.PnameNs && (p kinds.PnameLn && (p kinds.BlankLabel && (p kinds.LangTag && (p kinds.AtName && (p kinds.Str && (p kinds.Integer && (p kinds.Decimal && (p kinds.Double && (p kinds.Word && (p kinds.Punct && (p kinds.Line && p kinds.Pattern)))))))))))) e).1 in let e2 = (and_true (p kinds.PnameNs) (p kinds.PnameLn && (p kinds.BlankLabel && (p kinds.LangTag && (p kinds.AtName && (p kinds.Str && (p kinds.Integer && (p kinds.Decimal && (p kinds.Double && (p kinds.Word && (p kinds.Punct && (p kinds.Line && p kinds.Pattern))))))))))) e1).1 in let e3 = (and_true (p kinds.PnameLn) (p kinds.BlankLabel && (p kinds.LangTag && (p kinds.AtName && (p kinds.Str && (p kinds.Integer && (p kinds.Decimal && (p kinds.Double && (p kinds.Word && (p kinds.Punct && (p kinds.Line && p kinds.Pattern)))))))))) e2).1 in let e4 = (and_true (p kinds.BlankLabel) (p kinds.LangTag && (p kinds.AtName && (p kinds.Str && (p kinds.Integer && (p kinds.Decimal && (p kinds.Double && (p kinds.Word && (p kinds.Punct && (p kinds.Line && p kinds.Pattern))))))))) e3).1 in let e5 = (and_true (p kinds.LangTag) (p kinds.AtName && (p kinds.Str && (p kinds.Integer && (p kinds.Decimal && (p kinds.Double && (p kinds.Word && (p kinds.Punct && (p kinds.Line && p kinds.Pattern)))))))) e4).1 in (and_true (p kinds.AtName) (p kinds.Str && (p kinds.Integer && (p kinds.Decimal && (p kinds.Double && (p kinds.Word && (p kinds.Punct && (p kinds.Line && p kinds.Pattern))))))) e5).0
-every_kind_is p e kinds.Str = let e1 = (and_true (p kinds.IriRef) (p kinds.PnameNs && (p kinds.PnameLn && (p kinds.BlankLabel && (p kinds.LangTag && (p kinds.AtName && (p kinds.Str && (p kinds.Integer && (p kinds.Decimal && (p kinds.Double && (p kinds.Word && (p kinds.Punct && (p kinds.Line && p kinds.Pattern)))))))))))) e).1 in let e2 = (and_true (p kinds.PnameNs) (p kinds.PnameLn && (p kinds.BlankLabel && (p kinds.LangTag && (p kinds.AtName && (p kinds.Str && (p kinds.Integer && (p kinds.Decimal && (p kinds.Double && (p kinds.Word && (p kinds.Punct && (p kinds.Line && p kinds.Pattern))))))))))) e1).1 in let e3 = (and_true (p kinds.PnameLn) (p kinds.BlankLabel && (p kinds.LangTag && (p kinds.AtName && (p kinds.Str && (p kinds.Integer && (p kinds.Decimal && (p kinds.Double && (p kinds.Word && (p kinds.Punct && (p kinds.Line && p kinds.Pattern)))))))))) e2).1 in let e4 = (and_true (p kinds.BlankLabel) (p kinds.LangTag && (p kinds.AtName && (p kinds.Str && (p kinds.Integer && (p kinds.Decimal && (p kinds.Double && (p kinds.Word && (p kinds.Punct && (p kinds.Line && p kinds.Pattern))))))))) e3).1 in let e5 = (and_true (p kinds.LangTag) (p kinds.AtName && (p kinds.Str && (p kinds.Integer && (p kinds.Decimal && (p kinds.Double && (p kinds.Word && (p kinds.Punct && (p kinds.Line && p kinds.Pattern)))))))) e4).1 in let e6 = (and_true (p kinds.AtName) (p kinds.Str && (p kinds.Integer && (p kinds.Decimal && (p kinds.Double && (p kinds.Word && (p kinds.Punct && (p kinds.Line && p kinds.Pattern))))))) e5).1 in (and_true (p kinds.Str) (p kinds.Integer && (p kinds.Decimal && (p kinds.Double && (p kinds.Word && (p kinds.Punct && (p kinds.Line && p kinds.Pattern)))))) e6).0
-every_kind_is p e kinds.Integer = let e1 = (and_true (p kinds.IriRef) (p kinds.PnameNs && (p kinds.PnameLn && (p kinds.BlankLabel && (p kinds.LangTag && (p kinds.AtName && (p kinds.Str && (p kinds.Integer && (p kinds.Decimal && (p kinds.Double && (p kinds.Word && (p kinds.Punct && (p kinds.Line && p kinds.Pattern)))))))))))) e).1 in let e2 = (and_true (p kinds.PnameNs) (p kinds.PnameLn && (p kinds.BlankLabel && (p kinds.LangTag && (p kinds.AtName && (p kinds.Str && (p kinds.Integer && (p kinds.Decimal && (p kinds.Double && (p kinds.Word && (p kinds.Punct && (p kinds.Line && p kinds.Pattern))))))))))) e1).1 in let e3 = (and_true (p kinds.PnameLn) (p kinds.BlankLabel && (p kinds.LangTag && (p kinds.AtName && (p kinds.Str && (p kinds.Integer && (p kinds.Decimal && (p kinds.Double && (p kinds.Word && (p kinds.Punct && (p kinds.Line && p kinds.Pattern)))))))))) e2).1 in let e4 = (and_true (p kinds.BlankLabel) (p kinds.LangTag && (p kinds.AtName && (p kinds.Str && (p kinds.Integer && (p kinds.Decimal && (p kinds.Double && (p kinds.Word && (p kinds.Punct && (p kinds.Line && p kinds.Pattern))))))))) e3).1 in let e5 = (and_true (p kinds.LangTag) (p kinds.AtName && (p kinds.Str && (p kinds.Integer && (p kinds.Decimal && (p kinds.Double && (p kinds.Word && (p kinds.Punct && (p kinds.Line && p kinds.Pattern)))))))) e4).1 in let e6 = (and_true (p kinds.AtName) (p kinds.Str && (p kinds.Integer && (p kinds.Decimal && (p kinds.Double && (p kinds.Word && (p kinds.Punct && (p kinds.Line && p kinds.Pattern))))))) e5).1 in let e7 = (and_true (p kinds.Str) (p kinds.Integer && (p kinds.Decimal && (p kinds.Double && (p kinds.Word && (p kinds.Punct && (p kinds.Line && p kinds.Pattern)))))) e6).1 in (and_true (p kinds.Integer) (p kinds.Decimal && (p kinds.Double && (p kinds.Word && (p kinds.Punct && (p kinds.Line && p kinds.Pattern))))) e7).0
-every_kind_is p e kinds.Decimal = let e1 = (and_true (p kinds.IriRef) (p kinds.PnameNs && (p kinds.PnameLn && (p kinds.BlankLabel && (p kinds.LangTag && (p kinds.AtName && (p kinds.Str && (p kinds.Integer && (p kinds.Decimal && (p kinds.Double && (p kinds.Word && (p kinds.Punct && (p kinds.Line && p kinds.Pattern)))))))))))) e).1 in let e2 = (and_true (p kinds.PnameNs) (p kinds.PnameLn && (p kinds.BlankLabel && (p kinds.LangTag && (p kinds.AtName && (p kinds.Str && (p kinds.Integer && (p kinds.Decimal && (p kinds.Double && (p kinds.Word && (p kinds.Punct && (p kinds.Line && p kinds.Pattern))))))))))) e1).1 in let e3 = (and_true (p kinds.PnameLn) (p kinds.BlankLabel && (p kinds.LangTag && (p kinds.AtName && (p kinds.Str && (p kinds.Integer && (p kinds.Decimal && (p kinds.Double && (p kinds.Word && (p kinds.Punct && (p kinds.Line && p kinds.Pattern)))))))))) e2).1 in let e4 = (and_true (p kinds.BlankLabel) (p kinds.LangTag && (p kinds.AtName && (p kinds.Str && (p kinds.Integer && (p kinds.Decimal && (p kinds.Double && (p kinds.Word && (p kinds.Punct && (p kinds.Line && p kinds.Pattern))))))))) e3).1 in let e5 = (and_true (p kinds.LangTag) (p kinds.AtName && (p kinds.Str && (p kinds.Integer && (p kinds.Decimal && (p kinds.Double && (p kinds.Word && (p kinds.Punct && (p kinds.Line && p kinds.Pattern)))))))) e4).1 in let e6 = (and_true (p kinds.AtName) (p kinds.Str && (p kinds.Integer && (p kinds.Decimal && (p kinds.Double && (p kinds.Word && (p kinds.Punct && (p kinds.Line && p kinds.Pattern))))))) e5).1 in let e7 = (and_true (p kinds.Str) (p kinds.Integer && (p kinds.Decimal && (p kinds.Double && (p kinds.Word && (p kinds.Punct && (p kinds.Line && p kinds.Pattern)))))) e6).1 in let e8 = (and_true (p kinds.Integer) (p kinds.Decimal && (p kinds.Double && (p kinds.Word && (p kinds.Punct && (p kinds.Line && p kinds.Pattern))))) e7).1 in (and_true (p kinds.Decimal) (p kinds.Double && (p kinds.Word && (p kinds.Punct && (p kinds.Line && p kinds.Pattern)))) e8).0
-every_kind_is p e kinds.Double = let e1 = (and_true (p kinds.IriRef) (p kinds.PnameNs && (p kinds.PnameLn && (p kinds.BlankLabel && (p kinds.LangTag && (p kinds.AtName && (p kinds.Str && (p kinds.Integer && (p kinds.Decimal && (p kinds.Double && (p kinds.Word && (p kinds.Punct && (p kinds.Line && p kinds.Pattern)))))))))))) e).1 in let e2 = (and_true (p kinds.PnameNs) (p kinds.PnameLn && (p kinds.BlankLabel && (p kinds.LangTag && (p kinds.AtName && (p kinds.Str && (p kinds.Integer && (p kinds.Decimal && (p kinds.Double && (p kinds.Word && (p kinds.Punct && (p kinds.Line && p kinds.Pattern))))))))))) e1).1 in let e3 = (and_true (p kinds.PnameLn) (p kinds.BlankLabel && (p kinds.LangTag && (p kinds.AtName && (p kinds.Str && (p kinds.Integer && (p kinds.Decimal && (p kinds.Double && (p kinds.Word && (p kinds.Punct && (p kinds.Line && p kinds.Pattern)))))))))) e2).1 in let e4 = (and_true (p kinds.BlankLabel) (p kinds.LangTag && (p kinds.AtName && (p kinds.Str && (p kinds.Integer && (p kinds.Decimal && (p kinds.Double && (p kinds.Word && (p kinds.Punct && (p kinds.Line && p kinds.Pattern))))))))) e3).1 in let e5 = (and_true (p kinds.LangTag) (p kinds.AtName && (p kinds.Str && (p kinds.Integer && (p kinds.Decimal && (p kinds.Double && (p kinds.Word && (p kinds.Punct && (p kinds.Line && p kinds.Pattern)))))))) e4).1 in let e6 = (and_true (p kinds.AtName) (p kinds.Str && (p kinds.Integer && (p kinds.Decimal && (p kinds.Double && (p kinds.Word && (p kinds.Punct && (p kinds.Line && p kinds.Pattern))))))) e5).1 in let e7 = (and_true (p kinds.Str) (p kinds.Integer && (p kinds.Decimal && (p kinds.Double && (p kinds.Word && (p kinds.Punct && (p kinds.Line && p kinds.Pattern)))))) e6).1 in let e8 = (and_true (p kinds.Integer) (p kinds.Decimal && (p kinds.Double && (p kinds.Word && (p kinds.Punct && (p kinds.Line && p kinds.Pattern))))) e7).1 in let e9 = (and_true (p kinds.Decimal) (p kinds.Double && (p kinds.Word && (p kinds.Punct && (p kinds.Line && p kinds.Pattern)))) e8).1 in (and_true (p kinds.Double) (p kinds.Word && (p kinds.Punct && (p kinds.Line && p kinds.Pattern))) e9).0
-every_kind_is p e kinds.Word = let e1 = (and_true (p kinds.IriRef) (p kinds.PnameNs && (p kinds.PnameLn && (p kinds.BlankLabel && (p kinds.LangTag && (p kinds.AtName && (p kinds.Str && (p kinds.Integer && (p kinds.Decimal && (p kinds.Double && (p kinds.Word && (p kinds.Punct && (p kinds.Line && p kinds.Pattern)))))))))))) e).1 in let e2 = (and_true (p kinds.PnameNs) (p kinds.PnameLn && (p kinds.BlankLabel && (p kinds.LangTag && (p kinds.AtName && (p kinds.Str && (p kinds.Integer && (p kinds.Decimal && (p kinds.Double && (p kinds.Word && (p kinds.Punct && (p kinds.Line && p kinds.Pattern))))))))))) e1).1 in let e3 = (and_true (p kinds.PnameLn) (p kinds.BlankLabel && (p kinds.LangTag && (p kinds.AtName && (p kinds.Str && (p kinds.Integer && (p kinds.Decimal && (p kinds.Double && (p kinds.Word && (p kinds.Punct && (p kinds.Line && p kinds.Pattern)))))))))) e2).1 in let e4 = (and_true (p kinds.BlankLabel) (p kinds.LangTag && (p kinds.AtName && (p kinds.Str && (p kinds.Integer && (p kinds.Decimal && (p kinds.Double && (p kinds.Word && (p kinds.Punct && (p kinds.Line && p kinds.Pattern))))))))) e3).1 in let e5 = (and_true (p kinds.LangTag) (p kinds.AtName && (p kinds.Str && (p kinds.Integer && (p kinds.Decimal && (p kinds.Double && (p kinds.Word && (p kinds.Punct && (p kinds.Line && p kinds.Pattern)))))))) e4).1 in let e6 = (and_true (p kinds.AtName) (p kinds.Str && (p kinds.Integer && (p kinds.Decimal && (p kinds.Double && (p kinds.Word && (p kinds.Punct && (p kinds.Line && p kinds.Pattern))))))) e5).1 in let e7 = (and_true (p kinds.Str) (p kinds.Integer && (p kinds.Decimal && (p kinds.Double && (p kinds.Word && (p kinds.Punct && (p kinds.Line && p kinds.Pattern)))))) e6).1 in let e8 = (and_true (p kinds.Integer) (p kinds.Decimal && (p kinds.Double && (p kinds.Word && (p kinds.Punct && (p kinds.Line && p kinds.Pattern))))) e7).1 in let e9 = (and_true (p kinds.Decimal) (p kinds.Double && (p kinds.Word && (p kinds.Punct && (p kinds.Line && p kinds.Pattern)))) e8).1 in let e10 = (and_true (p kinds.Double) (p kinds.Word && (p kinds.Punct && (p kinds.Line && p kinds.Pattern))) e9).1 in (and_true (p kinds.Word) (p kinds.Punct && (p kinds.Line && p kinds.Pattern)) e10).0
-every_kind_is p e kinds.Punct = let e1 = (and_true (p kinds.IriRef) (p kinds.PnameNs && (p kinds.PnameLn && (p kinds.BlankLabel && (p kinds.LangTag && (p kinds.AtName && (p kinds.Str && (p kinds.Integer && (p kinds.Decimal && (p kinds.Double && (p kinds.Word && (p kinds.Punct && (p kinds.Line && p kinds.Pattern)))))))))))) e).1 in let e2 = (and_true (p kinds.PnameNs) (p kinds.PnameLn && (p kinds.BlankLabel && (p kinds.LangTag && (p kinds.AtName && (p kinds.Str && (p kinds.Integer && (p kinds.Decimal && (p kinds.Double && (p kinds.Word && (p kinds.Punct && (p kinds.Line && p kinds.Pattern))))))))))) e1).1 in let e3 = (and_true (p kinds.PnameLn) (p kinds.BlankLabel && (p kinds.LangTag && (p kinds.AtName && (p kinds.Str && (p kinds.Integer && (p kinds.Decimal && (p kinds.Double && (p kinds.Word && (p kinds.Punct && (p kinds.Line && p kinds.Pattern)))))))))) e2).1 in let e4 = (and_true (p kinds.BlankLabel) (p kinds.LangTag && (p kinds.AtName && (p kinds.Str && (p kinds.Integer && (p kinds.Decimal && (p kinds.Double && (p kinds.Word && (p kinds.Punct && (p kinds.Line && p kinds.Pattern))))))))) e3).1 in let e5 = (and_true (p kinds.LangTag) (p kinds.AtName && (p kinds.Str && (p kinds.Integer && (p kinds.Decimal && (p kinds.Double && (p kinds.Word && (p kinds.Punct && (p kinds.Line && p kinds.Pattern)))))))) e4).1 in let e6 = (and_true (p kinds.AtName) (p kinds.Str && (p kinds.Integer && (p kinds.Decimal && (p kinds.Double && (p kinds.Word && (p kinds.Punct && (p kinds.Line && p kinds.Pattern))))))) e5).1 in let e7 = (and_true (p kinds.Str) (p kinds.Integer && (p kinds.Decimal && (p kinds.Double && (p kinds.Word && (p kinds.Punct && (p kinds.Line && p kinds.Pattern)))))) e6).1 in let e8 = (and_true (p kinds.Integer) (p kinds.Decimal && (p kinds.Double && (p kinds.Word && (p kinds.Punct && (p kinds.Line && p kinds.Pattern))))) e7).1 in let e9 = (and_true (p kinds.Decimal) (p kinds.Double && (p kinds.Word && (p kinds.Punct && (p kinds.Line && p kinds.Pattern)))) e8).1 in let e10 = (and_true (p kinds.Double) (p kinds.Word && (p kinds.Punct && (p kinds.Line && p kinds.Pattern))) e9).1 in let e11 = (and_true (p kinds.Word) (p kinds.Punct && (p kinds.Line && p kinds.Pattern)) e10).1 in (and_true (p kinds.Punct) (p kinds.Line && p kinds.Pattern) e11).0
-every_kind_is p e kinds.Line = let e1 = (and_true (p kinds.IriRef) (p kinds.PnameNs && (p kinds.PnameLn && (p kinds.BlankLabel && (p kinds.LangTag && (p kinds.AtName && (p kinds.Str && (p kinds.Integer && (p kinds.Decimal && (p kinds.Double && (p kinds.Word && (p kinds.Punct && (p kinds.Line && p kinds.Pattern)))))))))))) e).1 in let e2 = (and_true (p kinds.PnameNs) (p kinds.PnameLn && (p kinds.BlankLabel && (p kinds.LangTag && (p kinds.AtName && (p kinds.Str && (p kinds.Integer && (p kinds.Decimal && (p kinds.Double && (p kinds.Word && (p kinds.Punct && (p kinds.Line && p kinds.Pattern))))))))))) e1).1 in let e3 = (and_true (p kinds.PnameLn) (p kinds.BlankLabel && (p kinds.LangTag && (p kinds.AtName && (p kinds.Str && (p kinds.Integer && (p kinds.Decimal && (p kinds.Double && (p kinds.Word && (p kinds.Punct && (p kinds.Line && p kinds.Pattern)))))))))) e2).1 in let e4 = (and_true (p kinds.BlankLabel) (p kinds.LangTag && (p kinds.AtName && (p kinds.Str && (p kinds.Integer && (p kinds.Decimal && (p kinds.Double && (p kinds.Word && (p kinds.Punct && (p kinds.Line && p kinds.Pattern))))))))) e3).1 in let e5 = (and_true (p kinds.LangTag) (p kinds.AtName && (p kinds.Str && (p kinds.Integer && (p kinds.Decimal && (p kinds.Double && (p kinds.Word && (p kinds.Punct && (p kinds.Line && p kinds.Pattern)))))))) e4).1 in let e6 = (and_true (p kinds.AtName) (p kinds.Str && (p kinds.Integer && (p kinds.Decimal && (p kinds.Double && (p kinds.Word && (p kinds.Punct && (p kinds.Line && p kinds.Pattern))))))) e5).1 in let e7 = (and_true (p kinds.Str) (p kinds.Integer && (p kinds.Decimal && (p kinds.Double && (p kinds.Word && (p kinds.Punct && (p kinds.Line && p kinds.Pattern)))))) e6).1 in let e8 = (and_true (p kinds.Integer) (p kinds.Decimal && (p kinds.Double && (p kinds.Word && (p kinds.Punct && (p kinds.Line && p kinds.Pattern))))) e7).1 in let e9 = (and_true (p kinds.Decimal) (p kinds.Double && (p kinds.Word && (p kinds.Punct && (p kinds.Line && p kinds.Pattern)))) e8).1 in let e10 = (and_true (p kinds.Double) (p kinds.Word && (p kinds.Punct && (p kinds.Line && p kinds.Pattern))) e9).1 in let e11 = (and_true (p kinds.Word) (p kinds.Punct && (p kinds.Line && p kinds.Pattern)) e10).1 in let e12 = (and_true (p kinds.Punct) (p kinds.Line && p kinds.Pattern) e11).1 in (and_true (p kinds.Line) (p kinds.Pattern) e12).0
-every_kind_is p e kinds.Pattern = let e1 = (and_true (p kinds.IriRef) (p kinds.PnameNs && (p kinds.PnameLn && (p kinds.BlankLabel && (p kinds.LangTag && (p kinds.AtName && (p kinds.Str && (p kinds.Integer && (p kinds.Decimal && (p kinds.Double && (p kinds.Word && (p kinds.Punct && (p kinds.Line && p kinds.Pattern)))))))))))) e).1 in let e2 = (and_true (p kinds.PnameNs) (p kinds.PnameLn && (p kinds.BlankLabel && (p kinds.LangTag && (p kinds.AtName && (p kinds.Str && (p kinds.Integer && (p kinds.Decimal && (p kinds.Double && (p kinds.Word && (p kinds.Punct && (p kinds.Line && p kinds.Pattern))))))))))) e1).1 in let e3 = (and_true (p kinds.PnameLn) (p kinds.BlankLabel && (p kinds.LangTag && (p kinds.AtName && (p kinds.Str && (p kinds.Integer && (p kinds.Decimal && (p kinds.Double && (p kinds.Word && (p kinds.Punct && (p kinds.Line && p kinds.Pattern)))))))))) e2).1 in let e4 = (and_true (p kinds.BlankLabel) (p kinds.LangTag && (p kinds.AtName && (p kinds.Str && (p kinds.Integer && (p kinds.Decimal && (p kinds.Double && (p kinds.Word && (p kinds.Punct && (p kinds.Line && p kinds.Pattern))))))))) e3).1 in let e5 = (and_true (p kinds.LangTag) (p kinds.AtName && (p kinds.Str && (p kinds.Integer && (p kinds.Decimal && (p kinds.Double && (p kinds.Word && (p kinds.Punct && (p kinds.Line && p kinds.Pattern)))))))) e4).1 in let e6 = (and_true (p kinds.AtName) (p kinds.Str && (p kinds.Integer && (p kinds.Decimal && (p kinds.Double && (p kinds.Word && (p kinds.Punct && (p kinds.Line && p kinds.Pattern))))))) e5).1 in let e7 = (and_true (p kinds.Str) (p kinds.Integer && (p kinds.Decimal && (p kinds.Double && (p kinds.Word && (p kinds.Punct && (p kinds.Line && p kinds.Pattern)))))) e6).1 in let e8 = (and_true (p kinds.Integer) (p kinds.Decimal && (p kinds.Double && (p kinds.Word && (p kinds.Punct && (p kinds.Line && p kinds.Pattern))))) e7).1 in let e9 = (and_true (p kinds.Decimal) (p kinds.Double && (p kinds.Word && (p kinds.Punct && (p kinds.Line && p kinds.Pattern)))) e8).1 in let e10 = (and_true (p kinds.Double) (p kinds.Word && (p kinds.Punct && (p kinds.Line && p kinds.Pattern))) e9).1 in let e11 = (and_true (p kinds.Word) (p kinds.Punct && (p kinds.Line && p kinds.Pattern)) e10).1 in let e12 = (and_true (p kinds.Punct) (p kinds.Line && p kinds.Pattern) e11).1 in let e13 = (and_true (p kinds.Line) (p kinds.Pattern) e12).1 in e13
+every_kind_is p e kinds.IriRef =
+    (and_true (p kinds.IriRef) (p kinds.PnameNs && (p kinds.PnameLn && (p kinds.BlankLabel && (p kinds.LangTag && (p kinds.AtName && (p kinds.Str && (p kinds.Integer && (p kinds.Decimal && (p kinds.Double && (p kinds.Word && (p kinds.Punct && (p kinds.Line && p kinds.Pattern)))))))))))) e).0
+every_kind_is p e kinds.PnameNs = let e1 =
+    (and_true (p kinds.IriRef) (p kinds.PnameNs && (p kinds.PnameLn && (p kinds.BlankLabel && (p kinds.LangTag && (p kinds.AtName && (p kinds.Str && (p kinds.Integer && (p kinds.Decimal && (p kinds.Double && (p kinds.Word && (p kinds.Punct && (p kinds.Line && p kinds.Pattern)))))))))))) e).1 in (and_true (p kinds.PnameNs) (p kinds.PnameLn && (p kinds.BlankLabel && (p kinds.LangTag && (p kinds.AtName && (p kinds.Str && (p kinds.Integer && (p kinds.Decimal && (p kinds.Double && (p kinds.Word && (p kinds.Punct && (p kinds.Line && p kinds.Pattern))))))))))) e1).0
+every_kind_is p e kinds.PnameLn = let e1 =
+    (and_true (p kinds.IriRef) (p kinds.PnameNs && (p kinds.PnameLn && (p kinds.BlankLabel && (p kinds.LangTag && (p kinds.AtName && (p kinds.Str && (p kinds.Integer && (p kinds.Decimal && (p kinds.Double && (p kinds.Word && (p kinds.Punct && (p kinds.Line && p kinds.Pattern)))))))))))) e).1 in let e2 = (and_true (p kinds.PnameNs) (p kinds.PnameLn && (p kinds.BlankLabel && (p kinds.LangTag && (p kinds.AtName && (p kinds.Str && (p kinds.Integer && (p kinds.Decimal && (p kinds.Double && (p kinds.Word && (p kinds.Punct && (p kinds.Line && p kinds.Pattern))))))))))) e1).1 in (and_true (p kinds.PnameLn) (p kinds.BlankLabel && (p kinds.LangTag && (p kinds.AtName && (p kinds.Str && (p kinds.Integer && (p kinds.Decimal && (p kinds.Double && (p kinds.Word && (p kinds.Punct && (p kinds.Line && p kinds.Pattern)))))))))) e2).0
+every_kind_is p e kinds.BlankLabel = let e1 =
+    (and_true (p kinds.IriRef) (p kinds.PnameNs && (p kinds.PnameLn && (p kinds.BlankLabel && (p kinds.LangTag && (p kinds.AtName && (p kinds.Str && (p kinds.Integer && (p kinds.Decimal && (p kinds.Double && (p kinds.Word && (p kinds.Punct && (p kinds.Line && p kinds.Pattern)))))))))))) e).1 in let e2 = (and_true (p kinds.PnameNs) (p kinds.PnameLn && (p kinds.BlankLabel && (p kinds.LangTag && (p kinds.AtName && (p kinds.Str && (p kinds.Integer && (p kinds.Decimal && (p kinds.Double && (p kinds.Word && (p kinds.Punct && (p kinds.Line && p kinds.Pattern))))))))))) e1).1 in let e3 = (and_true (p kinds.PnameLn) (p kinds.BlankLabel && (p kinds.LangTag && (p kinds.AtName && (p kinds.Str && (p kinds.Integer && (p kinds.Decimal && (p kinds.Double && (p kinds.Word && (p kinds.Punct && (p kinds.Line && p kinds.Pattern)))))))))) e2).1 in (and_true (p kinds.BlankLabel) (p kinds.LangTag && (p kinds.AtName && (p kinds.Str && (p kinds.Integer && (p kinds.Decimal && (p kinds.Double && (p kinds.Word && (p kinds.Punct && (p kinds.Line && p kinds.Pattern))))))))) e3).0
+every_kind_is p e kinds.LangTag = let e1 =
+    (and_true (p kinds.IriRef) (p kinds.PnameNs && (p kinds.PnameLn && (p kinds.BlankLabel && (p kinds.LangTag && (p kinds.AtName && (p kinds.Str && (p kinds.Integer && (p kinds.Decimal && (p kinds.Double && (p kinds.Word && (p kinds.Punct && (p kinds.Line && p kinds.Pattern)))))))))))) e).1 in let e2 = (and_true (p kinds.PnameNs) (p kinds.PnameLn && (p kinds.BlankLabel && (p kinds.LangTag && (p kinds.AtName && (p kinds.Str && (p kinds.Integer && (p kinds.Decimal && (p kinds.Double && (p kinds.Word && (p kinds.Punct && (p kinds.Line && p kinds.Pattern))))))))))) e1).1 in let e3 = (and_true (p kinds.PnameLn) (p kinds.BlankLabel && (p kinds.LangTag && (p kinds.AtName && (p kinds.Str && (p kinds.Integer && (p kinds.Decimal && (p kinds.Double && (p kinds.Word && (p kinds.Punct && (p kinds.Line && p kinds.Pattern)))))))))) e2).1 in let e4 = (and_true (p kinds.BlankLabel) (p kinds.LangTag && (p kinds.AtName && (p kinds.Str && (p kinds.Integer && (p kinds.Decimal && (p kinds.Double && (p kinds.Word && (p kinds.Punct && (p kinds.Line && p kinds.Pattern))))))))) e3).1 in (and_true (p kinds.LangTag) (p kinds.AtName && (p kinds.Str && (p kinds.Integer && (p kinds.Decimal && (p kinds.Double && (p kinds.Word && (p kinds.Punct && (p kinds.Line && p kinds.Pattern)))))))) e4).0
+every_kind_is p e kinds.AtName = let e1 =
+    (and_true (p kinds.IriRef) (p kinds.PnameNs && (p kinds.PnameLn && (p kinds.BlankLabel && (p kinds.LangTag && (p kinds.AtName && (p kinds.Str && (p kinds.Integer && (p kinds.Decimal && (p kinds.Double && (p kinds.Word && (p kinds.Punct && (p kinds.Line && p kinds.Pattern)))))))))))) e).1 in let e2 = (and_true (p kinds.PnameNs) (p kinds.PnameLn && (p kinds.BlankLabel && (p kinds.LangTag && (p kinds.AtName && (p kinds.Str && (p kinds.Integer && (p kinds.Decimal && (p kinds.Double && (p kinds.Word && (p kinds.Punct && (p kinds.Line && p kinds.Pattern))))))))))) e1).1 in let e3 = (and_true (p kinds.PnameLn) (p kinds.BlankLabel && (p kinds.LangTag && (p kinds.AtName && (p kinds.Str && (p kinds.Integer && (p kinds.Decimal && (p kinds.Double && (p kinds.Word && (p kinds.Punct && (p kinds.Line && p kinds.Pattern)))))))))) e2).1 in let e4 = (and_true (p kinds.BlankLabel) (p kinds.LangTag && (p kinds.AtName && (p kinds.Str && (p kinds.Integer && (p kinds.Decimal && (p kinds.Double && (p kinds.Word && (p kinds.Punct && (p kinds.Line && p kinds.Pattern))))))))) e3).1 in let e5 = (and_true (p kinds.LangTag) (p kinds.AtName && (p kinds.Str && (p kinds.Integer && (p kinds.Decimal && (p kinds.Double && (p kinds.Word && (p kinds.Punct && (p kinds.Line && p kinds.Pattern)))))))) e4).1 in (and_true (p kinds.AtName) (p kinds.Str && (p kinds.Integer && (p kinds.Decimal && (p kinds.Double && (p kinds.Word && (p kinds.Punct && (p kinds.Line && p kinds.Pattern))))))) e5).0
+every_kind_is p e kinds.Str = let e1 =
+    (and_true (p kinds.IriRef) (p kinds.PnameNs && (p kinds.PnameLn && (p kinds.BlankLabel && (p kinds.LangTag && (p kinds.AtName && (p kinds.Str && (p kinds.Integer && (p kinds.Decimal && (p kinds.Double && (p kinds.Word && (p kinds.Punct && (p kinds.Line && p kinds.Pattern)))))))))))) e).1 in let e2 = (and_true (p kinds.PnameNs) (p kinds.PnameLn && (p kinds.BlankLabel && (p kinds.LangTag && (p kinds.AtName && (p kinds.Str && (p kinds.Integer && (p kinds.Decimal && (p kinds.Double && (p kinds.Word && (p kinds.Punct && (p kinds.Line && p kinds.Pattern))))))))))) e1).1 in let e3 = (and_true (p kinds.PnameLn) (p kinds.BlankLabel && (p kinds.LangTag && (p kinds.AtName && (p kinds.Str && (p kinds.Integer && (p kinds.Decimal && (p kinds.Double && (p kinds.Word && (p kinds.Punct && (p kinds.Line && p kinds.Pattern)))))))))) e2).1 in let e4 = (and_true (p kinds.BlankLabel) (p kinds.LangTag && (p kinds.AtName && (p kinds.Str && (p kinds.Integer && (p kinds.Decimal && (p kinds.Double && (p kinds.Word && (p kinds.Punct && (p kinds.Line && p kinds.Pattern))))))))) e3).1 in let e5 = (and_true (p kinds.LangTag) (p kinds.AtName && (p kinds.Str && (p kinds.Integer && (p kinds.Decimal && (p kinds.Double && (p kinds.Word && (p kinds.Punct && (p kinds.Line && p kinds.Pattern)))))))) e4).1 in let e6 = (and_true (p kinds.AtName) (p kinds.Str && (p kinds.Integer && (p kinds.Decimal && (p kinds.Double && (p kinds.Word && (p kinds.Punct && (p kinds.Line && p kinds.Pattern))))))) e5).1 in (and_true (p kinds.Str) (p kinds.Integer && (p kinds.Decimal && (p kinds.Double && (p kinds.Word && (p kinds.Punct && (p kinds.Line && p kinds.Pattern)))))) e6).0
+every_kind_is p e kinds.Integer = let e1 =
+    (and_true (p kinds.IriRef) (p kinds.PnameNs && (p kinds.PnameLn && (p kinds.BlankLabel && (p kinds.LangTag && (p kinds.AtName && (p kinds.Str && (p kinds.Integer && (p kinds.Decimal && (p kinds.Double && (p kinds.Word && (p kinds.Punct && (p kinds.Line && p kinds.Pattern)))))))))))) e).1 in let e2 = (and_true (p kinds.PnameNs) (p kinds.PnameLn && (p kinds.BlankLabel && (p kinds.LangTag && (p kinds.AtName && (p kinds.Str && (p kinds.Integer && (p kinds.Decimal && (p kinds.Double && (p kinds.Word && (p kinds.Punct && (p kinds.Line && p kinds.Pattern))))))))))) e1).1 in let e3 = (and_true (p kinds.PnameLn) (p kinds.BlankLabel && (p kinds.LangTag && (p kinds.AtName && (p kinds.Str && (p kinds.Integer && (p kinds.Decimal && (p kinds.Double && (p kinds.Word && (p kinds.Punct && (p kinds.Line && p kinds.Pattern)))))))))) e2).1 in let e4 = (and_true (p kinds.BlankLabel) (p kinds.LangTag && (p kinds.AtName && (p kinds.Str && (p kinds.Integer && (p kinds.Decimal && (p kinds.Double && (p kinds.Word && (p kinds.Punct && (p kinds.Line && p kinds.Pattern))))))))) e3).1 in let e5 = (and_true (p kinds.LangTag) (p kinds.AtName && (p kinds.Str && (p kinds.Integer && (p kinds.Decimal && (p kinds.Double && (p kinds.Word && (p kinds.Punct && (p kinds.Line && p kinds.Pattern)))))))) e4).1 in let e6 = (and_true (p kinds.AtName) (p kinds.Str && (p kinds.Integer && (p kinds.Decimal && (p kinds.Double && (p kinds.Word && (p kinds.Punct && (p kinds.Line && p kinds.Pattern))))))) e5).1 in let e7 = (and_true (p kinds.Str) (p kinds.Integer && (p kinds.Decimal && (p kinds.Double && (p kinds.Word && (p kinds.Punct && (p kinds.Line && p kinds.Pattern)))))) e6).1 in (and_true (p kinds.Integer) (p kinds.Decimal && (p kinds.Double && (p kinds.Word && (p kinds.Punct && (p kinds.Line && p kinds.Pattern))))) e7).0
+every_kind_is p e kinds.Decimal = let e1 =
+    (and_true (p kinds.IriRef) (p kinds.PnameNs && (p kinds.PnameLn && (p kinds.BlankLabel && (p kinds.LangTag && (p kinds.AtName && (p kinds.Str && (p kinds.Integer && (p kinds.Decimal && (p kinds.Double && (p kinds.Word && (p kinds.Punct && (p kinds.Line && p kinds.Pattern)))))))))))) e).1 in let e2 = (and_true (p kinds.PnameNs) (p kinds.PnameLn && (p kinds.BlankLabel && (p kinds.LangTag && (p kinds.AtName && (p kinds.Str && (p kinds.Integer && (p kinds.Decimal && (p kinds.Double && (p kinds.Word && (p kinds.Punct && (p kinds.Line && p kinds.Pattern))))))))))) e1).1 in let e3 = (and_true (p kinds.PnameLn) (p kinds.BlankLabel && (p kinds.LangTag && (p kinds.AtName && (p kinds.Str && (p kinds.Integer && (p kinds.Decimal && (p kinds.Double && (p kinds.Word && (p kinds.Punct && (p kinds.Line && p kinds.Pattern)))))))))) e2).1 in let e4 = (and_true (p kinds.BlankLabel) (p kinds.LangTag && (p kinds.AtName && (p kinds.Str && (p kinds.Integer && (p kinds.Decimal && (p kinds.Double && (p kinds.Word && (p kinds.Punct && (p kinds.Line && p kinds.Pattern))))))))) e3).1 in let e5 = (and_true (p kinds.LangTag) (p kinds.AtName && (p kinds.Str && (p kinds.Integer && (p kinds.Decimal && (p kinds.Double && (p kinds.Word && (p kinds.Punct && (p kinds.Line && p kinds.Pattern)))))))) e4).1 in let e6 = (and_true (p kinds.AtName) (p kinds.Str && (p kinds.Integer && (p kinds.Decimal && (p kinds.Double && (p kinds.Word && (p kinds.Punct && (p kinds.Line && p kinds.Pattern))))))) e5).1 in let e7 = (and_true (p kinds.Str) (p kinds.Integer && (p kinds.Decimal && (p kinds.Double && (p kinds.Word && (p kinds.Punct && (p kinds.Line && p kinds.Pattern)))))) e6).1 in let e8 = (and_true (p kinds.Integer) (p kinds.Decimal && (p kinds.Double && (p kinds.Word && (p kinds.Punct && (p kinds.Line && p kinds.Pattern))))) e7).1 in (and_true (p kinds.Decimal) (p kinds.Double && (p kinds.Word && (p kinds.Punct && (p kinds.Line && p kinds.Pattern)))) e8).0
+every_kind_is p e kinds.Double = let e1 =
+    (and_true (p kinds.IriRef) (p kinds.PnameNs && (p kinds.PnameLn && (p kinds.BlankLabel && (p kinds.LangTag && (p kinds.AtName && (p kinds.Str && (p kinds.Integer && (p kinds.Decimal && (p kinds.Double && (p kinds.Word && (p kinds.Punct && (p kinds.Line && p kinds.Pattern)))))))))))) e).1 in let e2 = (and_true (p kinds.PnameNs) (p kinds.PnameLn && (p kinds.BlankLabel && (p kinds.LangTag && (p kinds.AtName && (p kinds.Str && (p kinds.Integer && (p kinds.Decimal && (p kinds.Double && (p kinds.Word && (p kinds.Punct && (p kinds.Line && p kinds.Pattern))))))))))) e1).1 in let e3 = (and_true (p kinds.PnameLn) (p kinds.BlankLabel && (p kinds.LangTag && (p kinds.AtName && (p kinds.Str && (p kinds.Integer && (p kinds.Decimal && (p kinds.Double && (p kinds.Word && (p kinds.Punct && (p kinds.Line && p kinds.Pattern)))))))))) e2).1 in let e4 = (and_true (p kinds.BlankLabel) (p kinds.LangTag && (p kinds.AtName && (p kinds.Str && (p kinds.Integer && (p kinds.Decimal && (p kinds.Double && (p kinds.Word && (p kinds.Punct && (p kinds.Line && p kinds.Pattern))))))))) e3).1 in let e5 = (and_true (p kinds.LangTag) (p kinds.AtName && (p kinds.Str && (p kinds.Integer && (p kinds.Decimal && (p kinds.Double && (p kinds.Word && (p kinds.Punct && (p kinds.Line && p kinds.Pattern)))))))) e4).1 in let e6 = (and_true (p kinds.AtName) (p kinds.Str && (p kinds.Integer && (p kinds.Decimal && (p kinds.Double && (p kinds.Word && (p kinds.Punct && (p kinds.Line && p kinds.Pattern))))))) e5).1 in let e7 = (and_true (p kinds.Str) (p kinds.Integer && (p kinds.Decimal && (p kinds.Double && (p kinds.Word && (p kinds.Punct && (p kinds.Line && p kinds.Pattern)))))) e6).1 in let e8 = (and_true (p kinds.Integer) (p kinds.Decimal && (p kinds.Double && (p kinds.Word && (p kinds.Punct && (p kinds.Line && p kinds.Pattern))))) e7).1 in let e9 = (and_true (p kinds.Decimal) (p kinds.Double && (p kinds.Word && (p kinds.Punct && (p kinds.Line && p kinds.Pattern)))) e8).1 in (and_true (p kinds.Double) (p kinds.Word && (p kinds.Punct && (p kinds.Line && p kinds.Pattern))) e9).0
+every_kind_is p e kinds.Word = let e1 =
+    (and_true (p kinds.IriRef) (p kinds.PnameNs && (p kinds.PnameLn && (p kinds.BlankLabel && (p kinds.LangTag && (p kinds.AtName && (p kinds.Str && (p kinds.Integer && (p kinds.Decimal && (p kinds.Double && (p kinds.Word && (p kinds.Punct && (p kinds.Line && p kinds.Pattern)))))))))))) e).1 in let e2 = (and_true (p kinds.PnameNs) (p kinds.PnameLn && (p kinds.BlankLabel && (p kinds.LangTag && (p kinds.AtName && (p kinds.Str && (p kinds.Integer && (p kinds.Decimal && (p kinds.Double && (p kinds.Word && (p kinds.Punct && (p kinds.Line && p kinds.Pattern))))))))))) e1).1 in let e3 = (and_true (p kinds.PnameLn) (p kinds.BlankLabel && (p kinds.LangTag && (p kinds.AtName && (p kinds.Str && (p kinds.Integer && (p kinds.Decimal && (p kinds.Double && (p kinds.Word && (p kinds.Punct && (p kinds.Line && p kinds.Pattern)))))))))) e2).1 in let e4 = (and_true (p kinds.BlankLabel) (p kinds.LangTag && (p kinds.AtName && (p kinds.Str && (p kinds.Integer && (p kinds.Decimal && (p kinds.Double && (p kinds.Word && (p kinds.Punct && (p kinds.Line && p kinds.Pattern))))))))) e3).1 in let e5 = (and_true (p kinds.LangTag) (p kinds.AtName && (p kinds.Str && (p kinds.Integer && (p kinds.Decimal && (p kinds.Double && (p kinds.Word && (p kinds.Punct && (p kinds.Line && p kinds.Pattern)))))))) e4).1 in let e6 = (and_true (p kinds.AtName) (p kinds.Str && (p kinds.Integer && (p kinds.Decimal && (p kinds.Double && (p kinds.Word && (p kinds.Punct && (p kinds.Line && p kinds.Pattern))))))) e5).1 in let e7 = (and_true (p kinds.Str) (p kinds.Integer && (p kinds.Decimal && (p kinds.Double && (p kinds.Word && (p kinds.Punct && (p kinds.Line && p kinds.Pattern)))))) e6).1 in let e8 = (and_true (p kinds.Integer) (p kinds.Decimal && (p kinds.Double && (p kinds.Word && (p kinds.Punct && (p kinds.Line && p kinds.Pattern))))) e7).1 in let e9 = (and_true (p kinds.Decimal) (p kinds.Double && (p kinds.Word && (p kinds.Punct && (p kinds.Line && p kinds.Pattern)))) e8).1 in let e10 = (and_true (p kinds.Double) (p kinds.Word && (p kinds.Punct && (p kinds.Line && p kinds.Pattern))) e9).1 in (and_true (p kinds.Word) (p kinds.Punct && (p kinds.Line && p kinds.Pattern)) e10).0
+every_kind_is p e kinds.Punct = let e1 =
+    (and_true (p kinds.IriRef) (p kinds.PnameNs && (p kinds.PnameLn && (p kinds.BlankLabel && (p kinds.LangTag && (p kinds.AtName && (p kinds.Str && (p kinds.Integer && (p kinds.Decimal && (p kinds.Double && (p kinds.Word && (p kinds.Punct && (p kinds.Line && p kinds.Pattern)))))))))))) e).1 in let e2 = (and_true (p kinds.PnameNs) (p kinds.PnameLn && (p kinds.BlankLabel && (p kinds.LangTag && (p kinds.AtName && (p kinds.Str && (p kinds.Integer && (p kinds.Decimal && (p kinds.Double && (p kinds.Word && (p kinds.Punct && (p kinds.Line && p kinds.Pattern))))))))))) e1).1 in let e3 = (and_true (p kinds.PnameLn) (p kinds.BlankLabel && (p kinds.LangTag && (p kinds.AtName && (p kinds.Str && (p kinds.Integer && (p kinds.Decimal && (p kinds.Double && (p kinds.Word && (p kinds.Punct && (p kinds.Line && p kinds.Pattern)))))))))) e2).1 in let e4 = (and_true (p kinds.BlankLabel) (p kinds.LangTag && (p kinds.AtName && (p kinds.Str && (p kinds.Integer && (p kinds.Decimal && (p kinds.Double && (p kinds.Word && (p kinds.Punct && (p kinds.Line && p kinds.Pattern))))))))) e3).1 in let e5 = (and_true (p kinds.LangTag) (p kinds.AtName && (p kinds.Str && (p kinds.Integer && (p kinds.Decimal && (p kinds.Double && (p kinds.Word && (p kinds.Punct && (p kinds.Line && p kinds.Pattern)))))))) e4).1 in let e6 = (and_true (p kinds.AtName) (p kinds.Str && (p kinds.Integer && (p kinds.Decimal && (p kinds.Double && (p kinds.Word && (p kinds.Punct && (p kinds.Line && p kinds.Pattern))))))) e5).1 in let e7 = (and_true (p kinds.Str) (p kinds.Integer && (p kinds.Decimal && (p kinds.Double && (p kinds.Word && (p kinds.Punct && (p kinds.Line && p kinds.Pattern)))))) e6).1 in let e8 = (and_true (p kinds.Integer) (p kinds.Decimal && (p kinds.Double && (p kinds.Word && (p kinds.Punct && (p kinds.Line && p kinds.Pattern))))) e7).1 in let e9 = (and_true (p kinds.Decimal) (p kinds.Double && (p kinds.Word && (p kinds.Punct && (p kinds.Line && p kinds.Pattern)))) e8).1 in let e10 = (and_true (p kinds.Double) (p kinds.Word && (p kinds.Punct && (p kinds.Line && p kinds.Pattern))) e9).1 in let e11 = (and_true (p kinds.Word) (p kinds.Punct && (p kinds.Line && p kinds.Pattern)) e10).1 in (and_true (p kinds.Punct) (p kinds.Line && p kinds.Pattern) e11).0
+every_kind_is p e kinds.Line = let e1 =
+    (and_true (p kinds.IriRef) (p kinds.PnameNs && (p kinds.PnameLn && (p kinds.BlankLabel && (p kinds.LangTag && (p kinds.AtName && (p kinds.Str && (p kinds.Integer && (p kinds.Decimal && (p kinds.Double && (p kinds.Word && (p kinds.Punct && (p kinds.Line && p kinds.Pattern)))))))))))) e).1 in let e2 = (and_true (p kinds.PnameNs) (p kinds.PnameLn && (p kinds.BlankLabel && (p kinds.LangTag && (p kinds.AtName && (p kinds.Str && (p kinds.Integer && (p kinds.Decimal && (p kinds.Double && (p kinds.Word && (p kinds.Punct && (p kinds.Line && p kinds.Pattern))))))))))) e1).1 in let e3 = (and_true (p kinds.PnameLn) (p kinds.BlankLabel && (p kinds.LangTag && (p kinds.AtName && (p kinds.Str && (p kinds.Integer && (p kinds.Decimal && (p kinds.Double && (p kinds.Word && (p kinds.Punct && (p kinds.Line && p kinds.Pattern)))))))))) e2).1 in let e4 = (and_true (p kinds.BlankLabel) (p kinds.LangTag && (p kinds.AtName && (p kinds.Str && (p kinds.Integer && (p kinds.Decimal && (p kinds.Double && (p kinds.Word && (p kinds.Punct && (p kinds.Line && p kinds.Pattern))))))))) e3).1 in let e5 = (and_true (p kinds.LangTag) (p kinds.AtName && (p kinds.Str && (p kinds.Integer && (p kinds.Decimal && (p kinds.Double && (p kinds.Word && (p kinds.Punct && (p kinds.Line && p kinds.Pattern)))))))) e4).1 in let e6 = (and_true (p kinds.AtName) (p kinds.Str && (p kinds.Integer && (p kinds.Decimal && (p kinds.Double && (p kinds.Word && (p kinds.Punct && (p kinds.Line && p kinds.Pattern))))))) e5).1 in let e7 = (and_true (p kinds.Str) (p kinds.Integer && (p kinds.Decimal && (p kinds.Double && (p kinds.Word && (p kinds.Punct && (p kinds.Line && p kinds.Pattern)))))) e6).1 in let e8 = (and_true (p kinds.Integer) (p kinds.Decimal && (p kinds.Double && (p kinds.Word && (p kinds.Punct && (p kinds.Line && p kinds.Pattern))))) e7).1 in let e9 = (and_true (p kinds.Decimal) (p kinds.Double && (p kinds.Word && (p kinds.Punct && (p kinds.Line && p kinds.Pattern)))) e8).1 in let e10 = (and_true (p kinds.Double) (p kinds.Word && (p kinds.Punct && (p kinds.Line && p kinds.Pattern))) e9).1 in let e11 = (and_true (p kinds.Word) (p kinds.Punct && (p kinds.Line && p kinds.Pattern)) e10).1 in let e12 = (and_true (p kinds.Punct) (p kinds.Line && p kinds.Pattern) e11).1 in (and_true (p kinds.Line) (p kinds.Pattern) e12).0
+every_kind_is p e kinds.Pattern = let e1 =
+    (and_true (p kinds.IriRef) (p kinds.PnameNs && (p kinds.PnameLn && (p kinds.BlankLabel && (p kinds.LangTag && (p kinds.AtName && (p kinds.Str && (p kinds.Integer && (p kinds.Decimal && (p kinds.Double && (p kinds.Word && (p kinds.Punct && (p kinds.Line && p kinds.Pattern)))))))))))) e).1 in let e2 = (and_true (p kinds.PnameNs) (p kinds.PnameLn && (p kinds.BlankLabel && (p kinds.LangTag && (p kinds.AtName && (p kinds.Str && (p kinds.Integer && (p kinds.Decimal && (p kinds.Double && (p kinds.Word && (p kinds.Punct && (p kinds.Line && p kinds.Pattern))))))))))) e1).1 in let e3 = (and_true (p kinds.PnameLn) (p kinds.BlankLabel && (p kinds.LangTag && (p kinds.AtName && (p kinds.Str && (p kinds.Integer && (p kinds.Decimal && (p kinds.Double && (p kinds.Word && (p kinds.Punct && (p kinds.Line && p kinds.Pattern)))))))))) e2).1 in let e4 = (and_true (p kinds.BlankLabel) (p kinds.LangTag && (p kinds.AtName && (p kinds.Str && (p kinds.Integer && (p kinds.Decimal && (p kinds.Double && (p kinds.Word && (p kinds.Punct && (p kinds.Line && p kinds.Pattern))))))))) e3).1 in let e5 = (and_true (p kinds.LangTag) (p kinds.AtName && (p kinds.Str && (p kinds.Integer && (p kinds.Decimal && (p kinds.Double && (p kinds.Word && (p kinds.Punct && (p kinds.Line && p kinds.Pattern)))))))) e4).1 in let e6 = (and_true (p kinds.AtName) (p kinds.Str && (p kinds.Integer && (p kinds.Decimal && (p kinds.Double && (p kinds.Word && (p kinds.Punct && (p kinds.Line && p kinds.Pattern))))))) e5).1 in let e7 = (and_true (p kinds.Str) (p kinds.Integer && (p kinds.Decimal && (p kinds.Double && (p kinds.Word && (p kinds.Punct && (p kinds.Line && p kinds.Pattern)))))) e6).1 in let e8 = (and_true (p kinds.Integer) (p kinds.Decimal && (p kinds.Double && (p kinds.Word && (p kinds.Punct && (p kinds.Line && p kinds.Pattern))))) e7).1 in let e9 = (and_true (p kinds.Decimal) (p kinds.Double && (p kinds.Word && (p kinds.Punct && (p kinds.Line && p kinds.Pattern)))) e8).1 in let e10 = (and_true (p kinds.Double) (p kinds.Word && (p kinds.Punct && (p kinds.Line && p kinds.Pattern))) e9).1 in let e11 = (and_true (p kinds.Word) (p kinds.Punct && (p kinds.Line && p kinds.Pattern)) e10).1 in let e12 = (and_true (p kinds.Punct) (p kinds.Line && p kinds.Pattern) e11).1 in let e13 = (and_true (p kinds.Line) (p kinds.Pattern) e12).1 in e13
 
 abbrev pub every_mode : (Mode → Bool) → Bool
 every_mode p = p NTriples && (p Turtle && (p Map && p Schema))
@@ -180,20 +194,51 @@ pub every_mode_is : (p : Mode → Bool) → every_mode p ≡ true → (v : Mode)
 every_mode_is p e NTriples = (and_true (p NTriples) (p Turtle && (p Map && p Schema)) e).0
 every_mode_is p e Turtle = let e1 = (and_true (p NTriples) (p Turtle && (p Map && p Schema)) e).1 in (and_true (p Turtle) (p Map && p Schema) e1).0
 every_mode_is p e Map = let e1 = (and_true (p NTriples) (p Turtle && (p Map && p Schema)) e).1 in let e2 = (and_true (p Turtle) (p Map && p Schema) e1).1 in (and_true (p Map) (p Schema) e2).0
-every_mode_is p e Schema = let e1 = (and_true (p NTriples) (p Turtle && (p Map && p Schema)) e).1 in let e2 = (and_true (p Turtle) (p Map && p Schema) e1).1 in let e3 = (and_true (p Map) (p Schema) e2).1 in e3
+every_mode_is p e Schema = let e1 = (and_true (p NTriples) (p Turtle && (p Map && p Schema)) e).1 in let e2 = (and_true (p Turtle) (p Map && p Schema) e1).1 in
+    let e3 = (and_true (p Map) (p Schema) e2).1 in e3
 
 abbrev pub every_left : (Left → Bool) → Bool
 every_left p = p left.One && (p left.Two && (p left.Three && (p left.Four && (p left.Five && (p left.Six && (p left.Seven && p left.Eight))))))
 
 pub every_left_is : (p : Left → Bool) → every_left p ≡ true → (v : Left) → p v ≡ true
 every_left_is p e left.One = (and_true (p left.One) (p left.Two && (p left.Three && (p left.Four && (p left.Five && (p left.Six && (p left.Seven && p left.Eight)))))) e).0
-every_left_is p e left.Two = let e1 = (and_true (p left.One) (p left.Two && (p left.Three && (p left.Four && (p left.Five && (p left.Six && (p left.Seven && p left.Eight)))))) e).1 in (and_true (p left.Two) (p left.Three && (p left.Four && (p left.Five && (p left.Six && (p left.Seven && p left.Eight))))) e1).0
-every_left_is p e left.Three = let e1 = (and_true (p left.One) (p left.Two && (p left.Three && (p left.Four && (p left.Five && (p left.Six && (p left.Seven && p left.Eight)))))) e).1 in let e2 = (and_true (p left.Two) (p left.Three && (p left.Four && (p left.Five && (p left.Six && (p left.Seven && p left.Eight))))) e1).1 in (and_true (p left.Three) (p left.Four && (p left.Five && (p left.Six && (p left.Seven && p left.Eight)))) e2).0
-every_left_is p e left.Four = let e1 = (and_true (p left.One) (p left.Two && (p left.Three && (p left.Four && (p left.Five && (p left.Six && (p left.Seven && p left.Eight)))))) e).1 in let e2 = (and_true (p left.Two) (p left.Three && (p left.Four && (p left.Five && (p left.Six && (p left.Seven && p left.Eight))))) e1).1 in let e3 = (and_true (p left.Three) (p left.Four && (p left.Five && (p left.Six && (p left.Seven && p left.Eight)))) e2).1 in (and_true (p left.Four) (p left.Five && (p left.Six && (p left.Seven && p left.Eight))) e3).0
-every_left_is p e left.Five = let e1 = (and_true (p left.One) (p left.Two && (p left.Three && (p left.Four && (p left.Five && (p left.Six && (p left.Seven && p left.Eight)))))) e).1 in let e2 = (and_true (p left.Two) (p left.Three && (p left.Four && (p left.Five && (p left.Six && (p left.Seven && p left.Eight))))) e1).1 in let e3 = (and_true (p left.Three) (p left.Four && (p left.Five && (p left.Six && (p left.Seven && p left.Eight)))) e2).1 in let e4 = (and_true (p left.Four) (p left.Five && (p left.Six && (p left.Seven && p left.Eight))) e3).1 in (and_true (p left.Five) (p left.Six && (p left.Seven && p left.Eight)) e4).0
-every_left_is p e left.Six = let e1 = (and_true (p left.One) (p left.Two && (p left.Three && (p left.Four && (p left.Five && (p left.Six && (p left.Seven && p left.Eight)))))) e).1 in let e2 = (and_true (p left.Two) (p left.Three && (p left.Four && (p left.Five && (p left.Six && (p left.Seven && p left.Eight))))) e1).1 in let e3 = (and_true (p left.Three) (p left.Four && (p left.Five && (p left.Six && (p left.Seven && p left.Eight)))) e2).1 in let e4 = (and_true (p left.Four) (p left.Five && (p left.Six && (p left.Seven && p left.Eight))) e3).1 in let e5 = (and_true (p left.Five) (p left.Six && (p left.Seven && p left.Eight)) e4).1 in (and_true (p left.Six) (p left.Seven && p left.Eight) e5).0
-every_left_is p e left.Seven = let e1 = (and_true (p left.One) (p left.Two && (p left.Three && (p left.Four && (p left.Five && (p left.Six && (p left.Seven && p left.Eight)))))) e).1 in let e2 = (and_true (p left.Two) (p left.Three && (p left.Four && (p left.Five && (p left.Six && (p left.Seven && p left.Eight))))) e1).1 in let e3 = (and_true (p left.Three) (p left.Four && (p left.Five && (p left.Six && (p left.Seven && p left.Eight)))) e2).1 in let e4 = (and_true (p left.Four) (p left.Five && (p left.Six && (p left.Seven && p left.Eight))) e3).1 in let e5 = (and_true (p left.Five) (p left.Six && (p left.Seven && p left.Eight)) e4).1 in let e6 = (and_true (p left.Six) (p left.Seven && p left.Eight) e5).1 in (and_true (p left.Seven) (p left.Eight) e6).0
-every_left_is p e left.Eight = let e1 = (and_true (p left.One) (p left.Two && (p left.Three && (p left.Four && (p left.Five && (p left.Six && (p left.Seven && p left.Eight)))))) e).1 in let e2 = (and_true (p left.Two) (p left.Three && (p left.Four && (p left.Five && (p left.Six && (p left.Seven && p left.Eight))))) e1).1 in let e3 = (and_true (p left.Three) (p left.Four && (p left.Five && (p left.Six && (p left.Seven && p left.Eight)))) e2).1 in let e4 = (and_true (p left.Four) (p left.Five && (p left.Six && (p left.Seven && p left.Eight))) e3).1 in let e5 = (and_true (p left.Five) (p left.Six && (p left.Seven && p left.Eight)) e4).1 in let e6 = (and_true (p left.Six) (p left.Seven && p left.Eight) e5).1 in let e7 = (and_true (p left.Seven) (p left.Eight) e6).1 in e7
+every_left_is p e left.Two = let e1 =
+    (and_true (p left.One) (p left.Two && (p left.Three && (p left.Four && (p left.Five && (p left.Six && (p left.Seven && p left.Eight)))))) e).1 in
+    (and_true (p left.Two) (p left.Three && (p left.Four && (p left.Five && (p left.Six && (p left.Seven && p left.Eight))))) e1).0
+every_left_is p e left.Three = let e1 =
+    (and_true (p left.One) (p left.Two && (p left.Three && (p left.Four && (p left.Five && (p left.Six && (p left.Seven && p left.Eight)))))) e).1 in let e2 =
+    (and_true (p left.Two) (p left.Three && (p left.Four && (p left.Five && (p left.Six && (p left.Seven && p left.Eight))))) e1).1 in
+    (and_true (p left.Three) (p left.Four && (p left.Five && (p left.Six && (p left.Seven && p left.Eight)))) e2).0
+every_left_is p e left.Four = let e1 =
+    (and_true (p left.One) (p left.Two && (p left.Three && (p left.Four && (p left.Five && (p left.Six && (p left.Seven && p left.Eight)))))) e).1 in let e2 =
+    (and_true (p left.Two) (p left.Three && (p left.Four && (p left.Five && (p left.Six && (p left.Seven && p left.Eight))))) e1).1 in let e3 =
+    (and_true (p left.Three) (p left.Four && (p left.Five && (p left.Six && (p left.Seven && p left.Eight)))) e2).1 in
+    (and_true (p left.Four) (p left.Five && (p left.Six && (p left.Seven && p left.Eight))) e3).0
+every_left_is p e left.Five = let e1 =
+    (and_true (p left.One) (p left.Two && (p left.Three && (p left.Four && (p left.Five && (p left.Six && (p left.Seven && p left.Eight)))))) e).1 in let e2 =
+    (and_true (p left.Two) (p left.Three && (p left.Four && (p left.Five && (p left.Six && (p left.Seven && p left.Eight))))) e1).1 in let e3 =
+    (and_true (p left.Three) (p left.Four && (p left.Five && (p left.Six && (p left.Seven && p left.Eight)))) e2).1 in let e4 =
+    (and_true (p left.Four) (p left.Five && (p left.Six && (p left.Seven && p left.Eight))) e3).1 in (and_true (p left.Five) (p left.Six && (p left.Seven && p left.Eight)) e4).0
+every_left_is p e left.Six = let e1 =
+    (and_true (p left.One) (p left.Two && (p left.Three && (p left.Four && (p left.Five && (p left.Six && (p left.Seven && p left.Eight)))))) e).1 in let e2 =
+    (and_true (p left.Two) (p left.Three && (p left.Four && (p left.Five && (p left.Six && (p left.Seven && p left.Eight))))) e1).1 in let e3 =
+    (and_true (p left.Three) (p left.Four && (p left.Five && (p left.Six && (p left.Seven && p left.Eight)))) e2).1 in let e4 =
+    (and_true (p left.Four) (p left.Five && (p left.Six && (p left.Seven && p left.Eight))) e3).1 in let e5 =
+    (and_true (p left.Five) (p left.Six && (p left.Seven && p left.Eight)) e4).1 in (and_true (p left.Six) (p left.Seven && p left.Eight) e5).0
+every_left_is p e left.Seven = let e1 =
+    (and_true (p left.One) (p left.Two && (p left.Three && (p left.Four && (p left.Five && (p left.Six && (p left.Seven && p left.Eight)))))) e).1 in let e2 =
+    (and_true (p left.Two) (p left.Three && (p left.Four && (p left.Five && (p left.Six && (p left.Seven && p left.Eight))))) e1).1 in let e3 =
+    (and_true (p left.Three) (p left.Four && (p left.Five && (p left.Six && (p left.Seven && p left.Eight)))) e2).1 in let e4 =
+    (and_true (p left.Four) (p left.Five && (p left.Six && (p left.Seven && p left.Eight))) e3).1 in let e5 =
+    (and_true (p left.Five) (p left.Six && (p left.Seven && p left.Eight)) e4).1 in let e6 = (and_true (p left.Six) (p left.Seven && p left.Eight) e5).1 in
+    (and_true (p left.Seven) (p left.Eight) e6).0
+every_left_is p e left.Eight = let e1 =
+    (and_true (p left.One) (p left.Two && (p left.Three && (p left.Four && (p left.Five && (p left.Six && (p left.Seven && p left.Eight)))))) e).1 in let e2 =
+    (and_true (p left.Two) (p left.Three && (p left.Four && (p left.Five && (p left.Six && (p left.Seven && p left.Eight))))) e1).1 in let e3 =
+    (and_true (p left.Three) (p left.Four && (p left.Five && (p left.Six && (p left.Seven && p left.Eight)))) e2).1 in let e4 =
+    (and_true (p left.Four) (p left.Five && (p left.Six && (p left.Seven && p left.Eight))) e3).1 in let e5 =
+    (and_true (p left.Five) (p left.Six && (p left.Seven && p left.Eight)) e4).1 in let e6 = (and_true (p left.Six) (p left.Seven && p left.Eight) e5).1 in
+    let e7 = (and_true (p left.Seven) (p left.Eight) e6).1 in e7
 
 abbrev pub every_quote : (Quote → Bool) → Bool
 every_quote p = p quotes.Single && p quotes.Double
@@ -214,53 +259,117 @@ every_iri p = p iri.Body && (p iri.Escape && (every_left (λ x. p (iri.Digits x)
 
 pub every_iri_is : (p : IriPart → Bool) → every_iri p ≡ true → (v : IriPart) → p v ≡ true
 every_iri_is p e iri.Body = (and_true (p iri.Body) (p iri.Escape && (every_left (λ x. p (iri.Digits x)) && p iri.End)) e).0
-every_iri_is p e iri.Escape = let e1 = (and_true (p iri.Body) (p iri.Escape && (every_left (λ x. p (iri.Digits x)) && p iri.End)) e).1 in (and_true (p iri.Escape) (every_left (λ x. p (iri.Digits x)) && p iri.End) e1).0
-every_iri_is p e (iri.Digits x) = let e1 = (and_true (p iri.Body) (p iri.Escape && (every_left (λ x. p (iri.Digits x)) && p iri.End)) e).1 in let e2 = (and_true (p iri.Escape) (every_left (λ x. p (iri.Digits x)) && p iri.End) e1).1 in every_left_is (λ x. p (iri.Digits x)) (and_true (every_left (λ x. p (iri.Digits x))) (p iri.End) e2).0 x
-every_iri_is p e iri.End = let e1 = (and_true (p iri.Body) (p iri.Escape && (every_left (λ x. p (iri.Digits x)) && p iri.End)) e).1 in let e2 = (and_true (p iri.Escape) (every_left (λ x. p (iri.Digits x)) && p iri.End) e1).1 in let e3 = (and_true (every_left (λ x. p (iri.Digits x))) (p iri.End) e2).1 in e3
+every_iri_is p e iri.Escape = let e1 = (and_true (p iri.Body) (p iri.Escape && (every_left (λ x. p (iri.Digits x)) && p iri.End)) e).1 in
+    (and_true (p iri.Escape) (every_left (λ x. p (iri.Digits x)) && p iri.End) e1).0
+every_iri_is p e (iri.Digits x) = let e1 = (and_true (p iri.Body) (p iri.Escape && (every_left (λ x. p (iri.Digits x)) && p iri.End)) e).1 in let e2 =
+    (and_true (p iri.Escape) (every_left (λ x. p (iri.Digits x)) && p iri.End) e1).1 in every_left_is (λ x. p (iri.Digits x)) (and_true (every_left (λ x. p (iri.Digits x))) (p iri.End) e2).0 x
+every_iri_is p e iri.End = let e1 = (and_true (p iri.Body) (p iri.Escape && (every_left (λ x. p (iri.Digits x)) && p iri.End)) e).1 in let e2 =
+    (and_true (p iri.Escape) (every_left (λ x. p (iri.Digits x)) && p iri.End) e1).1 in let e3 = (and_true (every_left (λ x. p (iri.Digits x))) (p iri.End) e2).1 in e3
 
 abbrev pub every_text : (TextPart → Bool) → Bool
 every_text p = p text.Opened && (p text.Short && (p text.ShortEscape && (every_left (λ x. p (text.ShortDigits x)) && (p text.Empty && (p text.Long && (p text.LongQuote && (p text.LongQuotes && (p text.LongEscape && (every_left (λ x. p (text.LongDigits x)) && p text.End)))))))))
 
 pub every_text_is : (p : TextPart → Bool) → every_text p ≡ true → (v : TextPart) → p v ≡ true
-every_text_is p e text.Opened = (and_true (p text.Opened) (p text.Short && (p text.ShortEscape && (every_left (λ x. p (text.ShortDigits x)) && (p text.Empty && (p text.Long && (p text.LongQuote && (p text.LongQuotes && (p text.LongEscape && (every_left (λ x. p (text.LongDigits x)) && p text.End))))))))) e).0
-every_text_is p e text.Short = let e1 = (and_true (p text.Opened) (p text.Short && (p text.ShortEscape && (every_left (λ x. p (text.ShortDigits x)) && (p text.Empty && (p text.Long && (p text.LongQuote && (p text.LongQuotes && (p text.LongEscape && (every_left (λ x. p (text.LongDigits x)) && p text.End))))))))) e).1 in (and_true (p text.Short) (p text.ShortEscape && (every_left (λ x. p (text.ShortDigits x)) && (p text.Empty && (p text.Long && (p text.LongQuote && (p text.LongQuotes && (p text.LongEscape && (every_left (λ x. p (text.LongDigits x)) && p text.End)))))))) e1).0
-every_text_is p e text.ShortEscape = let e1 = (and_true (p text.Opened) (p text.Short && (p text.ShortEscape && (every_left (λ x. p (text.ShortDigits x)) && (p text.Empty && (p text.Long && (p text.LongQuote && (p text.LongQuotes && (p text.LongEscape && (every_left (λ x. p (text.LongDigits x)) && p text.End))))))))) e).1 in let e2 = (and_true (p text.Short) (p text.ShortEscape && (every_left (λ x. p (text.ShortDigits x)) && (p text.Empty && (p text.Long && (p text.LongQuote && (p text.LongQuotes && (p text.LongEscape && (every_left (λ x. p (text.LongDigits x)) && p text.End)))))))) e1).1 in (and_true (p text.ShortEscape) (every_left (λ x. p (text.ShortDigits x)) && (p text.Empty && (p text.Long && (p text.LongQuote && (p text.LongQuotes && (p text.LongEscape && (every_left (λ x. p (text.LongDigits x)) && p text.End))))))) e2).0
-every_text_is p e (text.ShortDigits x) = let e1 = (and_true (p text.Opened) (p text.Short && (p text.ShortEscape && (every_left (λ x. p (text.ShortDigits x)) && (p text.Empty && (p text.Long && (p text.LongQuote && (p text.LongQuotes && (p text.LongEscape && (every_left (λ x. p (text.LongDigits x)) && p text.End))))))))) e).1 in let e2 = (and_true (p text.Short) (p text.ShortEscape && (every_left (λ x. p (text.ShortDigits x)) && (p text.Empty && (p text.Long && (p text.LongQuote && (p text.LongQuotes && (p text.LongEscape && (every_left (λ x. p (text.LongDigits x)) && p text.End)))))))) e1).1 in let e3 = (and_true (p text.ShortEscape) (every_left (λ x. p (text.ShortDigits x)) && (p text.Empty && (p text.Long && (p text.LongQuote && (p text.LongQuotes && (p text.LongEscape && (every_left (λ x. p (text.LongDigits x)) && p text.End))))))) e2).1 in every_left_is (λ x. p (text.ShortDigits x)) (and_true (every_left (λ x. p (text.ShortDigits x))) (p text.Empty && (p text.Long && (p text.LongQuote && (p text.LongQuotes && (p text.LongEscape && (every_left (λ x. p (text.LongDigits x)) && p text.End)))))) e3).0 x
-every_text_is p e text.Empty = let e1 = (and_true (p text.Opened) (p text.Short && (p text.ShortEscape && (every_left (λ x. p (text.ShortDigits x)) && (p text.Empty && (p text.Long && (p text.LongQuote && (p text.LongQuotes && (p text.LongEscape && (every_left (λ x. p (text.LongDigits x)) && p text.End))))))))) e).1 in let e2 = (and_true (p text.Short) (p text.ShortEscape && (every_left (λ x. p (text.ShortDigits x)) && (p text.Empty && (p text.Long && (p text.LongQuote && (p text.LongQuotes && (p text.LongEscape && (every_left (λ x. p (text.LongDigits x)) && p text.End)))))))) e1).1 in let e3 = (and_true (p text.ShortEscape) (every_left (λ x. p (text.ShortDigits x)) && (p text.Empty && (p text.Long && (p text.LongQuote && (p text.LongQuotes && (p text.LongEscape && (every_left (λ x. p (text.LongDigits x)) && p text.End))))))) e2).1 in let e4 = (and_true (every_left (λ x. p (text.ShortDigits x))) (p text.Empty && (p text.Long && (p text.LongQuote && (p text.LongQuotes && (p text.LongEscape && (every_left (λ x. p (text.LongDigits x)) && p text.End)))))) e3).1 in (and_true (p text.Empty) (p text.Long && (p text.LongQuote && (p text.LongQuotes && (p text.LongEscape && (every_left (λ x. p (text.LongDigits x)) && p text.End))))) e4).0
-every_text_is p e text.Long = let e1 = (and_true (p text.Opened) (p text.Short && (p text.ShortEscape && (every_left (λ x. p (text.ShortDigits x)) && (p text.Empty && (p text.Long && (p text.LongQuote && (p text.LongQuotes && (p text.LongEscape && (every_left (λ x. p (text.LongDigits x)) && p text.End))))))))) e).1 in let e2 = (and_true (p text.Short) (p text.ShortEscape && (every_left (λ x. p (text.ShortDigits x)) && (p text.Empty && (p text.Long && (p text.LongQuote && (p text.LongQuotes && (p text.LongEscape && (every_left (λ x. p (text.LongDigits x)) && p text.End)))))))) e1).1 in let e3 = (and_true (p text.ShortEscape) (every_left (λ x. p (text.ShortDigits x)) && (p text.Empty && (p text.Long && (p text.LongQuote && (p text.LongQuotes && (p text.LongEscape && (every_left (λ x. p (text.LongDigits x)) && p text.End))))))) e2).1 in let e4 = (and_true (every_left (λ x. p (text.ShortDigits x))) (p text.Empty && (p text.Long && (p text.LongQuote && (p text.LongQuotes && (p text.LongEscape && (every_left (λ x. p (text.LongDigits x)) && p text.End)))))) e3).1 in let e5 = (and_true (p text.Empty) (p text.Long && (p text.LongQuote && (p text.LongQuotes && (p text.LongEscape && (every_left (λ x. p (text.LongDigits x)) && p text.End))))) e4).1 in (and_true (p text.Long) (p text.LongQuote && (p text.LongQuotes && (p text.LongEscape && (every_left (λ x. p (text.LongDigits x)) && p text.End)))) e5).0
-every_text_is p e text.LongQuote = let e1 = (and_true (p text.Opened) (p text.Short && (p text.ShortEscape && (every_left (λ x. p (text.ShortDigits x)) && (p text.Empty && (p text.Long && (p text.LongQuote && (p text.LongQuotes && (p text.LongEscape && (every_left (λ x. p (text.LongDigits x)) && p text.End))))))))) e).1 in let e2 = (and_true (p text.Short) (p text.ShortEscape && (every_left (λ x. p (text.ShortDigits x)) && (p text.Empty && (p text.Long && (p text.LongQuote && (p text.LongQuotes && (p text.LongEscape && (every_left (λ x. p (text.LongDigits x)) && p text.End)))))))) e1).1 in let e3 = (and_true (p text.ShortEscape) (every_left (λ x. p (text.ShortDigits x)) && (p text.Empty && (p text.Long && (p text.LongQuote && (p text.LongQuotes && (p text.LongEscape && (every_left (λ x. p (text.LongDigits x)) && p text.End))))))) e2).1 in let e4 = (and_true (every_left (λ x. p (text.ShortDigits x))) (p text.Empty && (p text.Long && (p text.LongQuote && (p text.LongQuotes && (p text.LongEscape && (every_left (λ x. p (text.LongDigits x)) && p text.End)))))) e3).1 in let e5 = (and_true (p text.Empty) (p text.Long && (p text.LongQuote && (p text.LongQuotes && (p text.LongEscape && (every_left (λ x. p (text.LongDigits x)) && p text.End))))) e4).1 in let e6 = (and_true (p text.Long) (p text.LongQuote && (p text.LongQuotes && (p text.LongEscape && (every_left (λ x. p (text.LongDigits x)) && p text.End)))) e5).1 in (and_true (p text.LongQuote) (p text.LongQuotes && (p text.LongEscape && (every_left (λ x. p (text.LongDigits x)) && p text.End))) e6).0
-every_text_is p e text.LongQuotes = let e1 = (and_true (p text.Opened) (p text.Short && (p text.ShortEscape && (every_left (λ x. p (text.ShortDigits x)) && (p text.Empty && (p text.Long && (p text.LongQuote && (p text.LongQuotes && (p text.LongEscape && (every_left (λ x. p (text.LongDigits x)) && p text.End))))))))) e).1 in let e2 = (and_true (p text.Short) (p text.ShortEscape && (every_left (λ x. p (text.ShortDigits x)) && (p text.Empty && (p text.Long && (p text.LongQuote && (p text.LongQuotes && (p text.LongEscape && (every_left (λ x. p (text.LongDigits x)) && p text.End)))))))) e1).1 in let e3 = (and_true (p text.ShortEscape) (every_left (λ x. p (text.ShortDigits x)) && (p text.Empty && (p text.Long && (p text.LongQuote && (p text.LongQuotes && (p text.LongEscape && (every_left (λ x. p (text.LongDigits x)) && p text.End))))))) e2).1 in let e4 = (and_true (every_left (λ x. p (text.ShortDigits x))) (p text.Empty && (p text.Long && (p text.LongQuote && (p text.LongQuotes && (p text.LongEscape && (every_left (λ x. p (text.LongDigits x)) && p text.End)))))) e3).1 in let e5 = (and_true (p text.Empty) (p text.Long && (p text.LongQuote && (p text.LongQuotes && (p text.LongEscape && (every_left (λ x. p (text.LongDigits x)) && p text.End))))) e4).1 in let e6 = (and_true (p text.Long) (p text.LongQuote && (p text.LongQuotes && (p text.LongEscape && (every_left (λ x. p (text.LongDigits x)) && p text.End)))) e5).1 in let e7 = (and_true (p text.LongQuote) (p text.LongQuotes && (p text.LongEscape && (every_left (λ x. p (text.LongDigits x)) && p text.End))) e6).1 in (and_true (p text.LongQuotes) (p text.LongEscape && (every_left (λ x. p (text.LongDigits x)) && p text.End)) e7).0
-every_text_is p e text.LongEscape = let e1 = (and_true (p text.Opened) (p text.Short && (p text.ShortEscape && (every_left (λ x. p (text.ShortDigits x)) && (p text.Empty && (p text.Long && (p text.LongQuote && (p text.LongQuotes && (p text.LongEscape && (every_left (λ x. p (text.LongDigits x)) && p text.End))))))))) e).1 in let e2 = (and_true (p text.Short) (p text.ShortEscape && (every_left (λ x. p (text.ShortDigits x)) && (p text.Empty && (p text.Long && (p text.LongQuote && (p text.LongQuotes && (p text.LongEscape && (every_left (λ x. p (text.LongDigits x)) && p text.End)))))))) e1).1 in let e3 = (and_true (p text.ShortEscape) (every_left (λ x. p (text.ShortDigits x)) && (p text.Empty && (p text.Long && (p text.LongQuote && (p text.LongQuotes && (p text.LongEscape && (every_left (λ x. p (text.LongDigits x)) && p text.End))))))) e2).1 in let e4 = (and_true (every_left (λ x. p (text.ShortDigits x))) (p text.Empty && (p text.Long && (p text.LongQuote && (p text.LongQuotes && (p text.LongEscape && (every_left (λ x. p (text.LongDigits x)) && p text.End)))))) e3).1 in let e5 = (and_true (p text.Empty) (p text.Long && (p text.LongQuote && (p text.LongQuotes && (p text.LongEscape && (every_left (λ x. p (text.LongDigits x)) && p text.End))))) e4).1 in let e6 = (and_true (p text.Long) (p text.LongQuote && (p text.LongQuotes && (p text.LongEscape && (every_left (λ x. p (text.LongDigits x)) && p text.End)))) e5).1 in let e7 = (and_true (p text.LongQuote) (p text.LongQuotes && (p text.LongEscape && (every_left (λ x. p (text.LongDigits x)) && p text.End))) e6).1 in let e8 = (and_true (p text.LongQuotes) (p text.LongEscape && (every_left (λ x. p (text.LongDigits x)) && p text.End)) e7).1 in (and_true (p text.LongEscape) (every_left (λ x. p (text.LongDigits x)) && p text.End) e8).0
-every_text_is p e (text.LongDigits x) = let e1 = (and_true (p text.Opened) (p text.Short && (p text.ShortEscape && (every_left (λ x. p (text.ShortDigits x)) && (p text.Empty && (p text.Long && (p text.LongQuote && (p text.LongQuotes && (p text.LongEscape && (every_left (λ x. p (text.LongDigits x)) && p text.End))))))))) e).1 in let e2 = (and_true (p text.Short) (p text.ShortEscape && (every_left (λ x. p (text.ShortDigits x)) && (p text.Empty && (p text.Long && (p text.LongQuote && (p text.LongQuotes && (p text.LongEscape && (every_left (λ x. p (text.LongDigits x)) && p text.End)))))))) e1).1 in let e3 = (and_true (p text.ShortEscape) (every_left (λ x. p (text.ShortDigits x)) && (p text.Empty && (p text.Long && (p text.LongQuote && (p text.LongQuotes && (p text.LongEscape && (every_left (λ x. p (text.LongDigits x)) && p text.End))))))) e2).1 in let e4 = (and_true (every_left (λ x. p (text.ShortDigits x))) (p text.Empty && (p text.Long && (p text.LongQuote && (p text.LongQuotes && (p text.LongEscape && (every_left (λ x. p (text.LongDigits x)) && p text.End)))))) e3).1 in let e5 = (and_true (p text.Empty) (p text.Long && (p text.LongQuote && (p text.LongQuotes && (p text.LongEscape && (every_left (λ x. p (text.LongDigits x)) && p text.End))))) e4).1 in let e6 = (and_true (p text.Long) (p text.LongQuote && (p text.LongQuotes && (p text.LongEscape && (every_left (λ x. p (text.LongDigits x)) && p text.End)))) e5).1 in let e7 = (and_true (p text.LongQuote) (p text.LongQuotes && (p text.LongEscape && (every_left (λ x. p (text.LongDigits x)) && p text.End))) e6).1 in let e8 = (and_true (p text.LongQuotes) (p text.LongEscape && (every_left (λ x. p (text.LongDigits x)) && p text.End)) e7).1 in let e9 = (and_true (p text.LongEscape) (every_left (λ x. p (text.LongDigits x)) && p text.End) e8).1 in every_left_is (λ x. p (text.LongDigits x)) (and_true (every_left (λ x. p (text.LongDigits x))) (p text.End) e9).0 x
-every_text_is p e text.End = let e1 = (and_true (p text.Opened) (p text.Short && (p text.ShortEscape && (every_left (λ x. p (text.ShortDigits x)) && (p text.Empty && (p text.Long && (p text.LongQuote && (p text.LongQuotes && (p text.LongEscape && (every_left (λ x. p (text.LongDigits x)) && p text.End))))))))) e).1 in let e2 = (and_true (p text.Short) (p text.ShortEscape && (every_left (λ x. p (text.ShortDigits x)) && (p text.Empty && (p text.Long && (p text.LongQuote && (p text.LongQuotes && (p text.LongEscape && (every_left (λ x. p (text.LongDigits x)) && p text.End)))))))) e1).1 in let e3 = (and_true (p text.ShortEscape) (every_left (λ x. p (text.ShortDigits x)) && (p text.Empty && (p text.Long && (p text.LongQuote && (p text.LongQuotes && (p text.LongEscape && (every_left (λ x. p (text.LongDigits x)) && p text.End))))))) e2).1 in let e4 = (and_true (every_left (λ x. p (text.ShortDigits x))) (p text.Empty && (p text.Long && (p text.LongQuote && (p text.LongQuotes && (p text.LongEscape && (every_left (λ x. p (text.LongDigits x)) && p text.End)))))) e3).1 in let e5 = (and_true (p text.Empty) (p text.Long && (p text.LongQuote && (p text.LongQuotes && (p text.LongEscape && (every_left (λ x. p (text.LongDigits x)) && p text.End))))) e4).1 in let e6 = (and_true (p text.Long) (p text.LongQuote && (p text.LongQuotes && (p text.LongEscape && (every_left (λ x. p (text.LongDigits x)) && p text.End)))) e5).1 in let e7 = (and_true (p text.LongQuote) (p text.LongQuotes && (p text.LongEscape && (every_left (λ x. p (text.LongDigits x)) && p text.End))) e6).1 in let e8 = (and_true (p text.LongQuotes) (p text.LongEscape && (every_left (λ x. p (text.LongDigits x)) && p text.End)) e7).1 in let e9 = (and_true (p text.LongEscape) (every_left (λ x. p (text.LongDigits x)) && p text.End) e8).1 in let e10 = (and_true (every_left (λ x. p (text.LongDigits x))) (p text.End) e9).1 in e10
+every_text_is p e text.Opened =
+    (and_true (p text.Opened) (p text.Short && (p text.ShortEscape && (every_left (λ x. p (text.ShortDigits x)) && (p text.Empty && (p text.Long && (p text.LongQuote && (p text.LongQuotes && (p text.LongEscape && (every_left (λ x. p (text.LongDigits x)) && p text.End))))))))) e).0
+every_text_is p e text.Short = let e1 =
+    (and_true (p text.Opened) (p text.Short && (p text.ShortEscape && (every_left (λ x. p (text.ShortDigits x)) && (p text.Empty && (p text.Long && (p text.LongQuote && (p text.LongQuotes && (p text.LongEscape && (every_left (λ x. p (text.LongDigits x)) && p text.End))))))))) e).1 in (and_true (p text.Short) (p text.ShortEscape && (every_left (λ x. p (text.ShortDigits x)) && (p text.Empty && (p text.Long && (p text.LongQuote && (p text.LongQuotes && (p text.LongEscape && (every_left (λ x. p (text.LongDigits x)) && p text.End)))))))) e1).0
+every_text_is p e text.ShortEscape = let e1 =
+    (and_true (p text.Opened) (p text.Short && (p text.ShortEscape && (every_left (λ x. p (text.ShortDigits x)) && (p text.Empty && (p text.Long && (p text.LongQuote && (p text.LongQuotes && (p text.LongEscape && (every_left (λ x. p (text.LongDigits x)) && p text.End))))))))) e).1 in let e2 = (and_true (p text.Short) (p text.ShortEscape && (every_left (λ x. p (text.ShortDigits x)) && (p text.Empty && (p text.Long && (p text.LongQuote && (p text.LongQuotes && (p text.LongEscape && (every_left (λ x. p (text.LongDigits x)) && p text.End)))))))) e1).1 in (and_true (p text.ShortEscape) (every_left (λ x. p (text.ShortDigits x)) && (p text.Empty && (p text.Long && (p text.LongQuote && (p text.LongQuotes && (p text.LongEscape && (every_left (λ x. p (text.LongDigits x)) && p text.End))))))) e2).0
+every_text_is p e (text.ShortDigits x) = let e1 =
+    (and_true (p text.Opened) (p text.Short && (p text.ShortEscape && (every_left (λ x. p (text.ShortDigits x)) && (p text.Empty && (p text.Long && (p text.LongQuote && (p text.LongQuotes && (p text.LongEscape && (every_left (λ x. p (text.LongDigits x)) && p text.End))))))))) e).1 in let e2 = (and_true (p text.Short) (p text.ShortEscape && (every_left (λ x. p (text.ShortDigits x)) && (p text.Empty && (p text.Long && (p text.LongQuote && (p text.LongQuotes && (p text.LongEscape && (every_left (λ x. p (text.LongDigits x)) && p text.End)))))))) e1).1 in let e3 = (and_true (p text.ShortEscape) (every_left (λ x. p (text.ShortDigits x)) && (p text.Empty && (p text.Long && (p text.LongQuote && (p text.LongQuotes && (p text.LongEscape && (every_left (λ x. p (text.LongDigits x)) && p text.End))))))) e2).1 in every_left_is (λ x. p (text.ShortDigits x)) (and_true (every_left (λ x. p (text.ShortDigits x))) (p text.Empty && (p text.Long && (p text.LongQuote && (p text.LongQuotes && (p text.LongEscape && (every_left (λ x. p (text.LongDigits x)) && p text.End)))))) e3).0 x
+every_text_is p e text.Empty = let e1 =
+    (and_true (p text.Opened) (p text.Short && (p text.ShortEscape && (every_left (λ x. p (text.ShortDigits x)) && (p text.Empty && (p text.Long && (p text.LongQuote && (p text.LongQuotes && (p text.LongEscape && (every_left (λ x. p (text.LongDigits x)) && p text.End))))))))) e).1 in let e2 = (and_true (p text.Short) (p text.ShortEscape && (every_left (λ x. p (text.ShortDigits x)) && (p text.Empty && (p text.Long && (p text.LongQuote && (p text.LongQuotes && (p text.LongEscape && (every_left (λ x. p (text.LongDigits x)) && p text.End)))))))) e1).1 in let e3 = (and_true (p text.ShortEscape) (every_left (λ x. p (text.ShortDigits x)) && (p text.Empty && (p text.Long && (p text.LongQuote && (p text.LongQuotes && (p text.LongEscape && (every_left (λ x. p (text.LongDigits x)) && p text.End))))))) e2).1 in let e4 = (and_true (every_left (λ x. p (text.ShortDigits x))) (p text.Empty && (p text.Long && (p text.LongQuote && (p text.LongQuotes && (p text.LongEscape && (every_left (λ x. p (text.LongDigits x)) && p text.End)))))) e3).1 in (and_true (p text.Empty) (p text.Long && (p text.LongQuote && (p text.LongQuotes && (p text.LongEscape && (every_left (λ x. p (text.LongDigits x)) && p text.End))))) e4).0
+every_text_is p e text.Long = let e1 =
+    (and_true (p text.Opened) (p text.Short && (p text.ShortEscape && (every_left (λ x. p (text.ShortDigits x)) && (p text.Empty && (p text.Long && (p text.LongQuote && (p text.LongQuotes && (p text.LongEscape && (every_left (λ x. p (text.LongDigits x)) && p text.End))))))))) e).1 in let e2 = (and_true (p text.Short) (p text.ShortEscape && (every_left (λ x. p (text.ShortDigits x)) && (p text.Empty && (p text.Long && (p text.LongQuote && (p text.LongQuotes && (p text.LongEscape && (every_left (λ x. p (text.LongDigits x)) && p text.End)))))))) e1).1 in let e3 = (and_true (p text.ShortEscape) (every_left (λ x. p (text.ShortDigits x)) && (p text.Empty && (p text.Long && (p text.LongQuote && (p text.LongQuotes && (p text.LongEscape && (every_left (λ x. p (text.LongDigits x)) && p text.End))))))) e2).1 in let e4 = (and_true (every_left (λ x. p (text.ShortDigits x))) (p text.Empty && (p text.Long && (p text.LongQuote && (p text.LongQuotes && (p text.LongEscape && (every_left (λ x. p (text.LongDigits x)) && p text.End)))))) e3).1 in let e5 = (and_true (p text.Empty) (p text.Long && (p text.LongQuote && (p text.LongQuotes && (p text.LongEscape && (every_left (λ x. p (text.LongDigits x)) && p text.End))))) e4).1 in (and_true (p text.Long) (p text.LongQuote && (p text.LongQuotes && (p text.LongEscape && (every_left (λ x. p (text.LongDigits x)) && p text.End)))) e5).0
+every_text_is p e text.LongQuote = let e1 =
+    (and_true (p text.Opened) (p text.Short && (p text.ShortEscape && (every_left (λ x. p (text.ShortDigits x)) && (p text.Empty && (p text.Long && (p text.LongQuote && (p text.LongQuotes && (p text.LongEscape && (every_left (λ x. p (text.LongDigits x)) && p text.End))))))))) e).1 in let e2 = (and_true (p text.Short) (p text.ShortEscape && (every_left (λ x. p (text.ShortDigits x)) && (p text.Empty && (p text.Long && (p text.LongQuote && (p text.LongQuotes && (p text.LongEscape && (every_left (λ x. p (text.LongDigits x)) && p text.End)))))))) e1).1 in let e3 = (and_true (p text.ShortEscape) (every_left (λ x. p (text.ShortDigits x)) && (p text.Empty && (p text.Long && (p text.LongQuote && (p text.LongQuotes && (p text.LongEscape && (every_left (λ x. p (text.LongDigits x)) && p text.End))))))) e2).1 in let e4 = (and_true (every_left (λ x. p (text.ShortDigits x))) (p text.Empty && (p text.Long && (p text.LongQuote && (p text.LongQuotes && (p text.LongEscape && (every_left (λ x. p (text.LongDigits x)) && p text.End)))))) e3).1 in let e5 = (and_true (p text.Empty) (p text.Long && (p text.LongQuote && (p text.LongQuotes && (p text.LongEscape && (every_left (λ x. p (text.LongDigits x)) && p text.End))))) e4).1 in let e6 = (and_true (p text.Long) (p text.LongQuote && (p text.LongQuotes && (p text.LongEscape && (every_left (λ x. p (text.LongDigits x)) && p text.End)))) e5).1 in (and_true (p text.LongQuote) (p text.LongQuotes && (p text.LongEscape && (every_left (λ x. p (text.LongDigits x)) && p text.End))) e6).0
+every_text_is p e text.LongQuotes = let e1 =
+    (and_true (p text.Opened) (p text.Short && (p text.ShortEscape && (every_left (λ x. p (text.ShortDigits x)) && (p text.Empty && (p text.Long && (p text.LongQuote && (p text.LongQuotes && (p text.LongEscape && (every_left (λ x. p (text.LongDigits x)) && p text.End))))))))) e).1 in let e2 = (and_true (p text.Short) (p text.ShortEscape && (every_left (λ x. p (text.ShortDigits x)) && (p text.Empty && (p text.Long && (p text.LongQuote && (p text.LongQuotes && (p text.LongEscape && (every_left (λ x. p (text.LongDigits x)) && p text.End)))))))) e1).1 in let e3 = (and_true (p text.ShortEscape) (every_left (λ x. p (text.ShortDigits x)) && (p text.Empty && (p text.Long && (p text.LongQuote && (p text.LongQuotes && (p text.LongEscape && (every_left (λ x. p (text.LongDigits x)) && p text.End))))))) e2).1 in let e4 = (and_true (every_left (λ x. p (text.ShortDigits x))) (p text.Empty && (p text.Long && (p text.LongQuote && (p text.LongQuotes && (p text.LongEscape && (every_left (λ x. p (text.LongDigits x)) && p text.End)))))) e3).1 in let e5 = (and_true (p text.Empty) (p text.Long && (p text.LongQuote && (p text.LongQuotes && (p text.LongEscape && (every_left (λ x. p (text.LongDigits x)) && p text.End))))) e4).1 in let e6 = (and_true (p text.Long) (p text.LongQuote && (p text.LongQuotes && (p text.LongEscape && (every_left (λ x. p (text.LongDigits x)) && p text.End)))) e5).1 in let e7 = (and_true (p text.LongQuote) (p text.LongQuotes && (p text.LongEscape && (every_left (λ x. p (text.LongDigits x)) && p text.End))) e6).1 in (and_true (p text.LongQuotes) (p text.LongEscape && (every_left (λ x. p (text.LongDigits x)) && p text.End)) e7).0
+every_text_is p e text.LongEscape = let e1 =
+    (and_true (p text.Opened) (p text.Short && (p text.ShortEscape && (every_left (λ x. p (text.ShortDigits x)) && (p text.Empty && (p text.Long && (p text.LongQuote && (p text.LongQuotes && (p text.LongEscape && (every_left (λ x. p (text.LongDigits x)) && p text.End))))))))) e).1 in let e2 = (and_true (p text.Short) (p text.ShortEscape && (every_left (λ x. p (text.ShortDigits x)) && (p text.Empty && (p text.Long && (p text.LongQuote && (p text.LongQuotes && (p text.LongEscape && (every_left (λ x. p (text.LongDigits x)) && p text.End)))))))) e1).1 in let e3 = (and_true (p text.ShortEscape) (every_left (λ x. p (text.ShortDigits x)) && (p text.Empty && (p text.Long && (p text.LongQuote && (p text.LongQuotes && (p text.LongEscape && (every_left (λ x. p (text.LongDigits x)) && p text.End))))))) e2).1 in let e4 = (and_true (every_left (λ x. p (text.ShortDigits x))) (p text.Empty && (p text.Long && (p text.LongQuote && (p text.LongQuotes && (p text.LongEscape && (every_left (λ x. p (text.LongDigits x)) && p text.End)))))) e3).1 in let e5 = (and_true (p text.Empty) (p text.Long && (p text.LongQuote && (p text.LongQuotes && (p text.LongEscape && (every_left (λ x. p (text.LongDigits x)) && p text.End))))) e4).1 in let e6 = (and_true (p text.Long) (p text.LongQuote && (p text.LongQuotes && (p text.LongEscape && (every_left (λ x. p (text.LongDigits x)) && p text.End)))) e5).1 in let e7 = (and_true (p text.LongQuote) (p text.LongQuotes && (p text.LongEscape && (every_left (λ x. p (text.LongDigits x)) && p text.End))) e6).1 in let e8 = (and_true (p text.LongQuotes) (p text.LongEscape && (every_left (λ x. p (text.LongDigits x)) && p text.End)) e7).1 in (and_true (p text.LongEscape) (every_left (λ x. p (text.LongDigits x)) && p text.End) e8).0
+every_text_is p e (text.LongDigits x) = let e1 =
+    (and_true (p text.Opened) (p text.Short && (p text.ShortEscape && (every_left (λ x. p (text.ShortDigits x)) && (p text.Empty && (p text.Long && (p text.LongQuote && (p text.LongQuotes && (p text.LongEscape && (every_left (λ x. p (text.LongDigits x)) && p text.End))))))))) e).1 in let e2 = (and_true (p text.Short) (p text.ShortEscape && (every_left (λ x. p (text.ShortDigits x)) && (p text.Empty && (p text.Long && (p text.LongQuote && (p text.LongQuotes && (p text.LongEscape && (every_left (λ x. p (text.LongDigits x)) && p text.End)))))))) e1).1 in let e3 = (and_true (p text.ShortEscape) (every_left (λ x. p (text.ShortDigits x)) && (p text.Empty && (p text.Long && (p text.LongQuote && (p text.LongQuotes && (p text.LongEscape && (every_left (λ x. p (text.LongDigits x)) && p text.End))))))) e2).1 in let e4 = (and_true (every_left (λ x. p (text.ShortDigits x))) (p text.Empty && (p text.Long && (p text.LongQuote && (p text.LongQuotes && (p text.LongEscape && (every_left (λ x. p (text.LongDigits x)) && p text.End)))))) e3).1 in let e5 = (and_true (p text.Empty) (p text.Long && (p text.LongQuote && (p text.LongQuotes && (p text.LongEscape && (every_left (λ x. p (text.LongDigits x)) && p text.End))))) e4).1 in let e6 = (and_true (p text.Long) (p text.LongQuote && (p text.LongQuotes && (p text.LongEscape && (every_left (λ x. p (text.LongDigits x)) && p text.End)))) e5).1 in let e7 = (and_true (p text.LongQuote) (p text.LongQuotes && (p text.LongEscape && (every_left (λ x. p (text.LongDigits x)) && p text.End))) e6).1 in let e8 = (and_true (p text.LongQuotes) (p text.LongEscape && (every_left (λ x. p (text.LongDigits x)) && p text.End)) e7).1 in let e9 = (and_true (p text.LongEscape) (every_left (λ x. p (text.LongDigits x)) && p text.End) e8).1 in every_left_is (λ x. p (text.LongDigits x)) (and_true (every_left (λ x. p (text.LongDigits x))) (p text.End) e9).0 x
+every_text_is p e text.End = let e1 =
+    (and_true (p text.Opened) (p text.Short && (p text.ShortEscape && (every_left (λ x. p (text.ShortDigits x)) && (p text.Empty && (p text.Long && (p text.LongQuote && (p text.LongQuotes && (p text.LongEscape && (every_left (λ x. p (text.LongDigits x)) && p text.End))))))))) e).1 in let e2 = (and_true (p text.Short) (p text.ShortEscape && (every_left (λ x. p (text.ShortDigits x)) && (p text.Empty && (p text.Long && (p text.LongQuote && (p text.LongQuotes && (p text.LongEscape && (every_left (λ x. p (text.LongDigits x)) && p text.End)))))))) e1).1 in let e3 = (and_true (p text.ShortEscape) (every_left (λ x. p (text.ShortDigits x)) && (p text.Empty && (p text.Long && (p text.LongQuote && (p text.LongQuotes && (p text.LongEscape && (every_left (λ x. p (text.LongDigits x)) && p text.End))))))) e2).1 in let e4 = (and_true (every_left (λ x. p (text.ShortDigits x))) (p text.Empty && (p text.Long && (p text.LongQuote && (p text.LongQuotes && (p text.LongEscape && (every_left (λ x. p (text.LongDigits x)) && p text.End)))))) e3).1 in let e5 = (and_true (p text.Empty) (p text.Long && (p text.LongQuote && (p text.LongQuotes && (p text.LongEscape && (every_left (λ x. p (text.LongDigits x)) && p text.End))))) e4).1 in let e6 = (and_true (p text.Long) (p text.LongQuote && (p text.LongQuotes && (p text.LongEscape && (every_left (λ x. p (text.LongDigits x)) && p text.End)))) e5).1 in let e7 = (and_true (p text.LongQuote) (p text.LongQuotes && (p text.LongEscape && (every_left (λ x. p (text.LongDigits x)) && p text.End))) e6).1 in let e8 = (and_true (p text.LongQuotes) (p text.LongEscape && (every_left (λ x. p (text.LongDigits x)) && p text.End)) e7).1 in let e9 = (and_true (p text.LongEscape) (every_left (λ x. p (text.LongDigits x)) && p text.End) e8).1 in let e10 = (and_true (every_left (λ x. p (text.LongDigits x))) (p text.End) e9).1 in e10
 
 abbrev pub every_number : (NumberPart → Bool) → Bool
 every_number p = p number.Sign && (p number.Digits && (p number.DigitsPoint && (p number.Point && (p number.SignPoint && (p number.Fraction && (p number.Exponent && (p number.ExponentSign && p number.ExponentDigits)))))))
 
 pub every_number_is : (p : NumberPart → Bool) → every_number p ≡ true → (v : NumberPart) → p v ≡ true
-every_number_is p e number.Sign = (and_true (p number.Sign) (p number.Digits && (p number.DigitsPoint && (p number.Point && (p number.SignPoint && (p number.Fraction && (p number.Exponent && (p number.ExponentSign && p number.ExponentDigits))))))) e).0
-every_number_is p e number.Digits = let e1 = (and_true (p number.Sign) (p number.Digits && (p number.DigitsPoint && (p number.Point && (p number.SignPoint && (p number.Fraction && (p number.Exponent && (p number.ExponentSign && p number.ExponentDigits))))))) e).1 in (and_true (p number.Digits) (p number.DigitsPoint && (p number.Point && (p number.SignPoint && (p number.Fraction && (p number.Exponent && (p number.ExponentSign && p number.ExponentDigits)))))) e1).0
-every_number_is p e number.DigitsPoint = let e1 = (and_true (p number.Sign) (p number.Digits && (p number.DigitsPoint && (p number.Point && (p number.SignPoint && (p number.Fraction && (p number.Exponent && (p number.ExponentSign && p number.ExponentDigits))))))) e).1 in let e2 = (and_true (p number.Digits) (p number.DigitsPoint && (p number.Point && (p number.SignPoint && (p number.Fraction && (p number.Exponent && (p number.ExponentSign && p number.ExponentDigits)))))) e1).1 in (and_true (p number.DigitsPoint) (p number.Point && (p number.SignPoint && (p number.Fraction && (p number.Exponent && (p number.ExponentSign && p number.ExponentDigits))))) e2).0
-every_number_is p e number.Point = let e1 = (and_true (p number.Sign) (p number.Digits && (p number.DigitsPoint && (p number.Point && (p number.SignPoint && (p number.Fraction && (p number.Exponent && (p number.ExponentSign && p number.ExponentDigits))))))) e).1 in let e2 = (and_true (p number.Digits) (p number.DigitsPoint && (p number.Point && (p number.SignPoint && (p number.Fraction && (p number.Exponent && (p number.ExponentSign && p number.ExponentDigits)))))) e1).1 in let e3 = (and_true (p number.DigitsPoint) (p number.Point && (p number.SignPoint && (p number.Fraction && (p number.Exponent && (p number.ExponentSign && p number.ExponentDigits))))) e2).1 in (and_true (p number.Point) (p number.SignPoint && (p number.Fraction && (p number.Exponent && (p number.ExponentSign && p number.ExponentDigits)))) e3).0
-every_number_is p e number.SignPoint = let e1 = (and_true (p number.Sign) (p number.Digits && (p number.DigitsPoint && (p number.Point && (p number.SignPoint && (p number.Fraction && (p number.Exponent && (p number.ExponentSign && p number.ExponentDigits))))))) e).1 in let e2 = (and_true (p number.Digits) (p number.DigitsPoint && (p number.Point && (p number.SignPoint && (p number.Fraction && (p number.Exponent && (p number.ExponentSign && p number.ExponentDigits)))))) e1).1 in let e3 = (and_true (p number.DigitsPoint) (p number.Point && (p number.SignPoint && (p number.Fraction && (p number.Exponent && (p number.ExponentSign && p number.ExponentDigits))))) e2).1 in let e4 = (and_true (p number.Point) (p number.SignPoint && (p number.Fraction && (p number.Exponent && (p number.ExponentSign && p number.ExponentDigits)))) e3).1 in (and_true (p number.SignPoint) (p number.Fraction && (p number.Exponent && (p number.ExponentSign && p number.ExponentDigits))) e4).0
-every_number_is p e number.Fraction = let e1 = (and_true (p number.Sign) (p number.Digits && (p number.DigitsPoint && (p number.Point && (p number.SignPoint && (p number.Fraction && (p number.Exponent && (p number.ExponentSign && p number.ExponentDigits))))))) e).1 in let e2 = (and_true (p number.Digits) (p number.DigitsPoint && (p number.Point && (p number.SignPoint && (p number.Fraction && (p number.Exponent && (p number.ExponentSign && p number.ExponentDigits)))))) e1).1 in let e3 = (and_true (p number.DigitsPoint) (p number.Point && (p number.SignPoint && (p number.Fraction && (p number.Exponent && (p number.ExponentSign && p number.ExponentDigits))))) e2).1 in let e4 = (and_true (p number.Point) (p number.SignPoint && (p number.Fraction && (p number.Exponent && (p number.ExponentSign && p number.ExponentDigits)))) e3).1 in let e5 = (and_true (p number.SignPoint) (p number.Fraction && (p number.Exponent && (p number.ExponentSign && p number.ExponentDigits))) e4).1 in (and_true (p number.Fraction) (p number.Exponent && (p number.ExponentSign && p number.ExponentDigits)) e5).0
-every_number_is p e number.Exponent = let e1 = (and_true (p number.Sign) (p number.Digits && (p number.DigitsPoint && (p number.Point && (p number.SignPoint && (p number.Fraction && (p number.Exponent && (p number.ExponentSign && p number.ExponentDigits))))))) e).1 in let e2 = (and_true (p number.Digits) (p number.DigitsPoint && (p number.Point && (p number.SignPoint && (p number.Fraction && (p number.Exponent && (p number.ExponentSign && p number.ExponentDigits)))))) e1).1 in let e3 = (and_true (p number.DigitsPoint) (p number.Point && (p number.SignPoint && (p number.Fraction && (p number.Exponent && (p number.ExponentSign && p number.ExponentDigits))))) e2).1 in let e4 = (and_true (p number.Point) (p number.SignPoint && (p number.Fraction && (p number.Exponent && (p number.ExponentSign && p number.ExponentDigits)))) e3).1 in let e5 = (and_true (p number.SignPoint) (p number.Fraction && (p number.Exponent && (p number.ExponentSign && p number.ExponentDigits))) e4).1 in let e6 = (and_true (p number.Fraction) (p number.Exponent && (p number.ExponentSign && p number.ExponentDigits)) e5).1 in (and_true (p number.Exponent) (p number.ExponentSign && p number.ExponentDigits) e6).0
-every_number_is p e number.ExponentSign = let e1 = (and_true (p number.Sign) (p number.Digits && (p number.DigitsPoint && (p number.Point && (p number.SignPoint && (p number.Fraction && (p number.Exponent && (p number.ExponentSign && p number.ExponentDigits))))))) e).1 in let e2 = (and_true (p number.Digits) (p number.DigitsPoint && (p number.Point && (p number.SignPoint && (p number.Fraction && (p number.Exponent && (p number.ExponentSign && p number.ExponentDigits)))))) e1).1 in let e3 = (and_true (p number.DigitsPoint) (p number.Point && (p number.SignPoint && (p number.Fraction && (p number.Exponent && (p number.ExponentSign && p number.ExponentDigits))))) e2).1 in let e4 = (and_true (p number.Point) (p number.SignPoint && (p number.Fraction && (p number.Exponent && (p number.ExponentSign && p number.ExponentDigits)))) e3).1 in let e5 = (and_true (p number.SignPoint) (p number.Fraction && (p number.Exponent && (p number.ExponentSign && p number.ExponentDigits))) e4).1 in let e6 = (and_true (p number.Fraction) (p number.Exponent && (p number.ExponentSign && p number.ExponentDigits)) e5).1 in let e7 = (and_true (p number.Exponent) (p number.ExponentSign && p number.ExponentDigits) e6).1 in (and_true (p number.ExponentSign) (p number.ExponentDigits) e7).0
-every_number_is p e number.ExponentDigits = let e1 = (and_true (p number.Sign) (p number.Digits && (p number.DigitsPoint && (p number.Point && (p number.SignPoint && (p number.Fraction && (p number.Exponent && (p number.ExponentSign && p number.ExponentDigits))))))) e).1 in let e2 = (and_true (p number.Digits) (p number.DigitsPoint && (p number.Point && (p number.SignPoint && (p number.Fraction && (p number.Exponent && (p number.ExponentSign && p number.ExponentDigits)))))) e1).1 in let e3 = (and_true (p number.DigitsPoint) (p number.Point && (p number.SignPoint && (p number.Fraction && (p number.Exponent && (p number.ExponentSign && p number.ExponentDigits))))) e2).1 in let e4 = (and_true (p number.Point) (p number.SignPoint && (p number.Fraction && (p number.Exponent && (p number.ExponentSign && p number.ExponentDigits)))) e3).1 in let e5 = (and_true (p number.SignPoint) (p number.Fraction && (p number.Exponent && (p number.ExponentSign && p number.ExponentDigits))) e4).1 in let e6 = (and_true (p number.Fraction) (p number.Exponent && (p number.ExponentSign && p number.ExponentDigits)) e5).1 in let e7 = (and_true (p number.Exponent) (p number.ExponentSign && p number.ExponentDigits) e6).1 in let e8 = (and_true (p number.ExponentSign) (p number.ExponentDigits) e7).1 in e8
+every_number_is p e number.Sign =
+    (and_true (p number.Sign) (p number.Digits && (p number.DigitsPoint && (p number.Point && (p number.SignPoint && (p number.Fraction && (p number.Exponent && (p number.ExponentSign && p number.ExponentDigits))))))) e).0
+every_number_is p e number.Digits = let e1 =
+    (and_true (p number.Sign) (p number.Digits && (p number.DigitsPoint && (p number.Point && (p number.SignPoint && (p number.Fraction && (p number.Exponent && (p number.ExponentSign && p number.ExponentDigits))))))) e).1 in (and_true (p number.Digits) (p number.DigitsPoint && (p number.Point && (p number.SignPoint && (p number.Fraction && (p number.Exponent && (p number.ExponentSign && p number.ExponentDigits)))))) e1).0
+every_number_is p e number.DigitsPoint = let e1 =
+    (and_true (p number.Sign) (p number.Digits && (p number.DigitsPoint && (p number.Point && (p number.SignPoint && (p number.Fraction && (p number.Exponent && (p number.ExponentSign && p number.ExponentDigits))))))) e).1 in let e2 = (and_true (p number.Digits) (p number.DigitsPoint && (p number.Point && (p number.SignPoint && (p number.Fraction && (p number.Exponent && (p number.ExponentSign && p number.ExponentDigits)))))) e1).1 in (and_true (p number.DigitsPoint) (p number.Point && (p number.SignPoint && (p number.Fraction && (p number.Exponent && (p number.ExponentSign && p number.ExponentDigits))))) e2).0
+every_number_is p e number.Point = let e1 =
+    (and_true (p number.Sign) (p number.Digits && (p number.DigitsPoint && (p number.Point && (p number.SignPoint && (p number.Fraction && (p number.Exponent && (p number.ExponentSign && p number.ExponentDigits))))))) e).1 in let e2 = (and_true (p number.Digits) (p number.DigitsPoint && (p number.Point && (p number.SignPoint && (p number.Fraction && (p number.Exponent && (p number.ExponentSign && p number.ExponentDigits)))))) e1).1 in let e3 = (and_true (p number.DigitsPoint) (p number.Point && (p number.SignPoint && (p number.Fraction && (p number.Exponent && (p number.ExponentSign && p number.ExponentDigits))))) e2).1 in (and_true (p number.Point) (p number.SignPoint && (p number.Fraction && (p number.Exponent && (p number.ExponentSign && p number.ExponentDigits)))) e3).0
+every_number_is p e number.SignPoint = let e1 =
+    (and_true (p number.Sign) (p number.Digits && (p number.DigitsPoint && (p number.Point && (p number.SignPoint && (p number.Fraction && (p number.Exponent && (p number.ExponentSign && p number.ExponentDigits))))))) e).1 in let e2 = (and_true (p number.Digits) (p number.DigitsPoint && (p number.Point && (p number.SignPoint && (p number.Fraction && (p number.Exponent && (p number.ExponentSign && p number.ExponentDigits)))))) e1).1 in let e3 = (and_true (p number.DigitsPoint) (p number.Point && (p number.SignPoint && (p number.Fraction && (p number.Exponent && (p number.ExponentSign && p number.ExponentDigits))))) e2).1 in let e4 = (and_true (p number.Point) (p number.SignPoint && (p number.Fraction && (p number.Exponent && (p number.ExponentSign && p number.ExponentDigits)))) e3).1 in (and_true (p number.SignPoint) (p number.Fraction && (p number.Exponent && (p number.ExponentSign && p number.ExponentDigits))) e4).0
+every_number_is p e number.Fraction = let e1 =
+    (and_true (p number.Sign) (p number.Digits && (p number.DigitsPoint && (p number.Point && (p number.SignPoint && (p number.Fraction && (p number.Exponent && (p number.ExponentSign && p number.ExponentDigits))))))) e).1 in let e2 = (and_true (p number.Digits) (p number.DigitsPoint && (p number.Point && (p number.SignPoint && (p number.Fraction && (p number.Exponent && (p number.ExponentSign && p number.ExponentDigits)))))) e1).1 in let e3 = (and_true (p number.DigitsPoint) (p number.Point && (p number.SignPoint && (p number.Fraction && (p number.Exponent && (p number.ExponentSign && p number.ExponentDigits))))) e2).1 in let e4 = (and_true (p number.Point) (p number.SignPoint && (p number.Fraction && (p number.Exponent && (p number.ExponentSign && p number.ExponentDigits)))) e3).1 in let e5 = (and_true (p number.SignPoint) (p number.Fraction && (p number.Exponent && (p number.ExponentSign && p number.ExponentDigits))) e4).1 in (and_true (p number.Fraction) (p number.Exponent && (p number.ExponentSign && p number.ExponentDigits)) e5).0
+every_number_is p e number.Exponent = let e1 =
+    (and_true (p number.Sign) (p number.Digits && (p number.DigitsPoint && (p number.Point && (p number.SignPoint && (p number.Fraction && (p number.Exponent && (p number.ExponentSign && p number.ExponentDigits))))))) e).1 in let e2 = (and_true (p number.Digits) (p number.DigitsPoint && (p number.Point && (p number.SignPoint && (p number.Fraction && (p number.Exponent && (p number.ExponentSign && p number.ExponentDigits)))))) e1).1 in let e3 = (and_true (p number.DigitsPoint) (p number.Point && (p number.SignPoint && (p number.Fraction && (p number.Exponent && (p number.ExponentSign && p number.ExponentDigits))))) e2).1 in let e4 = (and_true (p number.Point) (p number.SignPoint && (p number.Fraction && (p number.Exponent && (p number.ExponentSign && p number.ExponentDigits)))) e3).1 in let e5 = (and_true (p number.SignPoint) (p number.Fraction && (p number.Exponent && (p number.ExponentSign && p number.ExponentDigits))) e4).1 in let e6 = (and_true (p number.Fraction) (p number.Exponent && (p number.ExponentSign && p number.ExponentDigits)) e5).1 in (and_true (p number.Exponent) (p number.ExponentSign && p number.ExponentDigits) e6).0
+every_number_is p e number.ExponentSign = let e1 =
+    (and_true (p number.Sign) (p number.Digits && (p number.DigitsPoint && (p number.Point && (p number.SignPoint && (p number.Fraction && (p number.Exponent && (p number.ExponentSign && p number.ExponentDigits))))))) e).1 in let e2 = (and_true (p number.Digits) (p number.DigitsPoint && (p number.Point && (p number.SignPoint && (p number.Fraction && (p number.Exponent && (p number.ExponentSign && p number.ExponentDigits)))))) e1).1 in let e3 = (and_true (p number.DigitsPoint) (p number.Point && (p number.SignPoint && (p number.Fraction && (p number.Exponent && (p number.ExponentSign && p number.ExponentDigits))))) e2).1 in let e4 = (and_true (p number.Point) (p number.SignPoint && (p number.Fraction && (p number.Exponent && (p number.ExponentSign && p number.ExponentDigits)))) e3).1 in let e5 = (and_true (p number.SignPoint) (p number.Fraction && (p number.Exponent && (p number.ExponentSign && p number.ExponentDigits))) e4).1 in let e6 = (and_true (p number.Fraction) (p number.Exponent && (p number.ExponentSign && p number.ExponentDigits)) e5).1 in let e7 = (and_true (p number.Exponent) (p number.ExponentSign && p number.ExponentDigits) e6).1 in (and_true (p number.ExponentSign) (p number.ExponentDigits) e7).0
+every_number_is p e number.ExponentDigits = let e1 =
+    (and_true (p number.Sign) (p number.Digits && (p number.DigitsPoint && (p number.Point && (p number.SignPoint && (p number.Fraction && (p number.Exponent && (p number.ExponentSign && p number.ExponentDigits))))))) e).1 in let e2 = (and_true (p number.Digits) (p number.DigitsPoint && (p number.Point && (p number.SignPoint && (p number.Fraction && (p number.Exponent && (p number.ExponentSign && p number.ExponentDigits)))))) e1).1 in let e3 = (and_true (p number.DigitsPoint) (p number.Point && (p number.SignPoint && (p number.Fraction && (p number.Exponent && (p number.ExponentSign && p number.ExponentDigits))))) e2).1 in let e4 = (and_true (p number.Point) (p number.SignPoint && (p number.Fraction && (p number.Exponent && (p number.ExponentSign && p number.ExponentDigits)))) e3).1 in let e5 = (and_true (p number.SignPoint) (p number.Fraction && (p number.Exponent && (p number.ExponentSign && p number.ExponentDigits))) e4).1 in let e6 = (and_true (p number.Fraction) (p number.Exponent && (p number.ExponentSign && p number.ExponentDigits)) e5).1 in let e7 = (and_true (p number.Exponent) (p number.ExponentSign && p number.ExponentDigits) e6).1 in let e8 = (and_true (p number.ExponentSign) (p number.ExponentDigits) e7).1 in e8
 
 abbrev pub every_name : (NamePart → Bool) → Bool
 every_name p = p name.Word && (p name.Prefix && (p name.PrefixDot && (p name.Colon && (p name.Local && (p name.LocalDot && (p name.Percent && (p name.PercentDigit && p name.LocalEscape)))))))
 
 pub every_name_is : (p : NamePart → Bool) → every_name p ≡ true → (v : NamePart) → p v ≡ true
-every_name_is p e name.Word = (and_true (p name.Word) (p name.Prefix && (p name.PrefixDot && (p name.Colon && (p name.Local && (p name.LocalDot && (p name.Percent && (p name.PercentDigit && p name.LocalEscape))))))) e).0
-every_name_is p e name.Prefix = let e1 = (and_true (p name.Word) (p name.Prefix && (p name.PrefixDot && (p name.Colon && (p name.Local && (p name.LocalDot && (p name.Percent && (p name.PercentDigit && p name.LocalEscape))))))) e).1 in (and_true (p name.Prefix) (p name.PrefixDot && (p name.Colon && (p name.Local && (p name.LocalDot && (p name.Percent && (p name.PercentDigit && p name.LocalEscape)))))) e1).0
-every_name_is p e name.PrefixDot = let e1 = (and_true (p name.Word) (p name.Prefix && (p name.PrefixDot && (p name.Colon && (p name.Local && (p name.LocalDot && (p name.Percent && (p name.PercentDigit && p name.LocalEscape))))))) e).1 in let e2 = (and_true (p name.Prefix) (p name.PrefixDot && (p name.Colon && (p name.Local && (p name.LocalDot && (p name.Percent && (p name.PercentDigit && p name.LocalEscape)))))) e1).1 in (and_true (p name.PrefixDot) (p name.Colon && (p name.Local && (p name.LocalDot && (p name.Percent && (p name.PercentDigit && p name.LocalEscape))))) e2).0
-every_name_is p e name.Colon = let e1 = (and_true (p name.Word) (p name.Prefix && (p name.PrefixDot && (p name.Colon && (p name.Local && (p name.LocalDot && (p name.Percent && (p name.PercentDigit && p name.LocalEscape))))))) e).1 in let e2 = (and_true (p name.Prefix) (p name.PrefixDot && (p name.Colon && (p name.Local && (p name.LocalDot && (p name.Percent && (p name.PercentDigit && p name.LocalEscape)))))) e1).1 in let e3 = (and_true (p name.PrefixDot) (p name.Colon && (p name.Local && (p name.LocalDot && (p name.Percent && (p name.PercentDigit && p name.LocalEscape))))) e2).1 in (and_true (p name.Colon) (p name.Local && (p name.LocalDot && (p name.Percent && (p name.PercentDigit && p name.LocalEscape)))) e3).0
-every_name_is p e name.Local = let e1 = (and_true (p name.Word) (p name.Prefix && (p name.PrefixDot && (p name.Colon && (p name.Local && (p name.LocalDot && (p name.Percent && (p name.PercentDigit && p name.LocalEscape))))))) e).1 in let e2 = (and_true (p name.Prefix) (p name.PrefixDot && (p name.Colon && (p name.Local && (p name.LocalDot && (p name.Percent && (p name.PercentDigit && p name.LocalEscape)))))) e1).1 in let e3 = (and_true (p name.PrefixDot) (p name.Colon && (p name.Local && (p name.LocalDot && (p name.Percent && (p name.PercentDigit && p name.LocalEscape))))) e2).1 in let e4 = (and_true (p name.Colon) (p name.Local && (p name.LocalDot && (p name.Percent && (p name.PercentDigit && p name.LocalEscape)))) e3).1 in (and_true (p name.Local) (p name.LocalDot && (p name.Percent && (p name.PercentDigit && p name.LocalEscape))) e4).0
-every_name_is p e name.LocalDot = let e1 = (and_true (p name.Word) (p name.Prefix && (p name.PrefixDot && (p name.Colon && (p name.Local && (p name.LocalDot && (p name.Percent && (p name.PercentDigit && p name.LocalEscape))))))) e).1 in let e2 = (and_true (p name.Prefix) (p name.PrefixDot && (p name.Colon && (p name.Local && (p name.LocalDot && (p name.Percent && (p name.PercentDigit && p name.LocalEscape)))))) e1).1 in let e3 = (and_true (p name.PrefixDot) (p name.Colon && (p name.Local && (p name.LocalDot && (p name.Percent && (p name.PercentDigit && p name.LocalEscape))))) e2).1 in let e4 = (and_true (p name.Colon) (p name.Local && (p name.LocalDot && (p name.Percent && (p name.PercentDigit && p name.LocalEscape)))) e3).1 in let e5 = (and_true (p name.Local) (p name.LocalDot && (p name.Percent && (p name.PercentDigit && p name.LocalEscape))) e4).1 in (and_true (p name.LocalDot) (p name.Percent && (p name.PercentDigit && p name.LocalEscape)) e5).0
-every_name_is p e name.Percent = let e1 = (and_true (p name.Word) (p name.Prefix && (p name.PrefixDot && (p name.Colon && (p name.Local && (p name.LocalDot && (p name.Percent && (p name.PercentDigit && p name.LocalEscape))))))) e).1 in let e2 = (and_true (p name.Prefix) (p name.PrefixDot && (p name.Colon && (p name.Local && (p name.LocalDot && (p name.Percent && (p name.PercentDigit && p name.LocalEscape)))))) e1).1 in let e3 = (and_true (p name.PrefixDot) (p name.Colon && (p name.Local && (p name.LocalDot && (p name.Percent && (p name.PercentDigit && p name.LocalEscape))))) e2).1 in let e4 = (and_true (p name.Colon) (p name.Local && (p name.LocalDot && (p name.Percent && (p name.PercentDigit && p name.LocalEscape)))) e3).1 in let e5 = (and_true (p name.Local) (p name.LocalDot && (p name.Percent && (p name.PercentDigit && p name.LocalEscape))) e4).1 in let e6 = (and_true (p name.LocalDot) (p name.Percent && (p name.PercentDigit && p name.LocalEscape)) e5).1 in (and_true (p name.Percent) (p name.PercentDigit && p name.LocalEscape) e6).0
-every_name_is p e name.PercentDigit = let e1 = (and_true (p name.Word) (p name.Prefix && (p name.PrefixDot && (p name.Colon && (p name.Local && (p name.LocalDot && (p name.Percent && (p name.PercentDigit && p name.LocalEscape))))))) e).1 in let e2 = (and_true (p name.Prefix) (p name.PrefixDot && (p name.Colon && (p name.Local && (p name.LocalDot && (p name.Percent && (p name.PercentDigit && p name.LocalEscape)))))) e1).1 in let e3 = (and_true (p name.PrefixDot) (p name.Colon && (p name.Local && (p name.LocalDot && (p name.Percent && (p name.PercentDigit && p name.LocalEscape))))) e2).1 in let e4 = (and_true (p name.Colon) (p name.Local && (p name.LocalDot && (p name.Percent && (p name.PercentDigit && p name.LocalEscape)))) e3).1 in let e5 = (and_true (p name.Local) (p name.LocalDot && (p name.Percent && (p name.PercentDigit && p name.LocalEscape))) e4).1 in let e6 = (and_true (p name.LocalDot) (p name.Percent && (p name.PercentDigit && p name.LocalEscape)) e5).1 in let e7 = (and_true (p name.Percent) (p name.PercentDigit && p name.LocalEscape) e6).1 in (and_true (p name.PercentDigit) (p name.LocalEscape) e7).0
-every_name_is p e name.LocalEscape = let e1 = (and_true (p name.Word) (p name.Prefix && (p name.PrefixDot && (p name.Colon && (p name.Local && (p name.LocalDot && (p name.Percent && (p name.PercentDigit && p name.LocalEscape))))))) e).1 in let e2 = (and_true (p name.Prefix) (p name.PrefixDot && (p name.Colon && (p name.Local && (p name.LocalDot && (p name.Percent && (p name.PercentDigit && p name.LocalEscape)))))) e1).1 in let e3 = (and_true (p name.PrefixDot) (p name.Colon && (p name.Local && (p name.LocalDot && (p name.Percent && (p name.PercentDigit && p name.LocalEscape))))) e2).1 in let e4 = (and_true (p name.Colon) (p name.Local && (p name.LocalDot && (p name.Percent && (p name.PercentDigit && p name.LocalEscape)))) e3).1 in let e5 = (and_true (p name.Local) (p name.LocalDot && (p name.Percent && (p name.PercentDigit && p name.LocalEscape))) e4).1 in let e6 = (and_true (p name.LocalDot) (p name.Percent && (p name.PercentDigit && p name.LocalEscape)) e5).1 in let e7 = (and_true (p name.Percent) (p name.PercentDigit && p name.LocalEscape) e6).1 in let e8 = (and_true (p name.PercentDigit) (p name.LocalEscape) e7).1 in e8
+every_name_is p e name.Word =
+    (and_true (p name.Word) (p name.Prefix && (p name.PrefixDot && (p name.Colon && (p name.Local && (p name.LocalDot && (p name.Percent && (p name.PercentDigit && p name.LocalEscape))))))) e).0
+every_name_is p e name.Prefix = let e1 =
+    (and_true (p name.Word) (p name.Prefix && (p name.PrefixDot && (p name.Colon && (p name.Local && (p name.LocalDot && (p name.Percent && (p name.PercentDigit && p name.LocalEscape))))))) e).1 in
+    (and_true (p name.Prefix) (p name.PrefixDot && (p name.Colon && (p name.Local && (p name.LocalDot && (p name.Percent && (p name.PercentDigit && p name.LocalEscape)))))) e1).0
+every_name_is p e name.PrefixDot = let e1 =
+    (and_true (p name.Word) (p name.Prefix && (p name.PrefixDot && (p name.Colon && (p name.Local && (p name.LocalDot && (p name.Percent && (p name.PercentDigit && p name.LocalEscape))))))) e).1 in
+    let e2 = (and_true (p name.Prefix) (p name.PrefixDot && (p name.Colon && (p name.Local && (p name.LocalDot && (p name.Percent && (p name.PercentDigit && p name.LocalEscape)))))) e1).1 in
+    (and_true (p name.PrefixDot) (p name.Colon && (p name.Local && (p name.LocalDot && (p name.Percent && (p name.PercentDigit && p name.LocalEscape))))) e2).0
+every_name_is p e name.Colon = let e1 =
+    (and_true (p name.Word) (p name.Prefix && (p name.PrefixDot && (p name.Colon && (p name.Local && (p name.LocalDot && (p name.Percent && (p name.PercentDigit && p name.LocalEscape))))))) e).1 in
+    let e2 = (and_true (p name.Prefix) (p name.PrefixDot && (p name.Colon && (p name.Local && (p name.LocalDot && (p name.Percent && (p name.PercentDigit && p name.LocalEscape)))))) e1).1 in let e3 =
+    (and_true (p name.PrefixDot) (p name.Colon && (p name.Local && (p name.LocalDot && (p name.Percent && (p name.PercentDigit && p name.LocalEscape))))) e2).1 in
+    (and_true (p name.Colon) (p name.Local && (p name.LocalDot && (p name.Percent && (p name.PercentDigit && p name.LocalEscape)))) e3).0
+every_name_is p e name.Local = let e1 =
+    (and_true (p name.Word) (p name.Prefix && (p name.PrefixDot && (p name.Colon && (p name.Local && (p name.LocalDot && (p name.Percent && (p name.PercentDigit && p name.LocalEscape))))))) e).1 in
+    let e2 = (and_true (p name.Prefix) (p name.PrefixDot && (p name.Colon && (p name.Local && (p name.LocalDot && (p name.Percent && (p name.PercentDigit && p name.LocalEscape)))))) e1).1 in let e3 =
+    (and_true (p name.PrefixDot) (p name.Colon && (p name.Local && (p name.LocalDot && (p name.Percent && (p name.PercentDigit && p name.LocalEscape))))) e2).1 in let e4 =
+    (and_true (p name.Colon) (p name.Local && (p name.LocalDot && (p name.Percent && (p name.PercentDigit && p name.LocalEscape)))) e3).1 in
+    (and_true (p name.Local) (p name.LocalDot && (p name.Percent && (p name.PercentDigit && p name.LocalEscape))) e4).0
+every_name_is p e name.LocalDot = let e1 =
+    (and_true (p name.Word) (p name.Prefix && (p name.PrefixDot && (p name.Colon && (p name.Local && (p name.LocalDot && (p name.Percent && (p name.PercentDigit && p name.LocalEscape))))))) e).1 in
+    let e2 = (and_true (p name.Prefix) (p name.PrefixDot && (p name.Colon && (p name.Local && (p name.LocalDot && (p name.Percent && (p name.PercentDigit && p name.LocalEscape)))))) e1).1 in let e3 =
+    (and_true (p name.PrefixDot) (p name.Colon && (p name.Local && (p name.LocalDot && (p name.Percent && (p name.PercentDigit && p name.LocalEscape))))) e2).1 in let e4 =
+    (and_true (p name.Colon) (p name.Local && (p name.LocalDot && (p name.Percent && (p name.PercentDigit && p name.LocalEscape)))) e3).1 in let e5 =
+    (and_true (p name.Local) (p name.LocalDot && (p name.Percent && (p name.PercentDigit && p name.LocalEscape))) e4).1 in
+    (and_true (p name.LocalDot) (p name.Percent && (p name.PercentDigit && p name.LocalEscape)) e5).0
+every_name_is p e name.Percent = let e1 =
+    (and_true (p name.Word) (p name.Prefix && (p name.PrefixDot && (p name.Colon && (p name.Local && (p name.LocalDot && (p name.Percent && (p name.PercentDigit && p name.LocalEscape))))))) e).1 in
+    let e2 = (and_true (p name.Prefix) (p name.PrefixDot && (p name.Colon && (p name.Local && (p name.LocalDot && (p name.Percent && (p name.PercentDigit && p name.LocalEscape)))))) e1).1 in let e3 =
+    (and_true (p name.PrefixDot) (p name.Colon && (p name.Local && (p name.LocalDot && (p name.Percent && (p name.PercentDigit && p name.LocalEscape))))) e2).1 in let e4 =
+    (and_true (p name.Colon) (p name.Local && (p name.LocalDot && (p name.Percent && (p name.PercentDigit && p name.LocalEscape)))) e3).1 in let e5 =
+    (and_true (p name.Local) (p name.LocalDot && (p name.Percent && (p name.PercentDigit && p name.LocalEscape))) e4).1 in let e6 =
+    (and_true (p name.LocalDot) (p name.Percent && (p name.PercentDigit && p name.LocalEscape)) e5).1 in (and_true (p name.Percent) (p name.PercentDigit && p name.LocalEscape) e6).0
+every_name_is p e name.PercentDigit = let e1 =
+    (and_true (p name.Word) (p name.Prefix && (p name.PrefixDot && (p name.Colon && (p name.Local && (p name.LocalDot && (p name.Percent && (p name.PercentDigit && p name.LocalEscape))))))) e).1 in
+    let e2 = (and_true (p name.Prefix) (p name.PrefixDot && (p name.Colon && (p name.Local && (p name.LocalDot && (p name.Percent && (p name.PercentDigit && p name.LocalEscape)))))) e1).1 in let e3 =
+    (and_true (p name.PrefixDot) (p name.Colon && (p name.Local && (p name.LocalDot && (p name.Percent && (p name.PercentDigit && p name.LocalEscape))))) e2).1 in let e4 =
+    (and_true (p name.Colon) (p name.Local && (p name.LocalDot && (p name.Percent && (p name.PercentDigit && p name.LocalEscape)))) e3).1 in let e5 =
+    (and_true (p name.Local) (p name.LocalDot && (p name.Percent && (p name.PercentDigit && p name.LocalEscape))) e4).1 in let e6 =
+    (and_true (p name.LocalDot) (p name.Percent && (p name.PercentDigit && p name.LocalEscape)) e5).1 in let e7 =
+    (and_true (p name.Percent) (p name.PercentDigit && p name.LocalEscape) e6).1 in (and_true (p name.PercentDigit) (p name.LocalEscape) e7).0
+every_name_is p e name.LocalEscape = let e1 =
+    (and_true (p name.Word) (p name.Prefix && (p name.PrefixDot && (p name.Colon && (p name.Local && (p name.LocalDot && (p name.Percent && (p name.PercentDigit && p name.LocalEscape))))))) e).1 in
+    let e2 = (and_true (p name.Prefix) (p name.PrefixDot && (p name.Colon && (p name.Local && (p name.LocalDot && (p name.Percent && (p name.PercentDigit && p name.LocalEscape)))))) e1).1 in let e3 =
+    (and_true (p name.PrefixDot) (p name.Colon && (p name.Local && (p name.LocalDot && (p name.Percent && (p name.PercentDigit && p name.LocalEscape))))) e2).1 in let e4 =
+    (and_true (p name.Colon) (p name.Local && (p name.LocalDot && (p name.Percent && (p name.PercentDigit && p name.LocalEscape)))) e3).1 in let e5 =
+    (and_true (p name.Local) (p name.LocalDot && (p name.Percent && (p name.PercentDigit && p name.LocalEscape))) e4).1 in let e6 =
+    (and_true (p name.LocalDot) (p name.Percent && (p name.PercentDigit && p name.LocalEscape)) e5).1 in let e7 =
+    (and_true (p name.Percent) (p name.PercentDigit && p name.LocalEscape) e6).1 in let e8 = (and_true (p name.PercentDigit) (p name.LocalEscape) e7).1 in e8
 
 abbrev pub every_tag : (TagPart → Bool) → Bool
 every_tag p = p tag.At && (p tag.Tag && (p tag.Dash && p tag.More))
@@ -268,56 +377,117 @@ every_tag p = p tag.At && (p tag.Tag && (p tag.Dash && p tag.More))
 pub every_tag_is : (p : TagPart → Bool) → every_tag p ≡ true → (v : TagPart) → p v ≡ true
 every_tag_is p e tag.At = (and_true (p tag.At) (p tag.Tag && (p tag.Dash && p tag.More)) e).0
 every_tag_is p e tag.Tag = let e1 = (and_true (p tag.At) (p tag.Tag && (p tag.Dash && p tag.More)) e).1 in (and_true (p tag.Tag) (p tag.Dash && p tag.More) e1).0
-every_tag_is p e tag.Dash = let e1 = (and_true (p tag.At) (p tag.Tag && (p tag.Dash && p tag.More)) e).1 in let e2 = (and_true (p tag.Tag) (p tag.Dash && p tag.More) e1).1 in (and_true (p tag.Dash) (p tag.More) e2).0
-every_tag_is p e tag.More = let e1 = (and_true (p tag.At) (p tag.Tag && (p tag.Dash && p tag.More)) e).1 in let e2 = (and_true (p tag.Tag) (p tag.Dash && p tag.More) e1).1 in let e3 = (and_true (p tag.Dash) (p tag.More) e2).1 in e3
+every_tag_is p e tag.Dash = let e1 = (and_true (p tag.At) (p tag.Tag && (p tag.Dash && p tag.More)) e).1 in let e2 =
+    (and_true (p tag.Tag) (p tag.Dash && p tag.More) e1).1 in (and_true (p tag.Dash) (p tag.More) e2).0
+every_tag_is p e tag.More = let e1 = (and_true (p tag.At) (p tag.Tag && (p tag.Dash && p tag.More)) e).1 in let e2 =
+    (and_true (p tag.Tag) (p tag.Dash && p tag.More) e1).1 in let e3 = (and_true (p tag.Dash) (p tag.More) e2).1 in e3
 
 abbrev pub every_label : (LabelPart → Bool) → Bool
 every_label p = p label.Underscore && (p label.Colon && (p label.Label && (p label.LabelDot && (p label.Colons && p label.ColonsDot))))
 
 pub every_label_is : (p : LabelPart → Bool) → every_label p ≡ true → (v : LabelPart) → p v ≡ true
 every_label_is p e label.Underscore = (and_true (p label.Underscore) (p label.Colon && (p label.Label && (p label.LabelDot && (p label.Colons && p label.ColonsDot)))) e).0
-every_label_is p e label.Colon = let e1 = (and_true (p label.Underscore) (p label.Colon && (p label.Label && (p label.LabelDot && (p label.Colons && p label.ColonsDot)))) e).1 in (and_true (p label.Colon) (p label.Label && (p label.LabelDot && (p label.Colons && p label.ColonsDot))) e1).0
-every_label_is p e label.Label = let e1 = (and_true (p label.Underscore) (p label.Colon && (p label.Label && (p label.LabelDot && (p label.Colons && p label.ColonsDot)))) e).1 in let e2 = (and_true (p label.Colon) (p label.Label && (p label.LabelDot && (p label.Colons && p label.ColonsDot))) e1).1 in (and_true (p label.Label) (p label.LabelDot && (p label.Colons && p label.ColonsDot)) e2).0
-every_label_is p e label.LabelDot = let e1 = (and_true (p label.Underscore) (p label.Colon && (p label.Label && (p label.LabelDot && (p label.Colons && p label.ColonsDot)))) e).1 in let e2 = (and_true (p label.Colon) (p label.Label && (p label.LabelDot && (p label.Colons && p label.ColonsDot))) e1).1 in let e3 = (and_true (p label.Label) (p label.LabelDot && (p label.Colons && p label.ColonsDot)) e2).1 in (and_true (p label.LabelDot) (p label.Colons && p label.ColonsDot) e3).0
-every_label_is p e label.Colons = let e1 = (and_true (p label.Underscore) (p label.Colon && (p label.Label && (p label.LabelDot && (p label.Colons && p label.ColonsDot)))) e).1 in let e2 = (and_true (p label.Colon) (p label.Label && (p label.LabelDot && (p label.Colons && p label.ColonsDot))) e1).1 in let e3 = (and_true (p label.Label) (p label.LabelDot && (p label.Colons && p label.ColonsDot)) e2).1 in let e4 = (and_true (p label.LabelDot) (p label.Colons && p label.ColonsDot) e3).1 in (and_true (p label.Colons) (p label.ColonsDot) e4).0
-every_label_is p e label.ColonsDot = let e1 = (and_true (p label.Underscore) (p label.Colon && (p label.Label && (p label.LabelDot && (p label.Colons && p label.ColonsDot)))) e).1 in let e2 = (and_true (p label.Colon) (p label.Label && (p label.LabelDot && (p label.Colons && p label.ColonsDot))) e1).1 in let e3 = (and_true (p label.Label) (p label.LabelDot && (p label.Colons && p label.ColonsDot)) e2).1 in let e4 = (and_true (p label.LabelDot) (p label.Colons && p label.ColonsDot) e3).1 in let e5 = (and_true (p label.Colons) (p label.ColonsDot) e4).1 in e5
+every_label_is p e label.Colon = let e1 =
+    (and_true (p label.Underscore) (p label.Colon && (p label.Label && (p label.LabelDot && (p label.Colons && p label.ColonsDot)))) e).1 in
+    (and_true (p label.Colon) (p label.Label && (p label.LabelDot && (p label.Colons && p label.ColonsDot))) e1).0
+every_label_is p e label.Label = let e1 =
+    (and_true (p label.Underscore) (p label.Colon && (p label.Label && (p label.LabelDot && (p label.Colons && p label.ColonsDot)))) e).1 in let e2 =
+    (and_true (p label.Colon) (p label.Label && (p label.LabelDot && (p label.Colons && p label.ColonsDot))) e1).1 in
+    (and_true (p label.Label) (p label.LabelDot && (p label.Colons && p label.ColonsDot)) e2).0
+every_label_is p e label.LabelDot = let e1 =
+    (and_true (p label.Underscore) (p label.Colon && (p label.Label && (p label.LabelDot && (p label.Colons && p label.ColonsDot)))) e).1 in let e2 =
+    (and_true (p label.Colon) (p label.Label && (p label.LabelDot && (p label.Colons && p label.ColonsDot))) e1).1 in let e3 =
+    (and_true (p label.Label) (p label.LabelDot && (p label.Colons && p label.ColonsDot)) e2).1 in (and_true (p label.LabelDot) (p label.Colons && p label.ColonsDot) e3).0
+every_label_is p e label.Colons = let e1 =
+    (and_true (p label.Underscore) (p label.Colon && (p label.Label && (p label.LabelDot && (p label.Colons && p label.ColonsDot)))) e).1 in let e2 =
+    (and_true (p label.Colon) (p label.Label && (p label.LabelDot && (p label.Colons && p label.ColonsDot))) e1).1 in let e3 =
+    (and_true (p label.Label) (p label.LabelDot && (p label.Colons && p label.ColonsDot)) e2).1 in let e4 =
+    (and_true (p label.LabelDot) (p label.Colons && p label.ColonsDot) e3).1 in (and_true (p label.Colons) (p label.ColonsDot) e4).0
+every_label_is p e label.ColonsDot = let e1 =
+    (and_true (p label.Underscore) (p label.Colon && (p label.Label && (p label.LabelDot && (p label.Colons && p label.ColonsDot)))) e).1 in let e2 =
+    (and_true (p label.Colon) (p label.Label && (p label.LabelDot && (p label.Colons && p label.ColonsDot))) e1).1 in let e3 =
+    (and_true (p label.Label) (p label.LabelDot && (p label.Colons && p label.ColonsDot)) e2).1 in let e4 =
+    (and_true (p label.LabelDot) (p label.Colons && p label.ColonsDot) e3).1 in let e5 = (and_true (p label.Colons) (p label.ColonsDot) e4).1 in e5
 
 abbrev pub every_mark : (MarkPart → Bool) → Bool
 every_mark p = p mark.Comma && (p mark.Turtle && (p mark.Brace && (p mark.Exclamation && (p mark.Schema && (p mark.Caret && (p mark.Carets && p mark.Slashes))))))
 
 pub every_mark_is : (p : MarkPart → Bool) → every_mark p ≡ true → (v : MarkPart) → p v ≡ true
 every_mark_is p e mark.Comma = (and_true (p mark.Comma) (p mark.Turtle && (p mark.Brace && (p mark.Exclamation && (p mark.Schema && (p mark.Caret && (p mark.Carets && p mark.Slashes)))))) e).0
-every_mark_is p e mark.Turtle = let e1 = (and_true (p mark.Comma) (p mark.Turtle && (p mark.Brace && (p mark.Exclamation && (p mark.Schema && (p mark.Caret && (p mark.Carets && p mark.Slashes)))))) e).1 in (and_true (p mark.Turtle) (p mark.Brace && (p mark.Exclamation && (p mark.Schema && (p mark.Caret && (p mark.Carets && p mark.Slashes))))) e1).0
-every_mark_is p e mark.Brace = let e1 = (and_true (p mark.Comma) (p mark.Turtle && (p mark.Brace && (p mark.Exclamation && (p mark.Schema && (p mark.Caret && (p mark.Carets && p mark.Slashes)))))) e).1 in let e2 = (and_true (p mark.Turtle) (p mark.Brace && (p mark.Exclamation && (p mark.Schema && (p mark.Caret && (p mark.Carets && p mark.Slashes))))) e1).1 in (and_true (p mark.Brace) (p mark.Exclamation && (p mark.Schema && (p mark.Caret && (p mark.Carets && p mark.Slashes)))) e2).0
-every_mark_is p e mark.Exclamation = let e1 = (and_true (p mark.Comma) (p mark.Turtle && (p mark.Brace && (p mark.Exclamation && (p mark.Schema && (p mark.Caret && (p mark.Carets && p mark.Slashes)))))) e).1 in let e2 = (and_true (p mark.Turtle) (p mark.Brace && (p mark.Exclamation && (p mark.Schema && (p mark.Caret && (p mark.Carets && p mark.Slashes))))) e1).1 in let e3 = (and_true (p mark.Brace) (p mark.Exclamation && (p mark.Schema && (p mark.Caret && (p mark.Carets && p mark.Slashes)))) e2).1 in (and_true (p mark.Exclamation) (p mark.Schema && (p mark.Caret && (p mark.Carets && p mark.Slashes))) e3).0
-every_mark_is p e mark.Schema = let e1 = (and_true (p mark.Comma) (p mark.Turtle && (p mark.Brace && (p mark.Exclamation && (p mark.Schema && (p mark.Caret && (p mark.Carets && p mark.Slashes)))))) e).1 in let e2 = (and_true (p mark.Turtle) (p mark.Brace && (p mark.Exclamation && (p mark.Schema && (p mark.Caret && (p mark.Carets && p mark.Slashes))))) e1).1 in let e3 = (and_true (p mark.Brace) (p mark.Exclamation && (p mark.Schema && (p mark.Caret && (p mark.Carets && p mark.Slashes)))) e2).1 in let e4 = (and_true (p mark.Exclamation) (p mark.Schema && (p mark.Caret && (p mark.Carets && p mark.Slashes))) e3).1 in (and_true (p mark.Schema) (p mark.Caret && (p mark.Carets && p mark.Slashes)) e4).0
-every_mark_is p e mark.Caret = let e1 = (and_true (p mark.Comma) (p mark.Turtle && (p mark.Brace && (p mark.Exclamation && (p mark.Schema && (p mark.Caret && (p mark.Carets && p mark.Slashes)))))) e).1 in let e2 = (and_true (p mark.Turtle) (p mark.Brace && (p mark.Exclamation && (p mark.Schema && (p mark.Caret && (p mark.Carets && p mark.Slashes))))) e1).1 in let e3 = (and_true (p mark.Brace) (p mark.Exclamation && (p mark.Schema && (p mark.Caret && (p mark.Carets && p mark.Slashes)))) e2).1 in let e4 = (and_true (p mark.Exclamation) (p mark.Schema && (p mark.Caret && (p mark.Carets && p mark.Slashes))) e3).1 in let e5 = (and_true (p mark.Schema) (p mark.Caret && (p mark.Carets && p mark.Slashes)) e4).1 in (and_true (p mark.Caret) (p mark.Carets && p mark.Slashes) e5).0
-every_mark_is p e mark.Carets = let e1 = (and_true (p mark.Comma) (p mark.Turtle && (p mark.Brace && (p mark.Exclamation && (p mark.Schema && (p mark.Caret && (p mark.Carets && p mark.Slashes)))))) e).1 in let e2 = (and_true (p mark.Turtle) (p mark.Brace && (p mark.Exclamation && (p mark.Schema && (p mark.Caret && (p mark.Carets && p mark.Slashes))))) e1).1 in let e3 = (and_true (p mark.Brace) (p mark.Exclamation && (p mark.Schema && (p mark.Caret && (p mark.Carets && p mark.Slashes)))) e2).1 in let e4 = (and_true (p mark.Exclamation) (p mark.Schema && (p mark.Caret && (p mark.Carets && p mark.Slashes))) e3).1 in let e5 = (and_true (p mark.Schema) (p mark.Caret && (p mark.Carets && p mark.Slashes)) e4).1 in let e6 = (and_true (p mark.Caret) (p mark.Carets && p mark.Slashes) e5).1 in (and_true (p mark.Carets) (p mark.Slashes) e6).0
-every_mark_is p e mark.Slashes = let e1 = (and_true (p mark.Comma) (p mark.Turtle && (p mark.Brace && (p mark.Exclamation && (p mark.Schema && (p mark.Caret && (p mark.Carets && p mark.Slashes)))))) e).1 in let e2 = (and_true (p mark.Turtle) (p mark.Brace && (p mark.Exclamation && (p mark.Schema && (p mark.Caret && (p mark.Carets && p mark.Slashes))))) e1).1 in let e3 = (and_true (p mark.Brace) (p mark.Exclamation && (p mark.Schema && (p mark.Caret && (p mark.Carets && p mark.Slashes)))) e2).1 in let e4 = (and_true (p mark.Exclamation) (p mark.Schema && (p mark.Caret && (p mark.Carets && p mark.Slashes))) e3).1 in let e5 = (and_true (p mark.Schema) (p mark.Caret && (p mark.Carets && p mark.Slashes)) e4).1 in let e6 = (and_true (p mark.Caret) (p mark.Carets && p mark.Slashes) e5).1 in let e7 = (and_true (p mark.Carets) (p mark.Slashes) e6).1 in e7
+every_mark_is p e mark.Turtle = let e1 =
+    (and_true (p mark.Comma) (p mark.Turtle && (p mark.Brace && (p mark.Exclamation && (p mark.Schema && (p mark.Caret && (p mark.Carets && p mark.Slashes)))))) e).1 in
+    (and_true (p mark.Turtle) (p mark.Brace && (p mark.Exclamation && (p mark.Schema && (p mark.Caret && (p mark.Carets && p mark.Slashes))))) e1).0
+every_mark_is p e mark.Brace = let e1 =
+    (and_true (p mark.Comma) (p mark.Turtle && (p mark.Brace && (p mark.Exclamation && (p mark.Schema && (p mark.Caret && (p mark.Carets && p mark.Slashes)))))) e).1 in let e2 =
+    (and_true (p mark.Turtle) (p mark.Brace && (p mark.Exclamation && (p mark.Schema && (p mark.Caret && (p mark.Carets && p mark.Slashes))))) e1).1 in
+    (and_true (p mark.Brace) (p mark.Exclamation && (p mark.Schema && (p mark.Caret && (p mark.Carets && p mark.Slashes)))) e2).0
+every_mark_is p e mark.Exclamation = let e1 =
+    (and_true (p mark.Comma) (p mark.Turtle && (p mark.Brace && (p mark.Exclamation && (p mark.Schema && (p mark.Caret && (p mark.Carets && p mark.Slashes)))))) e).1 in let e2 =
+    (and_true (p mark.Turtle) (p mark.Brace && (p mark.Exclamation && (p mark.Schema && (p mark.Caret && (p mark.Carets && p mark.Slashes))))) e1).1 in let e3 =
+    (and_true (p mark.Brace) (p mark.Exclamation && (p mark.Schema && (p mark.Caret && (p mark.Carets && p mark.Slashes)))) e2).1 in
+    (and_true (p mark.Exclamation) (p mark.Schema && (p mark.Caret && (p mark.Carets && p mark.Slashes))) e3).0
+every_mark_is p e mark.Schema = let e1 =
+    (and_true (p mark.Comma) (p mark.Turtle && (p mark.Brace && (p mark.Exclamation && (p mark.Schema && (p mark.Caret && (p mark.Carets && p mark.Slashes)))))) e).1 in let e2 =
+    (and_true (p mark.Turtle) (p mark.Brace && (p mark.Exclamation && (p mark.Schema && (p mark.Caret && (p mark.Carets && p mark.Slashes))))) e1).1 in let e3 =
+    (and_true (p mark.Brace) (p mark.Exclamation && (p mark.Schema && (p mark.Caret && (p mark.Carets && p mark.Slashes)))) e2).1 in let e4 =
+    (and_true (p mark.Exclamation) (p mark.Schema && (p mark.Caret && (p mark.Carets && p mark.Slashes))) e3).1 in (and_true (p mark.Schema) (p mark.Caret && (p mark.Carets && p mark.Slashes)) e4).0
+every_mark_is p e mark.Caret = let e1 =
+    (and_true (p mark.Comma) (p mark.Turtle && (p mark.Brace && (p mark.Exclamation && (p mark.Schema && (p mark.Caret && (p mark.Carets && p mark.Slashes)))))) e).1 in let e2 =
+    (and_true (p mark.Turtle) (p mark.Brace && (p mark.Exclamation && (p mark.Schema && (p mark.Caret && (p mark.Carets && p mark.Slashes))))) e1).1 in let e3 =
+    (and_true (p mark.Brace) (p mark.Exclamation && (p mark.Schema && (p mark.Caret && (p mark.Carets && p mark.Slashes)))) e2).1 in let e4 =
+    (and_true (p mark.Exclamation) (p mark.Schema && (p mark.Caret && (p mark.Carets && p mark.Slashes))) e3).1 in let e5 =
+    (and_true (p mark.Schema) (p mark.Caret && (p mark.Carets && p mark.Slashes)) e4).1 in (and_true (p mark.Caret) (p mark.Carets && p mark.Slashes) e5).0
+every_mark_is p e mark.Carets = let e1 =
+    (and_true (p mark.Comma) (p mark.Turtle && (p mark.Brace && (p mark.Exclamation && (p mark.Schema && (p mark.Caret && (p mark.Carets && p mark.Slashes)))))) e).1 in let e2 =
+    (and_true (p mark.Turtle) (p mark.Brace && (p mark.Exclamation && (p mark.Schema && (p mark.Caret && (p mark.Carets && p mark.Slashes))))) e1).1 in let e3 =
+    (and_true (p mark.Brace) (p mark.Exclamation && (p mark.Schema && (p mark.Caret && (p mark.Carets && p mark.Slashes)))) e2).1 in let e4 =
+    (and_true (p mark.Exclamation) (p mark.Schema && (p mark.Caret && (p mark.Carets && p mark.Slashes))) e3).1 in let e5 =
+    (and_true (p mark.Schema) (p mark.Caret && (p mark.Carets && p mark.Slashes)) e4).1 in let e6 =
+    (and_true (p mark.Caret) (p mark.Carets && p mark.Slashes) e5).1 in (and_true (p mark.Carets) (p mark.Slashes) e6).0
+every_mark_is p e mark.Slashes = let e1 =
+    (and_true (p mark.Comma) (p mark.Turtle && (p mark.Brace && (p mark.Exclamation && (p mark.Schema && (p mark.Caret && (p mark.Carets && p mark.Slashes)))))) e).1 in let e2 =
+    (and_true (p mark.Turtle) (p mark.Brace && (p mark.Exclamation && (p mark.Schema && (p mark.Caret && (p mark.Carets && p mark.Slashes))))) e1).1 in let e3 =
+    (and_true (p mark.Brace) (p mark.Exclamation && (p mark.Schema && (p mark.Caret && (p mark.Carets && p mark.Slashes)))) e2).1 in let e4 =
+    (and_true (p mark.Exclamation) (p mark.Schema && (p mark.Caret && (p mark.Carets && p mark.Slashes))) e3).1 in let e5 =
+    (and_true (p mark.Schema) (p mark.Caret && (p mark.Carets && p mark.Slashes)) e4).1 in let e6 =
+    (and_true (p mark.Caret) (p mark.Carets && p mark.Slashes) e5).1 in let e7 = (and_true (p mark.Carets) (p mark.Slashes) e6).1 in e7
 
 abbrev pub every_pattern : (PatternPart → Bool) → Bool
 every_pattern p = p pattern.Slash && (p pattern.Body && (p pattern.Escape && p pattern.Flags))
 
 pub every_pattern_is : (p : PatternPart → Bool) → every_pattern p ≡ true → (v : PatternPart) → p v ≡ true
 every_pattern_is p e pattern.Slash = (and_true (p pattern.Slash) (p pattern.Body && (p pattern.Escape && p pattern.Flags)) e).0
-every_pattern_is p e pattern.Body = let e1 = (and_true (p pattern.Slash) (p pattern.Body && (p pattern.Escape && p pattern.Flags)) e).1 in (and_true (p pattern.Body) (p pattern.Escape && p pattern.Flags) e1).0
-every_pattern_is p e pattern.Escape = let e1 = (and_true (p pattern.Slash) (p pattern.Body && (p pattern.Escape && p pattern.Flags)) e).1 in let e2 = (and_true (p pattern.Body) (p pattern.Escape && p pattern.Flags) e1).1 in (and_true (p pattern.Escape) (p pattern.Flags) e2).0
-every_pattern_is p e pattern.Flags = let e1 = (and_true (p pattern.Slash) (p pattern.Body && (p pattern.Escape && p pattern.Flags)) e).1 in let e2 = (and_true (p pattern.Body) (p pattern.Escape && p pattern.Flags) e1).1 in let e3 = (and_true (p pattern.Escape) (p pattern.Flags) e2).1 in e3
+every_pattern_is p e pattern.Body = let e1 = (and_true (p pattern.Slash) (p pattern.Body && (p pattern.Escape && p pattern.Flags)) e).1 in
+    (and_true (p pattern.Body) (p pattern.Escape && p pattern.Flags) e1).0
+every_pattern_is p e pattern.Escape = let e1 = (and_true (p pattern.Slash) (p pattern.Body && (p pattern.Escape && p pattern.Flags)) e).1 in let e2 =
+    (and_true (p pattern.Body) (p pattern.Escape && p pattern.Flags) e1).1 in (and_true (p pattern.Escape) (p pattern.Flags) e2).0
+every_pattern_is p e pattern.Flags = let e1 = (and_true (p pattern.Slash) (p pattern.Body && (p pattern.Escape && p pattern.Flags)) e).1 in let e2 =
+    (and_true (p pattern.Body) (p pattern.Escape && p pattern.Flags) e1).1 in let e3 = (and_true (p pattern.Escape) (p pattern.Flags) e2).1 in e3
 
 abbrev pub every_state : (State → Bool) → Bool
 every_state p = p Start && (every_iri (λ x. p (Iri x)) && (every_quote (λ q. every_text (λ x. p (Text q x))) && (every_number (λ x. p (Number x)) && (every_lead (λ q. every_name (λ x. p (Name q x))) && (every_tag (λ x. p (Tag x)) && (every_label (λ x. p (Label x)) && (every_mark (λ x. p (Mark x)) && (p Line && every_pattern (λ x. p (Pattern x))))))))))
 
 pub every_state_is : (p : State → Bool) → every_state p ≡ true → (v : State) → p v ≡ true
-every_state_is p e Start = (and_true (p Start) (every_iri (λ x. p (Iri x)) && (every_quote (λ q. every_text (λ x. p (Text q x))) && (every_number (λ x. p (Number x)) && (every_lead (λ q. every_name (λ x. p (Name q x))) && (every_tag (λ x. p (Tag x)) && (every_label (λ x. p (Label x)) && (every_mark (λ x. p (Mark x)) && (p Line && every_pattern (λ x. p (Pattern x)))))))))) e).0
-every_state_is p e (Iri x) = let e1 = (and_true (p Start) (every_iri (λ x. p (Iri x)) && (every_quote (λ q. every_text (λ x. p (Text q x))) && (every_number (λ x. p (Number x)) && (every_lead (λ q. every_name (λ x. p (Name q x))) && (every_tag (λ x. p (Tag x)) && (every_label (λ x. p (Label x)) && (every_mark (λ x. p (Mark x)) && (p Line && every_pattern (λ x. p (Pattern x)))))))))) e).1 in every_iri_is (λ x. p (Iri x)) ((and_true (every_iri (λ x. p (Iri x))) (every_quote (λ q. every_text (λ x. p (Text q x))) && (every_number (λ x. p (Number x)) && (every_lead (λ q. every_name (λ x. p (Name q x))) && (every_tag (λ x. p (Tag x)) && (every_label (λ x. p (Label x)) && (every_mark (λ x. p (Mark x)) && (p Line && every_pattern (λ x. p (Pattern x))))))))) e1).0) x
-every_state_is p e (Text q x) = let e1 = (and_true (p Start) (every_iri (λ x. p (Iri x)) && (every_quote (λ q. every_text (λ x. p (Text q x))) && (every_number (λ x. p (Number x)) && (every_lead (λ q. every_name (λ x. p (Name q x))) && (every_tag (λ x. p (Tag x)) && (every_label (λ x. p (Label x)) && (every_mark (λ x. p (Mark x)) && (p Line && every_pattern (λ x. p (Pattern x)))))))))) e).1 in let e2 = (and_true (every_iri (λ x. p (Iri x))) (every_quote (λ q. every_text (λ x. p (Text q x))) && (every_number (λ x. p (Number x)) && (every_lead (λ q. every_name (λ x. p (Name q x))) && (every_tag (λ x. p (Tag x)) && (every_label (λ x. p (Label x)) && (every_mark (λ x. p (Mark x)) && (p Line && every_pattern (λ x. p (Pattern x))))))))) e1).1 in every_text_is (λ x. p (Text q x)) (every_quote_is (λ q. every_text (λ x. p (Text q x))) ((and_true (every_quote (λ q. every_text (λ x. p (Text q x)))) (every_number (λ x. p (Number x)) && (every_lead (λ q. every_name (λ x. p (Name q x))) && (every_tag (λ x. p (Tag x)) && (every_label (λ x. p (Label x)) && (every_mark (λ x. p (Mark x)) && (p Line && every_pattern (λ x. p (Pattern x)))))))) e2).0) q) x
-every_state_is p e (Number x) = let e1 = (and_true (p Start) (every_iri (λ x. p (Iri x)) && (every_quote (λ q. every_text (λ x. p (Text q x))) && (every_number (λ x. p (Number x)) && (every_lead (λ q. every_name (λ x. p (Name q x))) && (every_tag (λ x. p (Tag x)) && (every_label (λ x. p (Label x)) && (every_mark (λ x. p (Mark x)) && (p Line && every_pattern (λ x. p (Pattern x)))))))))) e).1 in let e2 = (and_true (every_iri (λ x. p (Iri x))) (every_quote (λ q. every_text (λ x. p (Text q x))) && (every_number (λ x. p (Number x)) && (every_lead (λ q. every_name (λ x. p (Name q x))) && (every_tag (λ x. p (Tag x)) && (every_label (λ x. p (Label x)) && (every_mark (λ x. p (Mark x)) && (p Line && every_pattern (λ x. p (Pattern x))))))))) e1).1 in let e3 = (and_true (every_quote (λ q. every_text (λ x. p (Text q x)))) (every_number (λ x. p (Number x)) && (every_lead (λ q. every_name (λ x. p (Name q x))) && (every_tag (λ x. p (Tag x)) && (every_label (λ x. p (Label x)) && (every_mark (λ x. p (Mark x)) && (p Line && every_pattern (λ x. p (Pattern x)))))))) e2).1 in every_number_is (λ x. p (Number x)) ((and_true (every_number (λ x. p (Number x))) (every_lead (λ q. every_name (λ x. p (Name q x))) && (every_tag (λ x. p (Tag x)) && (every_label (λ x. p (Label x)) && (every_mark (λ x. p (Mark x)) && (p Line && every_pattern (λ x. p (Pattern x))))))) e3).0) x
-every_state_is p e (Name q x) = let e1 = (and_true (p Start) (every_iri (λ x. p (Iri x)) && (every_quote (λ q. every_text (λ x. p (Text q x))) && (every_number (λ x. p (Number x)) && (every_lead (λ q. every_name (λ x. p (Name q x))) && (every_tag (λ x. p (Tag x)) && (every_label (λ x. p (Label x)) && (every_mark (λ x. p (Mark x)) && (p Line && every_pattern (λ x. p (Pattern x)))))))))) e).1 in let e2 = (and_true (every_iri (λ x. p (Iri x))) (every_quote (λ q. every_text (λ x. p (Text q x))) && (every_number (λ x. p (Number x)) && (every_lead (λ q. every_name (λ x. p (Name q x))) && (every_tag (λ x. p (Tag x)) && (every_label (λ x. p (Label x)) && (every_mark (λ x. p (Mark x)) && (p Line && every_pattern (λ x. p (Pattern x))))))))) e1).1 in let e3 = (and_true (every_quote (λ q. every_text (λ x. p (Text q x)))) (every_number (λ x. p (Number x)) && (every_lead (λ q. every_name (λ x. p (Name q x))) && (every_tag (λ x. p (Tag x)) && (every_label (λ x. p (Label x)) && (every_mark (λ x. p (Mark x)) && (p Line && every_pattern (λ x. p (Pattern x)))))))) e2).1 in let e4 = (and_true (every_number (λ x. p (Number x))) (every_lead (λ q. every_name (λ x. p (Name q x))) && (every_tag (λ x. p (Tag x)) && (every_label (λ x. p (Label x)) && (every_mark (λ x. p (Mark x)) && (p Line && every_pattern (λ x. p (Pattern x))))))) e3).1 in every_name_is (λ x. p (Name q x)) (every_lead_is (λ q. every_name (λ x. p (Name q x))) ((and_true (every_lead (λ q. every_name (λ x. p (Name q x)))) (every_tag (λ x. p (Tag x)) && (every_label (λ x. p (Label x)) && (every_mark (λ x. p (Mark x)) && (p Line && every_pattern (λ x. p (Pattern x)))))) e4).0) q) x
-every_state_is p e (Tag x) = let e1 = (and_true (p Start) (every_iri (λ x. p (Iri x)) && (every_quote (λ q. every_text (λ x. p (Text q x))) && (every_number (λ x. p (Number x)) && (every_lead (λ q. every_name (λ x. p (Name q x))) && (every_tag (λ x. p (Tag x)) && (every_label (λ x. p (Label x)) && (every_mark (λ x. p (Mark x)) && (p Line && every_pattern (λ x. p (Pattern x)))))))))) e).1 in let e2 = (and_true (every_iri (λ x. p (Iri x))) (every_quote (λ q. every_text (λ x. p (Text q x))) && (every_number (λ x. p (Number x)) && (every_lead (λ q. every_name (λ x. p (Name q x))) && (every_tag (λ x. p (Tag x)) && (every_label (λ x. p (Label x)) && (every_mark (λ x. p (Mark x)) && (p Line && every_pattern (λ x. p (Pattern x))))))))) e1).1 in let e3 = (and_true (every_quote (λ q. every_text (λ x. p (Text q x)))) (every_number (λ x. p (Number x)) && (every_lead (λ q. every_name (λ x. p (Name q x))) && (every_tag (λ x. p (Tag x)) && (every_label (λ x. p (Label x)) && (every_mark (λ x. p (Mark x)) && (p Line && every_pattern (λ x. p (Pattern x)))))))) e2).1 in let e4 = (and_true (every_number (λ x. p (Number x))) (every_lead (λ q. every_name (λ x. p (Name q x))) && (every_tag (λ x. p (Tag x)) && (every_label (λ x. p (Label x)) && (every_mark (λ x. p (Mark x)) && (p Line && every_pattern (λ x. p (Pattern x))))))) e3).1 in let e5 = (and_true (every_lead (λ q. every_name (λ x. p (Name q x)))) (every_tag (λ x. p (Tag x)) && (every_label (λ x. p (Label x)) && (every_mark (λ x. p (Mark x)) && (p Line && every_pattern (λ x. p (Pattern x)))))) e4).1 in every_tag_is (λ x. p (Tag x)) ((and_true (every_tag (λ x. p (Tag x))) (every_label (λ x. p (Label x)) && (every_mark (λ x. p (Mark x)) && (p Line && every_pattern (λ x. p (Pattern x))))) e5).0) x
-every_state_is p e (Label x) = let e1 = (and_true (p Start) (every_iri (λ x. p (Iri x)) && (every_quote (λ q. every_text (λ x. p (Text q x))) && (every_number (λ x. p (Number x)) && (every_lead (λ q. every_name (λ x. p (Name q x))) && (every_tag (λ x. p (Tag x)) && (every_label (λ x. p (Label x)) && (every_mark (λ x. p (Mark x)) && (p Line && every_pattern (λ x. p (Pattern x)))))))))) e).1 in let e2 = (and_true (every_iri (λ x. p (Iri x))) (every_quote (λ q. every_text (λ x. p (Text q x))) && (every_number (λ x. p (Number x)) && (every_lead (λ q. every_name (λ x. p (Name q x))) && (every_tag (λ x. p (Tag x)) && (every_label (λ x. p (Label x)) && (every_mark (λ x. p (Mark x)) && (p Line && every_pattern (λ x. p (Pattern x))))))))) e1).1 in let e3 = (and_true (every_quote (λ q. every_text (λ x. p (Text q x)))) (every_number (λ x. p (Number x)) && (every_lead (λ q. every_name (λ x. p (Name q x))) && (every_tag (λ x. p (Tag x)) && (every_label (λ x. p (Label x)) && (every_mark (λ x. p (Mark x)) && (p Line && every_pattern (λ x. p (Pattern x)))))))) e2).1 in let e4 = (and_true (every_number (λ x. p (Number x))) (every_lead (λ q. every_name (λ x. p (Name q x))) && (every_tag (λ x. p (Tag x)) && (every_label (λ x. p (Label x)) && (every_mark (λ x. p (Mark x)) && (p Line && every_pattern (λ x. p (Pattern x))))))) e3).1 in let e5 = (and_true (every_lead (λ q. every_name (λ x. p (Name q x)))) (every_tag (λ x. p (Tag x)) && (every_label (λ x. p (Label x)) && (every_mark (λ x. p (Mark x)) && (p Line && every_pattern (λ x. p (Pattern x)))))) e4).1 in let e6 = (and_true (every_tag (λ x. p (Tag x))) (every_label (λ x. p (Label x)) && (every_mark (λ x. p (Mark x)) && (p Line && every_pattern (λ x. p (Pattern x))))) e5).1 in every_label_is (λ x. p (Label x)) ((and_true (every_label (λ x. p (Label x))) (every_mark (λ x. p (Mark x)) && (p Line && every_pattern (λ x. p (Pattern x)))) e6).0) x
-every_state_is p e (Mark x) = let e1 = (and_true (p Start) (every_iri (λ x. p (Iri x)) && (every_quote (λ q. every_text (λ x. p (Text q x))) && (every_number (λ x. p (Number x)) && (every_lead (λ q. every_name (λ x. p (Name q x))) && (every_tag (λ x. p (Tag x)) && (every_label (λ x. p (Label x)) && (every_mark (λ x. p (Mark x)) && (p Line && every_pattern (λ x. p (Pattern x)))))))))) e).1 in let e2 = (and_true (every_iri (λ x. p (Iri x))) (every_quote (λ q. every_text (λ x. p (Text q x))) && (every_number (λ x. p (Number x)) && (every_lead (λ q. every_name (λ x. p (Name q x))) && (every_tag (λ x. p (Tag x)) && (every_label (λ x. p (Label x)) && (every_mark (λ x. p (Mark x)) && (p Line && every_pattern (λ x. p (Pattern x))))))))) e1).1 in let e3 = (and_true (every_quote (λ q. every_text (λ x. p (Text q x)))) (every_number (λ x. p (Number x)) && (every_lead (λ q. every_name (λ x. p (Name q x))) && (every_tag (λ x. p (Tag x)) && (every_label (λ x. p (Label x)) && (every_mark (λ x. p (Mark x)) && (p Line && every_pattern (λ x. p (Pattern x)))))))) e2).1 in let e4 = (and_true (every_number (λ x. p (Number x))) (every_lead (λ q. every_name (λ x. p (Name q x))) && (every_tag (λ x. p (Tag x)) && (every_label (λ x. p (Label x)) && (every_mark (λ x. p (Mark x)) && (p Line && every_pattern (λ x. p (Pattern x))))))) e3).1 in let e5 = (and_true (every_lead (λ q. every_name (λ x. p (Name q x)))) (every_tag (λ x. p (Tag x)) && (every_label (λ x. p (Label x)) && (every_mark (λ x. p (Mark x)) && (p Line && every_pattern (λ x. p (Pattern x)))))) e4).1 in let e6 = (and_true (every_tag (λ x. p (Tag x))) (every_label (λ x. p (Label x)) && (every_mark (λ x. p (Mark x)) && (p Line && every_pattern (λ x. p (Pattern x))))) e5).1 in let e7 = (and_true (every_label (λ x. p (Label x))) (every_mark (λ x. p (Mark x)) && (p Line && every_pattern (λ x. p (Pattern x)))) e6).1 in every_mark_is (λ x. p (Mark x)) ((and_true (every_mark (λ x. p (Mark x))) (p Line && every_pattern (λ x. p (Pattern x))) e7).0) x
-every_state_is p e Line = let e1 = (and_true (p Start) (every_iri (λ x. p (Iri x)) && (every_quote (λ q. every_text (λ x. p (Text q x))) && (every_number (λ x. p (Number x)) && (every_lead (λ q. every_name (λ x. p (Name q x))) && (every_tag (λ x. p (Tag x)) && (every_label (λ x. p (Label x)) && (every_mark (λ x. p (Mark x)) && (p Line && every_pattern (λ x. p (Pattern x)))))))))) e).1 in let e2 = (and_true (every_iri (λ x. p (Iri x))) (every_quote (λ q. every_text (λ x. p (Text q x))) && (every_number (λ x. p (Number x)) && (every_lead (λ q. every_name (λ x. p (Name q x))) && (every_tag (λ x. p (Tag x)) && (every_label (λ x. p (Label x)) && (every_mark (λ x. p (Mark x)) && (p Line && every_pattern (λ x. p (Pattern x))))))))) e1).1 in let e3 = (and_true (every_quote (λ q. every_text (λ x. p (Text q x)))) (every_number (λ x. p (Number x)) && (every_lead (λ q. every_name (λ x. p (Name q x))) && (every_tag (λ x. p (Tag x)) && (every_label (λ x. p (Label x)) && (every_mark (λ x. p (Mark x)) && (p Line && every_pattern (λ x. p (Pattern x)))))))) e2).1 in let e4 = (and_true (every_number (λ x. p (Number x))) (every_lead (λ q. every_name (λ x. p (Name q x))) && (every_tag (λ x. p (Tag x)) && (every_label (λ x. p (Label x)) && (every_mark (λ x. p (Mark x)) && (p Line && every_pattern (λ x. p (Pattern x))))))) e3).1 in let e5 = (and_true (every_lead (λ q. every_name (λ x. p (Name q x)))) (every_tag (λ x. p (Tag x)) && (every_label (λ x. p (Label x)) && (every_mark (λ x. p (Mark x)) && (p Line && every_pattern (λ x. p (Pattern x)))))) e4).1 in let e6 = (and_true (every_tag (λ x. p (Tag x))) (every_label (λ x. p (Label x)) && (every_mark (λ x. p (Mark x)) && (p Line && every_pattern (λ x. p (Pattern x))))) e5).1 in let e7 = (and_true (every_label (λ x. p (Label x))) (every_mark (λ x. p (Mark x)) && (p Line && every_pattern (λ x. p (Pattern x)))) e6).1 in let e8 = (and_true (every_mark (λ x. p (Mark x))) (p Line && every_pattern (λ x. p (Pattern x))) e7).1 in (and_true (p Line) (every_pattern (λ x. p (Pattern x))) e8).0
-every_state_is p e (Pattern x) = let e1 = (and_true (p Start) (every_iri (λ x. p (Iri x)) && (every_quote (λ q. every_text (λ x. p (Text q x))) && (every_number (λ x. p (Number x)) && (every_lead (λ q. every_name (λ x. p (Name q x))) && (every_tag (λ x. p (Tag x)) && (every_label (λ x. p (Label x)) && (every_mark (λ x. p (Mark x)) && (p Line && every_pattern (λ x. p (Pattern x)))))))))) e).1 in let e2 = (and_true (every_iri (λ x. p (Iri x))) (every_quote (λ q. every_text (λ x. p (Text q x))) && (every_number (λ x. p (Number x)) && (every_lead (λ q. every_name (λ x. p (Name q x))) && (every_tag (λ x. p (Tag x)) && (every_label (λ x. p (Label x)) && (every_mark (λ x. p (Mark x)) && (p Line && every_pattern (λ x. p (Pattern x))))))))) e1).1 in let e3 = (and_true (every_quote (λ q. every_text (λ x. p (Text q x)))) (every_number (λ x. p (Number x)) && (every_lead (λ q. every_name (λ x. p (Name q x))) && (every_tag (λ x. p (Tag x)) && (every_label (λ x. p (Label x)) && (every_mark (λ x. p (Mark x)) && (p Line && every_pattern (λ x. p (Pattern x)))))))) e2).1 in let e4 = (and_true (every_number (λ x. p (Number x))) (every_lead (λ q. every_name (λ x. p (Name q x))) && (every_tag (λ x. p (Tag x)) && (every_label (λ x. p (Label x)) && (every_mark (λ x. p (Mark x)) && (p Line && every_pattern (λ x. p (Pattern x))))))) e3).1 in let e5 = (and_true (every_lead (λ q. every_name (λ x. p (Name q x)))) (every_tag (λ x. p (Tag x)) && (every_label (λ x. p (Label x)) && (every_mark (λ x. p (Mark x)) && (p Line && every_pattern (λ x. p (Pattern x)))))) e4).1 in let e6 = (and_true (every_tag (λ x. p (Tag x))) (every_label (λ x. p (Label x)) && (every_mark (λ x. p (Mark x)) && (p Line && every_pattern (λ x. p (Pattern x))))) e5).1 in let e7 = (and_true (every_label (λ x. p (Label x))) (every_mark (λ x. p (Mark x)) && (p Line && every_pattern (λ x. p (Pattern x)))) e6).1 in let e8 = (and_true (every_mark (λ x. p (Mark x))) (p Line && every_pattern (λ x. p (Pattern x))) e7).1 in let e9 = (and_true (p Line) (every_pattern (λ x. p (Pattern x))) e8).1 in every_pattern_is (λ x. p (Pattern x)) (e9) x
+every_state_is p e Start =
+    (and_true (p Start) (every_iri (λ x. p (Iri x)) && (every_quote (λ q. every_text (λ x. p (Text q x))) && (every_number (λ x. p (Number x)) && (every_lead (λ q. every_name (λ x. p (Name q x))) && (every_tag (λ x. p (Tag x)) && (every_label (λ x. p (Label x)) && (every_mark (λ x. p (Mark x)) && (p Line && every_pattern (λ x. p (Pattern x)))))))))) e).0
+every_state_is p e (Iri x) = let e1 =
+    (and_true (p Start) (every_iri (λ x. p (Iri x)) && (every_quote (λ q. every_text (λ x. p (Text q x))) && (every_number (λ x. p (Number x)) && (every_lead (λ q. every_name (λ x. p (Name q x))) && (every_tag (λ x. p (Tag x)) && (every_label (λ x. p (Label x)) && (every_mark (λ x. p (Mark x)) && (p Line && every_pattern (λ x. p (Pattern x)))))))))) e).1 in every_iri_is (λ x. p (Iri x)) ((and_true (every_iri (λ x. p (Iri x))) (every_quote (λ q. every_text (λ x. p (Text q x))) && (every_number (λ x. p (Number x)) && (every_lead (λ q. every_name (λ x. p (Name q x))) && (every_tag (λ x. p (Tag x)) && (every_label (λ x. p (Label x)) && (every_mark (λ x. p (Mark x)) && (p Line && every_pattern (λ x. p (Pattern x))))))))) e1).0) x
+every_state_is p e (Text q x) = let e1 =
+    (and_true (p Start) (every_iri (λ x. p (Iri x)) && (every_quote (λ q. every_text (λ x. p (Text q x))) && (every_number (λ x. p (Number x)) && (every_lead (λ q. every_name (λ x. p (Name q x))) && (every_tag (λ x. p (Tag x)) && (every_label (λ x. p (Label x)) && (every_mark (λ x. p (Mark x)) && (p Line && every_pattern (λ x. p (Pattern x)))))))))) e).1 in let e2 = (and_true (every_iri (λ x. p (Iri x))) (every_quote (λ q. every_text (λ x. p (Text q x))) && (every_number (λ x. p (Number x)) && (every_lead (λ q. every_name (λ x. p (Name q x))) && (every_tag (λ x. p (Tag x)) && (every_label (λ x. p (Label x)) && (every_mark (λ x. p (Mark x)) && (p Line && every_pattern (λ x. p (Pattern x))))))))) e1).1 in every_text_is (λ x. p (Text q x)) (every_quote_is (λ q. every_text (λ x. p (Text q x))) ((and_true (every_quote (λ q. every_text (λ x. p (Text q x)))) (every_number (λ x. p (Number x)) && (every_lead (λ q. every_name (λ x. p (Name q x))) && (every_tag (λ x. p (Tag x)) && (every_label (λ x. p (Label x)) && (every_mark (λ x. p (Mark x)) && (p Line && every_pattern (λ x. p (Pattern x)))))))) e2).0) q) x
+every_state_is p e (Number x) = let e1 =
+    (and_true (p Start) (every_iri (λ x. p (Iri x)) && (every_quote (λ q. every_text (λ x. p (Text q x))) && (every_number (λ x. p (Number x)) && (every_lead (λ q. every_name (λ x. p (Name q x))) && (every_tag (λ x. p (Tag x)) && (every_label (λ x. p (Label x)) && (every_mark (λ x. p (Mark x)) && (p Line && every_pattern (λ x. p (Pattern x)))))))))) e).1 in let e2 = (and_true (every_iri (λ x. p (Iri x))) (every_quote (λ q. every_text (λ x. p (Text q x))) && (every_number (λ x. p (Number x)) && (every_lead (λ q. every_name (λ x. p (Name q x))) && (every_tag (λ x. p (Tag x)) && (every_label (λ x. p (Label x)) && (every_mark (λ x. p (Mark x)) && (p Line && every_pattern (λ x. p (Pattern x))))))))) e1).1 in let e3 = (and_true (every_quote (λ q. every_text (λ x. p (Text q x)))) (every_number (λ x. p (Number x)) && (every_lead (λ q. every_name (λ x. p (Name q x))) && (every_tag (λ x. p (Tag x)) && (every_label (λ x. p (Label x)) && (every_mark (λ x. p (Mark x)) && (p Line && every_pattern (λ x. p (Pattern x)))))))) e2).1 in every_number_is (λ x. p (Number x)) ((and_true (every_number (λ x. p (Number x))) (every_lead (λ q. every_name (λ x. p (Name q x))) && (every_tag (λ x. p (Tag x)) && (every_label (λ x. p (Label x)) && (every_mark (λ x. p (Mark x)) && (p Line && every_pattern (λ x. p (Pattern x))))))) e3).0) x
+every_state_is p e (Name q x) = let e1 =
+    (and_true (p Start) (every_iri (λ x. p (Iri x)) && (every_quote (λ q. every_text (λ x. p (Text q x))) && (every_number (λ x. p (Number x)) && (every_lead (λ q. every_name (λ x. p (Name q x))) && (every_tag (λ x. p (Tag x)) && (every_label (λ x. p (Label x)) && (every_mark (λ x. p (Mark x)) && (p Line && every_pattern (λ x. p (Pattern x)))))))))) e).1 in let e2 = (and_true (every_iri (λ x. p (Iri x))) (every_quote (λ q. every_text (λ x. p (Text q x))) && (every_number (λ x. p (Number x)) && (every_lead (λ q. every_name (λ x. p (Name q x))) && (every_tag (λ x. p (Tag x)) && (every_label (λ x. p (Label x)) && (every_mark (λ x. p (Mark x)) && (p Line && every_pattern (λ x. p (Pattern x))))))))) e1).1 in let e3 = (and_true (every_quote (λ q. every_text (λ x. p (Text q x)))) (every_number (λ x. p (Number x)) && (every_lead (λ q. every_name (λ x. p (Name q x))) && (every_tag (λ x. p (Tag x)) && (every_label (λ x. p (Label x)) && (every_mark (λ x. p (Mark x)) && (p Line && every_pattern (λ x. p (Pattern x)))))))) e2).1 in let e4 = (and_true (every_number (λ x. p (Number x))) (every_lead (λ q. every_name (λ x. p (Name q x))) && (every_tag (λ x. p (Tag x)) && (every_label (λ x. p (Label x)) && (every_mark (λ x. p (Mark x)) && (p Line && every_pattern (λ x. p (Pattern x))))))) e3).1 in every_name_is (λ x. p (Name q x)) (every_lead_is (λ q. every_name (λ x. p (Name q x))) ((and_true (every_lead (λ q. every_name (λ x. p (Name q x)))) (every_tag (λ x. p (Tag x)) && (every_label (λ x. p (Label x)) && (every_mark (λ x. p (Mark x)) && (p Line && every_pattern (λ x. p (Pattern x)))))) e4).0) q) x
+every_state_is p e (Tag x) = let e1 =
+    (and_true (p Start) (every_iri (λ x. p (Iri x)) && (every_quote (λ q. every_text (λ x. p (Text q x))) && (every_number (λ x. p (Number x)) && (every_lead (λ q. every_name (λ x. p (Name q x))) && (every_tag (λ x. p (Tag x)) && (every_label (λ x. p (Label x)) && (every_mark (λ x. p (Mark x)) && (p Line && every_pattern (λ x. p (Pattern x)))))))))) e).1 in let e2 = (and_true (every_iri (λ x. p (Iri x))) (every_quote (λ q. every_text (λ x. p (Text q x))) && (every_number (λ x. p (Number x)) && (every_lead (λ q. every_name (λ x. p (Name q x))) && (every_tag (λ x. p (Tag x)) && (every_label (λ x. p (Label x)) && (every_mark (λ x. p (Mark x)) && (p Line && every_pattern (λ x. p (Pattern x))))))))) e1).1 in let e3 = (and_true (every_quote (λ q. every_text (λ x. p (Text q x)))) (every_number (λ x. p (Number x)) && (every_lead (λ q. every_name (λ x. p (Name q x))) && (every_tag (λ x. p (Tag x)) && (every_label (λ x. p (Label x)) && (every_mark (λ x. p (Mark x)) && (p Line && every_pattern (λ x. p (Pattern x)))))))) e2).1 in let e4 = (and_true (every_number (λ x. p (Number x))) (every_lead (λ q. every_name (λ x. p (Name q x))) && (every_tag (λ x. p (Tag x)) && (every_label (λ x. p (Label x)) && (every_mark (λ x. p (Mark x)) && (p Line && every_pattern (λ x. p (Pattern x))))))) e3).1 in let e5 = (and_true (every_lead (λ q. every_name (λ x. p (Name q x)))) (every_tag (λ x. p (Tag x)) && (every_label (λ x. p (Label x)) && (every_mark (λ x. p (Mark x)) && (p Line && every_pattern (λ x. p (Pattern x)))))) e4).1 in every_tag_is (λ x. p (Tag x)) ((and_true (every_tag (λ x. p (Tag x))) (every_label (λ x. p (Label x)) && (every_mark (λ x. p (Mark x)) && (p Line && every_pattern (λ x. p (Pattern x))))) e5).0) x
+every_state_is p e (Label x) = let e1 =
+    (and_true (p Start) (every_iri (λ x. p (Iri x)) && (every_quote (λ q. every_text (λ x. p (Text q x))) && (every_number (λ x. p (Number x)) && (every_lead (λ q. every_name (λ x. p (Name q x))) && (every_tag (λ x. p (Tag x)) && (every_label (λ x. p (Label x)) && (every_mark (λ x. p (Mark x)) && (p Line && every_pattern (λ x. p (Pattern x)))))))))) e).1 in let e2 = (and_true (every_iri (λ x. p (Iri x))) (every_quote (λ q. every_text (λ x. p (Text q x))) && (every_number (λ x. p (Number x)) && (every_lead (λ q. every_name (λ x. p (Name q x))) && (every_tag (λ x. p (Tag x)) && (every_label (λ x. p (Label x)) && (every_mark (λ x. p (Mark x)) && (p Line && every_pattern (λ x. p (Pattern x))))))))) e1).1 in let e3 = (and_true (every_quote (λ q. every_text (λ x. p (Text q x)))) (every_number (λ x. p (Number x)) && (every_lead (λ q. every_name (λ x. p (Name q x))) && (every_tag (λ x. p (Tag x)) && (every_label (λ x. p (Label x)) && (every_mark (λ x. p (Mark x)) && (p Line && every_pattern (λ x. p (Pattern x)))))))) e2).1 in let e4 = (and_true (every_number (λ x. p (Number x))) (every_lead (λ q. every_name (λ x. p (Name q x))) && (every_tag (λ x. p (Tag x)) && (every_label (λ x. p (Label x)) && (every_mark (λ x. p (Mark x)) && (p Line && every_pattern (λ x. p (Pattern x))))))) e3).1 in let e5 = (and_true (every_lead (λ q. every_name (λ x. p (Name q x)))) (every_tag (λ x. p (Tag x)) && (every_label (λ x. p (Label x)) && (every_mark (λ x. p (Mark x)) && (p Line && every_pattern (λ x. p (Pattern x)))))) e4).1 in let e6 = (and_true (every_tag (λ x. p (Tag x))) (every_label (λ x. p (Label x)) && (every_mark (λ x. p (Mark x)) && (p Line && every_pattern (λ x. p (Pattern x))))) e5).1 in every_label_is (λ x. p (Label x)) ((and_true (every_label (λ x. p (Label x))) (every_mark (λ x. p (Mark x)) && (p Line && every_pattern (λ x. p (Pattern x)))) e6).0) x
+every_state_is p e (Mark x) = let e1 =
+    (and_true (p Start) (every_iri (λ x. p (Iri x)) && (every_quote (λ q. every_text (λ x. p (Text q x))) && (every_number (λ x. p (Number x)) && (every_lead (λ q. every_name (λ x. p (Name q x))) && (every_tag (λ x. p (Tag x)) && (every_label (λ x. p (Label x)) && (every_mark (λ x. p (Mark x)) && (p Line && every_pattern (λ x. p (Pattern x)))))))))) e).1 in let e2 = (and_true (every_iri (λ x. p (Iri x))) (every_quote (λ q. every_text (λ x. p (Text q x))) && (every_number (λ x. p (Number x)) && (every_lead (λ q. every_name (λ x. p (Name q x))) && (every_tag (λ x. p (Tag x)) && (every_label (λ x. p (Label x)) && (every_mark (λ x. p (Mark x)) && (p Line && every_pattern (λ x. p (Pattern x))))))))) e1).1 in let e3 = (and_true (every_quote (λ q. every_text (λ x. p (Text q x)))) (every_number (λ x. p (Number x)) && (every_lead (λ q. every_name (λ x. p (Name q x))) && (every_tag (λ x. p (Tag x)) && (every_label (λ x. p (Label x)) && (every_mark (λ x. p (Mark x)) && (p Line && every_pattern (λ x. p (Pattern x)))))))) e2).1 in let e4 = (and_true (every_number (λ x. p (Number x))) (every_lead (λ q. every_name (λ x. p (Name q x))) && (every_tag (λ x. p (Tag x)) && (every_label (λ x. p (Label x)) && (every_mark (λ x. p (Mark x)) && (p Line && every_pattern (λ x. p (Pattern x))))))) e3).1 in let e5 = (and_true (every_lead (λ q. every_name (λ x. p (Name q x)))) (every_tag (λ x. p (Tag x)) && (every_label (λ x. p (Label x)) && (every_mark (λ x. p (Mark x)) && (p Line && every_pattern (λ x. p (Pattern x)))))) e4).1 in let e6 = (and_true (every_tag (λ x. p (Tag x))) (every_label (λ x. p (Label x)) && (every_mark (λ x. p (Mark x)) && (p Line && every_pattern (λ x. p (Pattern x))))) e5).1 in let e7 = (and_true (every_label (λ x. p (Label x))) (every_mark (λ x. p (Mark x)) && (p Line && every_pattern (λ x. p (Pattern x)))) e6).1 in every_mark_is (λ x. p (Mark x)) ((and_true (every_mark (λ x. p (Mark x))) (p Line && every_pattern (λ x. p (Pattern x))) e7).0) x
+every_state_is p e Line = let e1 =
+    (and_true (p Start) (every_iri (λ x. p (Iri x)) && (every_quote (λ q. every_text (λ x. p (Text q x))) && (every_number (λ x. p (Number x)) && (every_lead (λ q. every_name (λ x. p (Name q x))) && (every_tag (λ x. p (Tag x)) && (every_label (λ x. p (Label x)) && (every_mark (λ x. p (Mark x)) && (p Line && every_pattern (λ x. p (Pattern x)))))))))) e).1 in let e2 = (and_true (every_iri (λ x. p (Iri x))) (every_quote (λ q. every_text (λ x. p (Text q x))) && (every_number (λ x. p (Number x)) && (every_lead (λ q. every_name (λ x. p (Name q x))) && (every_tag (λ x. p (Tag x)) && (every_label (λ x. p (Label x)) && (every_mark (λ x. p (Mark x)) && (p Line && every_pattern (λ x. p (Pattern x))))))))) e1).1 in let e3 = (and_true (every_quote (λ q. every_text (λ x. p (Text q x)))) (every_number (λ x. p (Number x)) && (every_lead (λ q. every_name (λ x. p (Name q x))) && (every_tag (λ x. p (Tag x)) && (every_label (λ x. p (Label x)) && (every_mark (λ x. p (Mark x)) && (p Line && every_pattern (λ x. p (Pattern x)))))))) e2).1 in let e4 = (and_true (every_number (λ x. p (Number x))) (every_lead (λ q. every_name (λ x. p (Name q x))) && (every_tag (λ x. p (Tag x)) && (every_label (λ x. p (Label x)) && (every_mark (λ x. p (Mark x)) && (p Line && every_pattern (λ x. p (Pattern x))))))) e3).1 in let e5 = (and_true (every_lead (λ q. every_name (λ x. p (Name q x)))) (every_tag (λ x. p (Tag x)) && (every_label (λ x. p (Label x)) && (every_mark (λ x. p (Mark x)) && (p Line && every_pattern (λ x. p (Pattern x)))))) e4).1 in let e6 = (and_true (every_tag (λ x. p (Tag x))) (every_label (λ x. p (Label x)) && (every_mark (λ x. p (Mark x)) && (p Line && every_pattern (λ x. p (Pattern x))))) e5).1 in let e7 = (and_true (every_label (λ x. p (Label x))) (every_mark (λ x. p (Mark x)) && (p Line && every_pattern (λ x. p (Pattern x)))) e6).1 in let e8 = (and_true (every_mark (λ x. p (Mark x))) (p Line && every_pattern (λ x. p (Pattern x))) e7).1 in (and_true (p Line) (every_pattern (λ x. p (Pattern x))) e8).0
+every_state_is p e (Pattern x) = let e1 =
+    (and_true (p Start) (every_iri (λ x. p (Iri x)) && (every_quote (λ q. every_text (λ x. p (Text q x))) && (every_number (λ x. p (Number x)) && (every_lead (λ q. every_name (λ x. p (Name q x))) && (every_tag (λ x. p (Tag x)) && (every_label (λ x. p (Label x)) && (every_mark (λ x. p (Mark x)) && (p Line && every_pattern (λ x. p (Pattern x)))))))))) e).1 in let e2 = (and_true (every_iri (λ x. p (Iri x))) (every_quote (λ q. every_text (λ x. p (Text q x))) && (every_number (λ x. p (Number x)) && (every_lead (λ q. every_name (λ x. p (Name q x))) && (every_tag (λ x. p (Tag x)) && (every_label (λ x. p (Label x)) && (every_mark (λ x. p (Mark x)) && (p Line && every_pattern (λ x. p (Pattern x))))))))) e1).1 in let e3 = (and_true (every_quote (λ q. every_text (λ x. p (Text q x)))) (every_number (λ x. p (Number x)) && (every_lead (λ q. every_name (λ x. p (Name q x))) && (every_tag (λ x. p (Tag x)) && (every_label (λ x. p (Label x)) && (every_mark (λ x. p (Mark x)) && (p Line && every_pattern (λ x. p (Pattern x)))))))) e2).1 in let e4 = (and_true (every_number (λ x. p (Number x))) (every_lead (λ q. every_name (λ x. p (Name q x))) && (every_tag (λ x. p (Tag x)) && (every_label (λ x. p (Label x)) && (every_mark (λ x. p (Mark x)) && (p Line && every_pattern (λ x. p (Pattern x))))))) e3).1 in let e5 = (and_true (every_lead (λ q. every_name (λ x. p (Name q x)))) (every_tag (λ x. p (Tag x)) && (every_label (λ x. p (Label x)) && (every_mark (λ x. p (Mark x)) && (p Line && every_pattern (λ x. p (Pattern x)))))) e4).1 in let e6 = (and_true (every_tag (λ x. p (Tag x))) (every_label (λ x. p (Label x)) && (every_mark (λ x. p (Mark x)) && (p Line && every_pattern (λ x. p (Pattern x))))) e5).1 in let e7 = (and_true (every_label (λ x. p (Label x))) (every_mark (λ x. p (Mark x)) && (p Line && every_pattern (λ x. p (Pattern x)))) e6).1 in let e8 = (and_true (every_mark (λ x. p (Mark x))) (p Line && every_pattern (λ x. p (Pattern x))) e7).1 in let e9 = (and_true (p Line) (every_pattern (λ x. p (Pattern x))) e8).1 in every_pattern_is (λ x. p (Pattern x)) (e9) x
 
 -- kinds by their numbers
 abbrev pub number_of : Kind → ℕ

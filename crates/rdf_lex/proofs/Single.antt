@@ -131,7 +131,8 @@ same_place source a b u p q e =
     omega arith
 
 one_skipped : (m : Mode) (source : List ℕ) (at a b : ℕ) → IsUtf8 source → IsSkipped m source at a → IsSkipped m source at b → a ≡ b
-one_skipped m source at a b u p q = same_place source a b u p.cut q.cut (one_blanks m (chars (drop at source)) (chars (drop at source)) (chars (drop a source)) (chars (drop b source)) refl p.blanks q.blanks)
+one_skipped m source at a b u p q =
+    same_place source a b u p.cut q.cut (one_blanks m (chars (drop at source)) (chars (drop at source)) (chars (drop a source)) (chars (drop b source)) refl p.blanks q.blanks)
 
 -- texts at the same place of the same length
 same_front : (xs ys vs bs : List ℕ) → xs ++ vs ≡ ys ++ bs → length xs ≡ length ys → xs ≡ ys
@@ -192,7 +193,8 @@ no_first m source at k text place u f s =
 tokens_same : (j k : Kind) (xs ys : List ℕ) (ts us : List Spelled) → j ≡ k → xs ≡ ys → ts ≡ us → Path (List Spelled) (record { kind = j; text = xs } ∷ ts) (record { kind = k; text = ys } ∷ us)
 tokens_same j k xs ys ts us e f g = cc
 
-one_between : (m : Mode) (source : List ℕ) (at a b : ℕ) (ts us : List Spelled) → IsUtf8 source → Between m source at ts a → IsSkipped m source a (length source) → Between m source at us b → IsSkipped m source b (length source) → ts ≡ us
+one_between : (m : Mode) (source : List ℕ) (at a b : ℕ) (ts us : List Spelled) → IsUtf8 source → Between m source at ts a →
+    IsSkipped m source a (length source) → Between m source at us b → IsSkipped m source b (length source) → ts ≡ us
 one_between m source at a b ts us u here p here q = refl
 one_between m source at a b ts us u here p (onward {place = i} {k = k} {text = text} f rest) q = absurd (no_first m source at k text i u f p)
 one_between m source at a b ts us u (onward {place = i} {k = k} {text = text} f rest) p here q = absurd (no_first m source at k text i u f q)

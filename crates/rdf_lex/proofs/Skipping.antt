@@ -33,7 +33,8 @@ between_bound m n k c d src false true r e f g is at to = let h : between_step m
 between_bound m n k c d src false false true e f g is at to = let h : between_step m n c ≡ Some (blank.Slash n) = rw (e, f, g) refl in same_held src k (blank.Slash n) d (sym h ∙ is) at
 between_bound m n k c d src false false false e f g is at to = let h : between_step m n c ≡ None = rw (e, f, g) refl in absurd (none_some d (sym h ∙ is))
 
-step_bound : (m : Mode) (b d : Blank) (n k c : ℕ) (src : List ℕ) → blank_step m b n c ≡ Some d → IsCharBoundary src n → IsCharBoundary src k → IsCharBoundary src (held b n) → IsCharBoundary src (held d k)
+step_bound : (m : Mode) (b d : Blank) (n k c : ℕ) (src : List ℕ) → blank_step m b n c ≡ Some d → IsCharBoundary src n → IsCharBoundary src k →
+    IsCharBoundary src (held b n) → IsCharBoundary src (held d k)
 step_bound m blank.Between d n k c src is at to h = between_bound m n k c d src (is_white m c) (nat_eq c 35) (has_blocks m && nat_eq c 47) refl refl refl is at to
 step_bound m blank.Line d n k c src is at to h = by (ends_line c) is
   where
@@ -57,7 +58,8 @@ step_bound m (blank.Star s) d n k c src is at to h = by (nat_eq c 47) (nat_eq c 
     by false true f = same_held src k (blank.Star s) d f h
     by false false f = same_held src k (blank.Block s) d f h
 
-pub skips_goes : (m : Mode) (bs rest src : List ℕ) (c k : ℕ) (b d : Blank) (n : ℕ) → bs ≡ encode c ++ rest → k ≡ n + len_utf8 c → blank_step m b n c ≡ Some d → Skips m bs b n src → Skips m rest d k src
+pub skips_goes : (m : Mode) (bs rest src : List ℕ) (c k : ℕ) (b d : Blank) (n : ℕ) → bs ≡ encode c ++ rest → k ≡ n + len_utf8 c → blank_step m b n c ≡ Some d →
+    Skips m bs b n src → Skips m rest d k src
 skips_goes m bs rest src c k b d n e is st (total, u, len, dr, bd) =
     let one : blank_from m (chars bs) b n ≡ blank_from m (chars rest) d k = rw (chars_past_char bs rest c u e, st, is) refl in
     let size = size_char bs rest c e in
@@ -70,7 +72,8 @@ skips_goes m bs rest src c k b d n e is st (total, u, len, dr, bd) =
       step_bound m b d n k c src st (IsCharBoundary-from_drop src n (omega arith) (rw dr u)) (IsCharBoundary-from_drop src k (omega arith) (rw dr2 u2)) bd,
     )
 
-pub skips_stops : (m : Mode) (bs rest src : List ℕ) (c : ℕ) (b : Blank) (n k : ℕ) → bs ≡ encode c ++ rest → blank_step m b n c ≡ None → k ≡ held b n → Skips m bs b n src → k ≡ blank_from m (chars src) blank.Between 0
+pub skips_stops : (m : Mode) (bs rest src : List ℕ) (c : ℕ) (b : Blank) (n k : ℕ) → bs ≡ encode c ++ rest → blank_step m b n c ≡ None → k ≡ held b n →
+    Skips m bs b n src → k ≡ blank_from m (chars src) blank.Between 0
 skips_stops m bs rest src c b n k e st is (total, u, len, dr, bd) =
     let one : blank_from m (chars bs) b n ≡ held b n = rw (chars_past_char bs rest c u e, st) refl in is ∙ sym one ∙ total
 

@@ -94,7 +94,8 @@ eight = more_digits 4 4 8 _ _ refl four four
 number_stands : (w : Inside) (mark : ℕ) (xs ys zs vs cs : List ℕ) → numbers w ≡ true → ((mark ≡ 117) × (length vs ≡ 4)) ⊎ ((mark ≡ 85) × (length vs ≡ 8)) → list_all (has hexadecimal) vs ≡ true
     → cs ≡ xs ++ ys → xs ≡ 92 ∷ [] → ys ≡ zs ++ vs → zs ≡ mark ∷ [] → (out : List ℕ) × StandsFor w cs out
 number_stands w mark xs ys zs vs cs n num hex e f g h =
-    stand_along w cs (92 ∷ mark ∷ (vs ++ [])) (e ∙ ap (λ (v : List ℕ). v ++ ys) f ∙ ap (λ (v : List ℕ). 92 ∷ v) (g ∙ ap (λ (v : List ℕ). v ++ vs) h ∙ ap (λ (v : List ℕ). mark ∷ v) (sym (append-nil vs))))
+    stand_along w cs (92 ∷ mark ∷ (vs ++ [])) (e ∙ ap (λ (v : List ℕ). v ++ ys) f
+    ∙ ap (λ (v : List ℕ). 92 ∷ v) (g ∙ ap (λ (v : List ℕ). v ++ vs) h ∙ ap (λ (v : List ℕ). mark ∷ v) (sym (append-nil vs))))
     (number_of vs ∷ [], numbered mark vs refl n num hex ends)
 
 whole_numeric : (w : Inside) → numbers w ≡ true → Whole w numeric_escape

@@ -76,7 +76,8 @@ one_byte : (c : ℕ) → c < 128 → encode_utf8_all (c ∷ []) ≡ c ∷ []
 one_byte c low = quote_byte c [] low
 
 iri_bytes : (iri : List ℕ) → iri_text iri ≡ encode_utf8_all (60 ∷ (iri ++ 62 ∷ []))
-iri_bytes iri = sym (quote_byte 60 (iri ++ 62 ∷ []) (omega arith) ∙ ap (λ (v : List ℕ). 60 ∷ v) (encodes-append iri (62 ∷ []) ∙ ap (λ (v : List ℕ). encode_utf8_all iri ++ v) (one_byte 62 (omega arith))))
+iri_bytes iri = sym (quote_byte 60 (iri ++ 62 ∷ []) (omega arith) ∙ ap (λ (v : List ℕ). 60 ∷ v) (encodes-append iri (62 ∷ [])
+    ∙ ap (λ (v : List ℕ). encode_utf8_all iri ++ v) (one_byte 62 (omega arith))))
 
 -- scalars
 scalars_on : (xs ys : List ℕ) → all_scalars xs ≡ true → all_scalars ys ≡ true → all_scalars (xs ++ ys) ≡ true
@@ -166,7 +167,8 @@ lex_written (c ∷ cs) =
 quoted_bytes : (l : LiteralParts) (w : LexWritten l.lex) → quoted_text l ≡ encode_utf8_all (34 ∷ (w.chars_of ++ 34 ∷ []))
 quoted_bytes l w =
     ap (λ (v : List ℕ). 34 ∷ (v ++ 34 ∷ [])) w.bytes
-    ∙ sym (quote_byte 34 (w.chars_of ++ 34 ∷ []) (omega arith) ∙ ap (λ (v : List ℕ). 34 ∷ v) (encodes-append w.chars_of (34 ∷ []) ∙ ap (λ (v : List ℕ). encode_utf8_all w.chars_of ++ v) (one_byte 34 (omega arith))))
+    ∙ sym (quote_byte 34 (w.chars_of ++ 34 ∷ []) (omega arith) ∙ ap (λ (v : List ℕ). 34 ∷ v) (encodes-append w.chars_of (34 ∷ [])
+    ∙ ap (λ (v : List ℕ). encode_utf8_all w.chars_of ++ v) (one_byte 34 (omega arith))))
 
 quoted_scalars : (lex : List ℕ) (w : LexWritten lex) → all_scalars lex ≡ true → all_scalars (34 ∷ (w.chars_of ++ 34 ∷ [])) ≡ true
 quoted_scalars lex w e = scalars_on (34 ∷ []) (w.chars_of ++ 34 ∷ []) refl (scalars_on w.chars_of (34 ∷ []) (w.scalars e) refl)
@@ -221,10 +223,12 @@ token_as : (m : Mode) (source : List ℕ) (place to : ℕ) (k : Kind) (text byte
 token_as m source place to k text bytes ts e b = subst (λ (v : List ℕ). Between m source place (record { kind = k; text = v } ∷ ts) to) (sym e) b
 
 -- an IRI from a place on, to the end
-iri_to_end : (m : Mode) (source : List ℕ) (place : ℕ) (iri : List ℕ) → IsUtf8 source → IsCharBoundary source place → chars (drop place source) ≡ 60 ∷ (iri ++ 62 ∷ []) → list_all (has iri_char) iri ≡ true
+iri_to_end : (m : Mode) (source : List ℕ) (place : ℕ) (iri : List ℕ) → IsUtf8 source → IsCharBoundary source place →
+    chars (drop place source) ≡ 60 ∷ (iri ++ 62 ∷ []) → list_all (has iri_char) iri ≡ true
     → (to : ℕ) × Between m source place (iri_token iri ∷ []) to × IsSkipped m source to (length source)
 iri_to_end m source place iri u b e p =
-    let s = stands_here m source place kinds.IriRef 60 (iri ++ 62 ∷ []) [] u b (e ∙ sym (append-nil (60 ∷ (iri ++ 62 ∷ [])))) (not_white m).3 refl refl (iri_spelled m iri p) (over_nil m (60 ∷ (iri ++ 62 ∷ []))) in
+    let s = stands_here m source place kinds.IriRef 60 (iri ++ 62 ∷ []) [] u b (e ∙ sym (append-nil (60 ∷ (iri ++ 62 ∷ []))))
+    (not_white m).3 refl refl (iri_spelled m iri p) (over_nil m (60 ∷ (iri ++ 62 ∷ []))) in
     let to = place + length (encode_utf8_all (60 ∷ (iri ++ 62 ∷ []))) in
     (to, token_as m source place to kinds.IriRef (encode_utf8_all (60 ∷ (iri ++ 62 ∷ []))) (iri_text iri) [] (iri_bytes iri) (onward s.first here), at_end m source to s.cut s.behind)
 
@@ -234,7 +238,8 @@ iri_tokens m iri (s, e) =
     (iri_to_end m (iri_text iri) 0 iri src.utf8 src.begins src.are e, iri_meaning iri (s, e))
 
 -- literals
-literal_bytes : (l : LiteralParts) (w : LexWritten l.lex) (suffix : List ℕ) → suffix_text l l.lang ≡ encode_utf8_all suffix → literal_text l ≡ encode_utf8_all ((34 ∷ (w.chars_of ++ 34 ∷ [])) ++ suffix)
+literal_bytes : (l : LiteralParts) (w : LexWritten l.lex) (suffix : List ℕ) → suffix_text l l.lang ≡ encode_utf8_all suffix →
+    literal_text l ≡ encode_utf8_all ((34 ∷ (w.chars_of ++ 34 ∷ [])) ++ suffix)
 literal_bytes l w suffix e =
     ap (λ (v : List ℕ). 34 ∷ v) (sym (append_assoc (flat_map words.escaped l.lex) (34 ∷ []) (suffix_text l l.lang)))
     ∙ ap (λ (v : List ℕ). v ++ suffix_text l l.lang) (quoted_bytes l w)
@@ -247,8 +252,10 @@ literal_source l w suffix s t e =
     source_of (literal_text l) ((34 ∷ (w.chars_of ++ 34 ∷ [])) ++ suffix) (literal_bytes l w suffix e) (scalars_on (34 ∷ (w.chars_of ++ 34 ∷ [])) suffix (quoted_scalars l.lex w s) t)
 
 -- the string, then what follows it
-after_string : (m : Mode) (l : LiteralParts) (w : LexWritten l.lex) (suffix : List ℕ) (ts : List Spelled) → IsSource (literal_text l) ((34 ∷ (w.chars_of ++ 34 ∷ [])) ++ suffix) → IsOver m (34 ∷ (w.chars_of ++ 34 ∷ [])) suffix
-    → ((place : ℕ) → IsCharBoundary (literal_text l) place → chars (drop place (literal_text l)) ≡ suffix → (to : ℕ) × Between m (literal_text l) place ts to × IsSkipped m (literal_text l) to (length (literal_text l)))
+after_string : (m : Mode) (l : LiteralParts) (w : LexWritten l.lex) (suffix : List ℕ) (ts : List Spelled) →
+    IsSource (literal_text l) ((34 ∷ (w.chars_of ++ 34 ∷ [])) ++ suffix) → IsOver m (34 ∷ (w.chars_of ++ 34 ∷ [])) suffix
+    → ((place : ℕ) → IsCharBoundary (literal_text l) place → chars (drop place (literal_text l)) ≡ suffix → (to : ℕ) × Between m (literal_text l) place ts to ×
+    IsSkipped m (literal_text l) to (length (literal_text l)))
     → Tokens m (literal_text l) (record { kind = kinds.Str; text = quoted_text l } ∷ ts)
 after_string m l w suffix ts src over rest =
     let all = 34 ∷ (w.chars_of ++ 34 ∷ []) in
@@ -266,14 +273,16 @@ tag_to_end m source place tag u b e h =
 carets_bytes : (cs : List ℕ) → encode_utf8_all (94 ∷ 94 ∷ cs) ≡ 94 ∷ 94 ∷ encode_utf8_all cs
 carets_bytes cs = quote_byte 94 (94 ∷ cs) (omega arith) ∙ ap (λ (v : List ℕ). 94 ∷ v) (quote_byte 94 cs (omega arith))
 
-datatype_to_end : (m : Mode) (source : List ℕ) (place : ℕ) (iri : List ℕ) → IsUtf8 source → IsCharBoundary source place → chars (drop place source) ≡ 94 ∷ 94 ∷ 60 ∷ (iri ++ 62 ∷ []) → list_all (has iri_char) iri ≡ true
+datatype_to_end : (m : Mode) (source : List ℕ) (place : ℕ) (iri : List ℕ) → IsUtf8 source → IsCharBoundary source place →
+    chars (drop place source) ≡ 94 ∷ 94 ∷ 60 ∷ (iri ++ 62 ∷ []) → list_all (has iri_char) iri ≡ true
     → (to : ℕ) × Between m source place (record { kind = kinds.Punct; text = codes "^^" } ∷ iri_token iri ∷ []) to × IsSkipped m source to (length source)
 datatype_to_end m source place iri u b e p =
     let s = stands_here m source place kinds.Punct 94 (94 ∷ []) (60 ∷ (iri ++ 62 ∷ [])) u b e (not_white m).2 refl refl (carets_spelled m) (carets_over m (iri ++ 62 ∷ [])) in
     let (to, c, d) = iri_to_end m source (place + length (encode_utf8_all (94 ∷ 94 ∷ []))) iri u s.cut s.behind p in
     (to, token_as m source place to kinds.Punct (encode_utf8_all (94 ∷ 94 ∷ [])) (codes "^^") (iri_token iri ∷ []) (sym (carets_bytes [])) (onward s.first c), d)
 
-tagged_tokens : (m : Mode) (l : LiteralParts) (tag : List ℕ) → l.lang ≡ Some tag → all_scalars l.lex ≡ true → IsTag (Some tag) → Tokens m (literal_text l) (record { kind = kinds.Str; text = quoted_text l } ∷ suffix_tokens l (Some tag))
+tagged_tokens : (m : Mode) (l : LiteralParts) (tag : List ℕ) → l.lang ≡ Some tag → all_scalars l.lex ≡ true → IsTag (Some tag) →
+    Tokens m (literal_text l) (record { kind = kinds.Str; text = quoted_text l } ∷ suffix_tokens l (Some tag))
 tagged_tokens m l tag e s (t, h) =
     let w = lex_written l.lex in
     let src = literal_source l w (64 ∷ tag) s (scalars_on (64 ∷ []) tag refl t) (ap (suffix_text l) e ∙ sym (quote_byte 64 tag (omega arith))) in
@@ -299,7 +308,8 @@ typed_tokens m l false f e s (t, h) =
     (str_over_caret m (34 ∷ (w.chars_of ++ 34 ∷ [])) (94 ∷ 60 ∷ (l.datatype ++ 62 ∷ [])) (quoted_spelled m l.lex w))
     (λ place b c. datatype_to_end m (literal_text l) place l.datatype src.utf8 b c h)
 
-by_tag : (m : Mode) (l : LiteralParts) (o : Option (List ℕ)) → l.lang ≡ o → all_scalars l.lex ≡ true → IsIri l.datatype → IsTag o → Tokens m (literal_text l) (record { kind = kinds.Str; text = quoted_text l } ∷ suffix_tokens l o)
+by_tag : (m : Mode) (l : LiteralParts) (o : Option (List ℕ)) → l.lang ≡ o → all_scalars l.lex ≡ true → IsIri l.datatype → IsTag o →
+    Tokens m (literal_text l) (record { kind = kinds.Str; text = quoted_text l } ∷ suffix_tokens l o)
 by_tag m l (Some tag) e s i t = tagged_tokens m l tag e s t
 by_tag m l None e s i t = typed_tokens m l (same_text l.datatype xsd_string) refl e s i
 

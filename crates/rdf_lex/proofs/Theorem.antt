@@ -30,7 +30,8 @@ at_end m s best n = stood (λ c xs ys e. absurd cc)
 no_way : (m : Mode) → (s : State) (best : Option (Kind × ℕ)) (n c : ℕ) (cs : List ℕ) → step_of s c ≡ None → Finds m s best n (c ∷ cs) best
 no_way m s best n c cs st = stood (λ d xs ys e. let p = tails c d cs (xs ++ ys) e in rw (← p.0, st) refl)
 
-none_from : (m : Mode) → (t : State) (cs xs ys : List ℕ) → label_of m t ≡ None → ((c : ℕ) (xs ys : List ℕ) → cs ≡ (c ∷ xs) ++ ys → kind_from m t (c ∷ xs) ≡ None) → cs ≡ xs ++ ys → kind_from m t xs ≡ None
+none_from : (m : Mode) → (t : State) (cs xs ys : List ℕ) → label_of m t ≡ None →
+    ((c : ℕ) (xs ys : List ℕ) → cs ≡ (c ∷ xs) ++ ys → kind_from m t (c ∷ xs) ≡ None) → cs ≡ xs ++ ys → kind_from m t xs ≡ None
 none_from m t cs [] ys la none e = la
 none_from m t cs (x ∷ xs) ys la none e = none x xs ys e
 

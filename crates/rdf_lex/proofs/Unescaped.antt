@@ -40,7 +40,8 @@ may_all_stand w (c ∷ cs) e s =
     rw (may_stand w c p.0 q.0, may_all_stand w cs p.1 q.1) refl
 
 -- what is copied is what it stands for
-pub reads_itself : (w : Inside) (body : List ℕ) (t : String Global) → IsUtf8 body → list_all (stands_alone w) (chars body) ≡ true → string_bytes t ≡ body → (out : List ℕ) → StandsFor w (chars body) out → ReadsAs w out (Ok t)
+pub reads_itself : (w : Inside) (body : List ℕ) (t : String Global) → IsUtf8 body → list_all (stands_alone w) (chars body) ≡ true → string_bytes t ≡ body →
+    (out : List ℕ) → StandsFor w (chars body) out → ReadsAs w out (Ok t)
 reads_itself w body t utf8 alone copied out h =
     let same : chars body ≡ out = stands_for_one w (chars body) (chars body) out (stands_itself w (chars body) alone) h in (
       copied ∙ (sym (encodes-chars body utf8) ∙ ap encode_utf8_all same),

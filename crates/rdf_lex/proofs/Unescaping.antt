@@ -204,7 +204,8 @@ not_all w (d ∷ ds) n r f = rw (not_all w ds n r f) (and_false (fits w d))
     and_false true = refl
     and_false false = refl
 
-on_escape : (w : Inside) (s : Reading) (st : Step) (cs rest old new out : List ℕ) (p : Part w s old cs out) → AfterStep w st rest p.rest → Gave w old new st (Err error.Escape) → list_all (fits w) out ≡ false
+on_escape : (w : Inside) (s : Reading) (st : Step) (cs rest old new out : List ℕ) (p : Part w s old cs out) → AfterStep w st rest p.rest →
+    Gave w old new st (Err error.Escape) → list_all (fits w) out ≡ false
 on_escape w s (step.On u) cs rest old new out p a g = absurd g
 on_escape w s (step.Gives n) cs rest old new out p (r, q, k) g =
     ap (list_all (fits w)) (p.parts ∙ ap (λ (v : List ℕ). p.done ++ v) q) ∙ not_all w p.done n r g
@@ -214,30 +215,37 @@ abbrev pub Spent : Inside → List ℕ → List ℕ → Reading → List ℕ →
 Spent w src bs s text = ((out : List ℕ) → StandsFor w (chars src) out → Part w s text (chars bs) out) × IsUtf8 bs × IsBelow s
 
 pub begins : (w : Inside) (src bs text : List ℕ) → bs ≡ src → IsUtf8 src → text ≡ [] → Spent w src bs reading.Plain text
-begins w src bs text e u f = (λ out h. record { done = []; rest = out; written = f; parts = refl; fitting = refl; left = subst (λ (v : List ℕ). StandsFor w (chars v) out) (sym e) h }, subst IsUtf8 (sym e) u, tt)
+begins w src bs text e u f =
+    (λ out h. record { done = []; rest = out; written = f; parts = refl; fitting = refl; left = subst (λ (v : List ℕ). StandsFor w (chars v) out) (sym e) h }, subst IsUtf8 (sym e) u, tt)
 
-part_on : (w : Inside) (s t : Reading) (c : ℕ) (bs rest old new out : List ℕ) → chars bs ≡ c ∷ chars rest → Gave w old new (step_after w s c) (Ok t) → Part w s old (chars bs) out → Part w t new (chars rest) out
+part_on : (w : Inside) (s t : Reading) (c : ℕ) (bs rest old new out : List ℕ) → chars bs ≡ c ∷ chars rest → Gave w old new (step_after w s c) (Ok t) →
+    Part w s old (chars bs) out → Part w t new (chars rest) out
 part_on w s t c bs rest old new out e g p =
     on_step w s t (step_after w s c) (chars bs) (chars rest) old new out p (after_step w s c (chars rest) p.rest (subst (λ (v : List ℕ). ReadsFrom w s v p.rest) e p.left)) g
 
-pub goes : (w : Inside) (src bs rest old new : List ℕ) (s t : Reading) (c : ℕ) → bs ≡ encode c ++ rest → Gave w old new (step_after w s c) (Ok t) → IsBelow t → Spent w src bs s old → Spent w src rest t new
+pub goes : (w : Inside) (src bs rest old new : List ℕ) (s t : Reading) (c : ℕ) → bs ≡ encode c ++ rest → Gave w old new (step_after w s c) (Ok t) → IsBelow t →
+    Spent w src bs s old → Spent w src rest t new
 goes w src bs rest old new s t c e g b (f, u, below) =
     (λ out h. part_on w s t c bs rest old new out (chars_past_char bs rest c u e) g (f out h), IsUtf8-past_char bs rest c u e, b)
 
-pub refused : (w : Inside) (src bs rest old new out : List ℕ) (s : Reading) (c : ℕ) → bs ≡ encode c ++ rest → Gave w old new (step_after w s c) (Err error.Escape) → Spent w src bs s old → StandsFor w (chars src) out
+pub refused : (w : Inside) (src bs rest old new out : List ℕ) (s : Reading) (c : ℕ) → bs ≡ encode c ++ rest →
+    Gave w old new (step_after w s c) (Err error.Escape) → Spent w src bs s old → StandsFor w (chars src) out
     → list_all (fits w) out ≡ false
 refused w src bs rest old new out s c e g (f, u, below) h =
     let p = f out h in
-    on_escape w s (step_after w s c) (chars bs) (chars rest) old new out p (after_step w s c (chars rest) p.rest (subst (λ (v : List ℕ). ReadsFrom w s v p.rest) (chars_past_char bs rest c u e) p.left)) g
+    on_escape w s (step_after w s c) (chars bs)
+    (chars rest) old new out p (after_step w s c (chars rest) p.rest (subst (λ (v : List ℕ). ReadsFrom w s v p.rest) (chars_past_char bs rest c u e) p.left)) g
 
-pub finished : (w : Inside) (src bs text out : List ℕ) (s : Reading) → length bs ≡ 0 → Spent w src bs s text → StandsFor w (chars src) out → (text ≡ encode_utf8_all out) × (list_all (fits w) out ≡ true)
+pub finished : (w : Inside) (src bs text out : List ℕ) (s : Reading) → length bs ≡ 0 → Spent w src bs s text → StandsFor w (chars src) out →
+    (text ≡ encode_utf8_all out) × (list_all (fits w) out ≡ true)
 finished w src bs text out s z (f, u, below) h =
     let p = f out h in
     let none : p.rest ≡ [] = at_end w s (chars bs) p.rest (ap chars (nil_from_length bs z) ∙ chars-nil) p.left in
     let all : out ≡ p.done = p.parts ∙ ap (λ (v : List ℕ). p.done ++ v) none ∙ append-nil p.done in
     (p.written ∙ ap encode_utf8_all (sym all), ap (list_all (fits w)) all ∙ p.fitting)
 
-pub stopped : (w : Inside) (src bs rest old new : List ℕ) (s : Reading) (c : ℕ) (e : LexError) (r : Result (String Global) LexError) → bs ≡ encode c ++ rest → Gave w old new (step_after w s c) (Err e) → Spent w src bs s old → r ≡ Err e
+pub stopped : (w : Inside) (src bs rest old new : List ℕ) (s : Reading) (c : ℕ) (e : LexError) (r : Result (String Global) LexError) → bs ≡ encode c ++ rest →
+    Gave w old new (step_after w s c) (Err e) → Spent w src bs s old → r ≡ Err e
     → (out : List ℕ) → StandsFor w (chars src) out → ReadsAs w out r
 stopped w src bs rest old new s c error.Escape r e g f is out h = subst (λ (v : Result (String Global) LexError). ReadsAs w out v) (sym is) (refused w src bs rest old new out s c e g f h)
 stopped w src bs rest old new s c error.Memory r e g f is out h = subst (λ (v : Result (String Global) LexError). ReadsAs w out v) (sym is) tt

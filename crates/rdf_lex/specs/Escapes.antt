@@ -173,7 +173,8 @@ digit_step (Some l) n = step.On (reading.Digits l n)
 
 abbrev pub step_after : Inside → Reading → ℕ → Step
 step_after w reading.Plain c = if nat_eq c 92 then step.On reading.Behind else step.Gives c
-step_after w reading.Behind c = if numbers w && nat_eq c 117 then step.On (reading.Digits left.Four 0) else (if numbers w && nat_eq c 85 then step.On (reading.Digits left.Eight 0) else step.Gives (escaped w c))
+step_after w reading.Behind c =
+    if numbers w && nat_eq c 117 then step.On (reading.Digits left.Four 0) else (if numbers w && nat_eq c 85 then step.On (reading.Digits left.Eight 0) else step.Gives (escaped w c))
 step_after w (reading.Digits l v) c = digit_step (fewer_of l) (goes_on v c)
 
 -- one character read: what is read next, and the text so far

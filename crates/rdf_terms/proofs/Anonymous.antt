@@ -35,7 +35,8 @@ pub low_first : (first : ℕ) → (first ≡ 48) ⊎ ((first ≢ 48) × (first �
 low_first first (inl is) = omega arith
 low_first first (inr (other, plus)) = omega arith
 
-pub found_number : {E : Type 0} (text digits : List ℕ) (r : Result ℕ E) → text ≡ codes "anon" ++ digits → ParsesUnsigned 32 10 digits r → get_or digits 0 0 ≢ 43 → get_or digits 0 0 ≢ 48 → IfSome (result_ok r) (λ n. IsAnonymous text n)
+pub found_number : {E : Type 0} (text digits : List ℕ) (r : Result ℕ E) → text ≡ codes "anon" ++ digits → ParsesUnsigned 32 10 digits r →
+    get_or digits 0 0 ≢ 43 → get_or digits 0 0 ≢ 48 → IfSome (result_ok r) (λ n. IsAnonymous text n)
 found_number text digits (Err x) e h plus zeros = tt
 found_number {E = E} text digits (Ok n) e h plus zeros = record { first = positive n same; last = (let below = k.0.2 in omega (arith, k.1)); spelled = e ∙ ap (λ z. codes "anon" ++ z) (sym same) }
   where

@@ -80,7 +80,8 @@ starts_char c x r p low high = starts_high (encode c ++ r) p x low some (by (low
 abbrev pub is_ascii : List ℕ → Bool
 is_ascii p = list_all (λ x. nat_lt x 128) p
 
-starts_more : (c x : ℕ) (cs p : List ℕ) → x < 128 → starts_with nat_eq (encode_utf8_all cs) p ≡ starts_with nat_eq cs p → starts_with nat_eq (encode c ++ encode_utf8_all cs) (x ∷ p) ≡ starts_with nat_eq (c ∷ cs) (x ∷ p)
+starts_more : (c x : ℕ) (cs p : List ℕ) → x < 128 → starts_with nat_eq (encode_utf8_all cs) p ≡ starts_with nat_eq cs p →
+    starts_with nat_eq (encode c ++ encode_utf8_all cs) (x ∷ p) ≡ starts_with nat_eq (c ∷ cs) (x ∷ p)
 starts_more c x cs p low rest = by (low_or_high c)
   where
     by : (c < 128) ⊎ (128 ≤ c) → starts_with nat_eq (encode c ++ encode_utf8_all cs) (x ∷ p) ≡ starts_with nat_eq (c ∷ cs) (x ∷ p)

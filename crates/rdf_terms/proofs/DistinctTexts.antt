@@ -46,7 +46,8 @@ spelling c = by (c == 34) (c == 92) (c == 10) (c == 13) refl refl refl refl
     by false true u v a b d e = short 92 (inr (inl refl)) (eqb-true c 92 b) (cond-false _ _ _ a ∙ cond-true _ _ _ b)
     by false false true v a b d e = short 110 (inr (inr (inl refl))) (eqb-true c 10 d) (cond-false _ _ _ a ∙ cond-false _ _ _ b ∙ cond-true _ _ _ d)
     by false false false true a b d e = short 114 (inr (inr (inr refl))) (eqb-true c 13 e) (cond-false _ _ _ a ∙ cond-false _ _ _ b ∙ cond-false _ _ _ d ∙ cond-true _ _ _ e)
-    by false false false false a b d e = plain (cond-false _ _ _ a ∙ cond-false _ _ _ b ∙ cond-false _ _ _ d ∙ cond-false _ _ _ e) (eqb-false c 34 a) (eqb-false c 92 b) (eqb-false c 10 d) (eqb-false c 13 e)
+    by false false false false a b d e = plain (cond-false _ _ _ a ∙ cond-false _ _ _ b ∙ cond-false _ _ _ d ∙ cond-false _ _ _ e) (eqb-false c 34 a)
+        (eqb-false c 92 b) (eqb-false c 10 d) (eqb-false c 13 e)
 
 pub first_byte : (c b : ℕ) (r s : List ℕ) → b < 128 → encode c ++ r ≡ b ∷ s → c ≡ b
 first_byte c b r s low e = char_from_byte (b ∷ s) r c (sym e) low (omega arith)
@@ -68,7 +69,8 @@ lex_once [] [] r s e = (refl, same_tails 34 34 r s e)
 lex_once [] (b ∷ ds) r s e = absurd (escaped_quote b (flat_map escaped ds ++ 34 ∷ s) r (spelling b) (sym (append_assoc (escaped b) (flat_map escaped ds) (34 ∷ s)) ∙ sym e))
 lex_once (a ∷ cs) [] r s e = absurd (escaped_quote a (flat_map escaped cs ++ 34 ∷ r) s (spelling a) (sym (append_assoc (escaped a) (flat_map escaped cs) (34 ∷ r)) ∙ e))
 lex_once (a ∷ cs) (b ∷ ds) r s e =
-    let k = escaped_once a b (flat_map escaped cs ++ 34 ∷ r) (flat_map escaped ds ++ 34 ∷ s) (spelling a) (spelling b) (sym (append_assoc (escaped a) (flat_map escaped cs) (34 ∷ r)) ∙ e ∙ append_assoc (escaped b) (flat_map escaped ds) (34 ∷ s)) in
+    let k = escaped_once a b (flat_map escaped cs ++ 34 ∷ r) (flat_map escaped ds ++ 34 ∷ s) (spelling a) (spelling b)
+    (sym (append_assoc (escaped a) (flat_map escaped cs) (34 ∷ r)) ∙ e ∙ append_assoc (escaped b) (flat_map escaped ds) (34 ∷ s)) in
     let rest = lex_once cs ds r s k.1 in
     (cons_same k.0 rest.0, rest.1)
 
@@ -77,7 +79,8 @@ pub lex_rest : (cs ds r s : List ℕ) → flat_map escaped cs ++ r ≡ flat_map 
 lex_rest [] ds r s e = (ds, e)
 lex_rest (a ∷ cs) [] r s e = absurd (escaped_quote a (flat_map escaped cs ++ r) s (spelling a) (sym (append_assoc (escaped a) (flat_map escaped cs) r) ∙ e))
 lex_rest (a ∷ cs) (b ∷ ds) r s e =
-    let k = escaped_once a b (flat_map escaped cs ++ r) (flat_map escaped ds ++ 34 ∷ s) (spelling a) (spelling b) (sym (append_assoc (escaped a) (flat_map escaped cs) r) ∙ e ∙ append_assoc (escaped b) (flat_map escaped ds) (34 ∷ s)) in
+    let k = escaped_once a b (flat_map escaped cs ++ r) (flat_map escaped ds ++ 34 ∷ s) (spelling a) (spelling b)
+    (sym (append_assoc (escaped a) (flat_map escaped cs) r) ∙ e ∙ append_assoc (escaped b) (flat_map escaped ds) (34 ∷ s)) in
     lex_rest cs ds r s k.1
 
 pub iri_once : (a b : List ℕ) → iri_text a ≡ iri_text b → a ≡ b
@@ -110,7 +113,8 @@ suffix_once a b (string is of spelled) (typed is' other' spelled') e = absurd (n
 suffix_once a b (typed is other spelled) (tag u is' of' spelled') e = absurd (not_head 94 64 (94 ∷ iri_text a.datatype) (encode_utf8_all u) (λ k. omega (arith, k)) (sym spelled ∙ e ∙ spelled'))
 suffix_once a b (typed is other spelled) (string is' of' spelled') e = absurd (not_empty 94 (94 ∷ iri_text a.datatype) (sym spelled ∙ e ∙ spelled'))
 suffix_once a b (typed is other spelled) (typed is' other' spelled') e =
-    let same : iri_text a.datatype ≡ iri_text b.datatype = same_tails 94 94 (iri_text a.datatype) (iri_text b.datatype) (same_tails 94 94 (94 ∷ iri_text a.datatype) (94 ∷ iri_text b.datatype) (sym spelled ∙ e ∙ spelled')) in
+    let same : iri_text a.datatype ≡ iri_text b.datatype = same_tails 94 94 (iri_text a.datatype) (iri_text b.datatype)
+    (same_tails 94 94 (94 ∷ iri_text a.datatype) (94 ∷ iri_text b.datatype) (sym spelled ∙ e ∙ spelled')) in
     (iri_once a.datatype b.datatype same, is ∙ sym is')
 
 literal_once : (a b : LiteralParts) → IsLiteral a → IsLiteral b → literal_text a ≡ literal_text b → a ≡ b

@@ -42,7 +42,8 @@ front_up terms k t at = ap length (front_more terms k t at) ∙ length-append (f
 
 -- the piece of a term
 pub piece_at :
-    (terms : List Term) (bytes : List ℕ) (k first last : ℕ) (t : Term) → slice_get terms k ≡ Some t → bytes ≡ flat_map term_text terms → first ≡ length (front terms k) → last ≡ length (front terms (k + 1)) →
+    (terms : List Term) (bytes : List ℕ) (k first last : ℕ) (t : Term) → slice_get terms k ≡ Some t → bytes ≡ flat_map term_text terms → first ≡
+    length (front terms k) → last ≡ length (front terms (k + 1)) →
     take (last - first) (drop first bytes) ≡ term_text t
 piece_at terms bytes k first last t at is begins ends =
     let long : last - first ≡ length (term_text t) = (let e = front_up terms k t at in omega (arith, e, begins, ends)) in
@@ -67,7 +68,8 @@ none_begun terms bytes firsts none one = record {
 }
 
 pub begun_more :
-    (terms : List Term) (i : ℕ) (bytes firsts more new : List ℕ) (end : ℕ) (t : Term) → slice_get terms i ≡ Some t → more ≡ bytes ++ term_text t → end ≡ length more → new ≡ firsts ++ end ∷ [] → Begun terms i bytes firsts →
+    (terms : List Term) (i : ℕ) (bytes firsts more new : List ℕ) (end : ℕ) (t : Term) → slice_get terms i ≡ Some t → more ≡ bytes ++ term_text t → end ≡
+    length more → new ≡ firsts ++ end ∷ [] → Begun terms i bytes firsts →
     Begun terms (i + 1) more new
 begun_more terms i bytes firsts more new end t at added ends is begun = record {
   texts = whole;
@@ -105,7 +107,8 @@ rest_is : (bytes : List ℕ) (n : ℕ) → take (length bytes - n) (drop n bytes
 rest_is bytes n = take_all (length bytes - n) (drop n bytes) (omega (arith, length-drop n bytes))
 
 pub text_there :
-    (terms : List Term) (bytes lent : List ℕ) (n : TermId) (first last : ℕ) → n.0 < length terms → lent ≡ bytes → bytes ≡ flat_map term_text terms → first ≡ length (front terms n.0) → last ≡ length (front terms (n.0 + 1)) →
+    (terms : List Term) (bytes lent : List ℕ) (n : TermId) (first last : ℕ) → n.0 < length terms → lent ≡ bytes → bytes ≡ flat_map term_text terms → first ≡
+    length (front terms n.0) → last ≡ length (front terms (n.0 + 1)) →
     take (last - first) (take (length lent - first) (drop first lent)) ≡ text_at terms n
 text_there terms bytes lent n first last l same is begins ends =
     let (t, at) = some_at terms n.0 l in
@@ -127,7 +130,8 @@ pub no_suffix : (l : LiteralParts) → l.lang ≡ None → same_text l.datatype 
 no_suffix l is same = ap (suffix_text l) is ∙ cond-true _ _ _ same
 
 pub literal_joined :
-    (l : LiteralParts) (out a b c d : List ℕ) → a ≡ out ++ codes "\"" → b ≡ a ++ flat_map escaped_byte (encode_utf8_all l.lex) → c ≡ b ++ codes "\"" → d ≡ c ++ suffix_text l l.lang → d ≡ out ++ literal_text l
+    (l : LiteralParts) (out a b c d : List ℕ) → a ≡ out ++ codes "\"" → b ≡ a ++ flat_map escaped_byte (encode_utf8_all l.lex) → c ≡ b ++ codes "\"" → d ≡
+    c ++ suffix_text l l.lang → d ≡ out ++ literal_text l
 literal_joined l out a b c d one two three four =
     let whole : d ≡ (((out ++ codes "\"") ++ flat_map escaped l.lex) ++ codes "\"") ++ suffix_text l l.lang = (
     four ∙ ap (λ z. z ++ suffix_text l l.lang) (three ∙ ap (λ z. z ++ codes "\"") (two ∙ (λ i. one i ++ sym (escaped_bytes l.lex) i)))

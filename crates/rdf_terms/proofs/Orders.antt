@@ -94,7 +94,8 @@ nodes_once terms nodes up k j n a b =
     one_place (compare_at terms) (id_total terms) (λ m. m) nodes (subst (IsStrictlySortedBy (compare_at terms)) (sym (map-id nodes)) up) k j n n a b refl
 
 -- a node at a lower place comes first
-pub comes_first : (terms : List Term) (nodes : List TermId) → IsStrictlySortedBy (compare_at terms) nodes → (i j : ℕ) (n m : TermId) → slice_get nodes i ≡ Some n → slice_get nodes j ≡ Some m → i < j → compare_at terms n m ≡ Less
+pub comes_first : (terms : List Term) (nodes : List TermId) → IsStrictlySortedBy (compare_at terms) nodes → (i j : ℕ) (n m : TermId) →
+    slice_get nodes i ≡ Some n → slice_get nodes j ≡ Some m → i < j → compare_at terms n m ≡ Less
 comes_first terms [] up i j n m at is less = cc
 comes_first terms (k ∷ nodes) up i zero n m at is less = absurd (omega (arith, less))
 comes_first terms (k ∷ nodes) up zero (suc j) n m at is less =

@@ -34,9 +34,11 @@ bare_read label other = (
   sym (cond-false (starts_with nat_eq label (codes "anon_anon")) (drop 5 label) label (starts_not label (codes "anon_anon") (λ rest e. absurd (true≢false (sym (ap (λ z. starts_with nat_eq z (codes "anon")) e) ∙ other))))),
 )
 
-label_read : (label : List ℕ) (b : Bool) → starts_with nat_eq label (codes "anon") ≡ b → all_scalars label ≡ true → IsNameOf (chars ((if b then codes "anon_" else []) ++ encode_utf8_all label)) (Label label)
+label_read : (label : List ℕ) (b : Bool) → starts_with nat_eq label (codes "anon") ≡ b → all_scalars label ≡ true →
+    IsNameOf (chars ((if b then codes "anon_" else []) ++ encode_utf8_all label)) (Label label)
 label_read label true is scalars =
-    marked_read label (drop 4 label) _ (starts label (codes "anon") is) (front_chars (codes "anon_") (encode_utf8_all label) (ascii_codes (codes "anon_") refl) ∙ ap (λ z. codes "anon_" ++ z) (chars-encodes label scalars))
+    marked_read label (drop 4 label) _ (starts label (codes "anon") is) (front_chars (codes "anon_") (encode_utf8_all label) (ascii_codes (codes "anon_") refl)
+    ∙ ap (λ z. codes "anon_" ++ z) (chars-encodes label scalars))
 label_read label false is scalars = subst (λ z. IsNameOf z (Label label)) (sym (chars-encodes label scalars)) (bare_read label is)
 
 pub printed_read : PrintedNamesAreRead

@@ -99,7 +99,8 @@ plain_digits [] h = tt
 plain_digits (c ∷ cs) h = let p = tells_digits.parts c cs h in (ne_eqb c 10 (λ e. absurd (omega (arith, p.0.0, e))), plain_digits cs p.1)
 
 plain_name : (name : Name) → PlainName name → Plain (printed_name name)
-plain_name (Label label) h = plain_append (cond (starts_with nat_eq label (codes "anon")) (codes "anon_") []) (encode_utf8_all label) (by (starts_with nat_eq label (codes "anon"))) (plain_encodes label h)
+plain_name (Label label) h = plain_append (cond (starts_with nat_eq label (codes "anon")) (codes "anon_") []) (encode_utf8_all label)
+    (by (starts_with nat_eq label (codes "anon"))) (plain_encodes label h)
   where
     by : (b : Bool) → Plain (cond b (codes "anon_") [])
     by true = plain_written (codes "anon_") refl

@@ -35,14 +35,17 @@ use Rattle.rdf_terms.proofs.PrintedNames.{printed_read, names_one}
 
 -- ---- angle brackets
 
-pub bracketless : (text : List ℕ) (r : Option (Bor (List ℕ))) → MatchOption r (FindsCharPrefix 60 text None) (λ x. (n : ℕ) × FindsCharPrefix 60 text (Some n) × (x.now ≡ drop n text) × (length x.now + n ≡ length text)) →
+pub bracketless : (text : List ℕ) (r : Option (Bor (List ℕ))) → MatchOption r (FindsCharPrefix 60 text None) (λ x. (n : ℕ) × FindsCharPrefix 60 text (Some n) ×
+    (x.now ≡ drop n text) × (length x.now + n ≡ length text)) →
     r ≡ None → (iri : List ℕ) → text ≡ codes "<" ++ (iri ++ codes ">") → ⊥
 bracketless text r h is iri e =
     (subst (λ o. MatchOption o ((rest : List ℕ) → text ≢ 60 ∷ rest) (λ x. text ≡ 60 ∷ x.now)) is (strip_prefix_char 60 text r h (lit< tt))) (iri ++ codes ">") e
 
-pub bracketed : (text rest : List ℕ) (r : Option (Bor (List ℕ))) (x : Bor (List ℕ)) → MatchOption r (FindsCharPrefix 60 text None) (λ x. (n : ℕ) × FindsCharPrefix 60 text (Some n) × (x.now ≡ drop n text) × (length x.now + n ≡ length text)) →
+pub bracketed : (text rest : List ℕ) (r : Option (Bor (List ℕ))) (x : Bor (List ℕ)) →
+    MatchOption r (FindsCharPrefix 60 text None) (λ x. (n : ℕ) × FindsCharPrefix 60 text (Some n) × (x.now ≡ drop n text) × (length x.now + n ≡ length text)) →
     r ≡ Some x → x.now ≡ rest →
-    (o : Option (Bor (List ℕ))) → MatchOption o (FindsCharSuffix 62 rest None) (λ x. (n : ℕ) × FindsCharSuffix 62 rest (Some n) × (x.now ≡ take (length rest - n) rest) × (length x.now + n ≡ length rest)) → IsBracketed o text
+    (o : Option (Bor (List ℕ))) → MatchOption o (FindsCharSuffix 62 rest None) (λ x. (n : ℕ) × FindsCharSuffix 62 rest (Some n) ×
+    (x.now ≡ take (length rest - n) rest) × (length x.now + n ≡ length rest)) → IsBracketed o text
 bracketed text rest r x h is same o k = by o (strip_suffix_char 62 rest o k (lit< tt))
   where
     front : text ≡ 60 ∷ rest
@@ -87,7 +90,8 @@ number_printed text name n utf8 is named =
     (anonymous_bytes text n utf8 own).spelled ∙ ap printed_name (sym is)
 
 -- a label that begins with anon has the mark before it in its text
-marked_text : (text label : List ℕ) → IsUtf8 text → starts_with nat_eq text (codes "anon_anon") ≡ true → label ≡ written_label (chars text) → starts_with nat_eq label (codes "anon") ≡ true → text ≡ printed_name (Label label)
+marked_text : (text label : List ℕ) → IsUtf8 text → starts_with nat_eq text (codes "anon_anon") ≡ true → label ≡ written_label (chars text) →
+    starts_with nat_eq label (codes "anon") ≡ true → text ≡ printed_name (Label label)
 marked_text text label utf8 marked is begins =
     let rest = drop 9 text in
     let front : text ≡ codes "anon_anon" ++ rest = starts text (codes "anon_anon") marked in
@@ -108,25 +112,29 @@ bare_text text label utf8 is bare = by (starts_with nat_eq text (codes "anon_ano
   where
     by : (b : Bool) → starts_with nat_eq text (codes "anon_anon") ≡ b → text ≡ printed_name (Label label)
     by true marked =
-        let its : chars text ≡ codes "anon_anon" ++ chars (drop 9 text) = ap chars (starts text (codes "anon_anon") marked) ∙ front_chars (codes "anon_anon") (drop 9 text) (ascii_codes (codes "anon_anon") refl) in
+        let its : chars text ≡ codes "anon_anon" ++ chars (drop 9 text) = ap chars (starts text (codes "anon_anon") marked) ∙ front_chars (codes "anon_anon")
+        (drop 9 text) (ascii_codes (codes "anon_anon") refl) in
         absurd (true≢false (sym (ap (λ z. starts_with nat_eq z (codes "anon")) (is ∙ ap written_label its)) ∙ bare))
     by false unmarked =
         let same = unmarked_text text label utf8 unmarked is in
         sym (encodes-chars text utf8) ∙ ap encode_utf8_all (sym same) ∙ ap (λ z. z ++ encode_utf8_all label) (sym (cond-false _ _ _ bare))
 
-unprinted : (text label : List ℕ) → IsUtf8 text → label ≡ written_label (chars text) → starts_with nat_eq label (codes "anon") ≡ true → starts_with nat_eq text (codes "anon_anon") ≡ false → text ≡ printed_name (Label label) → ⊥
+unprinted : (text label : List ℕ) → IsUtf8 text → label ≡ written_label (chars text) → starts_with nat_eq label (codes "anon") ≡ true →
+    starts_with nat_eq text (codes "anon_anon") ≡ false → text ≡ printed_name (Label label) → ⊥
 unprinted text label utf8 is begins unmarked e =
     let same = unmarked_text text label utf8 unmarked is in
     let longer : text ≡ codes "anon_" ++ text = e ∙ ap (λ z. z ++ encode_utf8_all label) (cond-true _ _ _ begins) ∙ ap (λ z. codes "anon_" ++ z) (ap encode_utf8_all same ∙ encodes-chars text utf8) in
     omega (arith, ap length longer)
 
-pub label_printed : (text label : List ℕ) (a b : Bool) → IsUtf8 text → IsNameOf (chars text) (Label label) → a ≡ starts_with nat_eq label (codes "anon") → a ≡ true → b ≡ starts_with nat_eq text (codes "anon_anon") →
+pub label_printed : (text label : List ℕ) (a b : Bool) → IsUtf8 text → IsNameOf (chars text) (Label label) → a ≡ starts_with nat_eq label (codes "anon") →
+    a ≡ true → b ≡ starts_with nat_eq text (codes "anon_anon") →
     IsTrue b ↔ (text ≡ printed_name (Label label))
 label_printed text label true true utf8 named begins marked is = (λ h. marked_text text label utf8 (sym is) named.1 (sym begins), λ e. refl)
 label_printed text label true false utf8 named begins marked is = (λ h. absurd (true≢false (sym h)), λ e. absurd (unprinted text label utf8 named.1 (sym begins) (sym is) e))
 label_printed text label false b utf8 named begins marked is = absurd (true≢false (sym marked))
 
-pub bare_printed : (text label : List ℕ) (a : Bool) → IsUtf8 text → IsNameOf (chars text) (Label label) → a ≡ starts_with nat_eq label (codes "anon") → a ≡ false → IsTrue (not a) ↔ (text ≡ printed_name (Label label))
+pub bare_printed : (text label : List ℕ) (a : Bool) → IsUtf8 text → IsNameOf (chars text) (Label label) → a ≡ starts_with nat_eq label (codes "anon") →
+    a ≡ false → IsTrue (not a) ↔ (text ≡ printed_name (Label label))
 bare_printed text label true utf8 named begins marked = absurd (true≢false marked)
 bare_printed text label false utf8 named begins marked = (λ h. bare_text text label utf8 named.1 (sym begins), λ e. refl)
 
@@ -243,7 +251,8 @@ piece_more text lex longer old new c is piece long =
 lexical : (bytes : List ℕ) → IsUtf8 bytes → flat_map escaped_byte bytes ≡ flat_map escaped (chars bytes)
 lexical bytes utf8 = ap (flat_map escaped_byte) (sym (encodes-chars bytes utf8)) ∙ sym (escaped_bytes (chars bytes))
 
-pub quoted_ends : (text bytes lex old rest : List ℕ) → IsUtf8 bytes → text ≡ flat_map escaped_byte bytes ++ old → old ≡ 34 ∷ rest → lex ≡ chars bytes → (text ≡ flat_map escaped lex ++ 34 ∷ rest) × IsUnicode lex
+pub quoted_ends : (text bytes lex old rest : List ℕ) → IsUtf8 bytes → text ≡ flat_map escaped_byte bytes ++ old → old ≡ 34 ∷ rest → lex ≡ chars bytes →
+    (text ≡ flat_map escaped lex ++ 34 ∷ rest) × IsUnicode lex
 quoted_ends text bytes lex old rest utf8 is end made = (
   is ∙ ap (λ z. flat_map escaped_byte bytes ++ z) end ∙ ap (λ z. z ++ 34 ∷ rest) (lexical bytes utf8 ∙ ap (flat_map escaped) (sym made)),
   subst IsUnicode (sym made) (scalars-chars bytes utf8),
@@ -277,7 +286,8 @@ lowered_same (c ∷ cs) h =
     let b = lowered_same cs k.1 in
     λ i. a i ∷ b i
 
-pub tag_read : (lex text : List ℕ) (l : LiteralParts) → IsUnicode lex → IsUtf8 text → is_lowered (chars text) ≡ true → l ≡ tagged_parts lex (map to_ascii_lowercase (chars text)) → IsRead suffix_of (IsLiteralOf lex) (64 ∷ text) (Some l)
+pub tag_read : (lex text : List ℕ) (l : LiteralParts) → IsUnicode lex → IsUtf8 text → is_lowered (chars text) ≡ true →
+    l ≡ tagged_parts lex (map to_ascii_lowercase (chars text)) → IsRead suffix_of (IsLiteralOf lex) (64 ∷ text) (Some l)
 tag_read lex text l unicode utf8 low is = subst (λ l. IsRead suffix_of (IsLiteralOf lex) (64 ∷ text) (Some l)) (sym (is ∙ ap (tagged_parts lex) same)) (
   ap (λ z. 64 ∷ z) (sym (encodes-chars text utf8)),
   (
@@ -306,7 +316,8 @@ tag_missed lex text high = λ l good e. by l good.0 (suffix l good.0.parts) e
     by l good (typed is other spelled) e = not_head 64 94 text _ (λ k. omega (arith, k)) (e ∙ spelled)
 
 -- the datatype that is read is no other
-datatype_is : (lex text iri : List ℕ) (l : LiteralParts) → text ≡ iri_text iri → IsLiteralOf lex l → 94 ∷ (94 ∷ text) ≡ suffix_of l → (l.lang ≡ None) × ((l.datatype ≡ iri) × (same_text l.datatype xsd_string ≡ false))
+datatype_is : (lex text iri : List ℕ) (l : LiteralParts) → text ≡ iri_text iri → IsLiteralOf lex l → 94 ∷ (94 ∷ text) ≡ suffix_of l → (l.lang ≡ None) ×
+    ((l.datatype ≡ iri) × (same_text l.datatype xsd_string ≡ false))
 datatype_is lex text iri l is good e = by (suffix l good.0.parts)
   where
     by : Suffix l → (l.lang ≡ None) × ((l.datatype ≡ iri) × (same_text l.datatype xsd_string ≡ false))
@@ -319,29 +330,32 @@ datatype_is lex text iri l is good e = by (suffix l good.0.parts)
 string_encodes : encode_utf8_all xsd_string ≡ xsd_string
 string_encodes = encodes-IsAscii xsd_string (ascii_codes xsd_string refl)
 
-pub type_read : (lex whole text iri datatype : List ℕ) (r : Option LiteralParts) → IsUnicode lex → text ≡ codes "<" ++ (iri ++ codes ">") → pointwise nat_eq iri xsd_string ≡ false → IsOwned iri datatype → whole ≡ lex →
+pub type_read : (lex whole text iri datatype : List ℕ) (r : Option LiteralParts) → IsUnicode lex → text ≡ codes "<" ++ (iri ++ codes ">") →
+    pointwise nat_eq iri xsd_string ≡ false → IsOwned iri datatype → whole ≡ lex →
     IfSome r (λ l. l ≡ untagged_parts whole datatype) → (IsNone r ↔ (datatype ≡ rdf_lang_string)) → IsRead suffix_of (IsLiteralOf lex) (94 ∷ (94 ∷ text)) r
 type_read lex whole text iri datatype None unicode between other owned same some none = λ l good e.
     let k = datatype_is lex text datatype l (between ∙ ap (λ z. 60 ∷ (z ++ 62 ∷ [])) owned.0) good e in
     let tagged : IsSome l.lang = good.0.parts.tagged.1 (k.1.0 ∙ none.0 refl) in
     true≢false (sym (subst IsSome k.0 tagged))
-type_read lex whole text iri datatype (Some l) unicode between other owned same some none = subst (λ l. IsRead suffix_of (IsLiteralOf lex) (94 ∷ (94 ∷ text)) (Some l)) (sym (some ∙ ap (λ z. untagged_parts z datatype) same)) (
-  ap (λ z. 94 ∷ (94 ∷ z)) (between ∙ ap (λ z. 60 ∷ (z ++ 62 ∷ [])) owned.0) ∙ sym (cond-false _ _ _ differs),
-  (
-    record {
-      parts = record { tagged = (λ is. absurd (true≢false (sym is)), λ e. absurd (true≢false (none.1 e))); lowered = tt };
-      lex = unicode;
-      datatype = owned.1;
-      lang = tt;
-    },
-    refl,
-  ),
-)
+type_read lex whole text iri datatype (Some l) unicode between other owned same some none =
+    subst (λ l. IsRead suffix_of (IsLiteralOf lex) (94 ∷ (94 ∷ text)) (Some l)) (sym (some ∙ ap (λ z. untagged_parts z datatype) same)) (
+      ap (λ z. 94 ∷ (94 ∷ z)) (between ∙ ap (λ z. 60 ∷ (z ++ 62 ∷ [])) owned.0) ∙ sym (cond-false _ _ _ differs),
+      (
+        record {
+          parts = record { tagged = (λ is. absurd (true≢false (sym is)), λ e. absurd (true≢false (none.1 e))); lowered = tt };
+          lex = unicode;
+          datatype = owned.1;
+          lang = tt;
+        },
+        refl,
+      ),
+    )
   where
     differs : same_text datatype xsd_string ≡ false
     differs = ap (λ z. pointwise nat_eq z (encode_utf8_all xsd_string)) (sym owned.0) ∙ ap (λ z. pointwise nat_eq iri z) string_encodes ∙ other
 
-pub suffix_missed : (lex text : List ℕ) → length text ≢ 0 → ((rest : List ℕ) → ¬ (text ≡ encode 64 ++ rest)) → ((rest : List ℕ) → ¬ (text ≡ codes "^^" ++ rest)) → IsRead suffix_of (IsLiteralOf lex) text None
+pub suffix_missed : (lex text : List ℕ) → length text ≢ 0 → ((rest : List ℕ) → ¬ (text ≡ encode 64 ++ rest)) →
+    ((rest : List ℕ) → ¬ (text ≡ codes "^^" ++ rest)) → IsRead suffix_of (IsLiteralOf lex) text None
 suffix_missed lex text some untagged untyped = λ l good e. by l (suffix l good.0.parts) e
   where
     by : (l : LiteralParts) → Suffix l → text ≡ suffix_of l → ⊥
@@ -351,18 +365,24 @@ suffix_missed lex text some untagged untyped = λ l good e. by l (suffix l good.
 
 -- ---- literals
 
-pub literal_read : (text quoted lex end : List ℕ) (r : Option LiteralParts) → text ≡ 34 ∷ quoted → quoted ≡ flat_map escaped lex ++ 34 ∷ end → IsRead suffix_of (IsLiteralOf lex) end r → IsRead literal_text IsLiteralValue text r
+pub literal_read : (text quoted lex end : List ℕ) (r : Option LiteralParts) → text ≡ 34 ∷ quoted → quoted ≡ flat_map escaped lex ++ 34 ∷ end →
+    IsRead suffix_of (IsLiteralOf lex) end r → IsRead literal_text IsLiteralValue text r
 literal_read text quoted lex end None front is none = λ l good e.
     let k = lex_once lex l.lex end (suffix_of l) (sym is ∙ same_tails 34 34 quoted (flat_map escaped l.lex ++ 34 ∷ suffix_of l) (sym front ∙ e)) in
     none l (good, sym k.0) k.1
-literal_read text quoted lex end (Some l) front is (suffixed, (good, same)) = (front ∙ ap (λ z. 34 ∷ z) (is ∙ ap (λ z. flat_map escaped z ++ 34 ∷ end) (sym same) ∙ ap (λ z. flat_map escaped l.lex ++ 34 ∷ z) suffixed), good)
+literal_read text quoted lex end (Some l) front is (suffixed, (good, same)) = (
+  front
+      ∙ ap (λ z. 34 ∷ z) (is ∙ ap (λ z. flat_map escaped z ++ 34 ∷ end) (sym same) ∙ ap (λ z. flat_map escaped l.lex ++ 34 ∷ z) suffixed),
+  good,
+)
 
 pub no_literal : (text : List ℕ) → ((rest : List ℕ) → ¬ (text ≡ encode 34 ++ rest)) → IsRead literal_text IsLiteralValue text None
 no_literal text none = λ l good e.
     let rest = flat_map escaped l.lex ++ 34 ∷ suffix_of l in
     none rest (e ∙ ap (λ z. z ++ rest) (sym (encode_ascii 34 (omega arith))))
 
-pub literal_result : {E : Type 0} (text : List ℕ) (o : Option (Bor (List ℕ))) (quoted : Bor (List ℕ)) (q : Option (List ℕ × Bor (List ℕ))) (lex : List ℕ) (end : Bor (List ℕ)) (r : Result (Option LiteralParts) E) →
+pub literal_result : {E : Type 0} (text : List ℕ) (o : Option (Bor (List ℕ))) (quoted : Bor (List ℕ)) (q : Option (List ℕ ×
+    Bor (List ℕ))) (lex : List ℕ) (end : Bor (List ℕ)) (r : Result (Option LiteralParts) E) →
     MatchOption o (FindsCharPrefix 34 text None) (λ x. (n : ℕ) × FindsCharPrefix 34 text (Some n) × (x.now ≡ drop n text) × (length x.now + n ≡ length text)) → o ≡ Some quoted →
     IsQuoted quoted.now q → q ≡ Some (lex, end) → IfOk r (IsRead suffix_of (IsLiteralOf lex) end.now) → IfOk r (IsRead literal_text IsLiteralValue text)
 literal_result text o quoted q lex end (Err e) h is inner split read = tt

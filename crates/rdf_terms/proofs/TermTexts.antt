@@ -37,7 +37,8 @@ text_utf8 : (text : List ℕ) → IsUnicode text → IsUtf8 (encode_utf8_all tex
 text_utf8 text h = (text, (h, refl))
 
 iri_utf8 : (iri : List ℕ) → IsUnicode iri → IsUtf8 (iri_text iri)
-iri_utf8 iri h = IsUtf8-append (codes "<") (encode_utf8_all iri ++ codes ">") (low_utf8 (codes "<") refl) (IsUtf8-append (encode_utf8_all iri) (codes ">") (text_utf8 iri h) (low_utf8 (codes ">") refl))
+iri_utf8 iri h = IsUtf8-append (codes "<") (encode_utf8_all iri ++ codes ">") (low_utf8 (codes "<") refl)
+    (IsUtf8-append (encode_utf8_all iri) (codes ">") (text_utf8 iri h) (low_utf8 (codes ">") refl))
 
 label_utf8 : (b : Bool) (label : List ℕ) → IsUnicode label → IsUtf8 ((if b then codes "anon_" else []) ++ encode_utf8_all label)
 label_utf8 true label h = IsUtf8-append (codes "anon_") (encode_utf8_all label) (low_utf8 (codes "anon_") refl) (text_utf8 label h)

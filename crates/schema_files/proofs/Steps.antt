@@ -150,10 +150,6 @@ module _ (a : Asked) (held : List Held) (at : ℕ) (h : Held) (inside : at < len
         subst (λ (ss : List Source). AreFollowed a ss (imports_before ss at (number + 1))) (sym (with_last a held k))
         (followed_with (source_of a k ∷ []) (ap (λ (ss : List Source). is_read a ss (file_for a.words (encode_utf8_all iri))) (sym (with_last a held k)) ∙ e))
 
-pub grown_by : (held : List Held) (o : Option Held) → (more : List Held) × (and_next held o ≡ held ++ more)
-grown_by held None = ([], sym (append-nil held))
-grown_by held (Some h) = (h ∷ [], refl)
-
 -- all imports of the document at a place are followed, and so all before the next document
 pub passed_here :
     (a : Asked) (held now : List Held) (at number count : ℕ) → at < length held → ((more : List Held) × (now ≡ held ++ more)) →

@@ -216,13 +216,6 @@ module _ (parts : List Part) where
   pub crowded_within : (p : ℕ) → IsCrowded parts p → p < length parts
   crowded_within p c = slice_get_within parts p (Parts.Shape c.head) c.here
 
--- sums of capped numbers
-pub capped_sum : (m n a b : ℕ) → IsCapped m a → IsCapped n b → a + b < 257 → IsCapped (m + n) (a + b)
-capped_sum m n a b (inl (e, le)) (inl (f, lf)) lt = inl (omega arith, omega arith)
-capped_sum m n a b (inl (e, le)) (inr (f, lf)) lt = absurd (omega arith)
-capped_sum m n a b (inr (e, le)) (inl (f, lf)) lt = absurd (omega arith)
-capped_sum m n a b (inr (e, le)) (inr (f, lf)) lt = absurd (omega arith)
-
 pub capped_top : (m n a b : ℕ) → IsCapped m a → IsCapped n b → 257 ≤ a + b → IsCapped (m + n) 257
 capped_top m n a b (inl (e, le)) (inl (f, lf)) lt = inr (refl, omega arith)
 capped_top m n a b (inl (e, le)) (inr (f, lf)) lt = inr (refl, omega arith)

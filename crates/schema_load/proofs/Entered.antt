@@ -1,8 +1,8 @@
 -- The entries of parts, one after the other.
-use Rattle.std.proofs.Common.{◌≡◌, ℕ, zero, suc, ◌+◌, ◌<◌, ◌≤◌, List, [], ◌∷◌, ◌++◌, refl, sym, ap, subst, arith, length, ◌∙◌, Some, get_or, take, map, Bool, true, false, length-append}
+use Rattle.std.proofs.Common.{◌≡◌, ℕ, zero, suc, ◌+◌, ◌<◌, ◌≤◌, List, [], ◌∷◌, ◌++◌, refl, sym, ap, subst, arith, length, ◌∙◌, Some, get_or, take, Bool, true, false, length-append}
 use Rattle.std.specs.Prelude.{slice_get, filter, if◌then◌else◌}
 use Rattle.std.specs.List.{AllZip}
-use Rattle.std.proofs.lemmas.List.{map-append, take_more}
+use Rattle.std.proofs.lemmas.List.{take_more}
 use Rattle.std.proofs.lemmas.Option.{get_or_from_slice_get, slice_get-get_or, slice_get_within}
 use Rattle.lists.specs.Distinct.{AreDistinct}
 use Rattle.lists.proofs.Beside.{zip_push}
@@ -63,11 +63,6 @@ shapes_next parts i v n x at is one few =
     (e, omega arith)
 
 -- ---- numbers of members
-
-pub ids_next : (f : ℕ → ExprId) (places : List ℕ) (i : ℕ) (ids after : List ExprId) → i < length places → ids ≡ map f (take i places) →
-    after ≡ ids ++ f (get_or places i 0) ∷ [] → after ≡ map f (take (i + 1) places)
-ids_next f places i ids after lt before pushed =
-    pushed ∙ (ap (λ us. us ++ f (get_or places i 0) ∷ []) before ∙ (sym (map-append f (take i places) (get_or places i 0 ∷ [])) ∙ ap (map f) (sym (take_more places i 0 lt))))
 
 -- ---- entries
 

@@ -1,25 +1,23 @@
 -- The labels of parts, one after the other.
-use Rattle.std.proofs.Common.{◌≡◌, ℕ, zero, suc, ◌+◌, ◌<◌, ◌≤◌, List, [], ◌∷◌, ◌++◌, refl, sym, ap, subst, arith, length, ◌∙◌, Option, Some, take, map, Bool, true, false, inl}
+use Rattle.std.proofs.Common.{◌≡◌, ℕ, zero, suc, ◌+◌, ◌<◌, ◌≤◌, List, [], ◌∷◌, ◌++◌, refl, sym, ap, subst, arith, length, ◌∙◌, Option, Some, take, map, inl}
 use Rattle.std.specs.Prelude.{Contains, slice_get}
 use Rattle.std.specs.List.{flat_map}
 use Rattle.std.proofs.lemmas.List.{append-nil, map-append}
-use Rattle.std.proofs.lemmas.Option.{slice_get_within}
 use Rattle.lists.proofs.Members.{from_map}
 use Rattle.schema_documents.specs.declared.label.Label.{Label}
 use Rattle.schema_documents.specs.Tree.{Declaration, Document, MaybeShapeExpr, no_expr, one_expr}
 use Rattle.schema_tree.specs.declared.schema.ExprId.{ExprId}
-use Rattle.schema_tree.specs.Labels.{DeclaresNext, IsDeclared}
+use Rattle.schema_tree.specs.Labels.{IsDeclared}
 use Rattle.schema_load.specs.declared.part.Part.{Part}
 use Rattle.schema_load.specs.declared.part.Part.TheVariants as Parts
 use Rattle.schema_load.specs.Building.{AddsLabel, IsStartIn, label_in, labels_in}
-use Rattle.schema_load.specs.Parts.{AreWhole, IsAt, declarations, is_head}
+use Rattle.schema_load.specs.Parts.{IsAt, declarations}
 use Rattle.schema_load.specs.Reading.{lay_decls, lay_start, parts_of, root_start, size_of_start}
 use Rattle.schema_load.specs.Requirements.{HasOne, IsTwice, NoneIs}
 use Rattle.schema_load.specs.Stands.{IsStart}
 use Rattle.schema_load.proofs.Loadable.{head_of}
 use Rattle.schema_load.proofs.One.{one_at}
 use Rattle.schema_load.proofs.Shaped.{part_at}
-use Rattle.schema_load.proofs.Tops.{whole_parts}
 
 -- ---- one more part
 
@@ -85,9 +83,6 @@ labels_more parts number i old new lt before adds =
     let (x, at) = part_at parts i lt in
     adds x at ∙ (ap (λ us. us ++ label_in x i number) before ∙ sym (labels_step parts number i x at))
 
-pub labels_all : (parts : List Part) (number : ℕ → ExprId) (i : ℕ) (labels : List (Label × ExprId)) → length parts ≤ i → labels ≡ labels_in (take i parts) number → labels ≡ labels_in parts number
-labels_all parts number i labels le e = e ∙ ap (λ us. labels_in us number) (whole_parts parts i le)
-
 -- ---- each label is new
 
 take_get : (us : List Part) (i j : ℕ) (x : Part) → slice_get (take i us) j ≡ Some x → (slice_get us j ≡ Some x) × (j < i)
@@ -108,14 +103,6 @@ label_new parts number i labels once are l at (e, c) =
 
 -- ---- one label
 
-pub declared_next : (parts : List Part) (number : ℕ → ExprId) (p : ℕ) (l m : Label) (n : ExprId) (old new : List (Label × ExprId)) (r : Bool) →
-    IsAt parts p (Parts.Declares l) → m ≡ l → n ≡ number (p + 1) → (¬ IsDeclared old l) →
-    DeclaresNext old m n r new → AddsLabel parts number p old new
-declared_next parts number p l m n old new true at copy is absent (fresh, grown) x there =
-    subst (λ z. new ≡ old ++ label_in z p number) (one_at parts p (Parts.Declares l) x at there)
-    (grown ∙ (ap (λ z. old ++ (z, n) ∷ []) copy ∙ ap (λ z. old ++ (l, z) ∷ []) is))
-declared_next parts number p l m n old new false at copy is absent (held, same) x there = absurd (absent (subst (λ z. IsDeclared old z) copy held))
-
 pub no_label : (parts : List Part) (number : ℕ → ExprId) (p : ℕ) (y : Part) (old : List (Label × ExprId)) → IsAt parts p y → ((l : Label) → y ≡ Parts.Declares l → ⊥) → AddsLabel parts number p old old
 no_label parts number p y old at other x there = go x (one_at parts p y x at there)
   where
@@ -129,9 +116,6 @@ no_label parts number p y old at other x there = go x (one_at parts p y x at the
     go (Parts.Shape s) e = sym (append-nil old)
     go (Parts.Ref l) e = sym (append-nil old)
     go (Parts.Triple t) e = sym (append-nil old)
-
-pub behind_inside : (parts : List Part) (p n : ℕ) (x : Part) → AreWhole parts → n ≡ length parts → IsAt parts p x → is_head x ≡ true → p + 1 < n
-behind_inside parts p n x whole size at head = let (y, there, is) = whole.behind p x at head in let w = slice_get_within parts (p + 1) y there in omega arith
 
 -- ---- the start
 

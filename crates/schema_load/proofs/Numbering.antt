@@ -10,7 +10,7 @@ use Rattle.lists.proofs.Members.{is_first}
 use Rattle.schema_documents.specs.declared.label.Label.{Label}
 use Rattle.schema_load.specs.declared.part.Part.{Part}
 use Rattle.schema_load.specs.declared.part.Part.TheVariants as Parts
-use Rattle.schema_load.specs.Building.{AreEntries, AreEntryNumbers, AreReferred, IsNumberTarget, KeepsEntries, number_at}
+use Rattle.schema_load.specs.Building.{AreEntryNumbers, AreReferred, IsNumberTarget, KeepsEntries, number_at}
 use Rattle.schema_load.specs.Graph.{Resolves, itself, through}
 use Rattle.schema_load.specs.Parts.{AreWhole, IsAt, IsExprAt, is_entry, is_expr}
 use Rattle.schema_load.specs.Steps.{AreTargets, HasAll, IsSorted}
@@ -168,7 +168,3 @@ module _ (parts : List Part) (targets order old : List ℕ) (are : AreTargets pa
   referred_all numbers i all le before p l at =
       let (j, there) = index_of order p (all p (slice_get_within parts p (Parts.Ref l) at)) in
       before.referred j p (Parts.Ref l) (let w = slice_get_within order j p there in omega arith) there at refl
-
--- entries that have kept their numbers have those of the order
-pub still_numbered : (parts : List Part) (entries before after : List ℕ) → AreEntries parts entries → KeepsEntries parts before after → AreEntryNumbers entries before → AreEntryNumbers entries after
-still_numbered parts entries before after are kept numbers i p at = let (x, here, entry) = are i p at in kept p x here entry ∙ numbers i p at

@@ -1,6 +1,5 @@
 -- The Shapes of parts, one after the other.
-use Rattle.std.proofs.Common.{◌≡◌, ℕ, zero, suc, ◌+◌, ◌<◌, ◌≤◌, List, [], ◌∷◌, ◌++◌, refl, sym, ap, subst, arith, length, ◌∙◌, Option, Some, None, get_or, take, map}
-use Rattle.std.specs.Prelude.{Contains}
+use Rattle.std.proofs.Common.{◌≡◌, ℕ, zero, suc, ◌+◌, ◌<◌, ◌≤◌, List, [], ◌∷◌, ◌++◌, refl, sym, ap, subst, arith, length, ◌∙◌, Option, Some, None, take, map}
 use Rattle.std.specs.List.{AllZip}
 use Rattle.std.proofs.lemmas.Bool.{cases_lt}
 use Rattle.std.proofs.lemmas.List.{append-nil}
@@ -8,7 +7,7 @@ use Rattle.std.proofs.Common.{inl, inr}
 use Rattle.rdf_terms.specs.declared.terms.Term.{Term}
 use Rattle.rdf_terms.specs.declared.terms.Term.TheVariants.{Iri}
 use Rattle.lists.proofs.Beside.{zip_push}
-use Rattle.lists.proofs.Members.{got_in, in_flat_map, in_map, item_there}
+use Rattle.lists.proofs.Members.{got_in, in_flat_map}
 use Rattle.schema_tree.specs.declared.schema.ExprId.{ExprId}
 use Rattle.schema_tree.specs.declared.schema.Shape.{Shape}
 use Rattle.schema_load.specs.declared.part.Part.{Part}
@@ -32,9 +31,6 @@ part_at (x ∷ xs) (suc i) lt = part_at xs i (omega arith)
 -- the table has the predicates in EXTRA
 pub extra_there : (parts : List Part) (terms : List Term) (p : ℕ) (head : ShapePart) → HasPredicates parts terms → IsAt parts p (Parts.Shape head) → HasEach (map Iri head.extra) terms
 extra_there parts terms p head has at t c = has t (in_flat_map predicates_in parts (Parts.Shape head) t (got_in parts p (Parts.Shape head) at) c)
-
-pub iri_there : (iris : List (List ℕ)) (terms : List Term) (i : ℕ) (x : List ℕ) → HasEach (map Iri iris) terms → i < length iris → x ≡ get_or iris i x → Contains terms (Iri x)
-iri_there iris terms i x has lt read = has (Iri x) (in_map Iri iris x (item_there iris i x lt read))
 
 -- each Shape of parts that keep the limits can be unfolded
 pub can_unfold : (parts : List Part) → HoldTriples parts → NoneIs (IsCrowded parts) → ((p : ℕ) → IsTripleAt parts p → (n : ℕ) × HasOccurrences parts p n) → CanUnfold parts

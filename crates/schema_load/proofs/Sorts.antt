@@ -65,14 +65,6 @@ all_or_one done (p ∷ ps) = go (get_or done p false) refl (all_or_one done ps)
       | inr later ↦ all q later
     ])
 
--- what holds of all places by index holds of each
-pub by_index : (done : List Bool) (ps : List ℕ) (n : ℕ) → length ps ≤ n → ((k : ℕ) → k < n → get_or done (get_or ps k 0) false ≡ true) → (q : ℕ) → Contains ps q → get_or done q false ≡ true
-by_index done ps n le each q c =
-    let (k, e) = index_of ps q c in
-    let lt = slice_get_within ps k q e in
-    let here : get_or ps k 0 ≡ q = (let both : Some (get_or ps k 0) ≡ Some q = sym (slice_get-get_or ps k 0 lt) ∙ e in cc) in
-    subst (λ z. get_or done z false ≡ true) here (each k (omega arith))
-
 -- ---- orders
 
 pub slice_get_left : (xs ys : List ℕ) (i x : ℕ) → slice_get xs i ≡ Some x → slice_get (xs ++ ys) i ≡ Some x
@@ -185,8 +177,3 @@ module _ (parts : List Part) (targets : List ℕ) where
       let (one, here) = same is in
       let equal : undone after ≡ undone done = ap undone one in
       (omega arith, λ m. (let h = some (sym set ∙ m) in omega arith), λ m. still_more done after behind p place one here (still (sym set ∙ m)))
-
--- the work of a round
-pub work_less : (old new : ℕ) (moved : Bool) → new ≤ old → (moved ≡ true → new < old) → new + (if moved then 1 else 0) < old + 1
-work_less old new true le less = let h = less refl in omega arith
-work_less old new false le less = omega arith

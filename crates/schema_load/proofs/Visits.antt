@@ -1,8 +1,8 @@
 -- Visits to places, one after the other.
-use Rattle.std.proofs.Common.{◌≡◌, ℕ, zero, suc, ◌+◌, ◌<◌, List, [], ◌∷◌, ◌++◌, refl, sym, ap, subst, arith, length, ◌∙◌, get_or, set, Some, Bool, true, false, inl, inr, ◌⊎◌, map, take, get_or-set_other, length-set, length-append, replicate, true≢false}
+use Rattle.std.proofs.Common.{◌≡◌, ℕ, zero, suc, ◌+◌, ◌<◌, List, [], ◌∷◌, ◌++◌, refl, sym, ap, subst, arith, length, ◌∙◌, get_or, set, Some, Bool, true, false, inl, inr, ◌⊎◌, map, get_or-set_other, length-set, length-append, replicate, true≢false}
 use Rattle.std.specs.Prelude.{Contains, slice_get}
 use Rattle.std.proofs.lemmas.Bool.{cases_eq}
-use Rattle.std.proofs.lemmas.List.{append_assoc, length-map, length-replicate, map-append, take_more}
+use Rattle.std.proofs.lemmas.List.{length-map, length-replicate}
 use Rattle.std.proofs.lemmas.Option.{slice_get_within}
 use Rattle.schema_load.specs.declared.part.Part.{Part}
 use Rattle.schema_load.specs.declared.sorting.Visit.{Visit}
@@ -68,14 +68,6 @@ entered_next n visits after before pushed = record {
     | inr apart ↦ get_left visits (Enter n ∷ []) p (Enter p) (before.each p (omega (arith, apart)))
   ]);
 }
-
-pub visits_next : (start : List Visit) (places : List ℕ) (i : ℕ) (now after : List Visit) → i < length places → now ≡ start ++ map Enter (take i places) →
-    after ≡ now ++ Enter (get_or places i 0) ∷ [] → after ≡ start ++ map Enter (take (i + 1) places)
-visits_next start places i now after lt before pushed =
-    pushed
-    ∙ (ap (λ vs. vs ++ Enter (get_or places i 0) ∷ []) before
-    ∙ (append_assoc start (map Enter (take i places)) (Enter (get_or places i 0) ∷ [])
-    ∙ ap (λ vs. start ++ vs) (sym (map-append Enter (take i places) (get_or places i 0 ∷ [])) ∙ ap (map Enter) (sym (take_more places i 0 lt)))))
 
 -- ---- how many can come
 

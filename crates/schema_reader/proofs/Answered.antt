@@ -31,9 +31,6 @@ one_read r q d n = λ i. record { document = d i; names = n i }
 same_scope : (p : Parsed) (x : State) → compact.IsParsedOf p x → scope_of p.prefixes ≡ x.scope
 same_scope p x h = λ i. record { base = h.base i; prefixes = h.prefixes i }
 
-pub compact_found : (base source : List ℕ) (p : Parsed) → compact.IsRead base source p → IsSchema Compact base (read_of p) source
-compact_found base source p (x, spelled, h) = (x, spelled, h.document, same_scope p x h)
-
 reads_parsed : (p : Parsed) (x : State) (r : Read) → r.document ≡ document_in x → r.names ≡ x.scope → compact.IsParsedOf p x → read_of p ≡ r
 reads_parsed p x r d n h = one_read (read_of p) r (h.document ∙ sym d) (same_scope p x h ∙ sym n)
 

@@ -188,10 +188,6 @@ says_one old new terms n node target v notes numbered text noted undecided = rec
   undecided_is = undecided ∙ ap (λ b. old.undecided || b) (sym (or_false (is_unknown v)));
 }
 
--- an edit says nothing
-pub says_none : (old : Said) → SaysMore old [] old
-says_none old = record { text_is = sym (append-nil old.text.items); notes_are = sym (append-nil old.notes.items); undecided_is = sym (or_false old.undecided) }
-
 pub says_on : (old new : Said) (so more : List Reply) → Says old so → SaysMore old more new → Says new (so ++ more)
 says_on old new so more h k = record {
   text_is = k.text_is ∙ (ap (λ z. z ++ text_of more) h.text_is ∙ sym (flat_map-append reply_line so more));

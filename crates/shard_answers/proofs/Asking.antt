@@ -21,7 +21,8 @@ module _ (told seen : Told) (r : Reaching) (same : seen ≡ told) where
   taken_later h taken = subst (λ t. IsTaken t (inputs_of (of_nodes r)) h) (sym same) taken
 
   pub are_nodes : (q : Question) (text : List ℕ) (pairs : List Pair) → IsAskedOf seen (inputs_of (of_nodes r)) q → pairs ≡ q.pairs →
-      ((s : Schema) (g : List Triple) (roots : List Root) → AreAsked s q.terms g roots pairs → (nodes : List TermId) × AreReached s q.terms g roots nodes × (text ≡ flat_map (node_line q.terms) nodes)) →
+      ((s : Schema) (g : List Triple) (roots : List Root) → AreAsked s q.terms g roots pairs → (nodes : List TermId) × AreReached s q.terms g roots nodes ×
+      (text ≡ flat_map (node_line q.terms) nodes)) →
       AreNodesOf told r text
   are_nodes q text pairs asked lent tell =
       let roots = map root_of q.associations in

@@ -121,7 +121,8 @@ module _ (told : Told) (lines back : List (List ℕ)) (shards : List Lent) (i : 
   }
 
 -- where all are passed
-pub lack_all : (told : Told) (lines back : List (List ℕ)) (shards : List Lent) (i : ℕ) → length shards ≤ i → LackNothing told lines back (map shard_of (take i shards)) → LackNothing told lines back (map shard_of shards)
+pub lack_all : (told : Told) (lines back : List (List ℕ)) (shards : List Lent) (i : ℕ) → length shards ≤ i →
+    LackNothing told lines back (map shard_of (take i shards)) → LackNothing told lines back (map shard_of shards)
 lack_all told lines back shards i past h = subst (λ ss. LackNothing told lines back (map shard_of ss)) (take_all i shards past) h
 
 -- whether there is a text is whether there are its bytes
@@ -154,7 +155,8 @@ module _ (told seen : Told) (before between after : ℕ) (blame : List ℕ) (act
   pub pair_behind : (s : ShardFiles) (at : ℕ) → PairStops seen s at between after blame act e → PairStops told s at before after blame act e
   pair_behind s at stops = subst (λ n. PairStops told s at n after blame act e) still (subst (λ t. PairStops t s at between after blame act e) same stops)
 
-  comparing_behind : (lines back : List (List ℕ)) (shards : List ShardFiles) → ComparingStops seen lines back shards between after blame act e → ComparingStops told lines back shards before after blame act e
+  comparing_behind : (lines back : List (List ℕ)) (shards : List ShardFiles) → ComparingStops seen lines back shards between after blame act e →
+      ComparingStops told lines back shards before after blame act e
   comparing_behind lines back shards stops =
       subst (λ n. ComparingStops told lines back shards n after blame act e) still (subst (λ t. ComparingStops t lines back shards between after blame act e) same stops)
 

@@ -46,7 +46,8 @@ fetch_faults told call source before after blame act (Failed other) (same, fault
 fetch_faults told call source before after blame act Memory stay = stay
 
 -- data that are not read
-pub data_explains : (told : Told) (l : Lining) (format : Format) (bytes text : List ℕ) (e : ReadError) (stop : ShardError) → IsFile told l.data_file bytes → format ≡ format_of l.data_file → text ≡ bytes →
+pub data_explains : (told : Told) (l : Lining) (format : Format) (bytes text : List ℕ) (e : ReadError) (stop : ShardError) → IsFile told l.data_file bytes →
+    format ≡ format_of l.data_file → text ≡ bytes →
     ReadingStops format l.data_base [] text e → IsDataStop e stop → Explains told (of_lines l) stop
 data_explains told l format bytes text e stop file is same stops (inl (wanting, made)) = subst (Explains told (of_lines l)) (sym made) tt
 data_explains told l format bytes text e stop file is same stops (inr (apart, made)) =
@@ -54,12 +55,14 @@ data_explains told l format bytes text e stop file is same stops (inr (apart, ma
     let unread : AreUnread told l e = record { bytes = text; file = subst (IsFile told l.data_file) (sym same) file; apart = apart; cause = cause; none = none } in
     subst (Explains told (of_lines l)) (sym made) unread
 
-pub data_faults : (call : ShardCall) (e : ReadError) (stop : ShardError) (before after : ℕ) (blame : List ℕ) (act : Act) → IsDataStop e stop → after ≡ before → FaultsAs call before after blame act stop
+pub data_faults : (call : ShardCall) (e : ReadError) (stop : ShardError) (before after : ℕ) (blame : List ℕ) (act : Act) → IsDataStop e stop → after ≡ before →
+    FaultsAs call before after blame act stop
 data_faults call e stop before after blame act (inl (wanting, made)) stay = subst (FaultsAs call before after blame act) (sym made) stay
 data_faults call e stop before after blame act (inr (apart, made)) stay = subst (FaultsAs call before after blame act) (sym made) stay
 
 -- inputs that are not taken
-pub ways_explain : (told : Told) (f : Following) (e : InputError) (stop : ShardError) → InputsExplain told (inputs_of (of_ways f)) e → IsOfSchemaStop e → stop ≡ stop_of e → Explains told (of_ways f) stop
+pub ways_explain : (told : Told) (f : Following) (e : InputError) (stop : ShardError) → InputsExplain told (inputs_of (of_ways f)) e → IsOfSchemaStop e →
+    stop ≡ stop_of e → Explains told (of_ways f) stop
 ways_explain told f (InputErrors.Refused refusal) stop why is made = subst (Explains told (of_ways f)) (sym made) (is, why)
 ways_explain told f (InputErrors.Failed source) stop why is made = subst (Explains told (of_ways f)) (sym made) (is, why)
 ways_explain told f InputErrors.Memory stop why is made = subst (Explains told (of_ways f)) (sym made) tt
@@ -69,7 +72,8 @@ nodes_explain told r (InputErrors.Refused refusal) stop why made = subst (Explai
 nodes_explain told r (InputErrors.Failed source) stop why made = subst (Explains told (of_nodes r)) (sym made) why
 nodes_explain told r InputErrors.Memory stop why made = subst (Explains told (of_nodes r)) (sym made) tt
 
-pub input_faults : (call : ShardCall) (before after : ℕ) (blame : List ℕ) (act : Act) (e : InputError) (stop : ShardError) → InputsFaultAs (inputs_of call) before after blame act e → stop ≡ stop_of e →
+pub input_faults : (call : ShardCall) (before after : ℕ) (blame : List ℕ) (act : Act) (e : InputError) (stop : ShardError) →
+    InputsFaultAs (inputs_of call) before after blame act e → stop ≡ stop_of e →
     FaultsAs call before after blame act stop
 input_faults call before after blame act (InputErrors.Refused refusal) stop faults made = subst (FaultsAs call before after blame act) (sym made) faults
 input_faults call before after blame act (InputErrors.Failed source) stop faults made = subst (FaultsAs call before after blame act) (sym made) faults

@@ -50,7 +50,8 @@ module _ (line : List ℕ) where
   any_text : Bor (List ℕ)
   any_text = record { ref_ptr = (0, 0); now = [] }
 
-  halved : (found : List (Bor (List ℕ))) → IsSorted text_order found → (r : Result ℕ ℕ) → IsSearchInRange r (length found) → IsBinarySearchResult tells found r → is_ok r ≡ list_any (is_line line) found
+  halved : (found : List (Bor (List ℕ))) → IsSorted text_order found → (r : Result ℕ ℕ) → IsSearchInRange r (length found) →
+      IsBinarySearchResult tells found r → is_ok r ≡ list_any (is_line line) found
   halved found sorted (Ok i) inside at =
       let y = get_or found i any_text in
       sym (any_true (is_line line) found y (got_in found i y (slice_get-get_or found i any_text inside)) (told y Equal (at any_text)))
@@ -62,5 +63,6 @@ module _ (line : List ℕ) where
       ]))
 
   -- whether a text is found is whether it is one of those that are known
-  pub has_line : (found : List (Bor (List ℕ))) (r : Result ℕ ℕ) (b : Bool) (texts : List (List ℕ)) → Knows found texts → IsSearchInRange r (length found) → IsBinarySearchResult tells found r → b ≡ is_ok r → b ≡ is_among line texts
+  pub has_line : (found : List (Bor (List ℕ))) (r : Result ℕ ℕ) (b : Bool) (texts : List (List ℕ)) → Knows found texts → IsSearchInRange r (length found) →
+      IsBinarySearchResult tells found r → b ≡ is_ok r → b ≡ is_among line texts
   has_line found r b texts knows inside at is = is ∙ halved found knows.sorted r inside at ∙ among_lent line found ∙ knows.same line

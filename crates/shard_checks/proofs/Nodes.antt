@@ -13,7 +13,8 @@ use Rattle.schema_tree.specs.declared.schema.Pair.{Pair}
 use Rattle.schema_tree.specs.declared.schema.Schema.{Schema}
 use Rattle.shard_checks.specs.Reached.{AreReached}
 
-pub are_reached : (s : Schema) (terms : List Term) (g : List Triple) (roots : List Root) (pairs lent : List Pair) (nodes new : List TermId) → AreAsked s terms g roots pairs → lent ≡ pairs → nodes ≡ map (λ q. q.node) lent →
+pub are_reached : (s : Schema) (terms : List Term) (g : List Triple) (roots : List Root) (pairs lent : List Pair) (nodes new : List TermId) →
+    AreAsked s terms g roots pairs → lent ≡ pairs → nodes ≡ map (λ q. q.node) lent →
     IsStrictlySortedBy (compare_at terms) new → ((n : TermId) → Contains new n ↔ Contains nodes n) → AreReached s terms g roots new
 are_reached s terms g roots pairs lent nodes new asked are made sorted same = record {
   sorted = sorted;

@@ -29,7 +29,8 @@ module _ (prefix : Option (List ℕ)) (terms : List Term) where
   cut_into_lines (t ∷ ts) one =
       ap (λ z. lines_of (z ++ flat_map (triple_line prefix terms) ts)) (line_ended t)
       ∙ ap lines_of (append_assoc (line_at prefix terms t) (10 ∷ []) (flat_map (triple_line prefix terms) ts))
-      ∙ slice_split_at (λ b. nat_eq b 10) (line_at prefix terms t) 10 (flat_map (triple_line prefix terms) ts) (All-from_recursion (λ b. nat_eq b 10 ≡ false) (line_at prefix terms t) (one t (is_first t ts))) refl
+      ∙ slice_split_at (λ b. nat_eq b 10) (line_at prefix terms t) 10 (flat_map (triple_line prefix terms) ts)
+      (All-from_recursion (λ b. nat_eq b 10 ≡ false) (line_at prefix terms t) (one t (is_first t ts))) refl
       ∙ ap (λ zs. line_at prefix terms t ∷ zs) (cut_into_lines ts (λ u c. one u (is_later t ts u c)))
 
 pub lines_are_those : LinesAreThoseOfTriples

@@ -86,7 +86,3 @@ loads_below old new graph grown ts below (triple {mid = mid} {grown = g} {t = t}
 
 pub of_table : (old new : List Term) (grown : List Triple) (ts : List TermTriple) → Loads old [] ts new grown → All (IsOfTable new) grown
 of_table old new grown ts loads k d l = loads_below old new [] grown ts (λ n h. absurd (not_in_none n h)) loads _ (All-contains_itself grown k d l)
-
--- and of each table that goes on as it does
-pub of_grown : (old new : List Term) (graph : List Triple) → ((behind : List Term) × (new ≡ old ++ behind)) → All (IsOfTable old) graph → All (IsOfTable new) graph
-of_grown old new graph grown h k d l = below_on old new _ (longer old new grown) (h k d l)

@@ -1,5 +1,5 @@
 -- How the bytes that a sink got add up.
-use Rattle.std.proofs.Common.{◌≡◌, ℕ, ◌+◌, List, [], ◌++◌, sym, take, drop, length, append_assoc, append-nil, ◌-◌, length-drop}
+use Rattle.std.proofs.Common.{◌≡◌, ℕ, ◌+◌, List, [], ◌++◌, sym, take, drop, length, append_assoc, ◌-◌, length-drop}
 use Rattle.std.proofs.lemmas.List.{take-append-drop, take_rest}
 use Rattle.std.proofs.Math.Seq.{take-add}
 use Rattle.std.specs.Prelude.{Option, Some, None, Result, Ok, Err, OnErr}
@@ -12,10 +12,6 @@ gains_more None (Some b) c xs ys h k = absurd h
 gains_more (Some a) None c xs ys h k = absurd h
 gains_more None None (Some c) xs ys h k = absurd k
 gains_more (Some a) (Some b) None xs ys h k = absurd k
-
-pub gains_nothing : (a : Option (List ℕ)) → Gains a a []
-gains_nothing None = tt
-gains_nothing (Some a) = simp append-nil
 
 pub prefix_at_error : (a b c : Option (List ℕ)) (at : ℕ) (whole : List ℕ) → Gains a b (take at whole) → c ≡ b → GainsPrefix a c whole
 prefix_at_error a b c at whole h e = (take at whole, (drop at whole, sym (take-append-drop at whole)), rw e h)

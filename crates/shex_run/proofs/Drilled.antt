@@ -1,6 +1,6 @@
 -- A drill ends as its texts are answered.
 use Rattle.std.proofs.Common.{◌≡◌, ◌∙◌, ◌≤◌, ap, sym, subst, refl, ℕ, suc, List, [], ◌∷◌, inl, inr, arith, length, Bool, true}
-use Rattle.std.specs.Prelude.{Contains, IsSome, None, Option, Some}
+use Rattle.std.specs.Prelude.{Contains, None, Option, Some}
 use Rattle.lists.proofs.Members.{is_first, is_later}
 use Rattle.std.specs.Str.{chars}
 use Rattle.input_names.specs.Names.{Text, is_base}
@@ -40,7 +40,7 @@ use Rattle.shex_run.specs.Checking.{ConfirmStops}
 use Rattle.shex_run.specs.Drills.{AreDrillAnswers, IsCutDrill, IsDrillProof, IsDrilled, drill_command}
 use Rattle.shex_run.specs.Endings.{Ends, answered, failed, wanting}
 use Rattle.program_ends.specs.Ends.{FilesSeen}
-use Rattle.shex_run.specs.Printing.{MayStopDrill, SaysDrillStop}
+use Rattle.shex_run.specs.Printing.{SaysDrillStop}
 use Rattle.shex_run.specs.Proofs.{Accepted, AreAnswers, IsStoredProofOf}
 use Rattle.shex_run.specs.Ready.{AreTexts, IsReply}
 use Rattle.shex_run.specs.Stopping.{DrillStops, Explains, FaultsAs, IsFit, ProofStops}
@@ -179,12 +179,6 @@ module _ (told after : Told) (d : Drill) (name bytes : List ℕ) (named : d.proo
   drill_unstored before later blame act Stops.Memory h = (h, inr cut)
 
 -- ---- the end
-
--- what can stop a drill
-pub may_stop : (told after : Told) (d : Drill) (before later : ℕ) (blame : List ℕ) (act : Act) (stop : Stop) → DrillStops told after d before later blame act stop → MayStopDrill d stop
-may_stop told after d before later blame act (Stops.Refused refusal) stops = elim stops [ ]
-may_stop told after d before later blame act (Stops.Failed file) (rose, up, named, acted, cut_store) = subst IsSome (sym named) refl
-may_stop told after d before later blame act Stops.Memory stops = tt
 
 module _ (words : List Text) (d : Drill) (is_drill : IsDrill words d) (files : FilesSeen) (out err : SinkSeen) (status : ℕ) where
   pub with_line : (text notes : List ℕ) (wanted : ℕ) → IsDrilled files.told files.told_after d wanted text notes → files.faults_after ≡ files.faults →

@@ -37,13 +37,6 @@ head_clean h = (tt, all_append HasNoFeed (map (λ d. Lines.Digest Parts.Import d
 pub clean_with : (head : Head) (p : Proof) → HasNoFeeds p → HasNoFeeds (with_head head p)
 clean_with head p clean = all_append HasNoFeed (head_lines (Some head)) (body_lines p) (head_clean head) (all_back HasNoFeed (head_lines p.head) (body_lines p) clean)
 
--- a proof with a head has its text in format 2
-pub newest_own : (head own : Head) (q : Proof) (bytes : List ℕ) → ProofText q bytes → q.head ≡ Some own → (p : Proof) → ProofText p bytes → IsNewest head p bytes p.head bytes
-newest_own head own q bytes text is p other =
-    let same : p ≡ q = proofs_same p q bytes other text in
-    let at : p.head ≡ Some own = ap (λ (z : Proof). z.head) same ∙ is in
-    subst (λ o. IsNewest head p bytes o bytes) (sym at) refl
-
 -- and one without has that of the same proof with a head
 pub newest_made : (head : Head) (q : Proof) (bytes new : List ℕ) → ProofText q bytes → q.head ≡ None → ProofText (with_head head q) new → (p : Proof) →
     ProofText p bytes → IsNewest head p bytes p.head new

@@ -154,7 +154,8 @@ quiet : (told : Told) (words : List Text) (status : ℕ) (text notes : List ℕ)
 quiet told words status text notes at (call, is_call, answer) = (call, is_call, quiet_answer told call status text notes at answer)
 
 -- each idle selector of the map of `explain` has its line
-tells_idle : LinesAreExact → (told : Told) (e : Explaining) (status : ℕ) (text notes : List ℕ) (got after : Option (List ℕ)) → IsExplained told e status text notes → Gains got after notes → TellsIdle told e got after
+tells_idle : LinesAreExact → (told : Told) (e : Explaining) (status : ℕ) (text notes : List ℕ) (got after : Option (List ℕ)) →
+    IsExplained told e status text notes → Gains got after notes → TellsIdle told e got after
 tells_idle law told e status text notes got after answer gains =
     let q = answer.question in
     let n = answer.explained.notes_are in
@@ -257,7 +258,8 @@ failing_answer told words (of_reasons e) text notes is_call answer =
 -- ---- words that are refused
 
 module _ (words : List Text) (files : FilesSeen) (out err : SinkSeen) (status : ℕ) where
-  pub gives : IsAnswering status → ToolEnds words files out err status → (text notes : List ℕ) × IsAnswered files.told words status text notes × Gains out.got out.got_after text × Gains err.got err.got_after notes
+  pub gives : IsAnswering status → ToolEnds words files out err status → (text notes : List ℕ) × IsAnswered files.told words status text notes ×
+      Gains out.got out.got_after text × Gains err.got err.got_after notes
   gives at ends = closing.gives _ _ _ _ files out err status (of_answering status at) ends
 
   pub is_status : ToolEnds words files out err status → IsStatus status
@@ -278,7 +280,8 @@ module _ (words : List Text) (files : FilesSeen) (out err : SinkSeen) (status : 
       let (text, notes, by, printed, noted) = gives (low_at at) ends in
       (notes, quiet files.told words status text notes at by, noted)
 
-  pub idle_told : LinesAreExact → AnswersAreOne → (e : Explaining) → IsToolCall words (of_reasons e) → IsAnswering status → ToolEnds words files out err status → TellsIdle files.told e err.got err.got_after
+  pub idle_told : LinesAreExact → AnswersAreOne → (e : Explaining) → IsToolCall words (of_reasons e) → IsAnswering status →
+      ToolEnds words files out err status → TellsIdle files.told e err.got err.got_after
   idle_told exact law e is_call at ends =
       let (text, notes, by, printed, noted) = gives at ends in
       let (call, is_other, answer) = by in
@@ -363,7 +366,8 @@ module _ (words : List Text) (files : FilesSeen) (out err : SinkSeen) (status : 
   same_found text notes wanted answer = subst (λ k. IsFound k l.budget answer.listed.extents) (one.held answer.held h answer.taken held) answer.listed.is_found
 
   -- and leaves something Unknown where these verdicts do
-  same_unknown : (x : Extents) (found : IsFound h l.budget x) → (IsTrue x.undecided → IsUndecided h.schema h.terms h.graph verdicts) × (IsUndecided h.schema h.terms h.graph verdicts → IsTrue x.undecided)
+  same_unknown : (x : Extents) (found : IsFound h l.budget x) → (IsTrue x.undecided → IsUndecided h.schema h.terms h.graph verdicts) ×
+      (IsUndecided h.schema h.terms h.graph verdicts → IsTrue x.undecided)
   same_unknown x found = (
     λ is. undecided_to h.schema h.terms h.graph h.strata l.budget found.found.pairs pairs found.found.verdicts verdicts refinements follows loaded found.found.demanded demanded found.found.refined refined (found.found.undecided.0 is),
     λ is. found.found.undecided.1 (undecided_to h.schema h.terms h.graph h.strata l.budget pairs found.found.pairs verdicts found.found.verdicts refinements follows loaded demanded found.found.demanded refined found.found.refined is),

@@ -30,7 +30,8 @@ module _ (words : List Text) (call : ToolCall) (is_call : IsToolCall words call)
   with_refusal refusal text why is left quiet prints =
       refused text (record { call = call; is_call = is_call; refusal = refusal; refused = why; text_is = is }) left quiet prints
 
-  pub with_failure : (source : CallFile) → Reaches files.told call source → HasFailed (name_of call source) files.faults files.faults_after files.blame files.act → files.told_after ≡ files.told → IsQuiet out →
+  pub with_failure : (source : CallFile) → Reaches files.told call source →
+      HasFailed (name_of call source) files.faults files.faults_after files.blame files.act → files.told_after ≡ files.told → IsQuiet out →
       PrintsTo err (failed_line (name_of call source)) 5 status → ToolEnds words files out err status
   with_failure source reached (rose, later, named, act) same quiet prints = failed (failed_line (name_of call source)) (record {
     rose = rose;
@@ -73,4 +74,5 @@ line_of words Errors.Memory is apart = absurd (apart refl)
 pub with_words : (words : List Text) (files : FilesSeen) (out err : SinkSeen) (status : ℕ) → AreLeft files → IsQuiet out → (e : WordsError) → Because (IsToolFault words) e →
     RefusesWords Errors.Memory e (tool_line (codes "words") (words_text e)) err status → ToolEnds words files out err status
 with_words words files out err status left quiet e is refuses =
-    closing.with_words (IsWordsLine words) (IsRefusedBy files.told words) (IsFailedBy files words) (IsAnswered files.told words) files out err status Errors.Memory e _ (line_of words e is) left quiet refuses
+    closing.with_words (IsWordsLine words) (IsRefusedBy files.told words) (IsFailedBy files words)
+    (IsAnswered files.told words) files out err status Errors.Memory e _ (line_of words e is) left quiet refuses

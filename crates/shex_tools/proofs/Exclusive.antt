@@ -58,7 +58,8 @@ held_not_lacking (Some contents) name a h k = cc
 
 pub record AreOne (told : Told) (i : Inputs) : Type 0 where
   pub held : (h k : Held) → IsTaken told i h → IsTaken told i k → h ≡ k
-  pub taken : (h : Held) (source : Source) → IsTaken told i h → source ≢ Sources.Map → ((refusal : InputRefusal) → source_of refusal ≡ source → ¬ IsInputRefused told i refusal) × (¬ IsInputAbsent told i source)
+  pub taken : (h : Held) (source : Source) → IsTaken told i h → source ≢ Sources.Map →
+      ((refusal : InputRefusal) → source_of refusal ≡ source → ¬ IsInputRefused told i refusal) × (¬ IsInputAbsent told i source)
   pub left : (refusal : InputRefusal) → IsInputRefused told i refusal → (source : Source) → ¬ IsInputAbsent told i source
   pub question : (p q : Question) → IsAskedOf told i p → IsAskedOf told i q → p ≡ q
   pub asked : (q : Question) → IsAskedOf told i q → ((refusal : InputRefusal) → ¬ IsInputRefused told i refusal) × ((source : Source) → ¬ IsInputAbsent told i source)

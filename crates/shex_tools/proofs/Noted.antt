@@ -22,7 +22,8 @@ idle_noted terms g items limit old new (Err e) h = tt
 
 -- behind the lines for wide pairs
 pub are_notes : (s : Schema) (terms : List Term) (g : List Triple) (items : List Item) (e : Explaining) (undecided : Bool) (wide : List WidePair) (names : Names) → AreNames s terms names →
-    (front idle notes : List ℕ) → front ≡ named_by names terms e.budget undecided wide → AreIdleNotes terms g items e.limit idle → notes ≡ front ++ idle → AreNotes s terms g items e undecided wide notes
+    (front idle notes : List ℕ) → front ≡ named_by names terms e.budget undecided wide → AreIdleNotes terms g items e.limit idle → notes ≡ front ++ idle →
+    AreNotes s terms g items e undecided wide notes
 are_notes s terms g items e undecided wide names are front idle notes is idle_are noted = record {
   names = names;
   are_names = are;
@@ -40,7 +41,8 @@ front_none : (xs ys : List ℕ) → xs ++ ys ≡ [] → xs ≡ []
 front_none [] ys e = refl
 front_none (x ∷ xs) ys e = absurd cc
 
-named_due : (names : Names) (terms : List Term) (budget : ℕ) (undecided : Bool) (wide : List WidePair) → undecided ≡ true → named_by names terms budget undecided wide ≡ named_lines names terms budget wide
+named_due : (names : Names) (terms : List Term) (budget : ℕ) (undecided : Bool) (wide : List WidePair) → undecided ≡ true →
+    named_by names terms budget undecided wide ≡ named_lines names terms budget wide
 unfolding named_by
 named_due names terms budget undecided wide is = ap (λ b. if b then named_lines names terms budget wide else []) is
 

@@ -48,7 +48,8 @@ unfolding is_base
 base_scheme text h = (and_parts _ _ h).0
 
 -- what holds of want of memory and of the refusal holds of the stop
-pub by_refusal : {E : Type 0} (memory : E) (refusal : E → Refusal) (e : E) (stop : Stop) (P : Stop → Type 0) → IsRefusalOf memory refusal e stop → P Stops.Memory → (e ≢ memory → P (Stops.Refused (refusal e))) → P stop
+pub by_refusal : {E : Type 0} (memory : E) (refusal : E → Refusal) (e : E) (stop : Stop) (P : Stop → Type 0) → IsRefusalOf memory refusal e stop →
+    P Stops.Memory → (e ≢ memory → P (Stops.Refused (refusal e))) → P stop
 by_refusal memory refusal e stop P (inl (is, made)) wanting to = subst P (sym made) wanting
 by_refusal memory refusal e stop P (inr (apart, made)) wanting to = subst P (sym made) (to apart)
 
@@ -59,13 +60,15 @@ pub held_has_form : (told : Told) (c : Converting) (doc : Document) → Document
 held_has_form told c doc law base h = law (format_of c.schema) c.schema_base h.bytes doc (base_scheme c.schema_base base) h.spelled
 
 -- the schema file is not fetched
-pub fetch_explains : (told : Told) (c : Converting) (before after : ℕ) (blame : List ℕ) (act : Act) (e : FetchError) (stop : Stop) → FetchStops told c.schema before after blame act e → stop ≡ fetch_stop e → Explains told (of_schema c) stop
+pub fetch_explains : (told : Told) (c : Converting) (before after : ℕ) (blame : List ℕ) (act : Act) (e : FetchError) (stop : Stop) →
+    FetchStops told c.schema before after blame act e → stop ≡ fetch_stop e → Explains told (of_schema c) stop
 fetch_explains told c before after blame act FetchErrors.Failed stop why made = subst (Explains told (of_schema c)) (sym made) (refl, (c.schema_base, root))
 fetch_explains told c before after blame act FetchErrors.Long stop why made = subst (Explains told (of_schema c)) (sym made) (inl refl, ((c.schema_base, root), why.0))
 fetch_explains told c before after blame act FetchErrors.Memory stop why made = subst (Explains told (of_schema c)) (sym made) tt
 
 -- its bytes are no document
-pub document_explains : (told : Told) (c : Converting) (format : Format) (bytes source : List ℕ) (e : SchemaError) (stop : Stop) → IsFile told c.schema bytes → format ≡ format_of c.schema → source ≡ bytes →
+pub document_explains : (told : Told) (c : Converting) (format : Format) (bytes source : List ℕ) (e : SchemaError) (stop : Stop) → IsFile told c.schema bytes →
+    format ≡ format_of c.schema → source ≡ bytes →
     ReaderExplains format c.schema_base e source → AreNone format c.schema_base source e → IsDocumentStop e stop → Explains told (of_schema c) stop
 document_explains told c format bytes source e stop file same whole cause none is =
     by_refusal SchemaErrors.Memory (λ x. Refusals.Input (InputRefusals.Schema Root x)) e stop (Explains told (of_schema c)) is tt (λ apart. (
@@ -89,7 +92,8 @@ input_explains told l (InputErrors.Refused refusal) stop before why made = subst
 input_explains told l (InputErrors.Failed source) stop before why made = subst (Explains told (of_labels l)) (sym made) (before, why)
 input_explains told l InputErrors.Memory stop before why made = subst (Explains told (of_labels l)) (sym made) tt
 
-pub input_faults : (call : ToolCall) (before after : ℕ) (blame : List ℕ) (act : Act) (e : InputError) (stop : Stop) → FaultsAsInput (inputs_of call) before after blame act e → stop ≡ stop_of e → FaultsAs call before after blame act stop
+pub input_faults : (call : ToolCall) (before after : ℕ) (blame : List ℕ) (act : Act) (e : InputError) (stop : Stop) →
+    FaultsAsInput (inputs_of call) before after blame act e → stop ≡ stop_of e → FaultsAs call before after blame act stop
 input_faults call before after blame act (InputErrors.Refused refusal) stop why made = subst (FaultsAs call before after blame act) (sym made) why
 input_faults call before after blame act (InputErrors.Failed source) stop why made = subst (FaultsAs call before after blame act) (sym made) why
 input_faults call before after blame act InputErrors.Memory stop why made = subst (FaultsAs call before after blame act) (sym made) why
@@ -118,7 +122,8 @@ pub when_unlisted : (told : Told) (l : Listing) (h : Held) → AreHeld told l h 
 when_unlisted told l h taken (Ok x) why = tt
 when_unlisted told l h taken (Err stop) why = finding_explains told l h stop taken why
 
-pub when_still : (call : ToolCall) (before after : ℕ) (blame : List ℕ) (act : Act) (h : Held) → after ≡ before → (r : Result Response Stop) → IfErr r (FindingStops h) → IfErr r (FaultsAs call before after blame act)
+pub when_still : (call : ToolCall) (before after : ℕ) (blame : List ℕ) (act : Act) (h : Held) → after ≡ before → (r : Result Response Stop) →
+    IfErr r (FindingStops h) → IfErr r (FaultsAs call before after blame act)
 when_still call before after blame act h still (Ok x) why = tt
 when_still call before after blame act h still (Err stop) why = finding_faults call before after blame act h stop still why
 

@@ -67,9 +67,6 @@ ref_begins : (v : Scope) (x : List ℕ) (ts r : Ahead Spelled) → Is (iri_ref_o
 unfolding iri_ref_of terms.iri_ref_of
 ref_begins v x ts r h = low.guarded_one symbol.IriRef (terms.iri_ref_of false v) _ (λ t. refl) x ts r (lowered (terms.iri_ref_of false v) x ts r h)
 
-pub iri_ref_flat : (v : Scope) → FlatClass (iri_ref_of v)
-iri_ref_flat v t x e = flat_by (symbol.IriRef ∷ []) (iri_ref_of v) refl (ref_begins v) t x e
-
 pub iri_flat : (v : Scope) → FlatClass (iri_of v)
 iri_flat v t x e = flat_by iris (iri_of v) refl (iri_begins v) t x e
 

@@ -3,7 +3,6 @@ pub mod Nexts
 pub mod Failing
 pub mod Places
 pub mod Kinded
-pub mod Trees
 pub mod Texts
 pub mod Counting
 pub mod Admitted

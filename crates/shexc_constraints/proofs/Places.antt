@@ -44,10 +44,6 @@ pub local_datatyped : (v : Scope) (lex : List ℕ) → IsLocal (datatyped v lex)
 unfolding datatyped
 local_datatyped v lex = local_bind _ _ (local_one _ _) (λ _. local_one _ _)
 
-pub consumes_datatyped : (v : Scope) (lex : List ℕ) → Consumes (datatyped v lex)
-unfolding datatyped
-consumes_datatyped v lex = consumes_bind _ _ (consumes_one _ _) (λ _. local_one _ _)
-
 pub local_suffix : (v : Scope) (lex : List ℕ) → IsLocal (suffix v lex)
 unfolding suffix
 local_suffix v lex = local_either _ _ _ (local_one _ _) (local_either _ _ _ (local_datatyped v lex) (local_give _))
@@ -181,10 +177,6 @@ pub local_stem_or_exact : (v : Scope) (p : R (List ℕ)) (local : IsLocal p) (ta
 unfolding stem_or_exact
 local_stem_or_exact v p local takes xs = local_bind _ _ (local) (λ x. local_either _ _ _ (local_bind _ _ (local_one _ _) (λ _. local_give _)) (local_give _))
 
-pub consumes_stem_or_exact : (v : Scope) (p : R (List ℕ)) (local : IsLocal p) (takes : Consumes p) (xs : List Except) → Consumes (stem_or_exact v p xs)
-unfolding stem_or_exact
-consumes_stem_or_exact v p local takes xs = consumes_bind _ _ (takes) (λ x. local_either _ _ _ (local_bind _ _ (local_one _ _) (λ _. local_give _)) (local_give _))
-
 pub local_exclusion : (v : Scope) (p : R (List ℕ)) (local : IsLocal p) (takes : Consumes p) (xs : List Except) → IsLocal (exclusion v p xs)
 unfolding exclusion
 local_exclusion v p local takes xs = local_bind _ _ (local_one _ _) (λ _. local_stem_or_exact v p local takes xs)
@@ -202,18 +194,9 @@ pub local_stemmed : (v : Scope) (p : R (List ℕ)) (local : IsLocal p) (takes : 
 unfolding stemmed
 local_stemmed v p local takes stem range text = local_bind _ _ (local_one _ _) (λ _. local_bind _ _ (local_exclusions v p local takes _) (λ xs. local_give _))
 
-pub consumes_stemmed : (v : Scope) (p : R (List ℕ)) (local : IsLocal p) (takes : Consumes p) (stem : List ℕ → Value) (range : Option (List ℕ) → List Except →
-    Value) (text : List ℕ) → Consumes (stemmed v p stem range text)
-unfolding stemmed
-consumes_stemmed v p local takes stem range text = consumes_bind _ _ (consumes_one _ _) (λ _. local_bind _ _ (local_exclusions v p local takes _) (λ xs. local_give _))
-
 pub local_excluded : (v : Scope) (p : R (List ℕ)) (local : IsLocal p) (takes : Consumes p) (range : Option (List ℕ) → List Except → Value) → IsLocal (excluded v p range)
 unfolding excluded
 local_excluded v p local takes range = local_bind _ _ (local_stem_or_exact v p local takes _) (λ x. local_bind _ _ (local_exclusions v p local takes _) (λ xs. local_give _))
-
-pub consumes_excluded : (v : Scope) (p : R (List ℕ)) (local : IsLocal p) (takes : Consumes p) (range : Option (List ℕ) → List Except → Value) → Consumes (excluded v p range)
-unfolding excluded
-consumes_excluded v p local takes range = consumes_bind _ _ (consumes_stem_or_exact v p local takes _) (λ x. local_bind _ _ (local_exclusions v p local takes _) (λ xs. local_give _))
 
 pub local_iri_value : (v : Scope) → IsLocal (iri_value v)
 unfolding iri_value

@@ -204,10 +204,6 @@ comes_on all out more rest p n is grown (e, s, h) =
 pub comes_none : (all out rest : List ℕ) → at_end rest ≡ false → None ≡ piece_at rest → Comes all out rest → parts_of all ≡ None
 comes_none all out rest n is (e, s, h) = e ∙ ap (with_front out) (piece_none rest n (sym is))
 
--- the answers for a text
-pub leads_none : (all : List ℕ) → parts_of all ≡ None → pattern_by (parts_of all) ≡ Err Syntax
-leads_none all e = ap pattern_by e
-
 no_flags : (b : Bool) (cs : List ℕ) → b ≡ true → None ≡ cond b (Some cs) None → ⊥
 no_flags true cs e n = absurd (no_some cs n)
 no_flags false cs e n = absurd cc
@@ -234,17 +230,6 @@ pub leads_ok : (all out rest flags text text_flags : List ℕ) → Leads all (So
 leads_ok all out rest flags text text_flags (e, s, h, n) f a b =
     ap pattern_by (e ∙ ap (with_front out) (some_behind rest flags n f))
     ∙ ap (λ (x : List ℕ). Ok (facets.Pattern x flags)) (append-nil out ∙ sym a) ∙ ap (λ (x : List ℕ). Ok (facets.Pattern text x)) (sym b)
-
-pub flags_scalar : (rest flags : List ℕ) → all_scalars rest ≡ true → Some flags ≡ flags_in rest → all_scalars flags ≡ true
-flags_scalar [] flags h f = absurd (no_some flags (sym f))
-flags_scalar (c ∷ cs) flags h f = by (nat_eq c 47) f
-  where
-    by : (b : Bool) → Some flags ≡ cond b (Some cs) None → all_scalars flags ≡ true
-    by true g = subst (λ (x : List ℕ). all_scalars x ≡ true) (sym (same_some flags cs g)) (head_scalar c cs h).1
-    by false g = absurd (no_some flags (sym g))
-
-pub rest_scalar : (all rest : List ℕ) (c : ℕ) → all_scalars all ≡ true → all ≡ c ∷ rest → all_scalars rest ≡ true
-rest_scalar all rest c h e = (head_scalar c rest (subst (λ (x : List ℕ). all_scalars x ≡ true) e h)).1
 
 -- a text of characters
 pub text_more : (cs : List ℕ) (i x d : ℕ) (old new : List ℕ) → i < length cs → x ≡ get_or cs i d → old ≡ encode_utf8_all (take i cs) →

@@ -64,10 +64,6 @@ pub local_shape_behind : (bounded : Bool) (v : Scope) (n : ℕ) (inside : Inside
 unfolding shape_behind
 local_shape_behind bounded v n inside inner q = local_bind _ _ (local_maybe_triple bounded v n inside inner) (λ t. local_bind _ _ (local_one _ _) (λ _. local_give _))
 
-pub consumes_shape_behind : (bounded : Bool) (v : Scope) (n : ℕ) (inside : Inside) (inner : AreLocal inside) (q : Bool × List (List ℕ)) → Consumes (shape_behind bounded v n inside q)
-unfolding shape_behind
-consumes_shape_behind bounded v n inside inner q = consumes_then _ _ (local_maybe_triple bounded v n inside inner) (λ t. consumes_bind _ _ (consumes_one _ _) (λ _. local_give _))
-
 pub local_a_shape : (bounded : Bool) (v : Scope) (n : ℕ) (inside : Inside) (inner : AreLocal inside) (whole : Bool) → IsLocal (a_shape bounded v n inside whole)
 unfolding a_shape
 local_a_shape bounded v n inside inner whole = local_bind _ _ (local_all_qualifiers v)
@@ -90,18 +86,9 @@ pub local_braced : (bounded : Bool) (v : Scope) (n : ℕ) (inside : Inside) (inn
 unfolding braced
 local_braced bounded v n inside inner c = local_bind _ _ (local_opens _ n) (λ _. local_either _ _ _ (local_give _) (local_bind _ _ (local_shape_behind bounded v n inside inner _) (λ s. local_give _)))
 
-pub consumes_braced : (bounded : Bool) (v : Scope) (n : ℕ) (inside : Inside) (inner : AreLocal inside) (c : ShapeExpr) → Consumes (braced bounded v n inside c)
-unfolding braced
-consumes_braced bounded v n inside inner c = consumes_bind _ _ (consumes_opens _ n)
-    (λ _. local_either _ _ _ (local_give _) (local_bind _ _ (local_shape_behind bounded v n inside inner _) (λ s. local_give _)))
-
 pub local_joined_with : (bounded : Bool) (v : Scope) (n : ℕ) (inside : Inside) (inner : AreLocal inside) (whole : Bool) (c : ShapeExpr) → IsLocal (joined_with bounded v n inside whole c)
 unfolding joined_with
 local_joined_with bounded v n inside inner whole c = local_bind _ _ (local_shape_or_reference bounded v n inside inner whole) (λ s. local_give _)
-
-pub consumes_joined_with : (bounded : Bool) (v : Scope) (n : ℕ) (inside : Inside) (inner : AreLocal inside) (whole : Bool) (c : ShapeExpr) → Consumes (joined_with bounded v n inside whole c)
-unfolding joined_with
-consumes_joined_with bounded v n inside inner whole c = consumes_bind _ _ (consumes_shape_or_reference bounded v n inside inner whole) (λ s. local_give _)
 
 pub local_behind_constraint : (bounded : Bool) (v : Scope) (n : ℕ) (inside : Inside) (inner : AreLocal inside) (whole : Bool) (c : ShapeExpr) → IsLocal (behind_constraint bounded v n inside whole c)
 unfolding behind_constraint
@@ -130,11 +117,6 @@ consumes_literal_only bounded v n inside inner whole = consumes_bind _ _ (consum
 pub local_constraint_behind : (bounded : Bool) (v : Scope) (n : ℕ) (inside : Inside) (inner : AreLocal inside) (whole : Bool) (c : ShapeExpr) → IsLocal (constraint_behind bounded v n inside whole c)
 unfolding constraint_behind
 local_constraint_behind bounded v n inside inner whole c = local_bind _ _ (local_non_literal bounded v) (λ d. local_bind _ _ (local_notes v whole) (λ _. local_give _))
-
-pub consumes_constraint_behind : (bounded : Bool) (v : Scope) (n : ℕ) (inside : Inside) (inner : AreLocal inside) (whole : Bool) (c : ShapeExpr) →
-    Consumes (constraint_behind bounded v n inside whole c)
-unfolding constraint_behind
-consumes_constraint_behind bounded v n inside inner whole c = consumes_bind _ _ (consumes_non_literal bounded v) (λ d. local_bind _ _ (local_notes v whole) (λ _. local_give _))
 
 pub local_shape_first : (bounded : Bool) (v : Scope) (n : ℕ) (inside : Inside) (inner : AreLocal inside) (whole : Bool) → IsLocal (shape_first bounded v n inside whole)
 unfolding shape_first
@@ -167,20 +149,10 @@ unfolding atom
 local_atom bounded v n inside inner whole = local_either _ _ _ (local_constraint_first bounded v n inside inner whole)
     (local_either _ _ _ (local_literal_only bounded v n inside inner whole) (local_either _ _ _ (local_shape_first bounded v n inside inner whole) (local_either _ _ _ (local_parenthesised bounded v n inside inner) (local_dot bounded v n inside inner))))
 
-pub consumes_atom : (bounded : Bool) (v : Scope) (n : ℕ) (inside : Inside) (inner : AreLocal inside) (whole : Bool) → Consumes (atom bounded v n inside whole)
-unfolding atom
-consumes_atom bounded v n inside inner whole = consumes_either _ _ _ (consumes_constraint_first bounded v n inside inner whole)
-    (consumes_either _ _ _ (consumes_literal_only bounded v n inside inner whole) (consumes_either _ _ _ (consumes_shape_first bounded v n inside inner whole) (consumes_either _ _ _ (consumes_parenthesised bounded v n inside inner) (consumes_dot bounded v n inside inner))))
-
 pub local_negated : (bounded : Bool) (v : Scope) (n : ℕ) (inside : Inside) (inner : AreLocal inside) (whole : Bool) → IsLocal (negated bounded v n inside whole)
 unfolding negated
 local_negated bounded v n inside inner whole =
     local_either _ _ _ (local_bind _ _ (local_one _ _) (λ _. local_bind _ _ (local_atom bounded v n inside inner whole) (λ x. local_give _))) (local_atom bounded v n inside inner whole)
-
-pub consumes_negated : (bounded : Bool) (v : Scope) (n : ℕ) (inside : Inside) (inner : AreLocal inside) (whole : Bool) → Consumes (negated bounded v n inside whole)
-unfolding negated
-consumes_negated bounded v n inside inner whole =
-    consumes_either _ _ _ (consumes_bind _ _ (consumes_one _ _) (λ _. local_bind _ _ (local_atom bounded v n inside inner whole) (λ x. local_give _))) (consumes_atom bounded v n inside inner whole)
 
 pub local_and_behind : (bounded : Bool) (v : Scope) (n : ℕ) (inside : Inside) (inner : AreLocal inside) (whole : Bool) (a : List ShapeExpr × Bool) → IsLocal (and_behind bounded v n inside whole a)
 unfolding and_behind
@@ -200,10 +172,6 @@ pub local_conjunction : (bounded : Bool) (v : Scope) (n : ℕ) (inside : Inside)
 unfolding conjunction
 local_conjunction bounded v n inside inner whole = local_bind _ _ (local_negated bounded v n inside inner whole) (λ x. local_conjunction_from bounded v n inside inner whole x)
 
-pub consumes_conjunction : (bounded : Bool) (v : Scope) (n : ℕ) (inside : Inside) (inner : AreLocal inside) (whole : Bool) → Consumes (conjunction bounded v n inside whole)
-unfolding conjunction
-consumes_conjunction bounded v n inside inner whole = consumes_bind _ _ (consumes_negated bounded v n inside inner whole) (λ x. local_conjunction_from bounded v n inside inner whole x)
-
 pub local_or_behind : (bounded : Bool) (v : Scope) (n : ℕ) (inside : Inside) (inner : AreLocal inside) (whole : Bool) (a : List ShapeExpr × Bool) → IsLocal (or_behind bounded v n inside whole a)
 unfolding or_behind
 local_or_behind bounded v n inside inner whole a = local_bind _ _ (local_one _ _) (λ _. local_bind _ _ (local_conjunction bounded v n inside inner whole) (λ x. local_give _))
@@ -222,18 +190,9 @@ pub local_expression : (bounded : Bool) (v : Scope) (n : ℕ) (inside : Inside) 
 unfolding expression
 local_expression bounded v n inside inner whole = local_bind _ _ (local_conjunction bounded v n inside inner whole) (λ x. local_disjunction_from bounded v n inside inner whole x)
 
-pub consumes_expression : (bounded : Bool) (v : Scope) (n : ℕ) (inside : Inside) (inner : AreLocal inside) (whole : Bool) → Consumes (expression bounded v n inside whole)
-unfolding expression
-consumes_expression bounded v n inside inner whole = consumes_bind _ _ (consumes_conjunction bounded v n inside inner whole) (λ x. local_disjunction_from bounded v n inside inner whole x)
-
 pub local_most : (bounded : Bool) (v : Scope) (n : ℕ) (inside : Inside) (inner : AreLocal inside) (least : ℕ) → IsLocal (most bounded v n inside least)
 unfolding most
 local_most bounded v n inside inner least = local_bind _ _ (local_one _ _)
-    (λ _. local_either _ _ _ (local_bind _ _ (local_one _ _) (λ _. local_give _)) (local_either _ _ _ (local_bind _ _ (local_one _ _) (λ m. local_give _)) (local_give _)))
-
-pub consumes_most : (bounded : Bool) (v : Scope) (n : ℕ) (inside : Inside) (inner : AreLocal inside) (least : ℕ) → Consumes (most bounded v n inside least)
-unfolding most
-consumes_most bounded v n inside inner least = consumes_bind _ _ (consumes_one _ _)
     (λ _. local_either _ _ _ (local_bind _ _ (local_one _ _) (λ _. local_give _)) (local_either _ _ _ (local_bind _ _ (local_one _ _) (λ m. local_give _)) (local_give _)))
 
 pub local_limits : (bounded : Bool) (v : Scope) (n : ℕ) (inside : Inside) (inner : AreLocal inside) → IsLocal (limits bounded v n inside)
@@ -241,18 +200,9 @@ unfolding limits
 local_limits bounded v n inside inner = local_bind _ _ (local_one _ _)
     (λ least. local_bind _ _ (local_either _ _ _ (local_most bounded v n inside inner _) (local_give _)) (λ b. local_bind _ _ (local_one _ _) (λ _. local_give _)))
 
-pub consumes_limits : (bounded : Bool) (v : Scope) (n : ℕ) (inside : Inside) (inner : AreLocal inside) → Consumes (limits bounded v n inside)
-unfolding limits
-consumes_limits bounded v n inside inner = consumes_bind _ _ (consumes_one _ _)
-    (λ least. local_bind _ _ (local_either _ _ _ (local_most bounded v n inside inner _) (local_give _)) (λ b. local_bind _ _ (local_one _ _) (λ _. local_give _)))
-
 pub local_short : (bounded : Bool) (v : Scope) (n : ℕ) (inside : Inside) (inner : AreLocal inside) (a : Symbol) (c : Cardinality) → IsLocal (short bounded v n inside a c)
 unfolding short
 local_short bounded v n inside inner a c = local_bind _ _ (local_one _ _) (λ _. local_give _)
-
-pub consumes_short : (bounded : Bool) (v : Scope) (n : ℕ) (inside : Inside) (inner : AreLocal inside) (a : Symbol) (c : Cardinality) → Consumes (short bounded v n inside a c)
-unfolding short
-consumes_short bounded v n inside inner a c = consumes_bind _ _ (consumes_one _ _) (λ _. local_give _)
 
 pub local_cardinality : (bounded : Bool) (v : Scope) (n : ℕ) (inside : Inside) (inner : AreLocal inside) → IsLocal (cardinality bounded v n inside)
 unfolding cardinality
@@ -271,18 +221,9 @@ pub local_dot_value : (bounded : Bool) (v : Scope) (n : ℕ) (inside : Inside) (
 unfolding dot_value
 local_dot_value bounded v n inside inner = local_bind _ _ (local_one _ _) (λ _. local_either _ _ _ (local_further bounded v n inside inner _) (local_give _))
 
-pub consumes_dot_value : (bounded : Bool) (v : Scope) (n : ℕ) (inside : Inside) (inner : AreLocal inside) → Consumes (dot_value bounded v n inside)
-unfolding dot_value
-consumes_dot_value bounded v n inside inner = consumes_bind _ _ (consumes_one _ _) (λ _. local_either _ _ _ (local_further bounded v n inside inner _) (local_give _))
-
 pub local_arc_value : (bounded : Bool) (v : Scope) (n : ℕ) (inside : Inside) (inner : AreLocal inside) → IsLocal (arc_value bounded v n inside)
 unfolding arc_value
 local_arc_value bounded v n inside inner = local_either _ _ _ (local_dot_value bounded v n inside inner) (local_bind _ _ (local_expression bounded v n inside inner false) (λ y. local_give _))
-
-pub consumes_arc_value : (bounded : Bool) (v : Scope) (n : ℕ) (inside : Inside) (inner : AreLocal inside) → Consumes (arc_value bounded v n inside)
-unfolding arc_value
-consumes_arc_value bounded v n inside inner = consumes_either _ _ _ (consumes_dot_value bounded v n inside inner)
-    (consumes_bind _ _ (consumes_expression bounded v n inside inner false) (λ y. local_give _))
 
 pub local_cardinality_behind : (bounded : Bool) (v : Scope) (n : ℕ) (inside : Inside) (inner : AreLocal inside) (flag : Bool) → IsLocal (cardinality_behind bounded v n inside flag)
 unfolding cardinality_behind
@@ -298,46 +239,23 @@ unfolding an_arc
 local_an_arc bounded v n inside inner l = local_bind _ _ (local_direction bounded v n inside inner)
     (λ inverse. local_bind _ _ (local_predicate v) (λ p. local_bind _ _ (local_arc_value bounded v n inside inner) (λ x. local_bind _ _ (local_cardinality_behind bounded v n inside inner _) (λ c. local_bind _ _ (local_annotations v) (λ _. local_give _)))))
 
-pub consumes_an_arc : (bounded : Bool) (v : Scope) (n : ℕ) (inside : Inside) (inner : AreLocal inside) (l : Option Label) → Consumes (an_arc bounded v n inside l)
-unfolding an_arc
-consumes_an_arc bounded v n inside inner l = consumes_then _ _ (local_direction bounded v n inside inner)
-    (λ inverse. consumes_bind _ _ (consumes_predicate v) (λ p. local_bind _ _ (local_arc_value bounded v n inside inner) (λ x. local_bind _ _ (local_cardinality_behind bounded v n inside inner _) (λ c. local_bind _ _ (local_annotations v) (λ _. local_give _)))))
-
 pub local_grouped : (bounded : Bool) (v : Scope) (n : ℕ) (inside : Inside) (inner : AreLocal inside) (l : Option Label) → IsLocal (grouped bounded v n inside l)
 unfolding grouped
 local_grouped bounded v n inside inner l = local_bind _ _ (local_opens _ n)
-    (λ _. local_bind _ _ (inner.triple_expr) (λ t. local_bind _ _ (local_one _ _) (λ _. local_bind _ _ (local_cardinality bounded v n inside inner) (λ c. local_bind _ _ (local_annotations v) (λ _. local_give _)))))
-
-pub consumes_grouped : (bounded : Bool) (v : Scope) (n : ℕ) (inside : Inside) (inner : AreLocal inside) (l : Option Label) → Consumes (grouped bounded v n inside l)
-unfolding grouped
-consumes_grouped bounded v n inside inner l = consumes_bind _ _ (consumes_opens _ n)
     (λ _. local_bind _ _ (inner.triple_expr) (λ t. local_bind _ _ (local_one _ _) (λ _. local_bind _ _ (local_cardinality bounded v n inside inner) (λ c. local_bind _ _ (local_annotations v) (λ _. local_give _)))))
 
 pub local_unlabelled : (bounded : Bool) (v : Scope) (n : ℕ) (inside : Inside) (inner : AreLocal inside) (l : Option Label) → IsLocal (unlabelled bounded v n inside l)
 unfolding unlabelled
 local_unlabelled bounded v n inside inner l = local_either _ _ _ (local_grouped bounded v n inside inner l) (local_an_arc bounded v n inside inner l)
 
-pub consumes_unlabelled : (bounded : Bool) (v : Scope) (n : ℕ) (inside : Inside) (inner : AreLocal inside) (l : Option Label) → Consumes (unlabelled bounded v n inside l)
-unfolding unlabelled
-consumes_unlabelled bounded v n inside inner l = consumes_either _ _ _ (consumes_grouped bounded v n inside inner l) (consumes_an_arc bounded v n inside inner l)
-
 pub local_inclusion : (bounded : Bool) (v : Scope) (n : ℕ) (inside : Inside) (inner : AreLocal inside) → IsLocal (inclusion bounded v n inside)
 unfolding inclusion
 local_inclusion bounded v n inside inner = local_bind _ _ (local_one _ _) (λ _. local_bind _ _ (local_label v) (λ l. local_give _))
-
-pub consumes_inclusion : (bounded : Bool) (v : Scope) (n : ℕ) (inside : Inside) (inner : AreLocal inside) → Consumes (inclusion bounded v n inside)
-unfolding inclusion
-consumes_inclusion bounded v n inside inner = consumes_bind _ _ (consumes_one _ _) (λ _. local_bind _ _ (local_label v) (λ l. local_give _))
 
 pub local_unary : (bounded : Bool) (v : Scope) (n : ℕ) (inside : Inside) (inner : AreLocal inside) → IsLocal (unary bounded v n inside)
 unfolding unary
 local_unary bounded v n inside inner = local_either _ _ _ (local_inclusion bounded v n inside inner)
     (local_either _ _ _ (local_bind _ _ (local_one _ _) (λ _. local_bind _ _ (local_label v) (λ l. local_unlabelled bounded v n inside inner _))) (local_unlabelled bounded v n inside inner None))
-
-pub consumes_unary : (bounded : Bool) (v : Scope) (n : ℕ) (inside : Inside) (inner : AreLocal inside) → Consumes (unary bounded v n inside)
-unfolding unary
-consumes_unary bounded v n inside inner = consumes_either _ _ _ (consumes_inclusion bounded v n inside inner)
-    (consumes_either _ _ _ (consumes_bind _ _ (consumes_one _ _) (λ _. local_bind _ _ (local_label v) (λ l. local_unlabelled bounded v n inside inner _))) (consumes_unlabelled bounded v n inside inner None))
 
 pub local_semicolon : (bounded : Bool) (v : Scope) (n : ℕ) (inside : Inside) (inner : AreLocal inside) (a : List TripleExpr × Bool) → IsLocal (semicolon bounded v n inside a)
 unfolding semicolon
@@ -356,11 +274,6 @@ unfolding group
 local_group bounded v n inside inner = local_bind _ _ (local_unary bounded v n inside inner)
     (λ t. local_bind _ _ (local_loop _ _ (consumes_semicolon bounded v n inside inner) (local_semicolon bounded v n inside inner) _) (λ a. local_give _))
 
-pub consumes_group : (bounded : Bool) (v : Scope) (n : ℕ) (inside : Inside) (inner : AreLocal inside) → Consumes (group bounded v n inside)
-unfolding group
-consumes_group bounded v n inside inner = consumes_bind _ _ (consumes_unary bounded v n inside inner)
-    (λ t. local_bind _ _ (local_loop _ _ (consumes_semicolon bounded v n inside inner) (local_semicolon bounded v n inside inner) _) (λ a. local_give _))
-
 pub local_bar : (bounded : Bool) (v : Scope) (n : ℕ) (inside : Inside) (inner : AreLocal inside) (us : List TripleExpr) → IsLocal (bar bounded v n inside us)
 unfolding bar
 local_bar bounded v n inside inner us = local_bind _ _ (local_one _ _) (λ _. local_bind _ _ (local_group bounded v n inside inner) (λ t. local_give _))
@@ -372,11 +285,6 @@ consumes_bar bounded v n inside inner us = consumes_bind _ _ (consumes_one _ _) 
 pub local_alternatives : (bounded : Bool) (v : Scope) (n : ℕ) (inside : Inside) (inner : AreLocal inside) → IsLocal (alternatives bounded v n inside)
 unfolding alternatives
 local_alternatives bounded v n inside inner = local_bind _ _ (local_group bounded v n inside inner)
-    (λ t. local_bind _ _ (local_loop _ _ (consumes_bar bounded v n inside inner) (local_bar bounded v n inside inner) _) (λ us. local_give _))
-
-pub consumes_alternatives : (bounded : Bool) (v : Scope) (n : ℕ) (inside : Inside) (inner : AreLocal inside) → Consumes (alternatives bounded v n inside)
-unfolding alternatives
-consumes_alternatives bounded v n inside inner = consumes_bind _ _ (consumes_group bounded v n inside inner)
     (λ t. local_bind _ _ (local_loop _ _ (consumes_bar bounded v n inside inner) (local_bar bounded v n inside inner) _) (λ us. local_give _))
 
 -- at each depth

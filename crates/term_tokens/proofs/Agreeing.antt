@@ -32,7 +32,8 @@ module _ (Common : Fault → Type 0) (Alone : Fault → Ahead Spelled → Type 0
 
   -- where the IRIs agree, so do the literals of that datatype
   pub typed_by_agrees : (t : Spelled) (lex : List ℕ) (c d : Result (List ℕ) Fault) → Agree t c d → Agree t (typed_by lex c) (typed_by lex d)
-  typed_by_agrees t lex (Ok i) d e = subst (λ (v : Result (List ℕ) Fault). Agree t (typed_by lex (Ok i)) (typed_by lex v)) (sym e) (not_lang t (typed lex (chars i)) (same_text (chars i) rdf_lang_string))
+  typed_by_agrees t lex (Ok i) d e = subst (λ (v : Result (List ℕ) Fault). Agree t (typed_by lex (Ok i)) (typed_by lex v)) (sym e)
+      (not_lang t (typed lex (chars i)) (same_text (chars i) rdf_lang_string))
   typed_by_agrees t lex (Err f) d (inl (c, e)) = inl (c, ap (typed_by lex) e)
   typed_by_agrees t lex (Err f) d (inr h) = inr h
 

@@ -60,7 +60,8 @@ resolved_clean k v t iri (Some text) h l f e =
     let whole = resolved_text v.base (encode_utf8_all text) in
     subst Clean (limited_is k whole whole iri e) (clean_resolved v.base (encode_utf8_all text) h.base (clean_meaning t text l (text_of_is t text f)))
 
-joined_clean : (k : Bool) (v : Scope) (t : Spelled) (iri : List ℕ) (o p : Option (List ℕ)) → PlainNames v → on_one_line t.kind ≡ true → text_of t ≡ o → v.prefixes (prefix_of t) ≡ p → joined k o p ≡ Ok iri → Clean iri
+joined_clean : (k : Bool) (v : Scope) (t : Spelled) (iri : List ℕ) (o p : Option (List ℕ)) → PlainNames v → on_one_line t.kind ≡ true → text_of t ≡ o →
+    v.prefixes (prefix_of t) ≡ p → joined k o p ≡ Ok iri → Clean iri
 joined_clean k v t iri None p h l f g e = absurd (err_is_not_ok Syntax iri e)
 joined_clean k v t iri (Some local) None h l f g e = absurd (err_is_not_ok Prefix iri e)
 joined_clean k v t iri (Some local) (Some front) h l f g e =

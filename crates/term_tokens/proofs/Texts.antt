@@ -59,14 +59,16 @@ string_answers k res t s e f h =
     rw (e, f) (subst (λ (b : List ℕ). Answers (λ (text : List ℕ). text) res (limited k b (chars (string_bytes s)))) (sym (encodes-chars (string_bytes s) (IsUtf8-string_bytes s))) h)
 
 -- an IRI that is not resolved
-pub absolute_answers : (k : Bool) (res : Result (String Global) Stop) (t : Spelled) (s : String Global) (iri : List ℕ) (r : Bool) → is_symbol symbol.IriRef t ≡ true → text_of t ≡ Some (chars (string_bytes s)) → iri ≡ string_bytes s
+pub absolute_answers : (k : Bool) (res : Result (String Global) Stop) (t : Spelled) (s : String Global) (iri : List ℕ) (r : Bool) →
+    is_symbol symbol.IriRef t ≡ true → text_of t ≡ Some (chars (string_bytes s)) → iri ≡ string_bytes s
     → r ≡ is_some (scheme_of iri) → r ≡ true → Answers string_bytes res (limited k (string_bytes s) (string_bytes s)) → Answers string_bytes res (absolute_of k t)
 unfolding absolute_of
 absolute_answers k res t s iri r e f same is scheme h =
     let some : is_some (scheme_of (string_bytes s)) ≡ true = ap (λ (b : List ℕ). is_some (scheme_of b)) (sym same) ∙ sym is ∙ scheme in
     rw (e, f, encodes-chars (string_bytes s) (IsUtf8-string_bytes s), some) h
 
-pub relative_answers : (k : Bool) (t : Spelled) (s : String Global) (iri : List ℕ) (r : Bool) → is_symbol symbol.IriRef t ≡ true → text_of t ≡ Some (chars (string_bytes s)) → iri ≡ string_bytes s → r ≡ is_some (scheme_of iri) → r ≡ false
+pub relative_answers : (k : Bool) (t : Spelled) (s : String Global) (iri : List ℕ) (r : Bool) → is_symbol symbol.IriRef t ≡ true →
+    text_of t ≡ Some (chars (string_bytes s)) → iri ≡ string_bytes s → r ≡ is_some (scheme_of iri) → r ≡ false
     → absolute_of k t ≡ Err Syntax
 unfolding absolute_of
 relative_answers k t s iri r e f same is scheme =

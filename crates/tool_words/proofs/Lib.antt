@@ -1,4 +1,3 @@
-pub mod Covered
 pub mod Handed
 pub mod Once
 pub mod Exactly

@@ -9,10 +9,9 @@ use Rattle.rdf_cursor.specs.Readers.{Answer, loop, finish}
 use Rattle.rdf_cursor.proofs.Answers.{err_is}
 use Rattle.rdf_cursor.proofs.Loops.{loop_goes, loop_fails, loop_ends}
 use Rattle.rdf_lex.specs.Tokens.{Spelled}
-use Rattle.graph_index.specs.declared.loading.LoadError.{LoadError}
 use Rattle.graph_index.specs.declared.loading.LoadError.TheVariants as load
 use Rattle.graph_index.specs.declared.loading.TermTriple.{TermTriple}
-use Rattle.graph_index.specs.Loading.{Loads, nothing}
+use Rattle.graph_index.specs.Loading.{nothing}
 use Rattle.graph_index.proofs.Loaded.{loads_append}
 use Rattle.rdf_cursor.specs.declared.stops.Fault.{Fault}
 use Rattle.rdf_cursor.specs.declared.stops.Fault.TheVariants.{Syntax}
@@ -25,8 +24,7 @@ use Rattle.rdf_cursor.specs.Stops.{StopsAs}
 use Rattle.turtle_reader.specs.Grammar.{Behind}
 use Rattle.turtle_reader.specs.Reading.{statement, further, document}
 use Rattle.turtle_reader.specs.States.{DocumentScope, begun}
-use Rattle.data_loading.specs.Loads.{Fills, LoadsAll}
-use Rattle.data_loading.specs.Refusals.{from_stop, from_load}
+use Rattle.data_loading.specs.Refusals.{from_stop}
 use Rattle.data_loading.proofs.Filling.{fills_behind}
 use Rattle.turtle_reader.specs.Steps.{Steps, Comes, Ends}
 use Rattle.rdf_cursor.specs.Symbols.{is_any}
@@ -154,24 +152,6 @@ module _ (v : DocumentScope) (ahead : Ahead Spelled) (terms : List Term) (graph 
         cause = subst (λ (g : Fault). Causes (bare w) g rest) (finish_syntax rest (f, rest) s) tt;
         limit = subst (λ (g : Fault). IsAtLimit w g []) (finish_syntax rest (f, rest) s) tt;
       })
-
--- one statement
-pub statement_stops : (v w : DocumentScope) (ahead rest : Ahead Spelled) (e : Stop) (r : Refusal) (terms : List Term) (graph : List Triple) →
-    StopsAs e rest (statement true inner_depth v ahead) → r ≡ from_stop e → Steps (Err r) v ahead w rest terms graph terms graph
-statement_stops v w ahead rest stop.Memory r terms graph s is = subst (λ (z : Refusal). Steps (Err z) v ahead w rest terms graph terms graph) (sym is) tt
-statement_stops v w ahead rest (stop.Fault f) r terms graph s is = subst (λ (z : Refusal). Steps (Err z) v ahead w rest terms graph terms graph) (sym is) s
-
-pub loads_stop : (v u w : DocumentScope) (ahead rest : Ahead Spelled) (ts : List TermTriple) (e : LoadError) (r : Refusal) (terms new_terms : List Term) (graph new_graph : List Triple) →
-    statement true inner_depth v ahead ≡ Ok (u, rest) → ts ≡ u.triples
-    → LoadsAll (Err e) terms graph ts new_terms new_graph → r ≡ from_load e → Steps (Err r) v ahead w rest terms graph new_terms new_graph
-loads_stop v u w ahead rest ts load.Memory r terms new_terms graph new_graph s same l is = subst (λ (z : Refusal). Steps (Err z) v ahead w rest terms graph new_terms new_graph) (sym is) tt
-loads_stop v u w ahead rest ts load.Full r terms new_terms graph new_graph s same l is =
-    subst (λ (z : Refusal). Steps (Err z) v ahead w rest terms graph new_terms new_graph) (sym is) (u, s, subst (Fills terms graph) same l)
-
-pub statement_steps : (v u w : DocumentScope) (ahead rest : Ahead Spelled) (ts : List TermTriple) (terms new_terms : List Term) (graph new_graph : List Triple) → statement true inner_depth v ahead ≡
-    Ok (u, rest) → ts ≡ u.triples → w ≡ begun u
-    → Loads terms graph ts new_terms new_graph → Steps (Ok tt) v ahead w rest terms graph new_terms new_graph
-statement_steps v u w ahead rest ts terms new_terms graph new_graph s same is l = (u, s, is, subst (λ (z : List TermTriple). Loads terms graph z new_terms new_graph) same l)
 
 -- what is as it was has grown by nothing
 pub same_grown : {X : Type 0} (xs : List X) → (more : List X) × (xs ≡ xs ++ more)

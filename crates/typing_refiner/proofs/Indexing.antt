@@ -47,9 +47,6 @@ added_at f (x ∷ xs) (suc at) number d v lt is (suc i) j =
 
 -- ---- the lists of some pairs get a number more
 
-pub none_added : (pairs : List Pair) (lists : List (List ℕ)) (number : ℕ) → AreAddedAt pairs lists [] number lists
-none_added pairs lists number i j = same_lists _ _ (λ t. let ((q, at, (k, l, e)), n) = t in omega (arith, l))
-
 module _ (pairs : List Pair) (old now : List (List ℕ)) (found : List Pair) (number k : ℕ) (d : Pair) (inside : k < length found) (h : AreAddedAt pairs old (take k found) number now) where
   pub one_added :
       (distinct : AreDistinct pairs) (at : ℕ) (new : List (List ℕ)) → slice_get pairs at ≡ Some (get_or found k d) → IsAddedAt now at number new →

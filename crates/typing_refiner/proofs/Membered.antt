@@ -4,24 +4,11 @@ use Rattle.std.proofs.lemmas.Bool.{cases_eq}
 use Rattle.std.proofs.lemmas.Option.{slice_get-get_or, slice_get-map}
 use Rattle.std.specs.Prelude.{◌↔◌, Contains, Some, option_map, slice_get}
 use Rattle.typing_refiner.specs.declared.ground.Ground.{Ground}
-use Rattle.typing_refiner.specs.Building.{AreEmpty, HasAt, IsAddedAt}
+use Rattle.typing_refiner.specs.Building.{AreEmpty, HasAt}
 use Rattle.typing_refiner.specs.Ready.{IsAmong, IsOpen}
 
 abbrev pub IsMoreAt : Ground → List (List ℕ) → ℕ → List (List ℕ) → Type 0
 IsMoreAt h old at new = (k i : ℕ) → HasAt new k i ↔ (HasAt old k i ⊎ ((i ≡ at) × IsOpen h k i))
-
--- an open pair goes behind those of its stratum
-pub member_added : (h : Ground) (old new : List (List ℕ)) (k0 at : ℕ) → IsOpen h k0 at → IsAddedAt old k0 at new → ((k : ℕ) → IsOpen h k at → k ≡ k0) → IsMoreAt h old at new
-member_added h old new k0 at is_open added one k i = (
-  (λ c. elim ((added k i).0 c) [
-    | inl o ↦ inl o
-    | inr n ↦ inr (n.1, subst (λ z. IsOpen h z i) (sym n.0) (subst (λ z. IsOpen h k0 z) (sym n.1) is_open))
-  ]),
-  (λ c. elim c [
-    | inl o ↦ (added k i).1 (inl o)
-    | inr n ↦ (added k i).1 (inr (one k (subst (λ z. IsOpen h k z) n.0 n.1), n.0))
-  ]),
-)
 
 -- a pair that is not open leaves them
 pub member_passed : (h : Ground) (old : List (List ℕ)) (at : ℕ) → ((k : ℕ) → ¬ IsOpen h k at) → IsMoreAt h old at old

@@ -78,9 +78,6 @@ total_part φ k (suc n) le = elim (cases_eq k (suc n)) [
   | inr ne ↦ (let deeper = total_part φ k n (omega arith) in omega (arith, deeper))
 ]
 
-pub total_ends : (φ : ℕ → ℕ) (k n : ℕ) → k ≡ n → total φ k ≡ total φ n
-total_ends φ k n e = ap (total φ) e
-
 pub spent_all : (φ : ℕ → ℕ) (start now k n : ℕ) → k ≤ n → now ≤ start + total φ k → now ≤ start + total φ n
 spent_all φ start now k n le h = let p = total_part φ k n le in omega (arith, p, h)
 

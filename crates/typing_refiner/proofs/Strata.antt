@@ -4,8 +4,8 @@ use Rattle.std.proofs.lemmas.List.{append-nil, take_more}
 use Rattle.std.proofs.lemmas.Bool.{cases_eq}
 use Rattle.std.proofs.lemmas.List.Elements.{Contains-append_cases, Contains-append_left, Contains-append_right}
 use Rattle.lists.proofs.Members.{in_one, is_first, not_in_none}
-use Rattle.schema_tree.specs.Removal.{AreRefinedBelow, IsRefined}
-use Rattle.removal_laws.specs.Marks.{KnowSame, known_by, marked, outside}
+use Rattle.schema_tree.specs.Removal.{AreRefinedBelow}
+use Rattle.removal_laws.specs.Marks.{known_by, marked, outside}
 use Rattle.removal_laws.proofs.Marking.{to_mark}
 use Rattle.std.proofs.lemmas.Option.{slice_get_within}
 use Rattle.std.specs.Prelude.{◌↔◌, Contains, Some, slice_get}
@@ -130,15 +130,6 @@ from_first : (h : Ground) (first : Known) → first.yes ≡ [] → first.no ≡ 
     AreRefinedBelow h.schema.now h.terms.now h.graph.now.triples h.strata.now h.table.now h.budget k known
 from_first h first yes_none no_none zero known (a, b) = (a ∙ yes_none, b ∙ no_none)
 from_first h first yes_none no_none (suc k) known (lower, gone, kept, before, r, a, b) = (lower, gone, kept, from_first h first yes_none no_none k lower before, r, a, b)
-
--- what refine_strata gives where nothing is kept: a refinement, and the marks know the same
-pub is_refined :
-    (h : Ground) (old marks : List Verdict) → length old ≡ length h.table.now → ((i : ℕ) → i < length old → slice_get old i ≡ Some Unknown) →
-    IsRefinedOver h nothing_known (known_of h nothing_known old) (suc (top_of h.strata.now)) marks →
-    (known : Known) × IsRefined h.schema.now h.terms.now h.graph.now.triples h.strata.now h.table.now h.budget known × KnowSame (known_of h nothing_known marks) known
-is_refined h old marks same unknown r =
-    let none = first_is h old same unknown in
-    (r.known, from_first h (known_of h nothing_known old) none.0 none.1 (suc (top_of h.strata.now)) r.known r.are, r.before.knows)
 
 -- ---- over what is kept, the marks know what a refinement says
 

@@ -65,7 +65,8 @@ apart_more kept stem apart upto none i j d before inside =
           (subst (λ z. (is_upto z (get_or kept j d) ≡ true) × (¬ HasPrefix z (get_or kept j d))) (sym first) (apart i j d before lt))
       | inr le ↦
           let at : j ≡ length kept = omega (arith, le, long, inside) in
-          subst (λ z. (is_upto (get_or (kept ++ stem ∷ []) i d) z ≡ true) × (¬ HasPrefix (get_or (kept ++ stem ∷ []) i d) z)) (sym (ap (λ k. get_or (kept ++ stem ∷ []) k d) at ∙ get_or-append_seam kept stem [] d))
+          subst (λ z. (is_upto (get_or (kept ++ stem ∷ []) i d) z ≡ true) × (¬ HasPrefix (get_or (kept ++ stem ∷ []) i d) z))
+          (sym (ap (λ k. get_or (kept ++ stem ∷ []) k d) at ∙ get_or-append_seam kept stem [] d))
           (subst (λ z. (is_upto z stem ≡ true) × (¬ HasPrefix z stem)) (sym first)
           (upto i d (omega (arith, before, at)), none_begins kept stem i d apart upto none (omega (arith, before, at))))
     ]
@@ -90,7 +91,8 @@ AreInOrder all = (i j : ℕ) (d : List ℕ) → i ≤ j → j < length all → i
 
 pub in_order : (all : List (List ℕ)) → IsSorted by_bytes all → AreInOrder all
 in_order all sorted i j d upto inside =
-    not_before (get_or all i d) (get_or all j d) (rises_far (lower by_bytes bytes_total) (weak by_bytes bytes_total) all (rises_from_sorted (lower by_bytes bytes_total) (weak by_bytes bytes_total) all sorted) i j d upto inside)
+    not_before (get_or all i d) (get_or all j d)
+    (rises_far (lower by_bytes bytes_total) (weak by_bytes bytes_total) all (rises_from_sorted (lower by_bytes bytes_total) (weak by_bytes bytes_total) all sorted) i j d upto inside)
 
 pub none_kept : (kept : List (List ℕ)) → kept ≡ [] → AreKept [] kept
 none_kept kept none = subst (AreKept []) (sym none) record {
@@ -236,7 +238,8 @@ last_found stems text count apart (within, (below, above)) = (λ h. back (from_l
         (subst (λ z. HasPrefix z text) (sym (get_or-take count stems k s before ∙ is)) begins)
 
 -- what is told of them
-pub found_by_last : (stems slice : List (List ℕ)) (text : List ℕ) (count : ℕ) (b : Bool) → slice ≡ stems → AreApart stems → IsCountUpto slice text count → IsTrue b ↔ BeginsWithLast (take count slice) text → IsTrue b ↔ Any (λ stem. HasPrefix stem text) stems
+pub found_by_last : (stems slice : List (List ℕ)) (text : List ℕ) (count : ℕ) (b : Bool) → slice ≡ stems → AreApart stems → IsCountUpto slice text count →
+    IsTrue b ↔ BeginsWithLast (take count slice) text → IsTrue b ↔ Any (λ stem. HasPrefix stem text) stems
 found_by_last stems slice text count b same apart counted told =
     let found = last_found stems text count apart (subst (λ v. IsCountUpto v text count) same counted) in
     let last = subst (λ v. IsTrue b ↔ BeginsWithLast (take count v) text) same told in

@@ -70,7 +70,8 @@ prefix_upto stem text (rest, is) =
 pub sandwiched : (stem middle text : List ℕ) → HasPrefix stem text → is_upto stem middle ≡ true → is_upto middle text ≡ true → HasPrefix stem middle
 sandwiched stem middle text (rest, is) low high =
     let bytes : encode_utf8_all text ≡ encode_utf8_all stem ++ encode_utf8_all rest = ap encode_utf8_all is ∙ encodes-append stem rest in
-    let (left, begins) = between (encode_utf8_all stem) (encode_utf8_all middle) (encode_utf8_all rest) (opened _ low) (ap (λ z. is_lt (compare z (encode_utf8_all middle))) (sym bytes) ∙ opened _ high) in
+    let (left, begins) = between (encode_utf8_all stem) (encode_utf8_all middle) (encode_utf8_all rest) (opened _ low)
+    (ap (λ z. is_lt (compare z (encode_utf8_all middle))) (sym bytes) ∙ opened _ high) in
     let found = behind middle stem left begins in
     (found.0, found.1)
 
@@ -79,9 +80,6 @@ bytes_total = on_total encode_utf8_all nat_list_cmp_total
 
 pub upto_chain : (a b c : List ℕ) → is_upto a b ≡ true → is_upto b c ≡ true → is_upto a c ≡ true
 upto_chain a b c low high = closed _ ((weak by_bytes bytes_total).chain c b a (opened _ high) (opened _ low))
-
-pub upto_itself : (a : List ℕ) → is_upto a a ≡ true
-upto_itself a = closed _ (ap is_lt (tied_itself bytes_total a))
 
 pub not_before : (a b : List ℕ) → is_lt (by_bytes b a) ≡ false → is_upto a b ≡ true
 not_before a b h = closed _ h

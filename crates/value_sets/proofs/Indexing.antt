@@ -8,7 +8,6 @@ use Rattle.std.specs.Option.{IsSomeAnd}
 use Rattle.std.specs.Prelude.{slice_get}
 use Rattle.lists.specs.Additions.{Adds}
 use Rattle.lists.proofs.Additions.{holds_added, keeps_added}
-use Rattle.lists.proofs.Members.{not_in_none}
 use Rattle.rdf_terms.specs.declared.terms.Term.{Term}
 use Rattle.rdf_terms.specs.declared.terms.Term.TheVariants as Terms
 use Rattle.value_sets.specs.Indexed.{AreStemsFor, BeginsWithOne, HoldOthers, HoldsAt, IsByKind, IsIndexOf, IsOther, TakesUp}
@@ -38,7 +37,8 @@ module _ {X : Type 0} (made : X → Value) where
   )
 
   -- a value of the kind is taken up
-  added_to : (old new : List X) (values : List Value) (value : Value) (x : X) → value ≡ made x → ((y z : X) → made y ≡ made z → y ≡ z) → Adds old x new → AreOf old values → AreOf new (values ++ value ∷ [])
+  added_to : (old new : List X) (values : List Value) (value : Value) (x : X) → value ≡ made x → ((y z : X) → made y ≡ made z → y ≡ z) → Adds old x new →
+      AreOf old values → AreOf new (values ++ value ∷ [])
   added_to old new values value x is one adds of y = (λ h. there (from adds h), λ h. back (Contains-push_cases values value (made y) h))
     where
       from : Adds old x new → Contains new y → Contains old y ⊎ (x ≡ y)
@@ -54,7 +54,8 @@ module _ {X : Type 0} (made : X → Value) where
       back (inr e) = subst (λ z. Contains new z) (one x y (sym is ∙ e)) (holds_added old new x adds)
 
   -- and put behind the items
-  pushed_to : (old new : List X) (values : List Value) (value : Value) (x : X) → value ≡ made x → ((y z : X) → made y ≡ made z → y ≡ z) → new ≡ old ++ x ∷ [] → AreOf old values → AreOf new (values ++ value ∷ [])
+  pushed_to : (old new : List X) (values : List Value) (value : Value) (x : X) → value ≡ made x → ((y z : X) → made y ≡ made z → y ≡ z) → new ≡ old ++ x ∷ [] →
+      AreOf old values → AreOf new (values ++ value ∷ [])
   pushed_to old new values value x is one more of y = (
     λ h. elim (Contains-push_cases old x y (subst (λ v. Contains v y) more h)) [
       | inl held ↦ Contains-append_left values (value ∷ []) (made y) ((of y).0 held)
@@ -90,18 +91,6 @@ one_other values value place old new long more hold i v at other = subst (λ z. 
   | inr (n, e) ↦ subst (λ k. Contains (old ++ place ∷ []) k) (sym long ∙ sym n) (Contains-push old place)
 ])
 
--- no value
-pub none_by_kind : (kinds : ValuesByKind) (values : List Value) → kinds.terms.keys ≡ [] → kinds.iri_stems.items ≡ [] → kinds.lit_stems.items ≡ [] → IsByKind (take 0 values) kinds
-none_by_kind kinds values terms iris lits = record {
-  terms = λ t. empty t (Values.Term t) kinds.terms.keys terms;
-  iri_stems = λ s. empty s (Values.IriStem s) kinds.iri_stems.items iris;
-  lit_stems = λ s. empty s (Values.LitStem s) kinds.lit_stems.items lits;
-  others = λ place value at other. absurd cc;
-}
-  where
-    empty : {X : Type 0} (x : X) (value : Value) (xs : List X) → xs ≡ [] → Contains xs x ↔ Contains {X = Value} [] value
-    empty x value xs none = (λ h. absurd (not_in_none x (subst (λ v. Contains v x) none h)), λ h. absurd (not_in_none value h))
-
 term_only : (t u : Term) → Values.Term t ≡ Values.Term u → t ≡ u
 term_only t u e = cc
 
@@ -111,7 +100,8 @@ iri_only s t e = cc
 lit_only : (s t : List ℕ) → Values.LitStem s ≡ Values.LitStem t → s ≡ t
 lit_only s t e = cc
 
-pub term_taken : (old new : ValuesByKind) (place : ℕ) (value : Value) (t : Term) → value ≡ Values.Term t → Adds old.terms.keys t new.terms.keys → new.iri_stems.items ≡ old.iri_stems.items → new.lit_stems.items ≡ old.lit_stems.items → new.others.items ≡ old.others.items → TakesUp old place value new
+pub term_taken : (old new : ValuesByKind) (place : ℕ) (value : Value) (t : Term) → value ≡ Values.Term t → Adds old.terms.keys t new.terms.keys →
+    new.iri_stems.items ≡ old.iri_stems.items → new.lit_stems.items ≡ old.lit_stems.items → new.others.items ≡ old.others.items → TakesUp old place value new
 term_taken old new place value t is adds iris lits others values long kinds = record {
   terms = added_to Values.Term old.terms.keys new.terms.keys values value t is term_only adds kinds.terms;
   iri_stems = passed_by Values.IriStem old.iri_stems.items new.iri_stems.items values value iris (λ s e. let both : Values.Term t ≡ Values.IriStem s = sym is ∙ e in cc) kinds.iri_stems;
@@ -119,7 +109,8 @@ term_taken old new place value t is adds iris lits others values long kinds = re
   others = no_other values value old.others.items new.others.items (λ h. subst IsOther is h) others kinds.others;
 }
 
-pub iri_stem_taken : (old new : ValuesByKind) (place : ℕ) (value : Value) (s : List ℕ) → value ≡ Values.IriStem s → new.terms.keys ≡ old.terms.keys → new.iri_stems.items ≡ old.iri_stems.items ++ s ∷ [] → new.lit_stems.items ≡ old.lit_stems.items → new.others.items ≡ old.others.items → TakesUp old place value new
+pub iri_stem_taken : (old new : ValuesByKind) (place : ℕ) (value : Value) (s : List ℕ) → value ≡ Values.IriStem s → new.terms.keys ≡ old.terms.keys →
+    new.iri_stems.items ≡ old.iri_stems.items ++ s ∷ [] → new.lit_stems.items ≡ old.lit_stems.items → new.others.items ≡ old.others.items → TakesUp old place value new
 iri_stem_taken old new place value s is terms more lits others values long kinds = record {
   terms = passed_by Values.Term old.terms.keys new.terms.keys values value terms (λ t e. let both : Values.IriStem s ≡ Values.Term t = sym is ∙ e in cc) kinds.terms;
   iri_stems = pushed_to Values.IriStem old.iri_stems.items new.iri_stems.items values value s is iri_only more kinds.iri_stems;
@@ -127,7 +118,8 @@ iri_stem_taken old new place value s is terms more lits others values long kinds
   others = no_other values value old.others.items new.others.items (λ h. subst IsOther is h) others kinds.others;
 }
 
-pub lit_stem_taken : (old new : ValuesByKind) (place : ℕ) (value : Value) (s : List ℕ) → value ≡ Values.LitStem s → new.terms.keys ≡ old.terms.keys → new.iri_stems.items ≡ old.iri_stems.items → new.lit_stems.items ≡ old.lit_stems.items ++ s ∷ [] → new.others.items ≡ old.others.items → TakesUp old place value new
+pub lit_stem_taken : (old new : ValuesByKind) (place : ℕ) (value : Value) (s : List ℕ) → value ≡ Values.LitStem s → new.terms.keys ≡ old.terms.keys →
+    new.iri_stems.items ≡ old.iri_stems.items → new.lit_stems.items ≡ old.lit_stems.items ++ s ∷ [] → new.others.items ≡ old.others.items → TakesUp old place value new
 lit_stem_taken old new place value s is terms iris more others values long kinds = record {
   terms = passed_by Values.Term old.terms.keys new.terms.keys values value terms (λ t e. let both : Values.LitStem s ≡ Values.Term t = sym is ∙ e in cc) kinds.terms;
   iri_stems = passed_by Values.IriStem old.iri_stems.items new.iri_stems.items values value iris (λ t e. let both : Values.LitStem s ≡ Values.IriStem t = sym is ∙ e in cc) kinds.iri_stems;
@@ -145,7 +137,8 @@ is_other (Values.IriRange stem es) no_term no_iri no_lit = tt
 is_other (Values.LitRange stem es) no_term no_iri no_lit = tt
 is_other (Values.LangRange stem es) no_term no_iri no_lit = tt
 
-pub other_taken : (old new : ValuesByKind) (place : ℕ) (value : Value) → IsOther value → new.terms.keys ≡ old.terms.keys → new.iri_stems.items ≡ old.iri_stems.items → new.lit_stems.items ≡ old.lit_stems.items → new.others.items ≡ old.others.items ++ place ∷ [] → TakesUp old place value new
+pub other_taken : (old new : ValuesByKind) (place : ℕ) (value : Value) → IsOther value → new.terms.keys ≡ old.terms.keys →
+    new.iri_stems.items ≡ old.iri_stems.items → new.lit_stems.items ≡ old.lit_stems.items → new.others.items ≡ old.others.items ++ place ∷ [] → TakesUp old place value new
 other_taken old new place value other terms iris lits more values long kinds = record {
   terms = passed_by Values.Term old.terms.keys new.terms.keys values value terms (λ t e. subst IsOther e other) kinds.terms;
   iri_stems = passed_by Values.IriStem old.iri_stems.items new.iri_stems.items values value iris (λ s e. subst IsOther e other) kinds.iri_stems;
@@ -154,7 +147,8 @@ other_taken old new place value other terms iris lits more values long kinds = r
 }
 
 -- the next value
-pub next_by_kind : (values : List Value) (i : ℕ) (value : Value) (old new : ValuesByKind) → i < length values → value ≡ get_or values i value → TakesUp old i value new → IsByKind (take i values) old → IsByKind (take (i + 1) values) new
+pub next_by_kind : (values : List Value) (i : ℕ) (value : Value) (old new : ValuesByKind) → i < length values → value ≡ get_or values i value →
+    TakesUp old i value new → IsByKind (take i values) old → IsByKind (take (i + 1) values) new
 next_by_kind values i value old new inside is taken kinds =
     subst (λ vs. IsByKind vs new) (sym (take_more values i value inside ∙ ap (λ z. take i values ++ z ∷ []) (sym is)))
     (taken (take i values) (length-take-le i values (omega (arith, inside))) kinds)
@@ -165,13 +159,15 @@ all_by_kind values i kinds all h = subst (λ vs. IsByKind vs kinds) (take_all i 
 
 -- ---- the index of values by their kinds
 
-begins_with_one : (made : List ℕ → Value) (values : List Value) (stems kept : List (List ℕ)) (text : List ℕ) → ((s : List ℕ) → Contains stems s ↔ Contains values (made s)) → StandFor kept stems → Any (λ s. HasPrefix s text) kept ↔ BeginsWithOne made values text
+begins_with_one : (made : List ℕ → Value) (values : List Value) (stems kept : List (List ℕ)) (text : List ℕ) →
+    ((s : List ℕ) → Contains stems s ↔ Contains values (made s)) → StandFor kept stems → Any (λ s. HasPrefix s text) kept ↔ BeginsWithOne made values text
 begins_with_one made values stems kept text of for = (
   λ h. let (k, s, inside, is, begins) = (for text).0 h in (s, (of s).0 (k, inside, is), begins),
   λ (s, held, begins). let (k, inside, is) = (of s).1 held in (for text).1 (k, s, inside, is, begins),
 )
 
-pub indexed : (values : List Value) (kinds : ValuesByKind) (index : ValueIndex) → IsByKind values kinds → index.terms.keys ≡ kinds.terms.keys → StandFor index.iri_stems.stems.items kinds.iri_stems.items → StandFor index.lit_stems.stems.items kinds.lit_stems.items → index.others.items ≡ kinds.others.items → IsIndexOf values index
+pub indexed : (values : List Value) (kinds : ValuesByKind) (index : ValueIndex) → IsByKind values kinds → index.terms.keys ≡ kinds.terms.keys →
+    StandFor index.iri_stems.stems.items kinds.iri_stems.items → StandFor index.lit_stems.stems.items kinds.lit_stems.items → index.others.items ≡ kinds.others.items → IsIndexOf values index
 indexed values kinds index by terms iris lits others = record {
   terms = λ t. subst (λ v. Contains v t ↔ Contains values (Values.Term t)) (sym terms) (by.terms t);
   iri_stems = λ iri. begins_with_one Values.IriStem values kinds.iri_stems.items index.iri_stems.stems.items iri by.iri_stems iris;
@@ -203,18 +199,21 @@ found_place values places term (k, place, inside, is, holds) = by (slice_get val
 abbrev pub Found : (values : List Value) (index : ValueIndex) (term : Term) → Type 0
 Found values index term = Contains index.terms.keys term ⊎ (AreStemsFor index term ⊎ Any (HoldsAt values term) index.others.items)
 
-at_place : (values : List Value) (index : ValueIndex) (term : Term) (k : ℕ) (value : Value) → IsIndexOf values index → k < length values → get_or values k value ≡ value → IsOther value → IsValue value term → Any (HoldsAt values term) index.others.items
+at_place : (values : List Value) (index : ValueIndex) (term : Term) (k : ℕ) (value : Value) → IsIndexOf values index → k < length values →
+    get_or values k value ≡ value → IsOther value → IsValue value term → Any (HoldsAt values term) index.others.items
 at_place values index term k value h inside is other holds =
     let at : slice_get values k ≡ Some value = slice_get-get_or values k value inside ∙ ap (λ v. Some v) is in
     let (j, within, place) = h.others k value at other in
     (j, k, within, place, subst (λ o. IsSomeAnd o (λ v. IsValue v term)) (sym at) holds)
 
-by_iri_stem : (values : List Value) (index : ValueIndex) (term : Term) (s : List ℕ) → IsIndexOf values index → Contains values (Values.IriStem s) → IsValue (Values.IriStem s) term → AreStemsFor index term
+by_iri_stem : (values : List Value) (index : ValueIndex) (term : Term) (s : List ℕ) → IsIndexOf values index → Contains values (Values.IriStem s) →
+    IsValue (Values.IriStem s) term → AreStemsFor index term
 by_iri_stem values index (Terms.Iri iri) s h held begins = (h.iri_stems iri).1 (s, held, begins)
 by_iri_stem values index (Terms.Lit literal) s h held begins = absurd begins
 by_iri_stem values index (Terms.Blank name) s h held begins = absurd begins
 
-by_lit_stem : (values : List Value) (index : ValueIndex) (term : Term) (s : List ℕ) → IsIndexOf values index → Contains values (Values.LitStem s) → IsValue (Values.LitStem s) term → AreStemsFor index term
+by_lit_stem : (values : List Value) (index : ValueIndex) (term : Term) (s : List ℕ) → IsIndexOf values index → Contains values (Values.LitStem s) →
+    IsValue (Values.LitStem s) term → AreStemsFor index term
 by_lit_stem values index (Terms.Iri iri) s h held begins = absurd begins
 by_lit_stem values index (Terms.Lit literal) s h held begins = (h.lit_stems literal.lex).1 (s, held, begins)
 by_lit_stem values index (Terms.Blank name) s h held begins = absurd begins

@@ -72,7 +72,8 @@ no_language stem tag none h =
     none (encode_utf8_all p.0) (ap encode_utf8_all p.1 ∙ encodes-append stem p.0)
 
 -- the bytes of a tag that begins with a stem
-pub stem_bytes : (stem tag stem_text tag_text rest left : List ℕ) → tag_text ≡ encode_utf8_all tag → stem_text ≡ encode_utf8_all stem → tag_text ≡ stem_text ++ left → rest ≡ left → encode_utf8_all tag ≡ encode_utf8_all stem ++ rest
+pub stem_bytes : (stem tag stem_text tag_text rest left : List ℕ) → tag_text ≡ encode_utf8_all tag → stem_text ≡ encode_utf8_all stem →
+    tag_text ≡ stem_text ++ left → rest ≡ left → encode_utf8_all tag ≡ encode_utf8_all stem ++ rest
 stem_bytes stem tag stem_text tag_text rest left is_tag is_stem begins is_rest = cc
 
 -- and of one that does not

@@ -52,14 +52,16 @@ refused flags text Syntax known h = (known, h)
 refused flags text Large known h = (known, (h.0, h.1, unmeasured_large h.0 h.2))
 refused flags text Memory known h = known
 
-pub too_large_refused : (flags text : List ℕ) (r : Result Pattern PatternError) → Ends flags text r → AreFlags flags → (e : Regex) → SpellsUnder flags e text → IsLarge e → IsErrOf r Large ⊎ IsErrOf r Memory
+pub too_large_refused : (flags text : List ℕ) (r : Result Pattern PatternError) → Ends flags text r → AreFlags flags → (e : Regex) → SpellsUnder flags e text →
+    IsLarge e → IsErrOf r Large ⊎ IsErrOf r Memory
 too_large_refused flags text (Ok p) h known e s large = absurd (h.3 (subst IsLarge (one_under flags text e (regex p) s h.1) large))
 too_large_refused flags text (Err Flag) h known e s large = absurd (h known)
 too_large_refused flags text (Err Syntax) h known e s large = absurd (h.1 (e, s))
 too_large_refused flags text (Err Large) h known e s large = inl refl
 too_large_refused flags text (Err Memory) h known e s large = inr refl
 
-pub good_read : (flags text : List ℕ) (r : Result Pattern PatternError) → Ends flags text r → AreFlags flags → (e : Regex) → SpellsUnder flags e text → (¬ IsLarge e) → MatchResult r (λ p. regex p ≡ e) (λ x. x ≡ Memory)
+pub good_read : (flags text : List ℕ) (r : Result Pattern PatternError) → Ends flags text r → AreFlags flags → (e : Regex) → SpellsUnder flags e text →
+    (¬ IsLarge e) → MatchResult r (λ p. regex p ≡ e) (λ x. x ≡ Memory)
 good_read flags text (Ok p) h known e s small = one_under flags text (regex p) e h.1 s
 good_read flags text (Err Flag) h known e s small = absurd (h known)
 good_read flags text (Err Syntax) h known e s small = absurd (h.1 (e, s))

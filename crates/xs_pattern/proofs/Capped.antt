@@ -159,13 +159,15 @@ kept_tokens text ts h small =
     let alike = sym (has_large_alike p.0) ∙ (ap has_large (sym p.2) ∙ small) in
     p.1 ∙ ap Some (sym (p.2 ∙ kept p.0 alike))
 
-pub deep_pattern : (text : List ℕ) (ts : List Token) (depth : ℕ) → Held text (Some ts) → IsSpelled ts → has_large ts ≡ false → ((e : Regex) → tokens e ≡ ts → depth ≡ nesting e) → 64 < depth → (e : Regex) × Spells e text × ((4096 < greatest e) ⊎ (64 < nesting e))
+pub deep_pattern : (text : List ℕ) (ts : List Token) (depth : ℕ) → Held text (Some ts) → IsSpelled ts → has_large ts ≡ false →
+    ((e : Regex) → tokens e ≡ ts → depth ≡ nesting e) → 64 < depth → (e : Regex) × Spells e text × ((4096 < greatest e) ⊎ (64 < nesting e))
 deep_pattern text ts depth h placed small nests deep =
     let q = placed_pattern text ts (kept_tokens text ts h small) placed in
     let is = nests q.0 q.1 in
     (q.0, q.2, inr (omega arith))
 
-pub good_pattern : (text : List ℕ) (ts : List Token) (depth : ℕ) (e : Regex) → Held text (Some ts) → has_large ts ≡ false → ((d : Regex) → tokens d ≡ ts → depth ≡ nesting d) → depth ≤ 64 → tokens e ≡ ts → IsPattern e → Spells e text × ((greatest e ≤ 4096) × (nesting e ≤ 64))
+pub good_pattern : (text : List ℕ) (ts : List Token) (depth : ℕ) (e : Regex) → Held text (Some ts) → has_large ts ≡ false →
+    ((d : Regex) → tokens d ≡ ts → depth ≡ nesting d) → depth ≤ 64 → tokens e ≡ ts → IsPattern e → Spells e text × ((greatest e ≤ 4096) × (nesting e ≤ 64))
 good_pattern text ts depth e h small nests shallow same made =
     let is = nests e same in
     let spelled = subst (λ v. SpellsTokens v text) (sym same) (tokens_sound text ts (kept_tokens text ts h small)) in

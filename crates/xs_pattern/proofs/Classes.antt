@@ -55,7 +55,9 @@ any_pair p c (q ∷ qs) h = go (nat_eq q.0 c) refl h (any_pair p c qs)
     on : (d : ℕ) × (p d ≡ true) × Contains qs (c, d) → (d : ℕ) × (p d ≡ true) × Contains (q ∷ qs) (c, d)
     on (d, holds, at) = (d, holds, later q (c, d) qs at)
 
-    go : (b : Bool) → nat_eq q.0 c ≡ b → list_any p (map (λ pair. pair.1) (cond b (q ∷ filter (λ pair. nat_eq pair.0 c) qs) (filter (λ pair. nat_eq pair.0 c) qs))) ≡ true → (list_any p (pairs_of c qs) ≡ true → (d : ℕ) × (p d ≡ true) × Contains qs (c, d)) → (d : ℕ) × (p d ≡ true) × Contains (q ∷ qs) (c, d)
+    go : (b : Bool) → nat_eq q.0 c ≡ b →
+        list_any p (map (λ pair. pair.1) (cond b (q ∷ filter (λ pair. nat_eq pair.0 c) qs) (filter (λ pair. nat_eq pair.0 c) qs))) ≡ true →
+        (list_any p (pairs_of c qs) ≡ true → (d : ℕ) × (p d ≡ true) × Contains qs (c, d)) → (d : ℕ) × (p d ≡ true) × Contains (q ∷ qs) (c, d)
     go true e k ih = elim (or_cases (p q.1) (list_any p (pairs_of c qs)) k) [
       | inl x ↦ (q.1, x, (0, omega arith, λ i. (eqb-true q.0 c e i, q.1)))
       | inr y ↦ on (ih y)
@@ -66,7 +68,8 @@ pair_any : (p : ℕ → Bool) (c d : ℕ) (pairs : List (ℕ × ℕ)) → p d �
 pair_any p c d [] holds (k, lt, is) = absurd (omega arith)
 pair_any p c d (q ∷ qs) holds at = go (nat_eq q.0 c) refl (either_place q (c, d) qs at) (pair_any p c d qs holds)
   where
-    go : (b : Bool) → nat_eq q.0 c ≡ b → (q ≡ (c, d)) ⊎ Contains qs (c, d) → (Contains qs (c, d) → list_any p (pairs_of c qs) ≡ true) → list_any p (map (λ pair. pair.1) (cond b (q ∷ filter (λ pair. nat_eq pair.0 c) qs) (filter (λ pair. nat_eq pair.0 c) qs))) ≡ true
+    go : (b : Bool) → nat_eq q.0 c ≡ b → (q ≡ (c, d)) ⊎ Contains qs (c, d) → (Contains qs (c, d) → list_any p (pairs_of c qs) ≡ true) →
+        list_any p (map (λ pair. pair.1) (cond b (q ∷ filter (λ pair. nat_eq pair.0 c) qs) (filter (λ pair. nat_eq pair.0 c) qs))) ≡ true
     go true e (inl is) ih = or_left (p q.1) (list_any p (pairs_of c qs)) (ap (λ v. p v.1) is ∙ holds)
     go true e (inr found) ih = or_right (p q.1) (list_any p (pairs_of c qs)) (ih found)
     go false e (inl is) ih = let t : nat_eq q.0 c ≡ true = eq-eqb q.0 c (ap (λ v. v.0) is) in absurd (cc)

@@ -16,7 +16,8 @@ pub same_frame : (bs ps qs : List Regex) (a o : Option Regex) → ps ≡ qs → 
 same_frame bs ps qs a o p q = λ i. framed bs (p i) (q i)
 
 -- a quantified atom among the pieces
-pub quantified_piece : (new old : List Expression) (least : ℕ) (most : Option ℕ) (b : Box Expression Global) (atom : Expression) → new ≡ old ++ Repeat least most b ∷ [] → b.value ≡ atom → map regex_of new ≡ map regex_of old ++ repeat least most (regex_of atom) ∷ []
+pub quantified_piece : (new old : List Expression) (least : ℕ) (most : Option ℕ) (b : Box Expression Global) (atom : Expression) →
+    new ≡ old ++ Repeat least most b ∷ [] → b.value ≡ atom → map regex_of new ≡ map regex_of old ++ repeat least most (regex_of atom) ∷ []
 quantified_piece new old least most b atom is at =
     ap (map regex_of) is ∙ (map-append regex_of old (Repeat least most b ∷ [])
     ∙ ap (λ e. map regex_of old ++ e ∷ []) (is_repeat (Repeat least most b) least most b atom refl (sym at)))

@@ -51,7 +51,8 @@ named_name : (entries : List (List ℕ × Kind)) (name : List ℕ) (k : Kind) �
 named_name [] name k all h = absurd (cc)
 named_name (entry ∷ entries) name k all h = go (is_same entry.0 name) refl h (and_parts (is_name entry.0) (list_all (λ e. is_name e.0) entries) all) (named_name entries name k)
   where
-    go : (b : Bool) → is_same entry.0 name ≡ b → cond b (Some entry.1) (named entries name) ≡ Some k → (is_name entry.0 ≡ true) × (list_all (λ e. is_name e.0) entries ≡ true) → (list_all (λ e. is_name e.0) entries ≡ true → named entries name ≡ Some k → is_name name ≡ true) → is_name name ≡ true
+    go : (b : Bool) → is_same entry.0 name ≡ b → cond b (Some entry.1) (named entries name) ≡ Some k → (is_name entry.0 ≡ true) ×
+        (list_all (λ e. is_name e.0) entries ≡ true) → (list_all (λ e. is_name e.0) entries ≡ true → named entries name ≡ Some k → is_name name ≡ true) → is_name name ≡ true
     go true e f p ih = ap is_name (sym (same_is entry.0 name e)) ∙ p.0
     go false e f p ih = ih p.1 f
 
@@ -92,7 +93,8 @@ single_read c d r is = ap (λ o. with_rest o r) is
 abbrev pub KindRead : Item → List ℕ → List ℕ → Type 0
 KindRead x ts r = (a : List ℕ) × (ts ≡ 92 ∷ a) × (read_kind a ≡ Some (x, r))
 
-category_escape : (negated : Bool) (p : ℕ) (k : Kind) (x : Item) (ts r : List ℕ) → ((a : List ℕ) → read_kind (p ∷ a) ≡ kind_item negated (read_category a)) → kind_item negated (Some (k, r)) ≡ Some (x, r) → (name : List ℕ) × (named categories name ≡ Some k) × (ts ≡ 92 ∷ p ∷ 123 ∷ (name ++ 125 ∷ r)) → KindRead x ts r
+category_escape : (negated : Bool) (p : ℕ) (k : Kind) (x : Item) (ts r : List ℕ) → ((a : List ℕ) → read_kind (p ∷ a) ≡ kind_item negated (read_category a)) →
+    kind_item negated (Some (k, r)) ≡ Some (x, r) → (name : List ℕ) × (named categories name ≡ Some k) × (ts ≡ 92 ∷ p ∷ 123 ∷ (name ++ 125 ∷ r)) → KindRead x ts r
 category_escape negated p k x ts r by made (name, is, at) = (p ∷ 123 ∷ (name ++ 125 ∷ r), at, by (123 ∷ (name ++ 125 ∷ r)) ∙ (ap (kind_item negated) (category_read name r k is) ∙ made))
 
 kind_read : (k : Kind) (ts r : List ℕ) → SpellsEscape (Items.Kind k) ts r → KindRead (Items.Kind k) ts r
@@ -473,7 +475,8 @@ token_longer (one_of (class (m ∷ ms))) ts r h = class_longer m ms ts r h
 token_longer (times least most) ts r (inl h) = quantifier_longer least most ts r h
 token_longer (times least most) ts r (inr h) = let e = quantifier_longer least most ts (63 ∷ r) h in omega arith
 
-times_read : (least : ℕ) (most : Option ℕ) (ts r : List ℕ) → SpellsQuantifier least most ts r ⊎ SpellsQuantifier least most ts (63 ∷ r) → begins 63 r ≡ false → times_token (read_quantifier ts) ≡ Some (times least most, r)
+times_read : (least : ℕ) (most : Option ℕ) (ts r : List ℕ) → SpellsQuantifier least most ts r ⊎ SpellsQuantifier least most ts (63 ∷ r) → begins 63 r ≡ false →
+    times_token (read_quantifier ts) ≡ Some (times least most, r)
 times_read least most ts r (inl h) follows =
     ap times_token (quantifier_read least most ts r h) ∙ ap (λ v. Some (times least most, cond v (tail r) r)) follows
 times_read least most ts r (inr h) follows = ap times_token (quantifier_read least most ts (63 ∷ r) h)

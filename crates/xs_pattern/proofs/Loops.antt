@@ -24,7 +24,8 @@ next_item xs x (Some (ys, r)) = ap (λ v. Some (v, r)) (sym (append_assoc xs (x 
 pub items_begin : (text r : List ℕ) (x : Item) (xs : List Item) → xs ≡ x ∷ [] → Some (x, r) ≡ read_item true text → all_before xs (read_more r) ≡ read_items text
 items_begin text r x xs is h = ap (λ v. all_before v (read_more r)) is ∙ (sym (one_item x (read_more r)) ∙ ap (item_then (λ v. read_more v)) h)
 
-pub items_on : (xs new : List Item) (x : Item) (ts r : List ℕ) (all : Option (List Item × List ℕ)) → new ≡ xs ++ x ∷ [] → all_before xs (read_more ts) ≡ all → is_end ts ≡ false → Some (x, r) ≡ read_item false ts → all_before new (read_more r) ≡ all
+pub items_on : (xs new : List Item) (x : Item) (ts r : List ℕ) (all : Option (List Item × List ℕ)) → new ≡ xs ++ x ∷ [] → all_before xs (read_more ts) ≡ all →
+    is_end ts ≡ false → Some (x, r) ≡ read_item false ts → all_before new (read_more r) ≡ all
 items_on xs new x ts r all is so_far ends h =
     ap (λ v. all_before v (read_more r)) is
     ∙ (sym (next_item xs x (read_more r))
@@ -58,7 +59,8 @@ groups_begin text b m h = sym (one_group m b) ∙ (ap (groups_then (λ v. read_g
 pub groups_first : (text b : List ℕ) (m : Members) (ms : List Members) → ms ≡ m ∷ [] → Some (m, b) ≡ read_members text → all_before ms (further_groups b) ≡ read_groups text
 groups_first text b m ms is h = ap (λ v. all_before v (further_groups b)) is ∙ groups_begin text b m h
 
-pub groups_on : (ms new : List Members) (m : Members) (ts b : List ℕ) (all : Option (List Members × List ℕ)) → new ≡ ms ++ m ∷ [] → all_before ms (further_groups ts) ≡ all → begins 45 ts ≡ true → Some (m, b) ≡ read_members (tail ts) → all_before new (further_groups b) ≡ all
+pub groups_on : (ms new : List Members) (m : Members) (ts b : List ℕ) (all : Option (List Members × List ℕ)) → new ≡ ms ++ m ∷ [] →
+    all_before ms (further_groups ts) ≡ all → begins 45 ts ≡ true → Some (m, b) ≡ read_members (tail ts) → all_before new (further_groups b) ≡ all
 groups_on ms new m ts b all is so_far hyphen h =
     ap (λ v. all_before v (further_groups b)) is
     ∙ (sym (next_group ms m (further_groups b))
@@ -96,7 +98,8 @@ capped_more : (ts : List ℕ) → 0 < length ts → capped_tokens ts ≡ tokens_
 capped_more [] some = absurd (omega arith)
 capped_more (c ∷ cs) some = ap (option_map (map capped_token)) (more_tokens c cs) ∙ capped_rest (read_token (c ∷ cs))
 
-pub tokens_on : (us new : List Token) (u : Token) (ts r : List ℕ) (all : Option (List Token)) → new ≡ us ++ u ∷ [] → tokens_before us (capped_tokens ts) ≡ all → 0 < length ts → Some (u, r) ≡ capped_pair (read_token ts) → tokens_before new (capped_tokens r) ≡ all
+pub tokens_on : (us new : List Token) (u : Token) (ts r : List ℕ) (all : Option (List Token)) → new ≡ us ++ u ∷ [] → tokens_before us (capped_tokens ts) ≡ all →
+    0 < length ts → Some (u, r) ≡ capped_pair (read_token ts) → tokens_before new (capped_tokens r) ≡ all
 tokens_on us new u ts r all is so_far some h =
     ap (λ v. tokens_before v (capped_tokens r)) is
     ∙ (sym (next_token us u (capped_tokens r))

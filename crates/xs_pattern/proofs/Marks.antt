@@ -13,7 +13,8 @@ blank_more old one two a b p q =
 pub handed_is : (r f p e g q : Bool) → r ≡ (f || (e && p)) → f ≡ g → p ≡ q → r ≡ (g || (e && q))
 handed_is r f p e g q h a b = h ∙ (ap (λ v. v || (e && p)) a ∙ ap (λ v. g || (e && v)) b)
 
-pub plus_marks : {T E : Type 0} (r : Result T E) (edge : Edge) (has : ℕ → Bool) (w a : Way) (marks new old : List Bool) (enters again : Bool) → w ≡ plus a → again ≡ (enters || ends edge a marks) → OnOk r (new ≡ old ++ next edge has a again marks) → OnOk r (new ≡ old ++ next edge has w enters marks)
+pub plus_marks : {T E : Type 0} (r : Result T E) (edge : Edge) (has : ℕ → Bool) (w a : Way) (marks new old : List Bool) (enters again : Bool) → w ≡ plus a →
+    again ≡ (enters || ends edge a marks) → OnOk r (new ≡ old ++ next edge has a again marks) → OnOk r (new ≡ old ++ next edge has w enters marks)
 plus_marks r edge has w a marks new old enters again is q h = on_ok r new old _ _ (ap (λ v. next edge has a v marks) q ∙ ap (λ v. next edge has v enters marks) (sym is)) h
 
 module _ (edge : Edge) (has : ℕ → Bool) (w a b : Way) (marks : List Bool) (n m : ℕ) (behind : m ≡ n + size a) where

@@ -45,7 +45,8 @@ found_group : (table : List (ℕ × GeneralCategoryGroup)) (c : ℕ) → group_k
 found_group [] c = refl
 found_group (e ∷ es) c = go (nat_eq e.0 c) (found_group es c)
   where
-    go : (b : Bool) → group_kind (find (λ d. nat_eq d.0 c) es) ≡ look c (group_entries es) → group_kind (cond b (Some e) (find (λ d. nat_eq d.0 c) es)) ≡ cond b (Some (Kinds.Group e.1)) (look c (group_entries es))
+    go : (b : Bool) → group_kind (find (λ d. nat_eq d.0 c) es) ≡ look c (group_entries es) →
+        group_kind (cond b (Some e) (find (λ d. nat_eq d.0 c) es)) ≡ cond b (Some (Kinds.Group e.1)) (look c (group_entries es))
     go true rest = refl
     go false rest = rest
 
@@ -70,7 +71,8 @@ abbrev look_two : ℕ → ℕ → List (ℕ × ℕ × Kind) → Option Kind
 look_two c d [] = None
 look_two c d (e ∷ es) = cond (nat_eq e.0 c && nat_eq e.1 d) (Some e.2) (look_two c d es)
 
-two_step : (name : List ℕ) (k : Kind) (c d : ℕ) (rest : Option Kind) (others : List (ℕ × ℕ × Kind)) → rest ≡ look_two c d others → cond (is_same name (c ∷ (d ∷ []))) (Some k) rest ≡ look_two c d (with_two name k others)
+two_step : (name : List ℕ) (k : Kind) (c d : ℕ) (rest : Option Kind) (others : List (ℕ × ℕ × Kind)) → rest ≡ look_two c d others →
+    cond (is_same name (c ∷ (d ∷ []))) (Some k) rest ≡ look_two c d (with_two name k others)
 two_step [] k c d rest others e = e
 two_step (a ∷ []) k c d rest others e = ap (λ v. cond v (Some k) rest) (and_no (nat_eq a c)) ∙ e
 two_step (a ∷ (b ∷ [])) k c d rest others e =
@@ -94,7 +96,8 @@ found_category : (table : List (ℕ × ℕ × GeneralCategory)) (c d : ℕ) → 
 found_category [] c d = refl
 found_category (e ∷ es) c d = go (nat_eq e.0 c && nat_eq e.1 d) (found_category es c d)
   where
-    go : (b : Bool) → category_kind (find (λ x. nat_eq x.0 c && nat_eq x.1 d) es) ≡ look_two c d (category_entries es) → category_kind (cond b (Some e) (find (λ x. nat_eq x.0 c && nat_eq x.1 d) es)) ≡ cond b (Some (Kinds.Category e.2)) (look_two c d (category_entries es))
+    go : (b : Bool) → category_kind (find (λ x. nat_eq x.0 c && nat_eq x.1 d) es) ≡ look_two c d (category_entries es) →
+        category_kind (cond b (Some e) (find (λ x. nat_eq x.0 c && nat_eq x.1 d) es)) ≡ cond b (Some (Kinds.Category e.2)) (look_two c d (category_entries es))
     go true rest = refl
     go false rest = rest
 

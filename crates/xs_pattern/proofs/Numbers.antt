@@ -44,7 +44,8 @@ three_ways x y = elim (leb_tells y x) [ inl p ↦ (elim (leb_tells x y) [ inl q 
 cmp_same : (n : ℕ) → Equal ≡ nat_cmp n n
 cmp_same n = nat_cmp_is n n Equal refl
 
-cmp_as_long : (xs ys : List ℕ) (n : ℕ) → list_all is_ascii_digit xs ≡ true → list_all is_ascii_digit ys ≡ true → length xs ≡ length ys → slice_cmp nat_cmp xs ys ≡ nat_cmp (digits_value_after 10 n xs) (digits_value_after 10 n ys)
+cmp_as_long : (xs ys : List ℕ) (n : ℕ) → list_all is_ascii_digit xs ≡ true → list_all is_ascii_digit ys ≡ true → length xs ≡ length ys →
+    slice_cmp nat_cmp xs ys ≡ nat_cmp (digits_value_after 10 n xs) (digits_value_after 10 n ys)
 cmp_as_long [] [] n d e same = cmp_same n
 cmp_as_long [] (y ∷ ys) n d e same = absurd (omega arith)
 cmp_as_long (x ∷ xs) [] n d e same = absurd (omega arith)
@@ -55,9 +56,12 @@ cmp_as_long (x ∷ xs) (y ∷ ys) n d e same =
     let b = digit_bound y q.0 in
     let long : length xs ≡ length ys = omega arith in
     elim (three_ways x y) [
-      | inl lt ↦ ap (λ o. ordering_then o (slice_cmp nat_cmp xs ys)) (sym (nat_cmp_is x y Less lt)) ∙ nat_cmp_is _ _ Less (below xs ys (n * 10 + digit_value x) (n * 10 + digit_value y) p.1 (omega arith) (omega arith))
-      | inr (inl eq) ↦ ap (λ o. ordering_then o (slice_cmp nat_cmp xs ys)) (sym (nat_cmp_is x y Equal eq)) ∙ (cmp_as_long xs ys (n * 10 + digit_value x) p.1 q.1 long ∙ ap (λ v. nat_cmp (digits_value_after 10 (n * 10 + digit_value x) xs) (digits_value_after 10 (n * 10 + digit_value v) ys)) eq)
-      | inr (inr gt) ↦ ap (λ o. ordering_then o (slice_cmp nat_cmp xs ys)) (sym (nat_cmp_is x y Greater gt)) ∙ nat_cmp_is _ _ Greater (below ys xs (n * 10 + digit_value y) (n * 10 + digit_value x) q.1 (omega arith) (omega arith))
+      | inl lt ↦ ap (λ o. ordering_then o (slice_cmp nat_cmp xs ys)) (sym (nat_cmp_is x y Less lt))
+          ∙ nat_cmp_is _ _ Less (below xs ys (n * 10 + digit_value x) (n * 10 + digit_value y) p.1 (omega arith) (omega arith))
+      | inr (inl eq) ↦ ap (λ o. ordering_then o (slice_cmp nat_cmp xs ys)) (sym (nat_cmp_is x y Equal eq))
+          ∙ (cmp_as_long xs ys (n * 10 + digit_value x) p.1 q.1 long ∙ ap (λ v. nat_cmp (digits_value_after 10 (n * 10 + digit_value x) xs) (digits_value_after 10 (n * 10 + digit_value v) ys)) eq)
+      | inr (inr gt) ↦ ap (λ o. ordering_then o (slice_cmp nat_cmp xs ys)) (sym (nat_cmp_is x y Greater gt))
+          ∙ nat_cmp_is _ _ Greater (below ys xs (n * 10 + digit_value y) (n * 10 + digit_value x) q.1 (omega arith) (omega arith))
     ]
 
 le_cmp : (a b : ℕ) → is_le (nat_cmp a b) ≡ nat_le a b
@@ -68,11 +72,15 @@ le_cmp a b = elim (three_ways a b) [
 ]
 
 -- digits without zeros at the front are ordered by their lengths, and then one by one
-pub at_most_told : (xs ys : List ℕ) → list_all is_ascii_digit xs ≡ true → list_all is_ascii_digit ys ≡ true → begins 48 xs ≡ false → begins 48 ys ≡ false → is_le (ordering_then (nat_cmp (length xs) (length ys)) (slice_cmp nat_cmp xs ys)) ≡ nat_le (digits_value 10 xs) (digits_value 10 ys)
+pub at_most_told : (xs ys : List ℕ) → list_all is_ascii_digit xs ≡ true → list_all is_ascii_digit ys ≡ true → begins 48 xs ≡ false → begins 48 ys ≡ false →
+    is_le (ordering_then (nat_cmp (length xs) (length ys)) (slice_cmp nat_cmp xs ys)) ≡ nat_le (digits_value 10 xs) (digits_value 10 ys)
 at_most_told xs ys d e z w = elim (three_ways (length xs) (length ys)) [
-  | inl lt ↦ ap (λ o. is_le (ordering_then o (slice_cmp nat_cmp xs ys))) (sym (nat_cmp_is (length xs) (length ys) Less lt)) ∙ sym (le-leb (digits_value 10 xs) (digits_value 10 ys) (let b = shorter_below xs ys d e w lt in omega arith))
-  | inr (inl eq) ↦ ap (λ o. is_le (ordering_then o (slice_cmp nat_cmp xs ys))) (sym (nat_cmp_is (length xs) (length ys) Equal eq)) ∙ (ap is_le (cmp_as_long xs ys 0 d e eq) ∙ le_cmp (digits_value 10 xs) (digits_value 10 ys))
-  | inr (inr gt) ↦ ap (λ o. is_le (ordering_then o (slice_cmp nat_cmp xs ys))) (sym (nat_cmp_is (length xs) (length ys) Greater gt)) ∙ sym (lt-leb (digits_value 10 xs) (digits_value 10 ys) (shorter_below ys xs e d z gt))
+  | inl lt ↦ ap (λ o. is_le (ordering_then o (slice_cmp nat_cmp xs ys))) (sym (nat_cmp_is (length xs) (length ys) Less lt))
+      ∙ sym (le-leb (digits_value 10 xs) (digits_value 10 ys) (let b = shorter_below xs ys d e w lt in omega arith))
+  | inr (inl eq) ↦ ap (λ o. is_le (ordering_then o (slice_cmp nat_cmp xs ys))) (sym (nat_cmp_is (length xs) (length ys) Equal eq))
+      ∙ (ap is_le (cmp_as_long xs ys 0 d e eq) ∙ le_cmp (digits_value 10 xs) (digits_value 10 ys))
+  | inr (inr gt) ↦ ap (λ o. is_le (ordering_then o (slice_cmp nat_cmp xs ys))) (sym (nat_cmp_is (length xs) (length ys) Greater gt))
+      ∙ sym (lt-leb (digits_value 10 xs) (digits_value 10 ys) (shorter_below ys xs e d z gt))
 ]
 
 -- the digits at the front are digits
@@ -83,7 +91,8 @@ digits_front ts front n count is = ap (list_all is_ascii_digit) (is ∙ ap (λ k
 capped_step : (n d v : ℕ) → n ≡ min v 4097 → min (n * 10 + d) 4097 ≡ min (v * 10 + d) 4097
 capped_step n d v is = omega arith
 
-pub number_on : (ds : List ℕ) (i n x : ℕ) → i < length ds → n ≡ capped (digits_value 10 (take i ds)) → x ≡ get_or ds i x → min (n * 10 + digit_value x) 4097 ≡ capped (digits_value 10 (take (i + 1) ds))
+pub number_on : (ds : List ℕ) (i n x : ℕ) → i < length ds → n ≡ capped (digits_value 10 (take i ds)) → x ≡ get_or ds i x →
+    min (n * 10 + digit_value x) 4097 ≡ capped (digits_value 10 (take (i + 1) ds))
 number_on ds i n x lt is digit =
     capped_step n (digit_value x) (digits_value 10 (take i ds)) is
     ∙ (ap (λ v. min (digits_value 10 (take i ds) * 10 + digit_value v) 4097) (digit ∙ get_or_default ds i x 0 lt) ∙ ap (λ v. min v 4097) (sym (digits_value_more 10 ds i lt)))

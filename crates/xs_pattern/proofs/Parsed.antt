@@ -47,7 +47,8 @@ abbrev pub AtomLeads : List Frame → Frame → Regex → List Token → Type 0
 AtomLeads os f e ts = parse os f (tokens e ++ ts) ≡ parse os (with_atom f e) ts
 
 -- two branches that are read make one list of branches
-bars : (f g : Frame) (e : Regex) (es : Regexes) (ds : List Regex) → Reads (with_bar f) ds g → e ≡ branch (row ds) → choice (row (g.branches ++ branch (row (all_pieces g)) ∷ listed es)) ≡ choice (row (f.branches ++ branch (row (all_pieces f)) ∷ listed (more e es)))
+bars : (f g : Frame) (e : Regex) (es : Regexes) (ds : List Regex) → Reads (with_bar f) ds g → e ≡ branch (row ds) →
+    choice (row (g.branches ++ branch (row (all_pieces g)) ∷ listed es)) ≡ choice (row (f.branches ++ branch (row (all_pieces f)) ∷ listed (more e es)))
 bars f g e es ds reads is =
     ap (λ v. choice (row (v ++ branch (row (all_pieces g)) ∷ listed es))) reads.branches
     ∙ (ap (λ v. choice (row ((f.branches ++ branch (row (all_pieces f)) ∷ []) ++ branch (row v) ∷ listed es))) reads.pieces
@@ -87,7 +88,8 @@ mutual
   pattern_leads (repeat least most e) h os ts = absurd h
 
   -- further branches, with a bar before each
-  branches_lead : (es : Regexes) → AreBranches es → (os : List Frame) (f : Frame) (ts : List Token) → (g : Frame) × (whole g ≡ choice (row (f.branches ++ branch (row (all_pieces f)) ∷ listed es))) × (parse os f (tokens_behind_bars es ++ ts) ≡ parse os g ts)
+  branches_lead : (es : Regexes) → AreBranches es → (os : List Frame) (f : Frame) (ts : List Token) → (g : Frame) ×
+      (whole g ≡ choice (row (f.branches ++ branch (row (all_pieces f)) ∷ listed es))) × (parse os f (tokens_behind_bars es ++ ts) ≡ parse os g ts)
   branches_lead none h os f ts = (f, refl, refl)
   branches_lead (more e es) h os f ts =
       (let a = branch_leads e h.0 os (with_bar f) (tokens_behind_bars es ++ ts) in
@@ -276,7 +278,8 @@ grown_bar f =
     ∙ (ap (λ v. tokens_with_bars f.branches ++ (v ++ (bar ∷ []))) (pieces_row (all_pieces f))
     ∙ sym (append_assoc (tokens_with_bars f.branches) (tokens_of_list (all_pieces f)) (bar ∷ []))))
 
-grown_times : (bs : List Token) (ps : List Regex) (least : ℕ) (most : Option ℕ) (e : Regex) → bs ++ tokens_of_list ((ps ++ repeat least most e ∷ []) ++ []) ≡ (bs ++ tokens_of_list (ps ++ e ∷ [])) ++ times least most ∷ []
+grown_times : (bs : List Token) (ps : List Regex) (least : ℕ) (most : Option ℕ) (e : Regex) →
+    bs ++ tokens_of_list ((ps ++ repeat least most e ∷ []) ++ []) ≡ (bs ++ tokens_of_list (ps ++ e ∷ [])) ++ times least most ∷ []
 grown_times bs ps least most e =
     ap (λ v. bs ++ tokens_of_list v) (append-nil (ps ++ repeat least most e ∷ []))
     ∙ (one_more bs ps (repeat least most e)
@@ -334,11 +337,14 @@ sound (one_of s ∷ ts) os f e h made all =
     (before_step os os f (with_atom f (one s)) (one_of s ∷ []) ts (tokens e) (grown_stack os f (with_atom f (one s)) (one_of s ∷ []) (grown_atom f (one s))) p.0, p.1)
 sound (times least most ∷ ts) os f e h made all = counted f.atom refl h made.atom (λ a. sound ts os (with_times f least most a) e)
   where
-    counted : (o : Option Regex) → f.atom ≡ o → behind_times (λ g. parse os g ts) f least most o ≡ Some e → MaybeAtom o → ((a : Regex) → parse os (with_times f least most a) ts ≡ Some e → IsMade (with_times f least most a) → AllMade os → Spelled os (with_times f least most a) ts e) → Spelled os f (times least most ∷ ts) e
+    counted : (o : Option Regex) → f.atom ≡ o → behind_times (λ g. parse os g ts) f least most o ≡ Some e → MaybeAtom o →
+        ((a : Regex) → parse os (with_times f least most a) ts ≡ Some e → IsMade (with_times f least most a) → AllMade os →
+        Spelled os (with_times f least most a) ts e) → Spelled os f (times least most ∷ ts) e
     counted None is k atom ih = absurd (cc)
     counted (Some a) is k atom ih =
         let p = ih a k (made_times f least most a made atom) all in
-        let grown = grown_times (tokens_with_bars f.branches) f.pieces least most a ∙ ap (λ v. (tokens_with_bars f.branches ++ tokens_of_list (f.pieces ++ option_to_list v)) ++ times least most ∷ []) (sym is) in
+        let grown = grown_times (tokens_with_bars f.branches) f.pieces least most a
+        ∙ ap (λ v. (tokens_with_bars f.branches ++ tokens_of_list (f.pieces ++ option_to_list v)) ++ times least most ∷ []) (sym is) in
         (before_step os os f (with_times f least most a) (times least most ∷ []) ts (tokens e) (grown_stack os f (with_times f least most a) (times least most ∷ []) grown) p.0, p.1)
 
 -- what is read is a pattern with these tokens
@@ -371,7 +377,8 @@ is_spelled_told (end_anchor ∷ ts) os f = is_spelled_told ts os (with_piece f f
 is_spelled_told (one_of s ∷ ts) os f = is_spelled_told ts os (with_atom f (one s))
 is_spelled_told (times least most ∷ ts) os f = counted f.atom (λ a. is_spelled_told ts os (with_times f least most a))
   where
-    counted : (o : Option Regex) → ((a : Regex) → is_some (parse os (with_times f least most a) ts) ≡ is_spelled (length os) false ts) → is_some (behind_times (λ g. parse os g ts) f least most o) ≡ (is_some o && is_spelled (length os) false ts)
+    counted : (o : Option Regex) → ((a : Regex) → is_some (parse os (with_times f least most a) ts) ≡ is_spelled (length os) false ts) →
+        is_some (behind_times (λ g. parse os g ts) f least most o) ≡ (is_some o && is_spelled (length os) false ts)
     counted None ih = refl
     counted (Some a) ih = ih a
 
@@ -390,7 +397,8 @@ spelled_meaning ts b is = (
 )
 
 -- what a call answers is the pattern with these tokens, or there is none
-pub found_pattern : {E : Type 0} (r : Result (Option Expression) E) (ts : List Token) → IfOk r (λ o. option_map regex_of o ≡ parse [] blank ts) → IfOk r (λ o. IfSome o (λ e. (tokens (regex_of e) ≡ ts) × IsPattern (regex_of e)))
+pub found_pattern : {E : Type 0} (r : Result (Option Expression) E) (ts : List Token) → IfOk r (λ o. option_map regex_of o ≡ parse [] blank ts) →
+    IfOk r (λ o. IfSome o (λ e. (tokens (regex_of e) ≡ ts) × IsPattern (regex_of e)))
 found_pattern (Ok (Some e)) ts h = parse_sound ts (regex_of e) (sym h)
 found_pattern (Ok None) ts h = tt
 found_pattern (Err x) ts h = tt

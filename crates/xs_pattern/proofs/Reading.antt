@@ -276,7 +276,8 @@ module _ (edge : ℕ → Edge) (has : ℕ → ℕ → Bool) where
     path_back zero j le h = let lt = ((inner j).0 h).1 in absurd (omega arith)
     path_back (suc n) j le h = stepped j (λ k lt. path_back n k (omega arith)) ((inner j).0 h)
 
-    moved : (i k j : ℕ) (ks : List ℕ) → again a enters marks i ≡ true → Runs edge has a i k → Leads (Runs edge has a) k ks j → (k < j → again a enters marks k ≡ true → ends (edge j) a (marks j) ≡ true) → i < j → (i < k) ⊎ (k ≤ i) → (k < j) ⊎ (j ≤ k) → ends (edge j) a (marks j) ≡ true
+    moved : (i k j : ℕ) (ks : List ℕ) → again a enters marks i ≡ true → Runs edge has a i k → Leads (Runs edge has a) k ks j →
+        (k < j → again a enters marks k ≡ true → ends (edge j) a (marks j) ≡ true) → i < j → (i < k) ⊎ (k ≤ i) → (k < j) ⊎ (j ≤ k) → ends (edge j) a (marks j) ≡ true
     moved i k j ks e r path on lt (inr le) q =
         let up = forward a i k r in
         let same : i ≡ k = omega arith in
@@ -320,6 +321,8 @@ module _ (edge : ℕ → Edge) (has : ℕ → ℕ → Bool) where
   exact start enters marks run = exact_still start enters marks (λ j. refl) (λ i j r. omega (arith, r.1))
   exact finish enters marks run = exact_still finish enters marks (λ j. refl) (λ i j r. omega (arith, r.1))
   exact (one k) enters marks run = exact_one k enters marks run
-  exact (then a b) enters marks run = exact_then a b enters marks (exact a enters marks (left_then a b enters marks run)) (exact b (handed a enters marks) (λ j. drop (size a) (marks j)) (right_then a b enters marks run))
-  exact (either a b) enters marks run = exact_either a b enters marks (exact a enters marks (left_either a b enters marks run)) (exact b enters (λ j. drop (size a) (marks j)) (right_either a b enters marks run))
+  exact (then a b) enters marks run = exact_then a b enters marks (exact a enters marks (left_then a b enters marks run))
+      (exact b (handed a enters marks) (λ j. drop (size a) (marks j)) (right_then a b enters marks run))
+  exact (either a b) enters marks run = exact_either a b enters marks (exact a enters marks (left_either a b enters marks run))
+      (exact b enters (λ j. drop (size a) (marks j)) (right_either a b enters marks run))
   exact (plus a) enters marks run = exact_plus a enters marks (exact a (again a enters marks) marks (inner_plus a enters marks run))

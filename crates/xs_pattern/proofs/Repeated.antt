@@ -164,7 +164,8 @@ module _ (edge : ℕ → Edge) (has : ℕ → ℕ → Bool) where
   to_at_most w n (suc m) i j le (k ∷ ks, len, (step, path)) =
       to_either nothing (then_way w (at_most m w)) i j (inr (to_then w (at_most m w) i k j step (to_at_most w (length ks) m k j (omega arith) (ks, refl, path))))
 
-  at_most_parts : (w : Way) (m i j : ℕ) → ((k : ℕ) → R (at_most m w) k j → (n : ℕ) × (n ≤ m) × Steps (R w) n k j) → R nothing i j ⊎ R (then_way w (at_most m w)) i j → (n : ℕ) × (n ≤ suc m) × Steps (R w) n i j
+  at_most_parts : (w : Way) (m i j : ℕ) → ((k : ℕ) → R (at_most m w) k j → (n : ℕ) × (n ≤ m) × Steps (R w) n k j) → R nothing i j ⊎
+      R (then_way w (at_most m w)) i j → (n : ℕ) × (n ≤ suc m) × Steps (R w) n i j
   unfolding Runs
   at_most_parts w m i j ih (inl at) = (0, omega arith, ([], refl, at))
   at_most_parts w m i j ih (inr t) =
@@ -235,7 +236,8 @@ pub copied : (all copy before : Way) (n : ℕ) (w : Way) → all ≡ then_way co
 unfolding copies
 copied all copy before n w is a b = rw add-one (is ∙ (ap (λ v. then_way v before) a ∙ ap (λ v. then_way w v) b))
 
-pub copied_or_none : (all none longer copy before : Way) (n : ℕ) (w : Way) → all ≡ either_way none longer → none ≡ nothing → longer ≡ then_way copy before → copy ≡ w → before ≡ at_most n w → all ≡ at_most (n + 1) w
+pub copied_or_none : (all none longer copy before : Way) (n : ℕ) (w : Way) → all ≡ either_way none longer → none ≡ nothing → longer ≡ then_way copy before →
+    copy ≡ w → before ≡ at_most n w → all ≡ at_most (n + 1) w
 unfolding at_most
 copied_or_none all none longer copy before n w is z l a b =
     rw add-one (is ∙ (ap (λ v. either_way v longer) z ∙ ap (λ v. either_way nothing v) (l ∙ (ap (λ v. then_way v before) a ∙ ap (λ v. then_way w v) b))))

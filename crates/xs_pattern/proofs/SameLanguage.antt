@@ -63,7 +63,8 @@ module _ (f : Flags) (text : List ℕ) (ss : List Chars) where
       into (lt, step, has) =
           (and_both (nat_lt i (length text)) (slice_index_or (having f ss (slice_index text i)) k false) (lt-ltb i (length text) lt) (found ∙ (char_tells f s (slice_index text i)).1 has), step)
 
-  same_repeat : (least : ℕ) (most : Option ℕ) (w : Way) (Q : ℕ → ℕ → Type 0) → Same w Q → Same (repeated least most w) (λ i j. (places : List ℕ) × (least ≤ length places) × IsUpTo (length places) most × Leads Q i places j)
+  same_repeat : (least : ℕ) (most : Option ℕ) (w : Way) (Q : ℕ → ℕ → Type 0) → Same w Q →
+      Same (repeated least most w) (λ i j. (places : List ℕ) × (least ≤ length places) × IsUpTo (length places) most × Leads Q i places j)
   same_repeat least most w Q same i j = (out, into)
     where
       out : R (repeated least most w) i j → (places : List ℕ) × (least ≤ length places) × IsUpTo (length places) most × Leads Q i places j
@@ -91,14 +92,16 @@ module _ (f : Flags) (text : List ℕ) (ss : List Chars) where
   abbrev Beside : Way → Regexes → ℕ → ℕ → Type 0
   Beside done es i j = R done i j ⊎ HoldsSome f text es i j
 
-  behind_more : (done : Way) (w : Way) (e : Regex) (es : Regexes) → Same w (Holds f text e) → (i j : ℕ) → (Behind (then_way done w) es i j → Behind done (more e es) i j) × (Behind done (more e es) i j → Behind (then_way done w) es i j)
+  behind_more : (done : Way) (w : Way) (e : Regex) (es : Regexes) → Same w (Holds f text e) → (i j : ℕ) →
+      (Behind (then_way done w) es i j → Behind done (more e es) i j) × (Behind done (more e es) i j → Behind (then_way done w) es i j)
   unfolding HoldsAll
   behind_more done w e es same i j = (
     λ (m, r, rest). (let t = of_then (edge_at text) (has_at f ss text) done w i m r in (t.0, t.1, (m, (same t.0 m).0 t.2, rest))),
     λ (k, r, (m, x, rest)). (m, to_then (edge_at text) (has_at f ss text) done w i k m r ((same k m).1 x), rest),
   )
 
-  beside_more : (done : Way) (w : Way) (e : Regex) (es : Regexes) → Same w (Holds f text e) → (i j : ℕ) → (Beside (either_way done w) es i j → Beside done (more e es) i j) × (Beside done (more e es) i j → Beside (either_way done w) es i j)
+  beside_more : (done : Way) (w : Way) (e : Regex) (es : Regexes) → Same w (Holds f text e) → (i j : ℕ) →
+      (Beside (either_way done w) es i j → Beside done (more e es) i j) × (Beside done (more e es) i j → Beside (either_way done w) es i j)
   unfolding HoldsSome
   beside_more done w e es same i j = (out, into)
     where

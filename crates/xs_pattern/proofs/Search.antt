@@ -38,7 +38,9 @@ module _ (f : Flags) (ss : List Chars) (text : List ℕ) (w : Way) where
   element i c lt is = is ∙ get_or_default text i c 0 lt
 
   -- one character further
-  pub read_on : (i c : ℕ) (edge : Edge) (before behind : List Bool) → i < length text → c ≡ get_or text i c → edge ≡ record { start = nat_eq i 0; end = false } → before ≡ marks_at f ss text w i → behind ≡ next edge (λ k. slice_index_or (having f ss c) k false) w true before → behind ≡ marks_at f ss text w (i + 1)
+  pub read_on : (i c : ℕ) (edge : Edge) (before behind : List Bool) → i < length text → c ≡ get_or text i c →
+      edge ≡ record { start = nat_eq i 0; end = false } → before ≡ marks_at f ss text w i →
+      behind ≡ next edge (λ k. slice_index_or (having f ss c) k false) w true before → behind ≡ marks_at f ss text w (i + 1)
   unfolding marks_at
   read_on i c edge before behind lt at is b h =
       rw add-one (h ∙ (ap (λ e. next e (λ k. slice_index_or (having f ss c) k false) w true before) (edge_within i lt edge is)
@@ -70,7 +72,8 @@ module _ (f : Flags) (ss : List Chars) (text : List ℕ) (w : Way) where
       let whole : length text ≡ length so_far + suc (length (chars rest)) = ap length split ∙ length-append so_far (c ∷ chars rest) in
       omega arith
 
-  is_edge : (so_far : List ℕ) (start : Bool) (edge : Edge) → start ≡ nat_eq (length so_far) 0 → edge ≡ record { start = start; end = false } → edge ≡ record { start = nat_eq (length so_far) 0; end = false }
+  is_edge : (so_far : List ℕ) (start : Bool) (edge : Edge) → start ≡ nat_eq (length so_far) 0 → edge ≡ record { start = start; end = false } →
+      edge ≡ record { start = nat_eq (length so_far) 0; end = false }
   is_edge so_far start edge from is = is ∙ ap (λ b. record { start = b; end = false }) from
 
   -- a part of the text ends before the next character, or none does
@@ -102,7 +105,8 @@ module _ (f : Flags) (ss : List Chars) (text : List ℕ) (w : Way) where
         utf8 = IsUtf8-past_char left rest c read.utf8 ahead;
         split = append_assoc so_far (c ∷ []) (chars rest) ∙ sym split;
         start = sym (not_true (nat_eq (length (so_far ++ c ∷ [])) 0) (λ h. let e = eqb-true (length (so_far ++ c ∷ [])) 0 h in omega arith));
-        marks = read_on (length so_far) c edge before behind within at (is_edge so_far start edge read.start is) read.marks (step ∙ ap (λ v. next edge (λ k. slice_index_or v k false) w true before) has) ∙ ap (marks_at f ss text w) (sym more);
+        marks = read_on (length so_far) c edge before behind within at (is_edge so_far start edge read.start is) read.marks (step
+            ∙ ap (λ v. next edge (λ k. slice_index_or v k false) w true before) has) ∙ ap (marks_at f ss text w) (sym more);
         missed = subst (λ n. (k : ℕ) → k < n → exits_at f ss text w k ≡ false) (sym more) (below_more _ _ read.missed (sym missed ∙ out));
       }
 

@@ -85,7 +85,8 @@ kind_sound d s w p (Kinds.Category g) ts r h = h
 kind_sound d s w p (Kinds.Group g) ts r h = h
 
 -- escapes
-kind_item_sound : (negated : Bool) (o : Option (Kind × List ℕ)) (x : Item) (r cs : List ℕ) (p : ℕ) → kind_item negated o ≡ Some (x, r) → ((k : Kind) (m : List ℕ) → o ≡ Some (k, m) → (name : List ℕ) × (named categories name ≡ Some k) × (cs ≡ 123 ∷ (name ++ 125 ∷ m))) → p ≡ cond negated 80 112 → SpellsEscape x (92 ∷ p ∷ cs) r
+kind_item_sound : (negated : Bool) (o : Option (Kind × List ℕ)) (x : Item) (r cs : List ℕ) (p : ℕ) → kind_item negated o ≡ Some (x, r) →
+    ((k : Kind) (m : List ℕ) → o ≡ Some (k, m) → (name : List ℕ) × (named categories name ≡ Some k) × (cs ≡ 123 ∷ (name ++ 125 ∷ m))) → p ≡ cond negated 80 112 → SpellsEscape x (92 ∷ p ∷ cs) r
 kind_item_sound true None x r cs p h sound letter = absurd (cc)
 kind_item_sound false None x r cs p h sound letter = absurd (cc)
 kind_item_sound true (Some (k, m)) x r cs p h sound letter =
@@ -126,7 +127,8 @@ single_sound : (cs r : List ℕ) (d : ℕ) → read_single cs ≡ Some (d, r) �
 single_sound [] r d h = absurd (cc)
 single_sound (c ∷ cs) r d h = let p = with_rest_is (escaped c) cs d r h in (c, p.0, ap (λ v. 92 ∷ c ∷ v) p.1)
 
-char_item_sound : (o : Option (ℕ × List ℕ)) (x : Item) (cs r : List ℕ) → char_item o ≡ Some (x, r) → ((d : ℕ) (m : List ℕ) → o ≡ Some (d, m) → SpellsEscape (Items.Char d) (92 ∷ cs) m) → SpellsEscape x (92 ∷ cs) r
+char_item_sound : (o : Option (ℕ × List ℕ)) (x : Item) (cs r : List ℕ) → char_item o ≡ Some (x, r) →
+    ((d : ℕ) (m : List ℕ) → o ≡ Some (d, m) → SpellsEscape (Items.Char d) (92 ∷ cs) m) → SpellsEscape x (92 ∷ cs) r
 char_item_sound None x cs r h sound = absurd (cc)
 char_item_sound (Some (d, m)) x cs r h sound =
     subst (λ (v : Item × List ℕ). SpellsEscape v.0 (92 ∷ cs) v.1) (same_Some (Items.Char d, m) (x, r) h) (sound d m refl)
@@ -172,14 +174,16 @@ kind_item_read_sound is_first x (c ∷ cs) r h =
 range_begins : (m : List ℕ) → is_range m ≡ true → m ≡ 45 ∷ tail m
 range_begins m h = begins_with 45 m (and_parts (begins 45 m) (not (begins 93 (tail m) || begins 91 (tail m))) h).0
 
-up_to_sound : (is_first : Bool) (a : ℕ) (o : Option (ℕ × List ℕ)) (x : Item) (ts m r : List ℕ) → up_to a o ≡ Some (x, r) → SpellsChar is_first a ts (45 ∷ m) → ((b : ℕ) (v : List ℕ) → o ≡ Some (b, v) → SpellsChar false b m v) → SpellsItem is_first x ts r
+up_to_sound : (is_first : Bool) (a : ℕ) (o : Option (ℕ × List ℕ)) (x : Item) (ts m r : List ℕ) → up_to a o ≡ Some (x, r) → SpellsChar is_first a ts (45 ∷ m) →
+    ((b : ℕ) (v : List ℕ) → o ≡ Some (b, v) → SpellsChar false b m v) → SpellsItem is_first x ts r
 up_to_sound is_first a None x ts m r h from sound = absurd (cc)
 up_to_sound is_first a (Some (b, v)) x ts m r h from sound =
     chosen (nat_le a b) (Some (Items.Range a b, v)) None (x, r) (SpellsItem is_first x ts r) h
     (λ t e. subst (λ (w : Item × List ℕ). SpellsItem is_first w.0 ts w.1) (same_Some (Items.Range a b, v) (x, r) e) (m, from, sound b v refl, leb-true a b t))
     (λ t e. absurd (cc))
 
-ranged_sound : (is_first : Bool) (o : Option (ℕ × List ℕ)) (x : Item) (ts r : List ℕ) → ranged o ≡ Some (x, r) → ((d : ℕ) (m : List ℕ) → o ≡ Some (d, m) → SpellsChar is_first d ts m) → SpellsItem is_first x ts r
+ranged_sound : (is_first : Bool) (o : Option (ℕ × List ℕ)) (x : Item) (ts r : List ℕ) → ranged o ≡ Some (x, r) →
+    ((d : ℕ) (m : List ℕ) → o ≡ Some (d, m) → SpellsChar is_first d ts m) → SpellsItem is_first x ts r
 ranged_sound is_first None x ts r h sound = absurd (cc)
 ranged_sound is_first (Some (d, m)) x ts r h sound =
     chosen (is_range m) (up_to d (read_char false (tail m))) (Some (Items.Char d, m)) (x, r) (SpellsItem is_first x ts r) h
@@ -198,7 +202,8 @@ item_before_is x None xs r h = absurd (cc)
 item_before_is x (Some (ys, s)) xs r h =
     let e = same_Some (x ∷ ys, s) (xs, r) h in (ys, ap (λ (w : List Item × List ℕ). Some (ys, w.1)) e, ap (λ (w : List Item × List ℕ). w.0) (sym e))
 
-item_then_is : (go : List ℕ → Option (List Item × List ℕ)) (o : Option (Item × List ℕ)) (xs : List Item) (r : List ℕ) → item_then go o ≡ Some (xs, r) → (x : Item) × (m : List ℕ) × (ys : List Item) × (o ≡ Some (x, m)) × (go m ≡ Some (ys, r)) × (xs ≡ x ∷ ys)
+item_then_is : (go : List ℕ → Option (List Item × List ℕ)) (o : Option (Item × List ℕ)) (xs : List Item) (r : List ℕ) → item_then go o ≡ Some (xs, r) →
+    (x : Item) × (m : List ℕ) × (ys : List Item) × (o ≡ Some (x, m)) × (go m ≡ Some (ys, r)) × (xs ≡ x ∷ ys)
 item_then_is go None xs r h = absurd (cc)
 item_then_is go (Some (x, m)) xs r h = let p = item_before_is x (go m) xs r h in (x, m, p.0, refl, p.1, p.2)
 
@@ -238,7 +243,8 @@ members_are b (Some (xs, s)) m r h =
     let e = same_Some (record { negated = b; items = xs }, s) (m, r) h in
     (ap (λ (w : Members × List ℕ). (w.0).negated) (sym e), ap (λ (w : Members × List ℕ). Some ((w.0).items, w.1)) e)
 
-members_then_sound : (o : Option (Bool × List ℕ)) (m : Members) (ts r : List ℕ) → members_then o ≡ Some (m, r) → ((b : Bool) (a : List ℕ) → o ≡ Some (b, a) → SpellsOpening b ts a) → SpellsMembers m ts r × (is_end r ≡ true)
+members_then_sound : (o : Option (Bool × List ℕ)) (m : Members) (ts r : List ℕ) → members_then o ≡ Some (m, r) →
+    ((b : Bool) (a : List ℕ) → o ≡ Some (b, a) → SpellsOpening b ts a) → SpellsMembers m ts r × (is_end r ≡ true)
 members_then_sound None m ts r h sound = absurd (cc)
 members_then_sound (Some (b, a)) m ts r h sound =
     let p = members_are b (read_items a) m r h in
@@ -263,7 +269,9 @@ group_more : (m : Members) (ns : List Members) (ts a r : List ℕ) → SpellsMem
 group_more m [] ts a r h rest = absurd rest
 group_more m (n ∷ ns) ts a r h rest = (a, h, rest)
 
-groups_then_sound : (go : List ℕ → Option (List Members × List ℕ)) (o : Option (Members × List ℕ)) (ms : List Members) (ts r : List ℕ) → groups_then go o ≡ Some (ms, r) → ((m : Members) (b : List ℕ) → o ≡ Some (m, b) → SpellsMembers m ts b) → ((ns : List Members) (a s : List ℕ) → go a ≡ Some (ns, s) → Groups ns a s) → Groups ms ts r
+groups_then_sound : (go : List ℕ → Option (List Members × List ℕ)) (o : Option (Members × List ℕ)) (ms : List Members) (ts r : List ℕ) →
+    groups_then go o ≡ Some (ms, r) → ((m : Members) (b : List ℕ) → o ≡ Some (m, b) → SpellsMembers m ts b) →
+    ((ns : List Members) (a s : List ℕ) → go a ≡ Some (ns, s) → Groups ns a s) → Groups ms ts r
 groups_then_sound go None ms ts r h sound rest = absurd (cc)
 groups_then_sound go (Some (m, b)) ms ts r h sound rest =
     chosen (begins 45 b) (group_before m (go (tail b))) (Some (m ∷ [], b)) (ms, r) (Groups ms ts r) h
@@ -374,7 +382,8 @@ abbrev Counts : List ℕ → Option (ℕ × Option ℕ × List ℕ) → Type 0
 Counts ts None = ⊤
 Counts ts (Some (n, m, r)) = SpellsQuantifier n m ts r
 
-upper_counts : (n : ℕ) (o : Option (List ℕ × List ℕ)) (ts a b : List ℕ) → ts ≡ 123 ∷ a → SpellsNumber n a (44 ∷ b) → ((ds s : List ℕ) → o ≡ Some (ds, s) → SpellsNumber (digits_value 10 ds) b s) → Counts ts (read_upper n o)
+upper_counts : (n : ℕ) (o : Option (List ℕ × List ℕ)) (ts a b : List ℕ) → ts ≡ 123 ∷ a → SpellsNumber n a (44 ∷ b) →
+    ((ds s : List ℕ) → o ≡ Some (ds, s) → SpellsNumber (digits_value 10 ds) b s) → Counts ts (read_upper n o)
 upper_counts n None ts a b at from sound = tt
 upper_counts n (Some (ds, s)) ts a b at from sound = go (begins 125 s && nat_le n (digits_value 10 ds)) refl
   where
@@ -422,7 +431,8 @@ counts_sound (c ∷ cs) = star (nat_eq c 42) refl
     plus true e = inr (inl (refl, λ i. eqb-true c 43 e i ∷ cs))
     plus false e = maybe (nat_eq c 63) refl
 
-    star : (v : Bool) → nat_eq c 42 ≡ v → Counts (c ∷ cs) (cond v (Some (0, None, cs)) (cond (nat_eq c 43) (Some (1, None, cs)) (cond (nat_eq c 63) (Some (0, Some 1, cs)) (cond (nat_eq c 123) (read_braces (read_digits cs)) None))))
+    star : (v : Bool) → nat_eq c 42 ≡ v →
+        Counts (c ∷ cs) (cond v (Some (0, None, cs)) (cond (nat_eq c 43) (Some (1, None, cs)) (cond (nat_eq c 63) (Some (0, Some 1, cs)) (cond (nat_eq c 123) (read_braces (read_digits cs)) None))))
     star true e = inl (refl, λ i. eqb-true c 42 e i ∷ cs)
     star false e = plus (nat_eq c 43) refl
 
@@ -481,11 +491,13 @@ mark_sound c cs = dot_mark (nat_eq c 46) refl
     bar_mark true e = λ i. eqb-true c 124 e i ∷ cs
     bar_mark false e = start_mark (nat_eq c 94) refl
 
-    close_mark : (b : Bool) → nat_eq c 41 ≡ b → Reads (c ∷ cs) (with_rest (cond b (Some close_bracket) (cond (nat_eq c 124) (Some bar) (cond (nat_eq c 94) (Some start_anchor) (cond (nat_eq c 36) (Some end_anchor) None)))) cs)
+    close_mark : (b : Bool) → nat_eq c 41 ≡ b →
+        Reads (c ∷ cs) (with_rest (cond b (Some close_bracket) (cond (nat_eq c 124) (Some bar) (cond (nat_eq c 94) (Some start_anchor) (cond (nat_eq c 36) (Some end_anchor) None)))) cs)
     close_mark true e = λ i. eqb-true c 41 e i ∷ cs
     close_mark false e = bar_mark (nat_eq c 124) refl
 
-    dot_mark : (b : Bool) → nat_eq c 46 ≡ b → Reads (c ∷ cs) (with_rest (cond b (Some (one_of dot)) (cond (nat_eq c 41) (Some close_bracket) (cond (nat_eq c 124) (Some bar) (cond (nat_eq c 94) (Some start_anchor) (cond (nat_eq c 36) (Some end_anchor) None))))) cs)
+    dot_mark : (b : Bool) → nat_eq c 46 ≡ b →
+        Reads (c ∷ cs) (with_rest (cond b (Some (one_of dot)) (cond (nat_eq c 41) (Some close_bracket) (cond (nat_eq c 124) (Some bar) (cond (nat_eq c 94) (Some start_anchor) (cond (nat_eq c 36) (Some end_anchor) None))))) cs)
     dot_mark true e = λ i. eqb-true c 46 e i ∷ cs
     dot_mark false e = close_mark (nat_eq c 41) refl
 
@@ -497,17 +509,20 @@ plain_sound : (c : ℕ) (cs : List ℕ) → Reads (c ∷ cs) (plain_token c cs)
 plain_sound c cs = escape_case (nat_eq c 92) refl
   where
     other_case : Reads (c ∷ cs) (or_else (with_rest (mark_token c) cs) (times_token (read_quantifier (c ∷ cs))))
-    other_case = or_else_reads (c ∷ cs) (with_rest (mark_token c) cs) (times_token (read_quantifier (c ∷ cs))) (mark_sound c cs) (times_sound (read_quantifier (c ∷ cs)) (c ∷ cs) (counts_sound (c ∷ cs)))
+    other_case = or_else_reads (c ∷ cs) (with_rest (mark_token c) cs) (times_token (read_quantifier (c ∷ cs))) (mark_sound c cs)
+        (times_sound (read_quantifier (c ∷ cs)) (c ∷ cs) (counts_sound (c ∷ cs)))
 
     normal_case : (b : Bool) → is_normal c ≡ b → Reads (c ∷ cs) (cond b (Some (one_of (item (Items.Char c)), cs)) (or_else (with_rest (mark_token c) cs) (times_token (read_quantifier (c ∷ cs)))))
     normal_case true e = inl (e, refl)
     normal_case false e = other_case
 
-    open_case : (b : Bool) → nat_eq c 40 ≡ b → Reads (c ∷ cs) (cond b (Some (open_bracket, behind_open cs)) (cond (is_normal c) (Some (one_of (item (Items.Char c)), cs)) (or_else (with_rest (mark_token c) cs) (times_token (read_quantifier (c ∷ cs))))))
+    open_case : (b : Bool) → nat_eq c 40 ≡ b →
+        Reads (c ∷ cs) (cond b (Some (open_bracket, behind_open cs)) (cond (is_normal c) (Some (one_of (item (Items.Char c)), cs)) (or_else (with_rest (mark_token c) cs) (times_token (read_quantifier (c ∷ cs))))))
     open_case true e = open_sound c cs (eqb-true c 40 e)
     open_case false e = normal_case (is_normal c) refl
 
-    escape_case : (b : Bool) → nat_eq c 92 ≡ b → Reads (c ∷ cs) (cond b (item_token (read_escape cs)) (cond (nat_eq c 40) (Some (open_bracket, behind_open cs)) (cond (is_normal c) (Some (one_of (item (Items.Char c)), cs)) (or_else (with_rest (mark_token c) cs) (times_token (read_quantifier (c ∷ cs)))))))
+    escape_case : (b : Bool) → nat_eq c 92 ≡ b →
+        Reads (c ∷ cs) (cond b (item_token (read_escape cs)) (cond (nat_eq c 40) (Some (open_bracket, behind_open cs)) (cond (is_normal c) (Some (one_of (item (Items.Char c)), cs)) (or_else (with_rest (mark_token c) cs) (times_token (read_quantifier (c ∷ cs)))))))
     escape_case true e =
         item_token_sound (read_escape cs) (c ∷ cs) (λ x r h. subst (λ v. SpellsEscape x (v ∷ cs) r) (sym (eqb-true c 92 e)) (escape_sound cs r x h))
     escape_case false e = open_case (nat_eq c 40) refl
@@ -527,7 +542,8 @@ token_before_is : (u : Token) (o : Option (List Token)) (us : List Token) → to
 token_before_is u None us h = absurd (cc)
 token_before_is u (Some vs) us h = (vs, refl, sym (same_Some (u ∷ vs) us h))
 
-tokens_then_is : (go : List ℕ → Option (List Token)) (o : Option (Token × List ℕ)) (us : List Token) → tokens_then go o ≡ Some us → (u : Token) × (r : List ℕ) × (vs : List Token) × (o ≡ Some (u, r)) × (go r ≡ Some vs) × (us ≡ u ∷ vs)
+tokens_then_is : (go : List ℕ → Option (List Token)) (o : Option (Token × List ℕ)) (us : List Token) → tokens_then go o ≡ Some us → (u : Token) × (r : List ℕ) ×
+    (vs : List Token) × (o ≡ Some (u, r)) × (go r ≡ Some vs) × (us ≡ u ∷ vs)
 tokens_then_is go None us h = absurd (cc)
 tokens_then_is go (Some (u, r)) us h = let p = token_before_is u (go r) us h in (u, r, p.0, refl, p.1, p.2)
 

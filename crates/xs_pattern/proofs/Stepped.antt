@@ -69,7 +69,8 @@ module _ (e : Edge) (w : Way) where
       last ∙ ap (ends e w) (l ∙ m ∙ ap (marks_of count) (shifted i (omega arith))) ∙ ends_meets e w (marks_of count (2 ^ i)) ∙ meets_one count i (lasts e w) lt in
       let len = length_lasts e w in
       ap (λ v. v ++ drop (i + 1) (lasts e w)) push ∙ append_assoc old (b ∷ []) (drop (i + 1) (lasts e w))
-      ∙ ap (λ v. old ++ v) (ap (λ v. v ∷ drop (i + 1) (lasts e w)) bit ∙ ap (λ k. get_or (lasts e w) i false ∷ drop k (lasts e w)) (add-one i) ∙ sym (drop-cons (lasts e w) i false (omega (arith, len, is, lt)))) ∙ so_far
+      ∙ ap (λ v. old ++ v) (ap (λ v. v ∷ drop (i + 1) (lasts e w)) bit ∙ ap (λ k. get_or (lasts e w) i false ∷ drop k (lasts e w)) (add-one i)
+      ∙ sym (drop-cons (lasts e w) i false (omega (arith, len, is, lt)))) ∙ so_far
 
   pub all_ended : (i : ℕ) (items : List Bool) → size w ≤ i → items ++ drop i (lasts e w) ≡ lasts e w → items ≡ lasts e w
   all_ended i items le is =

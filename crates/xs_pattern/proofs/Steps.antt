@@ -32,7 +32,8 @@ more_items ts h =
     (λ x r e. let less = item_shorter x ts r e in items_enough (length ts) (suc (length r)) r less (omega arith))
 
 -- classes
-same_groups : (go other : List ℕ → Option (List Members × List ℕ)) (o : Option (Members × List ℕ)) → ((m : Members) (b : List ℕ) → o ≡ Some (m, b) → go (tail b) ≡ other (tail b)) → groups_then go o ≡ groups_then other o
+same_groups : (go other : List ℕ → Option (List Members × List ℕ)) (o : Option (Members × List ℕ)) →
+    ((m : Members) (b : List ℕ) → o ≡ Some (m, b) → go (tail b) ≡ other (tail b)) → groups_then go o ≡ groups_then other o
 same_groups go other None same = refl
 same_groups go other (Some (m, b)) same = ap (λ v. cond (begins 45 b) (group_before m v) (Some (m ∷ [], b))) (same m b refl)
 

@@ -41,5 +41,7 @@ same_way (Ok w) v u is h = h ∙ is
 same_way (Err e) v u is h = tt
 
 -- of what is repeated 0 times nothing matters
-pub never_repeated : (r : Result Unrolled AllocError) (least : ℕ) (most : Option ℕ) (v w : Way) → most ≡ Some 0 → v ≡ nothing → IfOk r (λ u. way_of u ≡ repeated least most v) → IfOk r (λ u. way_of u ≡ repeated least most w)
-never_repeated r least most v w is none h = same_way r _ _ (ap (λ m. repeated least m v) is ∙ (ap (λ x. repeated least (Some 0) x) none ∙ (sym (repeated_none least w) ∙ ap (λ m. repeated least m w) (sym is)))) h
+pub never_repeated : (r : Result Unrolled AllocError) (least : ℕ) (most : Option ℕ) (v w : Way) → most ≡ Some 0 → v ≡ nothing →
+    IfOk r (λ u. way_of u ≡ repeated least most v) → IfOk r (λ u. way_of u ≡ repeated least most w)
+never_repeated r least most v w is none h = same_way r _ _ (ap (λ m. repeated least m v) is
+    ∙ (ap (λ x. repeated least (Some 0) x) none ∙ (sym (repeated_none least w) ∙ ap (λ m. repeated least m w) (sym is)))) h

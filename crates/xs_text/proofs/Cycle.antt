@@ -14,7 +14,8 @@ digit_at (x ∷ xs) (suc k) h l = digit_at xs k (first_digit x xs h).1 (omega ar
 remainder_step : (m v d : ℕ) → m ≡ v % 400 → (m * 10 + d) % 400 ≡ (v * 10 + d) % 400
 remainder_step m v d e = omega arith
 
-pub remainder_more : (m : ℕ) (xs : List ℕ) (i c : ℕ) → are_digits xs ≡ true → i < length xs → c ≡ get_or xs i 0 → m ≡ digits_value 10 (take i xs) % 400 → (m * 10 + (c - 48)) % 400 ≡ digits_value 10 (take (i + 1) xs) % 400
+pub remainder_more : (m : ℕ) (xs : List ℕ) (i c : ℕ) → are_digits xs ≡ true → i < length xs → c ≡ get_or xs i 0 → m ≡ digits_value 10 (take i xs) % 400 →
+    (m * 10 + (c - 48)) % 400 ≡ digits_value 10 (take (i + 1) xs) % 400
 remainder_more m xs i c h l ec e =
     let digit = digit_bound (get_or xs i 0) (digit_at xs i h l) in
     ap (λ d. (m * 10 + d) % 400) (omega arith)

@@ -319,7 +319,8 @@ minus_of (c ∷ cs) = by_first (eqb c minus) refl
     by_first false e = record { sign = []; is_sign = inl refl; spelled = sym (ap (λ b. cond b (drop 1 (c ∷ cs)) (c ∷ cs)) e) }
 
 -- the text behind a year, cut at its places
-cut_rest : (rest : List ℕ) → 14 ≤ length rest → slice_index rest 5 ≡ 84 → rest ≡ take 5 rest ++ 84 ∷ (take 8 (drop 6 rest) ++ (take (fraction_len (drop 14 rest)) (drop 14 rest) ++ drop (fraction_len (drop 14 rest)) (drop 14 rest)))
+cut_rest : (rest : List ℕ) → 14 ≤ length rest → slice_index rest 5 ≡ 84 →
+    rest ≡ take 5 rest ++ 84 ∷ (take 8 (drop 6 rest) ++ (take (fraction_len (drop 14 rest)) (drop 14 rest) ++ drop (fraction_len (drop 14 rest)) (drop 14 rest)))
 cut_rest rest n s =
     let tail = drop 14 rest in
     sym (take-append-drop 5 rest)
@@ -389,7 +390,8 @@ or_right false y h = h
 or_left : (x y : Bool) → x ≡ true → (x || y) ≡ true
 or_left x y h = ap (λ b. b || y) h
 
-pair_form : (a b x c d : ℕ) → is_ascii_digit a ≡ true → is_ascii_digit b ≡ true → stands_for x x ≡ true → is_ascii_digit c ≡ true → is_ascii_digit d ≡ true → has_form (57 ∷ 57 ∷ x ∷ 57 ∷ 57 ∷ []) (a ∷ b ∷ x ∷ c ∷ d ∷ []) ≡ true
+pair_form : (a b x c d : ℕ) → is_ascii_digit a ≡ true → is_ascii_digit b ≡ true → stands_for x x ≡ true → is_ascii_digit c ≡ true → is_ascii_digit d ≡ true →
+    has_form (57 ∷ 57 ∷ x ∷ 57 ∷ 57 ∷ []) (a ∷ b ∷ x ∷ c ∷ d ∷ []) ≡ true
 pair_form a b x c d ha hb hx hc hd =
     form_cons 57 (57 ∷ x ∷ 57 ∷ 57 ∷ []) a (b ∷ x ∷ c ∷ d ∷ []) ha
     (form_cons 57 (x ∷ 57 ∷ 57 ∷ []) b (x ∷ c ∷ d ∷ []) hb
@@ -409,7 +411,8 @@ field_third : (a b x c d y e f : ℕ) (t : List ℕ) → field 6 (a ∷ b ∷ x 
 unfolding field
 field_third a b x c d y e f t = value_two e f
 
-day_passes : (year a b c d : ℕ) → is_ascii_digit a ≡ true → is_ascii_digit b ≡ true → is_ascii_digit c ≡ true → is_ascii_digit d ≡ true → 1 ≤ value (a ∷ b ∷ []) → value (a ∷ b ∷ []) ≤ 12 → 1 ≤ value (c ∷ d ∷ []) → value (c ∷ d ∷ []) ≤ days_in_month year (value (a ∷ b ∷ [])) → is_day year (a ∷ b ∷ minus ∷ c ∷ d ∷ []) ≡ true
+day_passes : (year a b c d : ℕ) → is_ascii_digit a ≡ true → is_ascii_digit b ≡ true → is_ascii_digit c ≡ true → is_ascii_digit d ≡ true →
+    1 ≤ value (a ∷ b ∷ []) → value (a ∷ b ∷ []) ≤ 12 → 1 ≤ value (c ∷ d ∷ []) → value (c ∷ d ∷ []) ≤ days_in_month year (value (a ∷ b ∷ [])) → is_day year (a ∷ b ∷ minus ∷ c ∷ d ∷ []) ≡ true
 unfolding is_day
 day_passes year a b c d ha hb hc hd m1 m2 d1 d2 =
     let t = a ∷ b ∷ minus ∷ c ∷ d ∷ [] in
@@ -428,7 +431,8 @@ day_passes year a b c d ha hb hc hd m1 m2 d1 d2 =
     (le-leb 1 (field 3 t) (subst (λ n. 1 ≤ n) (sym day) d1)))
     (le-leb (field 3 t) (days_in_month year (field 0 t)) (subst (λ n. field 3 t ≤ days_in_month year n) (sym month) (subst (λ n. n ≤ days_in_month year (value (a ∷ b ∷ []))) (sym day) d2)))
 
-clock_form : (a b c d e f : ℕ) → is_ascii_digit a ≡ true → is_ascii_digit b ≡ true → is_ascii_digit c ≡ true → is_ascii_digit d ≡ true → is_ascii_digit e ≡ true → is_ascii_digit f ≡ true → has_form clock_picture (a ∷ b ∷ 58 ∷ c ∷ d ∷ 58 ∷ e ∷ f ∷ []) ≡ true
+clock_form : (a b c d e f : ℕ) → is_ascii_digit a ≡ true → is_ascii_digit b ≡ true → is_ascii_digit c ≡ true → is_ascii_digit d ≡ true →
+    is_ascii_digit e ≡ true → is_ascii_digit f ≡ true → has_form clock_picture (a ∷ b ∷ 58 ∷ c ∷ d ∷ 58 ∷ e ∷ f ∷ []) ≡ true
 clock_form a b c d e f ha hb hc hd he hf =
     form_cons 57 (57 ∷ 58 ∷ 57 ∷ 57 ∷ 58 ∷ 57 ∷ 57 ∷ []) a (b ∷ 58 ∷ c ∷ d ∷ 58 ∷ e ∷ f ∷ []) ha
     (form_cons 57 (58 ∷ 57 ∷ 57 ∷ 58 ∷ 57 ∷ 57 ∷ []) b (58 ∷ c ∷ d ∷ 58 ∷ e ∷ f ∷ []) hb
@@ -443,7 +447,9 @@ digits_of_value a b m n ha hb hm hn e =
     let two = value_two a b in
     (omega arith, omega arith)
 
-time_passes : (a b c d e f : ℕ) (fraction : List ℕ) → is_ascii_digit a ≡ true → is_ascii_digit b ≡ true → is_ascii_digit c ≡ true → is_ascii_digit d ≡ true → is_ascii_digit e ≡ true → is_ascii_digit f ≡ true → IsTimeOfDay (value (a ∷ b ∷ [])) (value (c ∷ d ∷ [])) (value (e ∷ f ∷ [])) fraction → is_time_with_fraction (a ∷ b ∷ 58 ∷ c ∷ d ∷ 58 ∷ e ∷ f ∷ []) fraction ≡ true
+time_passes : (a b c d e f : ℕ) (fraction : List ℕ) → is_ascii_digit a ≡ true → is_ascii_digit b ≡ true → is_ascii_digit c ≡ true → is_ascii_digit d ≡ true →
+    is_ascii_digit e ≡ true → is_ascii_digit f ≡ true → IsTimeOfDay (value (a ∷ b ∷ [])) (value (c ∷ d ∷ [])) (value (e ∷ f ∷ [])) fraction →
+    is_time_with_fraction (a ∷ b ∷ 58 ∷ c ∷ d ∷ 58 ∷ e ∷ f ∷ []) fraction ≡ true
 unfolding is_time_with_fraction is_time
 time_passes a b c d e f fraction ha hb hc hd he hf (inl (h, (m, s))) =
     let t = a ∷ b ∷ 58 ∷ c ∷ d ∷ 58 ∷ e ∷ f ∷ [] in
@@ -544,7 +550,9 @@ zone_passes zone (offset sign hours minutes e s h m r) =
     ap is_zone e ∙ or_right (eqb sign 90 && eqb (length cs) 0) (is_sign sign && is_offset cs)
     (and_from (is_sign sign) (is_offset cs) s (offset_passes hours minutes h m r))
 
-rest_passes : (year a b c d e f g h i j : ℕ) (fraction zone : List ℕ) → is_day year (a ∷ b ∷ minus ∷ c ∷ d ∷ []) ≡ true → is_time_with_fraction (e ∷ f ∷ 58 ∷ g ∷ h ∷ 58 ∷ i ∷ j ∷ []) fraction ≡ true → IsFraction fraction → IsZone zone → is_day_and_time year (a ∷ b ∷ minus ∷ c ∷ d ∷ 84 ∷ e ∷ f ∷ 58 ∷ g ∷ h ∷ 58 ∷ i ∷ j ∷ (fraction ++ zone)) ≡ true
+rest_passes : (year a b c d e f g h i j : ℕ) (fraction zone : List ℕ) → is_day year (a ∷ b ∷ minus ∷ c ∷ d ∷ []) ≡ true →
+    is_time_with_fraction (e ∷ f ∷ 58 ∷ g ∷ h ∷ 58 ∷ i ∷ j ∷ []) fraction ≡ true → IsFraction fraction → IsZone zone →
+    is_day_and_time year (a ∷ b ∷ minus ∷ c ∷ d ∷ 84 ∷ e ∷ f ∷ 58 ∷ g ∷ h ∷ 58 ∷ i ∷ j ∷ (fraction ++ zone)) ≡ true
 unfolding is_day_and_time
 rest_passes year a b c d e f g h i j fraction zone hd ht hf hz =
     let tail = fraction ++ zone in
@@ -594,7 +602,8 @@ body_of : (text sign body : List ℕ) → text ≡ sign ++ body → (sign ≡ []
 body_of text sign body e (inl s) h = ap without_minus (e ∙ ap (λ x. x ++ body) s) ∙ h
 body_of text sign body e (inr s) h = ap without_minus (e ∙ ap (λ x. x ++ body) s)
 
-date_time_from_parts : (text body year rest : List ℕ) → without_minus text ≡ body → before_first (λ c. eqb c minus) body ≡ year → after_first (λ c. eqb c minus) body ≡ rest → is_year year ≡ true → is_day_and_time (value year) rest ≡ true → is_date_time text ≡ true
+date_time_from_parts : (text body year rest : List ℕ) → without_minus text ≡ body → before_first (λ c. eqb c minus) body ≡ year →
+    after_first (λ c. eqb c minus) body ≡ rest → is_year year ≡ true → is_day_and_time (value year) rest ≡ true → is_date_time text ≡ true
 unfolding is_date_time
 date_time_from_parts text body year rest eb ey er hy hr =
     let tested = λ (y r : List ℕ). is_year y && is_day_and_time (value y) r in

@@ -50,7 +50,8 @@ drop_behind (d ∷ w) f c =
     let more : length (d ∷ w) + 1 ≡ suc (length w + 1) = omega arith in
     ap (λ n. drop n (d ∷ (w ++ c ∷ f))) more ∙ drop_behind w f c
 
-decimal_from_parts : (text u w f : List ℕ) → unsigned_part text ≡ u → before_first is_point u ≡ w → after_first is_point u ≡ f → are_digits w ≡ true → are_digits f ≡ true → 0 < length w + length f → is_decimal text ≡ true
+decimal_from_parts : (text u w f : List ℕ) → unsigned_part text ≡ u → before_first is_point u ≡ w → after_first is_point u ≡ f → are_digits w ≡ true →
+    are_digits f ≡ true → 0 < length w + length f → is_decimal text ≡ true
 decimal_from_parts text u w f eu ew ef hw hf l =
     let tested = λ (x y : List ℕ). are_digits x && are_digits y && ltb 0 (length x + length y) in
     ap (λ x. tested (before_first is_point x) (after_first is_point x)) eu
@@ -58,7 +59,8 @@ decimal_from_parts text u w f eu ew ef hw hf l =
     ∙ ap (λ x. tested w x) ef
     ∙ and_from (are_digits w && are_digits f) (ltb 0 (length w + length f)) (and_from (are_digits w) (are_digits f) hw hf) (lt-ltb 0 (length w + length f) l)
 
-decimal_with_point : (text sign w f : List ℕ) → text ≡ sign ++ (w ++ point ∷ f) → IsSign sign → unsigned_part (w ++ point ∷ f) ≡ w ++ point ∷ f → are_digits w ≡ true → are_digits f ≡ true → 0 < length w + length f → is_decimal text ≡ true
+decimal_with_point : (text sign w f : List ℕ) → text ≡ sign ++ (w ++ point ∷ f) → IsSign sign → unsigned_part (w ++ point ∷ f) ≡ w ++ point ∷ f →
+    are_digits w ≡ true → are_digits f ≡ true → 0 < length w + length f → is_decimal text ≡ true
 decimal_with_point text sign w f e s h hw hf l =
     let u = w ++ point ∷ f in
     let end = point_behind w f hw in

@@ -40,7 +40,8 @@ number_found {E = E} bs r n is h plus zeros = sym same
 
 pub number_small : {E : Type 0} (bs : List ℕ) (r : Result ℕ E) (n : ℕ) → r ≡ Ok n → ParsesUnsigned 64 10 bs r → get_or bs 0 0 ≢ 43 → n < 2 ^ 64
 number_small {E = E} bs r n is h plus =
-    let k : (AllDigits 10 bs × (0 < length bs) × (digits_value 10 bs < 2 ^ 64)) × (n ≡ digits_value 10 bs) = parse_plain own {E = E} 64 bs (Ok n) (subst (λ z. ParsesUnsigned {E = E} 64 10 bs z) is h) plus in
+    let k : (AllDigits 10 bs × (0 < length bs) × (digits_value 10 bs < 2 ^ 64)) × (n ≡ digits_value 10 bs) = parse_plain own {E = E} 64 bs (Ok n)
+    (subst (λ z. ParsesUnsigned {E = E} 64 10 bs z) is h) plus in
     let below : digits_value 10 bs < 2 ^ 64 = k.0.2 in
     omega (arith, k.1)
 

@@ -58,7 +58,8 @@ shorter_below xs (y ∷ ys) h k z l =
     let least : 1 * 10 ^ length ys ≤ digit_value y * 10 ^ length ys = mul-le-mul_right (10 ^ length ys) (omega arith) in
     omega (arith, value-lt xs h, value-cons y ys)
 
-pub cmp_whole : (xs ys : List ℕ) → are_digits xs ≡ true → are_digits ys ≡ true → NoLeadingZero xs → NoLeadingZero ys → ordering_then (nat_cmp (length xs) (length ys)) (slice_cmp nat_cmp xs ys) ≡ nat_cmp (value xs) (value ys)
+pub cmp_whole : (xs ys : List ℕ) → are_digits xs ≡ true → are_digits ys ≡ true → NoLeadingZero xs → NoLeadingZero ys →
+    ordering_then (nat_cmp (length xs) (length ys)) (slice_cmp nat_cmp xs ys) ≡ nat_cmp (value xs) (value ys)
 cmp_whole xs ys h k z w =
     by_ranked (length xs < length ys) (length xs ≡ length ys) (length ys < length xs) (nat_cmp (length xs) (length ys)) (ranked (length xs) (length ys) (nat_cmp (length xs) (length ys)) refl)
     (λ e l. ap (λ o. ordering_then o (slice_cmp nat_cmp xs ys)) e ∙ nat_cmp_is (value xs) (value ys) Less (shorter_below xs ys h k w l))
@@ -94,7 +95,8 @@ lower : (v l m : ℕ) → v * l < m * l → v * l < l * m
 lower v l m h = omega arith
 
 -- fractions, with the zeros that make them one length
-pub cmp_fraction : (xs ys : List ℕ) → are_digits xs ≡ true → are_digits ys ≡ true → NoTrailingZero xs → NoTrailingZero ys → slice_cmp nat_cmp xs ys ≡ nat_cmp (value xs * 10 ^ length ys) (value ys * 10 ^ length xs)
+pub cmp_fraction : (xs ys : List ℕ) → are_digits xs ≡ true → are_digits ys ≡ true → NoTrailingZero xs → NoTrailingZero ys →
+    slice_cmp nat_cmp xs ys ≡ nat_cmp (value xs * 10 ^ length ys) (value ys * 10 ^ length xs)
 cmp_fraction [] [] h k z w = refl
 cmp_fraction [] (y ∷ ys) h k z w = nat_cmp_is (value [] * 10 ^ length (y ∷ ys)) (value (y ∷ ys) * 10 ^ 0) Less (omega (arith, value_positive (y ∷ ys) k w (omega arith)))
 cmp_fraction (x ∷ xs) [] h k z w = nat_cmp_is (value (x ∷ xs) * 10 ^ 0) (value [] * 10 ^ length (x ∷ xs)) Greater (omega (arith, value_positive (x ∷ xs) h z (omega arith)))
@@ -121,7 +123,9 @@ cmp_fraction (x ∷ xs) (y ∷ ys) h k z w =
     ∙ ap (λ n. nat_cmp (value (x ∷ xs) * 10 ^ length (y ∷ ys)) n) (sym right)
 
 -- Whole parts and fractions together: the order of the digit texts is that of the numbers, at one count of digits behind the point
-pub cmp_magnitudes : (u v x y : List ℕ) → are_digits u ≡ true → are_digits v ≡ true → are_digits x ≡ true → are_digits y ≡ true → NoLeadingZero u → NoTrailingZero v → NoLeadingZero x → NoTrailingZero y → ordering_then (ordering_then (nat_cmp (length u) (length x)) (slice_cmp nat_cmp u x)) (slice_cmp nat_cmp v y) ≡ nat_cmp (value (u ++ v) * 10 ^ length y) (value (x ++ y) * 10 ^ length v)
+pub cmp_magnitudes : (u v x y : List ℕ) → are_digits u ≡ true → are_digits v ≡ true → are_digits x ≡ true → are_digits y ≡ true → NoLeadingZero u →
+    NoTrailingZero v → NoLeadingZero x → NoTrailingZero y →
+    ordering_then (ordering_then (nat_cmp (length u) (length x)) (slice_cmp nat_cmp u x)) (slice_cmp nat_cmp v y) ≡ nat_cmp (value (u ++ v) * 10 ^ length y) (value (x ++ y) * 10 ^ length v)
 cmp_magnitudes u v x y du dv dx dy zu zv zx zy =
     let F = 10 ^ length v in
     let G = 10 ^ length y in

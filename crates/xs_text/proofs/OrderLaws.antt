@@ -29,7 +29,8 @@ same_narrower x y k h e = (answer_equal x y Equal (int_cmp_is (x *ℤ pos k) (y 
 chain : (x y z : ℤ) (p q r : ℕ) → 0 < p → 0 < q → 0 < r → (x *ℤ pos q) <ℤ (y *ℤ pos p) → (y *ℤ pos r) <ℤ (z *ℤ pos q) → (x *ℤ pos r) <ℤ (z *ℤ pos p)
 chain x y z p q r hp hq hr l m =
     let first : (x *ℤ pos r *ℤ pos q) <ℤ (y *ℤ pos p *ℤ pos r) = subst (λ w. w <ℤ (y *ℤ pos p *ℤ pos r)) (int_mul_swap x q r) (wider (x *ℤ pos q) (y *ℤ pos p) r hr l) in
-    let second : (y *ℤ pos p *ℤ pos r) <ℤ (z *ℤ pos p *ℤ pos q) = subst (λ w. w <ℤ (z *ℤ pos p *ℤ pos q)) (int_mul_swap y r p) (subst (λ w. (y *ℤ pos r *ℤ pos p) <ℤ w) (int_mul_swap z q p) (wider (y *ℤ pos r) (z *ℤ pos q) p hp m)) in
+    let second : (y *ℤ pos p *ℤ pos r) <ℤ (z *ℤ pos p *ℤ pos q) = subst (λ w. w <ℤ (z *ℤ pos p *ℤ pos q)) (int_mul_swap y r p)
+    (subst (λ w. (y *ℤ pos r *ℤ pos p) <ℤ w) (int_mul_swap z q p) (wider (y *ℤ pos r) (z *ℤ pos q) p hp m)) in
     narrower (x *ℤ pos r) (z *ℤ pos p) q hq (int_chain (x *ℤ pos r *ℤ pos q) (y *ℤ pos p *ℤ pos r) (z *ℤ pos p *ℤ pos q) first second)
 
 same_chain : (x y z : ℤ) (p q r : ℕ) → 0 < q → x *ℤ pos q ≡ y *ℤ pos p → y *ℤ pos r ≡ z *ℤ pos q → x *ℤ pos r ≡ z *ℤ pos p

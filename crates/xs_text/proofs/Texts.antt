@@ -26,7 +26,9 @@ exchange : (m a b c : ℕ) → m * a * (b * c) ≡ m * b * (a * c)
 exchange m a b c = omega arith
 
 -- one of them, brought to n + j digits behind the point
-brought : (s : Bool) (w f : List ℕ) (n j : ℕ) → signed s (value (w ++ f)) *ℤ pos (10 ^ (n + j)) ≡ signed (s && ltb 0 (length (without_leading w) + length (without_trailing f))) (value (without_leading w ++ without_trailing f) * 10 ^ n * 10 ^ (suffix_len is_zero f + j))
+brought : (s : Bool) (w f : List ℕ) (n j : ℕ) →
+    signed s (value (w ++ f)) *ℤ pos (10 ^ (n + j)) ≡ signed (s && ltb 0 (length (without_leading w) + length (without_trailing f)))
+    (value (without_leading w ++ without_trailing f) * 10 ^ n * 10 ^ (suffix_len is_zero f + j))
 brought s w f n j =
     let u = without_leading w in
     let v = without_trailing f in
@@ -43,7 +45,8 @@ brought s w f n j =
 abbrev pub kept : List ℕ → ℕ → ℤ
 kept text places = signed (has_minus text && ltb 0 (length (significant_whole text) + length (significant_fraction text))) (scaled (significant_whole text) (significant_fraction text) places)
 
-pub cmp_texts : (a b : List ℕ) → int_cmp (kept a (length (significant_fraction b))) (kept b (length (significant_fraction a))) ≡ int_cmp (unscaled_value a *ℤ pos (10 ^ scale b)) (unscaled_value b *ℤ pos (10 ^ scale a))
+pub cmp_texts : (a b : List ℕ) →
+    int_cmp (kept a (length (significant_fraction b))) (kept b (length (significant_fraction a))) ≡ int_cmp (unscaled_value a *ℤ pos (10 ^ scale b)) (unscaled_value b *ℤ pos (10 ^ scale a))
 cmp_texts a b =
     let j = suffix_len is_zero (fraction_part a) in
     let k = suffix_len is_zero (fraction_part b) in
@@ -56,11 +59,16 @@ cmp_texts a b =
     let left : unscaled_value a *ℤ pos (10 ^ scale b) ≡ signed s (x * 10 ^ (j + k)) =
     ap (λ i. unscaled_value a *ℤ pos (10 ^ i)) (length_without_trailing (fraction_part b)) ∙ brought (has_minus a) (whole_part a) (fraction_part a) m k in
     let right : unscaled_value b *ℤ pos (10 ^ scale a) ≡ signed t (y * 10 ^ (j + k)) =
-    ap (λ i. unscaled_value b *ℤ pos (10 ^ i)) (length_without_trailing (fraction_part a)) ∙ brought (has_minus b) (whole_part b) (fraction_part b) n j ∙ ap (λ i. signed t (y * 10 ^ i)) (add_comm k j) in
-    sym (ap (λ z. int_cmp z (unscaled_value b *ℤ pos (10 ^ scale a))) left ∙ ap (λ z. int_cmp (signed s (x * 10 ^ (j + k))) z) right ∙ cmp_signed_scaled s t x y (10 ^ (j + k)) (one-le-pow (j + k) 10 (omega arith)))
+    ap (λ i. unscaled_value b *ℤ pos (10 ^ i)) (length_without_trailing (fraction_part a)) ∙ brought (has_minus b) (whole_part b) (fraction_part b) n j
+    ∙ ap (λ i. signed t (y * 10 ^ i)) (add_comm k j) in
+    sym (ap (λ z. int_cmp z (unscaled_value b *ℤ pos (10 ^ scale a))) left ∙ ap (λ z. int_cmp (signed s (x * 10 ^ (j + k))) z) right
+    ∙ cmp_signed_scaled s t x y (10 ^ (j + k)) (one-le-pow (j + k) 10 (omega arith)))
 
 -- an answer for what is kept of two texts is one for the texts
-pub answer_for_texts : (a b w f x y : List ℕ) (s t : Bool) (r : Ordering) → w ≡ significant_whole a → f ≡ significant_fraction a → s ≡ (has_minus a && ltb 0 (length (significant_whole a) + length (significant_fraction a))) → x ≡ significant_whole b → y ≡ significant_fraction b → t ≡ (has_minus b && ltb 0 (length (significant_whole b) + length (significant_fraction b))) → r ≡ int_cmp (signed s (scaled w f (length y))) (signed t (scaled x y (length f))) → r ≡ int_cmp (unscaled_value a *ℤ pos (10 ^ scale b)) (unscaled_value b *ℤ pos (10 ^ scale a))
+pub answer_for_texts : (a b w f x y : List ℕ) (s t : Bool) (r : Ordering) → w ≡ significant_whole a → f ≡ significant_fraction a →
+    s ≡ (has_minus a && ltb 0 (length (significant_whole a) + length (significant_fraction a))) → x ≡ significant_whole b → y ≡ significant_fraction b →
+    t ≡ (has_minus b && ltb 0 (length (significant_whole b) + length (significant_fraction b))) →
+    r ≡ int_cmp (signed s (scaled w f (length y))) (signed t (scaled x y (length f))) → r ≡ int_cmp (unscaled_value a *ℤ pos (10 ^ scale b)) (unscaled_value b *ℤ pos (10 ^ scale a))
 answer_for_texts a b w f x y s t r ew ef es ex ey et e =
     e
     ∙ ap (λ z. int_cmp (signed z (scaled w f (length y))) (signed t (scaled x y (length f)))) es

@@ -36,7 +36,8 @@ IsOffset hours minutes = ((hours ≤ 13) × (minutes ≤ 59)) ⊎ ((hours ≡ 14
 pub data IsZone (text : List ℕ) : Type 0 where
   no_zone : text ≡ [] → IsZone text
   utc : text ≡ 90 ∷ [] → IsZone text
-  offset : (sign : ℕ) (hours minutes : List ℕ) → text ≡ sign ∷ (hours ++ 58 ∷ minutes) → IsTrue (is_sign sign) → IsTwoDigits hours → IsTwoDigits minutes → IsOffset (digits_value 10 hours) (digits_value 10 minutes) → IsZone text
+  offset : (sign : ℕ) (hours minutes : List ℕ) → text ≡ sign ∷ (hours ++ 58 ∷ minutes) → IsTrue (is_sign sign) → IsTwoDigits hours → IsTwoDigits minutes →
+      IsOffset (digits_value 10 hours) (digits_value 10 minutes) → IsZone text
 
 -- A dateTime (dateTimeLexicalRep, section 3.3.7): `-` or nothing, year, `-`, month, `-`, day, `T`, hour, `:`, minute, `:`, second, fraction, zone
 pub record SpellsDateTime (text : List ℕ) : Type 0 where

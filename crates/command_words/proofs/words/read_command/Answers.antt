@@ -11,5 +11,6 @@ returns-in_err-request c =
 
 pub returns : goal.returns
 returns c =
-    let h = exact_asked (map string_bytes c.args.words.now) (request_of c.in_ok-request.request) c.checked.result c.in_ok-request.ensures.ok c.checked.ensures.command c.checked.ensures.passes c.checked.ensures.fault in
+    let h = exact_asked (map string_bytes c.args.words.now)
+    (request_of c.in_ok-request.request) c.checked.result c.in_ok-request.ensures.ok c.checked.ensures.command c.checked.ensures.passes c.checked.ensures.fault in
     record { asked = h.asked; complete = h.complete; refused = h.refused; refuses = h.refuses }

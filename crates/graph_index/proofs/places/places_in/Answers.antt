@@ -12,7 +12,8 @@ pub numbered-requires : goal.numbered-requires
 numbered-requires c = still_below c.table_len-len.result c.in_ok-ids.ids.items _ c.as_slice.result.now c.as_slice.ensures.value c.in_ok-sort_by.ensures.permutation c.in_ok-ids.ensures.within
 
 pub returns-clause-placed : goal.returns-clause-placed
-returns-clause-placed c = all_placed c.in_ok-ids.ids.items _ c.as_slice.result.now c.in_ok-places.places.items c.args.triples.now c.as_slice.ensures.value c.in_ok-sort_by.ensures.permutation c.in_ok-ids.ensures.all c.in_ok-places.ensures.all
+returns-clause-placed c =
+    all_placed c.in_ok-ids.ids.items _ c.as_slice.result.now c.in_ok-places.places.items c.args.triples.now c.as_slice.ensures.value c.in_ok-sort_by.ensures.permutation c.in_ok-ids.ensures.all c.in_ok-places.ensures.all
 
 pub returns-clause-apart : goal.returns-clause-apart
 returns-clause-apart c = apart c.as_slice.result.now c.in_ok-places.places.items c.in_ok-places.ensures.places

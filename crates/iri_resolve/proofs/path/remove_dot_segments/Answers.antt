@@ -35,7 +35,8 @@ loop-segment-preserved c =
     let cut = split_once_some slash rest (c.in-Some-split_once.segment, c.in-Some-split_once.behind) c.in-Some-split_once.ensures.cases (lit< tt) in
     record {
       text = search rules;
-      reads = outcome-step (string_bytes c.loop-segment.output) (string_bytes c.read_segment.new.output) c.in-Some-split_once.segment.now c.in-Some-split_once.behind.now rest _ cut.0 cut.1 cut.2 c.in_ok-read_segment.ensures c.loop-segment.invariant.reads;
+      reads = outcome-step (string_bytes c.loop-segment.output)
+          (string_bytes c.read_segment.new.output) c.in-Some-split_once.segment.now c.in-Some-split_once.behind.now rest _ cut.0 cut.1 cut.2 c.in_ok-read_segment.ensures c.loop-segment.invariant.reads;
     }
 
 pub returns : goal.returns

@@ -18,10 +18,12 @@ pub add_len-len-requires : goal.add_len-len-requires
 add_len-len-requires c = room _ _ _ _ _ _ _ _ c.in-Some.ensures.steps.0 c.loop-ch.invariant
 
 pub loop-ch-preserved : goal.loop-ch-preserved
-loop-ch-preserved c = goes _ _ _ _ _ _ _ _ _ _ None c.in-Some.ensures.steps.0 c.add_len-len.ensures (sym c.step.ensures ∙ c.in-Some-step.is) (sym c.label.ensures ∙ c.in_default-label.is) c.loop-ch.invariant
+loop-ch-preserved c = goes _ _ _ _ _ _ _ _ _ _ None c.in-Some.ensures.steps.0 c.add_len-len.ensures (sym c.step.ensures ∙ c.in-Some-step.is)
+    (sym c.label.ensures ∙ c.in_default-label.is) c.loop-ch.invariant
 
 pub loop-ch-preserved-in-Some-label : goal.loop-ch-preserved-in-Some-label
-loop-ch-preserved-in-Some-label c = goes _ _ _ _ _ _ _ _ _ _ (Some c.in-Some-label.kind) c.in-Some.ensures.steps.0 c.add_len-len.ensures (sym c.step.ensures ∙ c.in-Some-step.is) (sym c.label.ensures ∙ c.in-Some-label.is) c.loop-ch.invariant
+loop-ch-preserved-in-Some-label c = goes _ _ _ _ _ _ _ _ _ _ (Some c.in-Some-label.kind) c.in-Some.ensures.steps.0 c.add_len-len.ensures (sym c.step.ensures
+    ∙ c.in-Some-step.is) (sym c.label.ensures ∙ c.in-Some-label.is) c.loop-ch.invariant
 
 pub returns-clause-scan : goal.returns-clause-scan
 returns-clause-scan c = ends _ _ _ _ _ _ c.in-None.ensures.steps.0.0 c.loop-ch.invariant

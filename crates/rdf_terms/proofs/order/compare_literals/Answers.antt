@@ -13,5 +13,6 @@ returns c =
     (λ it e. YieldsList-from_first (λ x. x) bytes_left (left_of c.args.other.now c.split_at-2.result.1.now) (ap bytes_left e ∙ c.of-2.ensures))
     (λ x y. refl)
     ∙ literals_compared c.args.one.now c.args.other.now _ _ _ _ c.common_front-same.result
-    (c.as_bytes-lexical.ensures.value ∙ c.as_str.ensures.bytes ∙ ap encode_utf8_all c.lex.ensures) (c.as_bytes-other_lexical.ensures.value ∙ c.as_str-2.ensures.bytes ∙ ap encode_utf8_all c.lex-2.ensures)
+    (c.as_bytes-lexical.ensures.value ∙ c.as_str.ensures.bytes ∙ ap encode_utf8_all c.lex.ensures)
+    (c.as_bytes-other_lexical.ensures.value ∙ c.as_str-2.ensures.bytes ∙ ap encode_utf8_all c.lex-2.ensures)
     c.common_front-same.ensures.same c.split_at.ensures.back c.split_at-2.ensures.back

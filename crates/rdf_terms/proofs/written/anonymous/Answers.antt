@@ -18,7 +18,8 @@ returns-then-first-eq48-clause-none c = λ none n h. no_zero c.args.text.now c.i
 
 pub returns-clause-found : goal.returns-clause-found
 returns-clause-found c =
-    let is : get_or c.in_ok-digits.digits.now 0 0 ≡ c.in_ok-first.field-0.now = get_or_from_slice_get c.in_ok-digits.digits.now 0 c.in_ok-first.field-0.now 0 (ap (λ z. slice_get z 0) (sym c.as_bytes.ensures.value) ∙ sym c.in_ok-first.ensures.value) in
+    let is : get_or c.in_ok-digits.digits.now 0 0 ≡ c.in_ok-first.field-0.now =
+    get_or_from_slice_get c.in_ok-digits.digits.now 0 c.in_ok-first.field-0.now 0 (ap (λ z. slice_get z 0) (sym c.as_bytes.ensures.value) ∙ sym c.in_ok-first.ensures.value) in
     subst (λ o. IfSome o (λ n. IsAnonymous c.args.text.now n)) (sym c.ok.ensures.value)
     (found_number c.args.text.now c.in_ok-digits.digits.now c.parse.result
     (c.in_ok-digits.ensures.cases.1.1 ∙ ap (λ z. codes "anon" ++ z) (sym c.in_ok-digits.ensures.cases.2))

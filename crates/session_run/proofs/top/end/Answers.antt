@@ -11,4 +11,5 @@ pub returns-in-Ok : goal.returns-in-Ok
 returns-in-Ok g c = c.end_editing.ensures (map string_bytes c.args.words.now) c.in-Ok.ensures.asked
 
 pub returns-in-Err : goal.returns-in-Err
-returns-in-Err g c = with_words _ _ _ _ _ (record { told_same = refl; faults_same = refl }) (record { got_same = refl; faults_same = refl }) c.in-Err.error c.in-Err.ensures.refused c.refuse_words.ensures
+returns-in-Err g c = with_words _ _ _ _ _ (record { told_same = refl; faults_same = refl })
+    (record { got_same = refl; faults_same = refl }) c.in-Err.error c.in-Err.ensures.refused c.refuse_words.ensures

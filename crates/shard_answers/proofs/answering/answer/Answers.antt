@@ -34,7 +34,8 @@ pub returns-in-Lines-clause-cause : goal.returns-in-Lines-clause-cause
 returns-in-Lines-clause-cause g c = explains c.args.call.now _ c.in-Lines.is c.lines.result (g.F.Files.told c.args.files.now) c.lines.ensures.cause
 
 pub returns-in-Lines-clause-faults : goal.returns-in-Lines-clause-faults
-returns-in-Lines-clause-faults g c = faults c.args.call.now _ c.in-Lines.is c.lines.result (g.F.Files.faults c.args.files.now) (g.F.Files.faults c.lines.new.files) (g.F.Files.blame c.lines.new.files) (g.F.Files.act c.lines.new.files) c.lines.ensures.faults
+returns-in-Lines-clause-faults g c = faults c.args.call.now _ c.in-Lines.is c.lines.result (g.F.Files.faults c.args.files.now)
+    (g.F.Files.faults c.lines.new.files) (g.F.Files.blame c.lines.new.files) (g.F.Files.act c.lines.new.files) c.lines.ensures.faults
 
 pub followed-requires : goal.followed-requires
 followed-requires g c = fits c.args.call.now _ c.in-Followed.is c.requires
@@ -46,7 +47,8 @@ pub returns-in-Followed-clause-cause : goal.returns-in-Followed-clause-cause
 returns-in-Followed-clause-cause g c = explains c.args.call.now _ c.in-Followed.is c.followed.result (g.F.Files.told c.args.files.now) c.followed.ensures.cause
 
 pub returns-in-Followed-clause-faults : goal.returns-in-Followed-clause-faults
-returns-in-Followed-clause-faults g c = faults c.args.call.now _ c.in-Followed.is c.followed.result (g.F.Files.faults c.args.files.now) (g.F.Files.faults c.followed.new.files) (g.F.Files.blame c.followed.new.files) (g.F.Files.act c.followed.new.files) c.followed.ensures.faults
+returns-in-Followed-clause-faults g c = faults c.args.call.now _ c.in-Followed.is c.followed.result (g.F.Files.faults c.args.files.now)
+    (g.F.Files.faults c.followed.new.files) (g.F.Files.blame c.followed.new.files) (g.F.Files.act c.followed.new.files) c.followed.ensures.faults
 
 pub reached-requires : goal.reached-requires
 reached-requires g c = let fit = fits c.args.call.now _ c.in-Reached.is c.requires in record { schema_base = fit.0; data_base = fit.1 }
@@ -58,7 +60,8 @@ pub returns-in-Reached-clause-cause : goal.returns-in-Reached-clause-cause
 returns-in-Reached-clause-cause g c = explains c.args.call.now _ c.in-Reached.is c.reached.result (g.F.Files.told c.args.files.now) c.reached.ensures.cause
 
 pub returns-in-Reached-clause-faults : goal.returns-in-Reached-clause-faults
-returns-in-Reached-clause-faults g c = faults c.args.call.now _ c.in-Reached.is c.reached.result (g.F.Files.faults c.args.files.now) (g.F.Files.faults c.reached.new.files) (g.F.Files.blame c.reached.new.files) (g.F.Files.act c.reached.new.files) c.reached.ensures.faults
+returns-in-Reached-clause-faults g c = faults c.args.call.now _ c.in-Reached.is c.reached.result (g.F.Files.faults c.args.files.now)
+    (g.F.Files.faults c.reached.new.files) (g.F.Files.blame c.reached.new.files) (g.F.Files.act c.reached.new.files) c.reached.ensures.faults
 
 pub returns-in-Covers-clause-answer : goal.returns-in-Covers-clause-answer
 returns-in-Covers-clause-answer g c = answers c.args.call.now _ c.in-Covers.is c.covers.result (g.F.Files.told c.args.files.now) c.covers.ensures.answer
@@ -67,4 +70,5 @@ pub returns-in-Covers-clause-cause : goal.returns-in-Covers-clause-cause
 returns-in-Covers-clause-cause g c = explains c.args.call.now _ c.in-Covers.is c.covers.result (g.F.Files.told c.args.files.now) c.covers.ensures.cause
 
 pub returns-in-Covers-clause-faults : goal.returns-in-Covers-clause-faults
-returns-in-Covers-clause-faults g c = faults c.args.call.now _ c.in-Covers.is c.covers.result (g.F.Files.faults c.args.files.now) (g.F.Files.faults c.covers.new.files) (g.F.Files.blame c.covers.new.files) (g.F.Files.act c.covers.new.files) c.covers.ensures.faults
+returns-in-Covers-clause-faults g c = faults c.args.call.now _ c.in-Covers.is c.covers.result (g.F.Files.faults c.args.files.now)
+    (g.F.Files.faults c.covers.new.files) (g.F.Files.blame c.covers.new.files) (g.F.Files.act c.covers.new.files) c.covers.ensures.faults

@@ -16,7 +16,8 @@ returns-in_err-shard-clause-stops g c =
     let p = err_from_is_err_and c.from_residual-in_err-shard.result c.from_residual-in_err-shard.ensures.1 in
     rw (p.1, p.2)
     (second_stops (g.F.Files.told c.args.files.now) (g.F.Files.told c.fetch.new.files) (g.F.Files.faults c.args.files.now) (g.F.Files.faults c.fetch.new.files) (g.F.Files.faults c.fetch-2.new.files)
-    (g.F.Files.blame c.fetch-2.new.files) (g.F.Files.act c.fetch-2.new.files) c.in_err-shard.field-0.0 c.in_ok-nodes.ensures.told_stays c.in_ok-nodes.ensures.faults_stay (shard_of c.args.names.now) c.args.at
+    (g.F.Files.blame c.fetch-2.new.files)
+    (g.F.Files.act c.fetch-2.new.files) c.in_err-shard.field-0.0 c.in_ok-nodes.ensures.told_stays c.in_ok-nodes.ensures.faults_stay (shard_of c.args.names.now) c.args.at
     c.in_ok-nodes.nodes.items c.in_ok-nodes.ensures.bytes c.in_err-shard.ensures.stops)
 
 pub returns-clause-found : goal.returns-clause-found

@@ -29,7 +29,8 @@ returns-in_err-bytes-clause-cause g c =
     let p = err_from_is_err_and c.from_residual-in_err-bytes.result c.from_residual-in_err-bytes.ensures.1 in
     rw (p.1, p.2)
     (behind_explains (g.F.Files.told c.args.files.now) (g.F.Files.told c.fetch.new.files) (g.F.Files.faults c.args.files.now) (g.F.Files.faults c.fetch.new.files) (g.F.Files.faults c.fetch-2.new.files)
-    (g.F.Files.blame c.fetch-2.new.files) (g.F.Files.act c.fetch-2.new.files) c.in_err-bytes.field-0.0 c.in_ok-ways.ensures.told_stays c.in_ok-ways.ensures.faults_stay (of_cover (covering_of c.args.covering.now)) (Cover Part)
+    (g.F.Files.blame c.fetch-2.new.files)
+    (g.F.Files.act c.fetch-2.new.files) c.in_err-bytes.field-0.0 c.in_ok-ways.ensures.told_stays c.in_ok-ways.ensures.faults_stay (of_cover (covering_of c.args.covering.now)) (Cover Part)
     (c.in_ok-ways.ways.items, c.in_ok-ways.ensures.bytes) c.in_err-bytes.ensures.stops)
 
 pub returns-in_err-bytes-clause-faults : goal.returns-in_err-bytes-clause-faults
@@ -37,7 +38,8 @@ returns-in_err-bytes-clause-faults g c =
     let p = err_from_is_err_and c.from_residual-in_err-bytes.result c.from_residual-in_err-bytes.ensures.1 in
     rw (p.1, p.2)
     (behind_faults (g.F.Files.told c.args.files.now) (g.F.Files.told c.fetch.new.files) (g.F.Files.faults c.args.files.now) (g.F.Files.faults c.fetch.new.files) (g.F.Files.faults c.fetch-2.new.files)
-    (g.F.Files.blame c.fetch-2.new.files) (g.F.Files.act c.fetch-2.new.files) c.in_err-bytes.field-0.0 c.in_ok-ways.ensures.told_stays c.in_ok-ways.ensures.faults_stay (of_cover (covering_of c.args.covering.now)) (Cover Part)
+    (g.F.Files.blame c.fetch-2.new.files)
+    (g.F.Files.act c.fetch-2.new.files) c.in_err-bytes.field-0.0 c.in_ok-ways.ensures.told_stays c.in_ok-ways.ensures.faults_stay (of_cover (covering_of c.args.covering.now)) (Cover Part)
     c.in_err-bytes.ensures.stops)
 
 pub returns-clause-found : goal.returns-clause-found
@@ -45,8 +47,10 @@ returns-clause-found g c =
     let part_file = subst (λ t. IsFile t c.args.covering.now.part.now c.in_ok-bytes.bytes.items) c.in_ok-ways.ensures.told_stays c.in_ok-bytes.ensures.bytes in
     IfOk-weaker c.compare_all.result _ _
     (λ r finds.
-    covers_to (g.F.Files.told c.args.files.now) (g.F.Files.told c.fetch-2.new.files) (covering_of c.args.covering.now) c.in_ok-ways.ways.items c.in_ok-bytes.bytes.items c.as_slice-2.result.now c.as_slice.result.now
-    (map shard_of c.as_slice-3.result.now) (record { ways_file = c.in_ok-ways.ensures.bytes; part_file = part_file }) (c.in_ok-bytes.ensures.told_stays ∙ c.in_ok-ways.ensures.told_stays) c.as_slice-2.ensures.value
+    covers_to (g.F.Files.told c.args.files.now) (g.F.Files.told c.fetch-2.new.files)
+    (covering_of c.args.covering.now) c.in_ok-ways.ways.items c.in_ok-bytes.bytes.items c.as_slice-2.result.now c.as_slice.result.now
+    (map shard_of c.as_slice-3.result.now) (record { ways_file = c.in_ok-ways.ensures.bytes; part_file = part_file })
+    (c.in_ok-bytes.ensures.told_stays ∙ c.in_ok-ways.ensures.told_stays) c.as_slice-2.ensures.value
     c.as_slice.ensures.value (ap (map shard_of) c.as_slice-3.ensures.value) (option_map (λ v. v.items) r) (finds _ _ c.in_ok-part.ensures))
     c.compare_all.ensures.found
 
@@ -55,8 +59,10 @@ returns-clause-cause g c =
     let part_file = subst (λ t. IsFile t c.args.covering.now.part.now c.in_ok-bytes.bytes.items) c.in_ok-ways.ensures.told_stays c.in_ok-bytes.ensures.bytes in
     IfErr-weaker c.compare_all.result _ _
     (λ e stops.
-    all_explain (g.F.Files.told c.args.files.now) (g.F.Files.told c.fetch-2.new.files) (covering_of c.args.covering.now) c.in_ok-ways.ways.items c.in_ok-bytes.bytes.items c.as_slice-2.result.now c.as_slice.result.now
-    (map shard_of c.as_slice-3.result.now) (record { ways_file = c.in_ok-ways.ensures.bytes; part_file = part_file }) (c.in_ok-bytes.ensures.told_stays ∙ c.in_ok-ways.ensures.told_stays) c.as_slice-2.ensures.value
+    all_explain (g.F.Files.told c.args.files.now) (g.F.Files.told c.fetch-2.new.files)
+    (covering_of c.args.covering.now) c.in_ok-ways.ways.items c.in_ok-bytes.bytes.items c.as_slice-2.result.now c.as_slice.result.now
+    (map shard_of c.as_slice-3.result.now) (record { ways_file = c.in_ok-ways.ensures.bytes; part_file = part_file })
+    (c.in_ok-bytes.ensures.told_stays ∙ c.in_ok-ways.ensures.told_stays) c.as_slice-2.ensures.value
     c.as_slice.ensures.value (ap (map shard_of) c.as_slice-3.ensures.value) (g.F.Files.faults c.args.files.now) (g.F.Files.faults c.fetch-2.new.files) (g.F.Files.faults c.compare_all.new.files)
     (g.F.Files.blame c.compare_all.new.files) (g.F.Files.act c.compare_all.new.files) (c.in_ok-bytes.ensures.faults_stay ∙ c.in_ok-ways.ensures.faults_stay) e stops)
     (c.compare_all.ensures.stops _ _ c.in_ok-part.ensures)
@@ -66,8 +72,10 @@ returns-clause-faults g c =
     let part_file = subst (λ t. IsFile t c.args.covering.now.part.now c.in_ok-bytes.bytes.items) c.in_ok-ways.ensures.told_stays c.in_ok-bytes.ensures.bytes in
     IfErr-weaker c.compare_all.result _ _
     (λ e stops.
-    all_fault (g.F.Files.told c.args.files.now) (g.F.Files.told c.fetch-2.new.files) (covering_of c.args.covering.now) c.in_ok-ways.ways.items c.in_ok-bytes.bytes.items c.as_slice-2.result.now c.as_slice.result.now
-    (map shard_of c.as_slice-3.result.now) (record { ways_file = c.in_ok-ways.ensures.bytes; part_file = part_file }) (c.in_ok-bytes.ensures.told_stays ∙ c.in_ok-ways.ensures.told_stays) c.as_slice-2.ensures.value
+    all_fault (g.F.Files.told c.args.files.now) (g.F.Files.told c.fetch-2.new.files)
+    (covering_of c.args.covering.now) c.in_ok-ways.ways.items c.in_ok-bytes.bytes.items c.as_slice-2.result.now c.as_slice.result.now
+    (map shard_of c.as_slice-3.result.now) (record { ways_file = c.in_ok-ways.ensures.bytes; part_file = part_file })
+    (c.in_ok-bytes.ensures.told_stays ∙ c.in_ok-ways.ensures.told_stays) c.as_slice-2.ensures.value
     c.as_slice.ensures.value (ap (map shard_of) c.as_slice-3.ensures.value) (g.F.Files.faults c.args.files.now) (g.F.Files.faults c.fetch-2.new.files) (g.F.Files.faults c.compare_all.new.files)
     (g.F.Files.blame c.compare_all.new.files) (g.F.Files.act c.compare_all.new.files) (c.in_ok-bytes.ensures.faults_stay ∙ c.in_ok-ways.ensures.faults_stay) e stops)
     (c.compare_all.ensures.stops _ _ c.in_ok-part.ensures)

@@ -8,5 +8,6 @@ use Rattle.shard_checks.proofs.ways.ways_read.Goals as goal
 
 pub returns : goal.returns
 returns c =
-    IfOk-weaker c.all_ways.result _ _ (λ v made w. subst (λ ws. Contains ws w ↔ IsWay c.args.schema.now w) (sym (made ∙ ap (flat_map ways_of) c.as_slice.ensures)) (ways_are c.args.schema.now _ c.in_ok-shapes.ensures w))
+    IfOk-weaker c.all_ways.result _ _ (λ v made w. subst (λ ws. Contains ws w ↔ IsWay c.args.schema.now w) (sym (made
+    ∙ ap (flat_map ways_of) c.as_slice.ensures)) (ways_are c.args.schema.now _ c.in_ok-shapes.ensures w))
     c.all_ways.ensures

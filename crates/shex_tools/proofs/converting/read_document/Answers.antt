@@ -7,5 +7,6 @@ read_bytes-requires g c = base_scheme c.args.converting.now.schema_base.now c.re
 
 pub returns-clause-cause : goal.returns-clause-cause
 returns-clause-cause g c =
-    document_explains (g.F.Files.told c.args.files.now) (converting_of c.args.converting.now) c.of_name-format.result c.in_ok-bytes.bytes.items c.as_slice.result.now c.in-Err.error c.document_stop.result
+    document_explains (g.F.Files.told c.args.files.now)
+    (converting_of c.args.converting.now) c.of_name-format.result c.in_ok-bytes.bytes.items c.as_slice.result.now c.in-Err.error c.document_stop.result
     c.in_ok-bytes.ensures.bytes c.of_name-format.ensures c.as_slice.ensures.value c.in-Err.ensures.refused c.in-Err.ensures.none c.document_stop.ensures

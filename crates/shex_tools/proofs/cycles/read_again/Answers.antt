@@ -49,7 +49,8 @@ returns-in-Ok-clause-ordered g c =
 pub returns-in-Err-Refused-clause-faults_stay : goal.returns-in-Err-Refused-clause-faults_stay
 returns-in-Err-Refused-clause-faults_stay g c =
     let f = c.read_documents.new.files in
-    refused_still (asked_with c.args.explaining.now.inputs c.as_slice-words.result.now) _ _ (g.F.Files.blame f) (g.F.Files.act f) c.in-Err-Refused.field-0 _ c.in-Err-Refused.field-0-is c.in-Err-Refused.ensures.faults
+    refused_still (asked_with c.args.explaining.now.inputs c.as_slice-words.result.now) _ _ (g.F.Files.blame f)
+    (g.F.Files.act f) c.in-Err-Refused.field-0 _ c.in-Err-Refused.field-0-is c.in-Err-Refused.ensures.faults
 
 pub returns-in-Err-Failed-clause-unshown : goal.returns-in-Err-Failed-clause-unshown
 returns-in-Err-Failed-clause-unshown g c =

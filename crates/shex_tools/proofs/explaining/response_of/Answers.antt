@@ -30,7 +30,8 @@ returns-clause-explained c =
           subst (λ xs. IsPrinted h.schema h.terms (explaining_of e) xs x.answers c.in_ok-text.text.items) c.as_slice-associations.ensures.value
           (is_printed h.schema h.terms (explaining_of e) c.as_slice-associations.result.now x.answers _ c.in_ok-text.text.items refl refl c.in_ok-names.ensures refl c.in_ok-text.ensures);
       notes_are =
-          subst (λ b. AreNotes h.schema h.terms h.graph.triples map (explaining_of e) b c.args.findings.now.wide notes) (c.are_undecided-undecided.ensures ∙ ap are_undecided c.as_slice-answers.ensures)
+          subst (λ b. AreNotes h.schema h.terms h.graph.triples map (explaining_of e) b c.args.findings.now.wide notes)
+          (c.are_undecided-undecided.ensures ∙ ap are_undecided c.as_slice-answers.ensures)
           (subst (λ ws. AreNotes h.schema h.terms h.graph.triples map (explaining_of e) c.are_undecided-undecided.result ws notes) c.as_slice-wide.ensures
           (are_notes h.schema h.terms h.graph.triples map (explaining_of e) c.are_undecided-undecided.result c.as_slice-wide.result.now c.in_ok-names.names c.in_ok-names.ensures c.in_ok-notes.notes.items idle notes c.in_ok-notes.ensures idle_are noted));
     }

@@ -10,7 +10,8 @@ returns-in-Err-clause-cause g c =
 
 pub returns-in-Err-clause-faults : goal.returns-in-Err-clause-faults
 returns-in-Err-clause-faults g c =
-    input_faults (of_labels (listing_of c.args.listing.now)) (g.F.Files.faults c.args.files.now) (g.F.Files.faults c.read_holding.new.files) (g.F.Files.blame c.read_holding.new.files) (g.F.Files.act c.read_holding.new.files)
+    input_faults (of_labels (listing_of c.args.listing.now)) (g.F.Files.faults c.args.files.now) (g.F.Files.faults c.read_holding.new.files)
+    (g.F.Files.blame c.read_holding.new.files) (g.F.Files.act c.read_holding.new.files)
     c.in-Err.error c.stop_of.result (c.in-Err.ensures.faults []) c.stop_of.ensures
 
 pub returns-in-Ok-clause-held : goal.returns-in-Ok-clause-held

@@ -60,7 +60,8 @@ returns-clause-unasked g c = λ f is. faulty_ends _ _ _ _ _ c.answers_are_one.en
 
 pub returns-clause-takes : goal.returns-clause-takes
 returns-clause-takes g c = λ contents call told is_call taken.
-    taken_ends _ _ _ _ _ call is_call c.answers_are_one.ensures contents told c.documents_are_one.ensures (shard_laws c.calls_end_in_one_way.ensures.answered c.calls_end_in_one_way.ensures.refused) (are_one c.inputs_are_one.ensures contents _ told (inputs_of call)) taken (returns-clause-ends g c)
+    taken_ends _ _ _ _ _ call is_call c.answers_are_one.ensures contents told c.documents_are_one.ensures (shard_laws c.calls_end_in_one_way.ensures.answered c.calls_end_in_one_way.ensures.refused)
+    (are_one c.inputs_are_one.ensures contents _ told (inputs_of call)) taken (returns-clause-ends g c)
 
 pub returns-clause-completes : goal.returns-clause-completes
 returns-clause-completes g c = λ contents call told is_call taken files out err.
@@ -69,35 +70,42 @@ returns-clause-completes g c = λ contents call told is_call taken files out err
 
 pub returns-clause-refuses : goal.returns-clause-refuses
 returns-clause-refuses g c = λ contents call refusal told is_call refused.
-    refused_ends _ _ _ _ _ call is_call c.answers_are_one.ensures contents told c.documents_are_one.ensures (shard_laws c.calls_end_in_one_way.ensures.answered c.calls_end_in_one_way.ensures.refused) (are_one c.inputs_are_one.ensures contents _ told (inputs_of call)) refusal refused (returns-clause-ends g c)
+    refused_ends _ _ _ _ _ call is_call c.answers_are_one.ensures contents told c.documents_are_one.ensures (shard_laws c.calls_end_in_one_way.ensures.answered c.calls_end_in_one_way.ensures.refused)
+    (are_one c.inputs_are_one.ensures contents _ told (inputs_of call)) refusal refused (returns-clause-ends g c)
 
 pub returns-clause-misses : goal.returns-clause-misses
 returns-clause-misses g c = λ contents call source told is_call absent.
-    absent_ends _ _ _ _ _ call is_call c.answers_are_one.ensures contents told c.documents_are_one.ensures (shard_laws c.calls_end_in_one_way.ensures.answered c.calls_end_in_one_way.ensures.refused) (are_one c.inputs_are_one.ensures contents _ told (inputs_of call)) source absent (returns-clause-ends g c)
+    absent_ends _ _ _ _ _ call is_call c.answers_are_one.ensures contents told c.documents_are_one.ensures (shard_laws c.calls_end_in_one_way.ensures.answered c.calls_end_in_one_way.ensures.refused)
+    (are_one c.inputs_are_one.ensures contents _ told (inputs_of call)) source absent (returns-clause-ends g c)
 
 pub returns-clause-undecided : goal.returns-clause-undecided
 returns-clause-undecided g c = λ contents l h pairs verdicts told is_call held few demanded refined is.
-    undecided_ends _ _ _ _ _ l is_call c.answers_are_one.ensures contents told c.documents_are_one.ensures (shard_laws c.calls_end_in_one_way.ensures.answered c.calls_end_in_one_way.ensures.refused) (are_one c.inputs_are_one.ensures contents _ told (inputs_of (of_labels l)))
+    undecided_ends _ _ _ _ _ l is_call c.answers_are_one.ensures contents told c.documents_are_one.ensures (shard_laws c.calls_end_in_one_way.ensures.answered c.calls_end_in_one_way.ensures.refused)
+    (are_one c.inputs_are_one.ensures contents _ told (inputs_of (of_labels l)))
     c.refinement_is_one.ensures.one c.layers_are_meanings.ensures.sure_answers h held few (c.taken_is_loaded.ensures _ _ h held) pairs verdicts demanded refined is (returns-clause-ends g c)
 
 pub returns-clause-decided : goal.returns-clause-decided
 returns-clause-decided g c = λ contents l h pairs verdicts told is_call held few demanded refined none.
-    decided_ends _ _ _ _ _ l is_call c.answers_are_one.ensures contents told c.documents_are_one.ensures (shard_laws c.calls_end_in_one_way.ensures.answered c.calls_end_in_one_way.ensures.refused) (are_one c.inputs_are_one.ensures contents _ told (inputs_of (of_labels l)))
+    decided_ends _ _ _ _ _ l is_call c.answers_are_one.ensures contents told c.documents_are_one.ensures (shard_laws c.calls_end_in_one_way.ensures.answered c.calls_end_in_one_way.ensures.refused)
+    (are_one c.inputs_are_one.ensures contents _ told (inputs_of (of_labels l)))
     c.refinement_is_one.ensures.one c.layers_are_meanings.ensures.sure_answers h held few (c.taken_is_loaded.ensures _ _ h held) pairs verdicts demanded refined none (returns-clause-ends g c)
 
 pub returns-clause-unsure : goal.returns-clause-unsure
 returns-clause-unsure g c = λ contents e q verdicts told is_call asked refined some.
-    unsure_ends _ _ _ _ _ e is_call c.answers_are_one.ensures contents told c.documents_are_one.ensures (shard_laws c.calls_end_in_one_way.ensures.answered c.calls_end_in_one_way.ensures.refused) (are_one c.inputs_are_one.ensures contents _ told (inputs_of (of_reasons e)))
+    unsure_ends _ _ _ _ _ e is_call c.answers_are_one.ensures contents told c.documents_are_one.ensures (shard_laws c.calls_end_in_one_way.ensures.answered c.calls_end_in_one_way.ensures.refused)
+    (are_one c.inputs_are_one.ensures contents _ told (inputs_of (of_reasons e)))
     c.refinement_is_one.ensures.one c.layers_are_meanings.ensures.sure_answers c.verdict_is_one.ensures.one q asked (c.taken_is_loaded.ensures _ _ q.held asked.taken) verdicts refined some (returns-clause-ends g c)
 
 pub returns-clause-unexplained : goal.returns-clause-unexplained
 returns-clause-unexplained g c = λ contents e q verdicts told is_call asked refined each.
-    as_asked_ends _ _ _ _ _ e is_call c.answers_are_one.ensures contents told c.documents_are_one.ensures (shard_laws c.calls_end_in_one_way.ensures.answered c.calls_end_in_one_way.ensures.refused) (are_one c.inputs_are_one.ensures contents _ told (inputs_of (of_reasons e)))
+    as_asked_ends _ _ _ _ _ e is_call c.answers_are_one.ensures contents told c.documents_are_one.ensures (shard_laws c.calls_end_in_one_way.ensures.answered c.calls_end_in_one_way.ensures.refused)
+    (are_one c.inputs_are_one.ensures contents _ told (inputs_of (of_reasons e)))
     c.refinement_is_one.ensures.one c.layers_are_meanings.ensures.sure_answers c.verdict_is_one.ensures.one q asked (c.taken_is_loaded.ensures _ _ q.held asked.taken) verdicts refined each (returns-clause-ends g c)
 
 pub returns-clause-explained : goal.returns-clause-explained
 returns-clause-explained g c = λ contents e q verdicts told is_call asked refined none some.
-    failing_ends _ _ _ _ _ e is_call c.answers_are_one.ensures contents told c.documents_are_one.ensures (shard_laws c.calls_end_in_one_way.ensures.answered c.calls_end_in_one_way.ensures.refused) (are_one c.inputs_are_one.ensures contents _ told (inputs_of (of_reasons e)))
+    failing_ends _ _ _ _ _ e is_call c.answers_are_one.ensures contents told c.documents_are_one.ensures (shard_laws c.calls_end_in_one_way.ensures.answered c.calls_end_in_one_way.ensures.refused)
+    (are_one c.inputs_are_one.ensures contents _ told (inputs_of (of_reasons e)))
     c.refinement_is_one.ensures.one c.layers_are_meanings.ensures.sure_answers c.verdict_is_one.ensures.one q asked (c.taken_is_loaded.ensures _ _ q.held asked.taken) verdicts refined none some (returns-clause-ends g c)
 
 pub returns-clause-failing : goal.returns-clause-failing

@@ -9,7 +9,8 @@ loop-stem-init c = (sym c.into_iter-stem-iterator.ensures.into_iter_gives.0, non
 pub loop-stem-preserved : goal.loop-stem-preserved
 loop-stem-preserved c = (
   yields_on _ c.loop-stem.yielded _ _ c.in-Some.stem c.loop-stem.invariant.0 c.in-Some.ensures.steps.0,
-  next_kept c.args.sorted.items c.loop-stem.yielded _ c.loop-stem.kept.items _ c.in-Some.stem (in_order c.args.sorted.items c.requires) (c.loop-stem.invariant.0 ∙ ap (λ v. c.loop-stem.yielded ++ v) c.in-Some.ensures.steps.0) c.loop-stem.invariant.1 c.in_ok-keep.ensures,
+  next_kept c.args.sorted.items c.loop-stem.yielded _ c.loop-stem.kept.items _ c.in-Some.stem (in_order c.args.sorted.items c.requires)
+      (c.loop-stem.invariant.0 ∙ ap (λ v. c.loop-stem.yielded ++ v) c.in-Some.ensures.steps.0) c.loop-stem.invariant.1 c.in_ok-keep.ensures,
 )
 
 pub returns-clause-all : goal.returns-clause-all

@@ -21,5 +21,6 @@ loop-alloc-preserved c =
     let made : c.push-in-loop-alloc.new.self.items ≡ c.loop-alloc.groups.items ++ c.in-Some-2.group ∷ [] = search rules in
     let read : Some (members_of c.in-Some-2.group, c.in-Some-2.behind.now) ≡ read_members (tail c.loop-alloc.rest.now) = search rules in
     let goes : begins 45 c.loop-alloc.rest.now ≡ true = search rules in
-    groups_on (map members_of c.loop-alloc.groups.items) (map members_of c.push-in-loop-alloc.new.self.items) (members_of c.in-Some-2.group) c.loop-alloc.rest.now c.in-Some-2.behind.now (read_groups c.args.text.now)
+    groups_on (map members_of c.loop-alloc.groups.items) (map members_of c.push-in-loop-alloc.new.self.items)
+    (members_of c.in-Some-2.group) c.loop-alloc.rest.now c.in-Some-2.behind.now (read_groups c.args.text.now)
     (ap (map members_of) made ∙ map-append members_of c.loop-alloc.groups.items (c.in-Some-2.group ∷ [])) c.loop-alloc.invariant goes read

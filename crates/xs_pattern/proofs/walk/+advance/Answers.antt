@@ -9,7 +9,8 @@ use Rattle.xs_pattern.proofs.walk.+advance.Goals as goal
 pub returns-in_ok-second-in-Then-clause-marks : goal.returns-in_ok-second-in-Then-clause-marks
 returns-in_ok-second-in-Then-clause-marks t c =
     then_marks c.args.edge _ _ _ _ c.args.marks.now _ _ c.in_ok-first-in-Then.ensures.counted _ _ _ c.args.enters _
-    (is_then _ _ _ _ _ c.in-Then.is c.deref.ensures c.deref-in-Then.ensures) (handed_is _ _ _ c.args.enters _ _ c.hands_on.ensures c.in_ok-first-in-Then.ensures.ends c.in_ok-first-in-Then.ensures.passes)
+    (is_then _ _ _ _ _ c.in-Then.is c.deref.ensures c.deref-in-Then.ensures)
+    (handed_is _ _ _ c.args.enters _ _ c.hands_on.ensures c.in_ok-first-in-Then.ensures.ends c.in_ok-first-in-Then.ensures.passes)
     c.in_ok-first-in-Then.ensures.marks c.in_ok-second-in-Then.ensures.marks
 
 pub returns-in_ok-second-in-Then-clause-ends : goal.returns-in_ok-second-in-Then-clause-ends

@@ -17,7 +17,8 @@ word_of-requires c =
 
 pub returns : goal.returns
 returns c =
-    place_is (way_of c.args.way.now) (record { start = c.args.start; end = c.args.end }) c.args.count c.in_ok-enters.enters c.word_of.result c.args.all.now c.deref-2.result.now c.exit_of-passes.result.passes
+    place_is (way_of c.args.way.now)
+    (record { start = c.args.start; end = c.args.end }) c.args.count c.in_ok-enters.enters c.word_of.result c.args.all.now c.deref-2.result.now c.exit_of-passes.result.passes
     c.requires.count c.requires.all c.in_ok-enters.ensures.row (c.deref-2.ensures.value ∙ c.in_ok-fill_ends.ensures) c.word_of.ensures.shown c.word_of.ensures.small c.exit_of-passes.ensures.passes
 
 pub returns-then-start : goal.returns-then-start

@@ -5,7 +5,8 @@ use Rattle.xs_text.proofs.unsigned.unsigned_long.Goals as goal
 use Rattle.xs_text.proofs.unsigned.unsigned_long.Goals.{else-text-gt1-via-then-text-gt1+else-starts_with-2, else-text-gt1-via-else-text-gt1}
 
 pub returns-then-starts_with-clause-missed : goal.returns-then-starts_with-clause-missed
-returns-then-starts_with-clause-missed c = λ none n h e. no_plus c.args.text.now n ((starts_char 43 c.args.text.now c.starts_with.result c.starts_with.ensures.cases (lit< tt) (lit< tt)).0 c.if-starts_with.true) h e
+returns-then-starts_with-clause-missed c =
+    λ none n h e. no_plus c.args.text.now n ((starts_char 43 c.args.text.now c.starts_with.result c.starts_with.ensures.cases (lit< tt) (lit< tt)).0 c.if-starts_with.true) h e
 
 pub returns-then-starts_with-2-clause-missed : goal.returns-then-starts_with-2-clause-missed
 returns-then-starts_with-2-clause-missed c =

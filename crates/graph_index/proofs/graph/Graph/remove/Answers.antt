@@ -12,7 +12,8 @@ left : (c : goal.Joined-self) → c.match-self.self.triples ≡ c.swap_remove-he
 left c = elim c.match-self.branch [ in-Some-1 w ↦ ap (λ g. g.triples) w.self-is | in-None-1 w ↦ ap (λ g. g.triples) w.self-is ]
 
 pub returns-then-held-clause-held : goal.returns-then-held-clause-held
-returns-then-held-clause-held c = subst (λ ts. IsTrue c.swap_remove-held.result ↔ Contains ts c.args.t) (ap (λ g. g.triples) c.self.view_is) (held_exactly _ c.args.t c.swap_remove-held.result c.swap_remove-held.ensures.found)
+returns-then-held-clause-held c = subst (λ ts. IsTrue c.swap_remove-held.result ↔ Contains ts c.args.t) (ap (λ g. g.triples) c.self.view_is)
+    (held_exactly _ c.args.t c.swap_remove-held.result c.swap_remove-held.ensures.found)
 
 pub returns-then-held-clause-removed : goal.returns-then-held-clause-removed
 returns-then-held-clause-removed c =

@@ -15,5 +15,6 @@ loop-number-preserved c =
 
 pub invariant_of-result : goal.invariant_of-result
 invariant_of-result c =
-    let all : c.loop-number.number ≡ length c.args.terms.now = (let a = c.len-number-end.ensures.count in let b = c.loop-number-test.false in let d = c.loop-number.auto.number-end in omega (arith, a, b, d)) in
+    let all : c.loop-number.number ≡ length c.args.terms.now =
+    (let a = c.len-number-end.ensures.count in let b = c.loop-number-test.false in let d = c.loop-number.auto.number-end in omega (arith, a, b, d)) in
     record { joined = begun_all c.args.terms.now c.loop-number.number c.loop-number.bytes.items c.loop-number.firsts.items all c.loop-number.invariant }

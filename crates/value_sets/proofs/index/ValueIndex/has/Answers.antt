@@ -11,7 +11,8 @@ use Rattle.value_sets.proofs.index.ValueIndex.has.Goals.{then-contains, else-con
 pub returns-then-has_stem : goal.returns-then-has_stem
 returns-then-has_stem c = (
   λ _. elim c.if-contains.branch [
-    | then-contains w ↦ found_term c.args.values.now c.args.self.now c.args.term.now c.requires (Contains-list_any same_term (λ a b. (term_decides a b).0) _ c.args.term.now (sym c.contains.ensures ∙ w.if-contains.true))
+    | then-contains w ↦ found_term c.args.values.now c.args.self.now c.args.term.now c.requires (Contains-list_any same_term (λ a b. (term_decides a b).0) _ c.args.term.now (sym c.contains.ensures
+        ∙ w.if-contains.true))
     | else-contains w ↦ found_stem c.args.values.now c.args.self.now c.args.term.now c.requires (w.has_stem.ensures.0 (sym w.value-is ∙ c.if-has_stem.true))
   ],
   λ _. c.if-has_stem.true,
