@@ -18,8 +18,8 @@ use Rattle.shexj_reader.specs.Faults.{Fault, IsUnknownKey}
 use Rattle.shexj_reader.specs.Keys.{has_only, is_empty_list, is_object, text, text_if_any, type_of, word}
 use Rattle.shexj_reader.specs.ValueFaults.{AreApart, ExclusionFault, ExclusionsFault, LanguageFault, LiteralFault, RangeFault, RangeStemFault, StemFault, ValueFault, ValueSetFault}
 use Rattle.shexj_reader.specs.Values.{AreExclusions, HasExclusions, IsExclusion, IsLanguage, IsLiteral, IsOfLiteral, IsRange, IsRangeStem, IsStem, IsTyped, SpellsValue, SpellsValueSet, SpellsValues, range_type, stem_type, taken}
-use Rattle.shexj_reader.specs.declared.values.StemKind.{StemKind}
-use Rattle.shexj_reader.specs.declared.values.StemKind.TheVariants as Kinds
+use Rattle.shexj_reader.specs.declared.stems.StemKind.{StemKind}
+use Rattle.shexj_reader.specs.declared.stems.StemKind.TheVariants as Kinds
 use Rattle.shexj_reader.proofs.KeyLaws.{differ, known_keys}
 
 -- ---- texts and objects

@@ -13,7 +13,7 @@ use Rattle.shexj_reader.specs.Keys.{is_empty_list, is_object, type_of, word}
 use Rattle.shexj_reader.specs.ValueFaults.{RangeFault, RangeStemFault}
 use Rattle.shexj_reader.specs.Values.{AreExclusions, HasExclusions, IsExclusion, IsRangeStem, SpellsValue, SpellsValues}
 use Rattle.shexj_reader.proofs.Acts.{array_is}
-use Rattle.shexj_reader.specs.declared.values.StemKind.{StemKind}
+use Rattle.shexj_reader.specs.declared.stems.StemKind.{StemKind}
 
 -- a list that stands in a place
 pub listed : (vs : List Value) (o : Option Data) (d : Data) → o ≡ Some d → Some (items_view vs) ≡ as_array d → o ≡ Some (array (items_view vs))

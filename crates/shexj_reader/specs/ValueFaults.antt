@@ -6,7 +6,7 @@ use Rattle.serde_json.specs.Find.{as_array, get, get_item}
 use Rattle.shexj_reader.specs.Faults.{Fault, IsBad, IsUnknownKey, form}
 use Rattle.shexj_reader.specs.Keys.{is_empty_list, is_object, text, text_if_any, type_of, word}
 use Rattle.shexj_reader.specs.Values.{IsOfLiteral, range_type, stem_type}
-use Rattle.shexj_reader.specs.declared.values.StemKind.{StemKind}
+use Rattle.shexj_reader.specs.declared.stems.StemKind.{StemKind}
 
 -- a stem has another key, or its text is missing
 pub data StemFault (f : Fault) (d : Data) : Type 0 where

@@ -12,8 +12,8 @@ use Rattle.value_sets.specs.declared.value.Except.TheVariants.{Exact, Stem}
 use Rattle.value_sets.specs.declared.value.Value.{Value}
 use Rattle.value_sets.specs.declared.value.Value.TheVariants as Values
 use Rattle.shexj_reader.specs.Keys.{IsObject, has_only, text, text_if_any, type_of}
-use Rattle.shexj_reader.specs.declared.values.StemKind.{StemKind}
-use Rattle.shexj_reader.specs.declared.values.StemKind.TheVariants as Kinds
+use Rattle.shexj_reader.specs.declared.stems.StemKind.{StemKind}
+use Rattle.shexj_reader.specs.declared.stems.StemKind.TheVariants as Kinds
 
 -- how the texts of stems and exclusions are taken: IRIs and lexical forms as they are, language tags in lower case
 abbrev pub taken : StemKind → List ℕ → List ℕ

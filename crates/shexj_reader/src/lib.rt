@@ -12,6 +12,7 @@ mod labels;
 pub mod laws;
 mod objects;
 mod reading;
+pub mod stems;
 mod values;
 
 pub use reading::read;

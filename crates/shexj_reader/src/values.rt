@@ -15,6 +15,7 @@ ghost use Rattle.shexj_reader.specs.Values.{HasExclusions, IsExclusion, IsLangua
 use crate::objects::{
     bad_form, has_type, is_object, only_keys, only_listed, text_at, text_if_any, type_of,
 };
+use crate::stems::{StemKind, stem_type};
 use rdf_terms::items::Items;
 use rdf_terms::terms::{Literal, Term};
 use rdf_terms::text::Text;
@@ -23,17 +24,6 @@ use schema_documents::SchemaError;
 use serde_json::Value;
 use std::alloc::{AllocError, Global};
 use value_sets::{Except, Exceptions, Value as SetValue, ValueSet};
-
-/// What a stem or a range is of.
-#[derive(Clone, Copy, Debug)]
-pub(crate) enum StemKind {
-    /// IRIs.
-    Iri,
-    /// Literals, by their lexical forms.
-    Literal,
-    /// Literals, by their language tags.
-    Language,
-}
 
 /// A copy of a text, in which the letters A to Z have become a to z.
 fn lowered(alloc: Global, text: &str) -> Result<Text, AllocError>
@@ -171,17 +161,6 @@ fn read_range_stem(
     }
     only_keys(alloc, value, &["type"])?;
     Ok(None)
-}
-
-/// The type of the stems of a kind.
-fn stem_type(kind: StemKind) -> &'static str
-    ensures { result.now ≡ stem_type kind }
-{
-    match kind {
-        StemKind::Iri => "IriStem",
-        StemKind::Literal => "LiteralStem",
-        StemKind::Language => "LanguageStem",
-    }
 }
 
 /// An exclusion of a range.

@@ -30,8 +30,8 @@ use Rattle.shexj_writer.specs.Numbers.{is_whole, whole_number, whole_value}
 use Rattle.shexj_writer.specs.Objects.{list_if_any}
 use Rattle.shexj_writer.specs.Texts.{bound_data, flag_data, label_data, text_data, texts_items}
 use Rattle.shexj_writer.specs.Values.{datatype_data, exclusion_data, exclusions_items, literal_fields, range_data, range_fields, range_stem_data, stem_data, stem_fields, term_data, value_data, value_set_data, values_items}
-use Rattle.shexj_writer.specs.declared.values.StemKind.{StemKind}
-use Rattle.shexj_writer.specs.declared.values.StemKind.TheVariants as Kinds
+use Rattle.shexj_reader.specs.declared.stems.StemKind.{StemKind}
+use Rattle.shexj_reader.specs.declared.stems.StemKind.TheVariants as Kinds
 use Rattle.shexj_writer.proofs.Fields.{IsExact, object_exact}
 
 neither_is : (a b : Bool) → a ≡ false → b ≡ false → (a || b) ≡ false

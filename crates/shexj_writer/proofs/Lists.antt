@@ -1,6 +1,5 @@
 -- Lists that are written item by item.
-use Rattle.std.proofs.Common.{◌≡◌, ◌∙◌, ap, refl, sym, subst, ℕ, ◌+◌, ◌<◌, ◌≤◌, arith, true, false, List, [], ◌∷◌, ◌++◌, length, get_or, take, drop, map, max, nat_le, eqb}
-use Rattle.std.proofs.lemmas.Bool.Decides.{nat_tests}
+use Rattle.std.proofs.Common.{◌≡◌, ◌∙◌, ap, refl, sym, subst, ℕ, ◌+◌, ◌<◌, ◌≤◌, false, List, [], ◌∷◌, ◌++◌, length, get_or, take, drop, map, eqb}
 use Rattle.std.proofs.lemmas.List.{drop_all, drop_more, take_all, take_more}
 use Rattle.std.specs.List.{AllByRecursion}
 use Rattle.std.specs.Prelude.{None, Some}
@@ -20,7 +19,7 @@ use Rattle.shexj_writer.specs.Held.{AreHeldDecls, AreHeldExprs, AreHeldTriples, 
 use Rattle.shexj_writer.specs.Objects.{list_if_any}
 use Rattle.shexj_writer.specs.Texts.{text_data, texts_items}
 use Rattle.shexj_writer.specs.Values.{exclusion_data, exclusions_items, value_data, values_items}
-use Rattle.shexj_writer.specs.declared.values.StemKind.{StemKind}
+use Rattle.shexj_reader.specs.declared.stems.StemKind.{StemKind}
 
 -- ---- lists of JSON values
 
@@ -109,12 +108,6 @@ next_left xs i x lt is = drop_more xs i x lt ∙ ap (λ z. z ∷ drop (i + 1) xs
 
 pub none_left : {X : Type 0} (xs : List X) (i : ℕ) → length xs ≤ i → drop i xs ≡ []
 none_left xs i past = drop_all i xs past
-
-pub max_within : (a b n : ℕ) → nat_le a n ≡ true → nat_le (max a b) n ≡ nat_le b n
-max_within a b n h = grind (arith, nat_tests)
-
-pub max_beyond : (a b n : ℕ) → nat_le a n ≡ false → nat_le (max a b) n ≡ false
-max_beyond a b n h = grind (arith, nat_tests)
 
 -- a list that is not empty
 pub some_list : (vs : List Value) → eqb (length vs) 0 ≡ false → list_if_any (items_view vs) ≡ Some (array (items_view vs))

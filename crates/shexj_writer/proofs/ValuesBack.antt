@@ -19,14 +19,14 @@ use Rattle.value_sets.specs.declared.value.Value.{Value}
 use Rattle.value_sets.specs.declared.value.Value.TheVariants as Values
 use Rattle.shexj_reader.specs.Keys.{text, text_if_any, word}
 use Rattle.shexj_reader.specs.Values.{AreExclusions, HasExclusions, IsExclusion, IsLanguage, IsLiteral, IsOfLiteral, IsRange, IsRangeStem, IsStem, IsTyped, SpellsValue, SpellsValueSet, SpellsValues, taken}
-use Rattle.shexj_reader.specs.Values as Read
 use Rattle.shexj_writer.specs.Expressible.{AreExpressibleValues, IsExceptTag, IsExpressibleTerm, IsExpressibleValue, IsLimited, IsTagIfAny}
 use Rattle.shexj_writer.specs.Held.{AreHeldValues, AreHeldValuesIfAny, IsHeldExcept, IsHeldLiteral, IsHeldRange, IsHeldTerm, IsHeldValue, IsTextIfAny}
 use Rattle.shexj_writer.specs.Objects.{list_if_any}
 use Rattle.shexj_writer.specs.Texts.{text_data}
-use Rattle.shexj_writer.specs.Values.{datatype_data, exclusion_data, exclusions_items, language_data, language_fields, literal_data, literal_fields, range_data, range_fields, range_stem_data, range_type, stem_data, stem_fields, stem_type, term_data, value_data, value_set_data, values_items, wildcard_fields}
-use Rattle.shexj_writer.specs.declared.values.StemKind.{StemKind}
-use Rattle.shexj_writer.specs.declared.values.StemKind.TheVariants as Kinds
+use Rattle.shexj_reader.specs.Values.{range_type, stem_type}
+use Rattle.shexj_writer.specs.Values.{datatype_data, exclusion_data, exclusions_items, language_data, language_fields, literal_data, literal_fields, range_data, range_fields, range_stem_data, stem_data, stem_fields, term_data, value_data, value_set_data, values_items, wildcard_fields}
+use Rattle.shexj_reader.specs.declared.stems.StemKind.{StemKind}
+use Rattle.shexj_reader.specs.declared.stems.StemKind.TheVariants as Kinds
 use Rattle.shexj_writer.proofs.Fields.{both, field_is, only_listed}
 use Rattle.shexj_writer.proofs.TextsBack.{text_back, text_if_any_back}
 
@@ -129,17 +129,17 @@ IsFixedExcept f (Stem t) = IsFixed f t
 fixed_back : (f : List ℕ → List ℕ) (t : List ℕ) → all_scalars t ≡ true → IsFixed f t → option_map f (text (Some (text_data t))) ≡ Some t
 fixed_back f t h fixed = ap (option_map f) (text_back t h) ∙ ap (λ (x : List ℕ). Some x) fixed
 
-stem_back : (kind : StemKind) (k : _) (stem : List ℕ) → stem_type kind ≡ Read.stem_type k → all_scalars stem ≡ true → IsFixed (taken k) stem → IsStem k stem (stem_data kind stem)
-stem_back kind k stem same h fixed =
+stem_back : (kind : StemKind) (stem : List ℕ) → all_scalars stem ≡ true → IsFixed (taken kind) stem → IsStem kind stem (stem_data kind stem)
+stem_back kind stem h fixed =
     let fs = stem_fields kind stem in
     let has_type : get (codes "type") (stem_data kind stem) ≡ Some (string (stem_type kind)) = field_is (codes "type") fs refl in
     let has_stem : get (codes "stem") (stem_data kind stem) ≡ Some (text_data stem) = field_is (codes "stem") fs refl in
     record {
       object = record {
         only = only_listed (codes "stem" ∷ codes "type" ∷ []) fs refl;
-        type = ap word has_type ∙ ap (λ (x : List ℕ). Some x) same;
+        type = ap word has_type;
       };
-      has_stem = ap (λ (o : Option Data). option_map (taken k) (text o)) has_stem ∙ fixed_back (taken k) stem h fixed;
+      has_stem = ap (λ (o : Option Data). option_map (taken kind) (text o)) has_stem ∙ fixed_back (taken kind) stem h fixed;
     }
 
 language_back : (tag : List ℕ) → all_scalars tag ≡ true → is_lowered tag ≡ true → IsLanguage tag (language_data tag)
@@ -155,32 +155,32 @@ language_back tag h low =
       has_tag = ap (λ (o : Option Data). option_map (map to_ascii_lowercase) (text o)) has_tag ∙ fixed_back (map to_ascii_lowercase) tag h (lowered_same tag low);
     }
 
-exclusion_back : (kind : StemKind) (k : _) (e : Except) → stem_type kind ≡ Read.stem_type k → IsHeldExcept e → IsFixedExcept (taken k) e → IsExclusion k e (exclusion_data kind e)
-exclusion_back kind k (Exact t) same h fixed = fixed_back (taken k) t h fixed
-exclusion_back kind k (Stem t) same h fixed = stem_back kind k t same h fixed
+exclusion_back : (kind : StemKind) (e : Except) → IsHeldExcept e → IsFixedExcept (taken kind) e → IsExclusion kind e (exclusion_data kind e)
+exclusion_back kind (Exact t) h fixed = fixed_back (taken kind) t h fixed
+exclusion_back kind (Stem t) h fixed = stem_back kind t h fixed
 
-exclusions_back : (kind : StemKind) (k : _) (es : List Except) → stem_type kind ≡ Read.stem_type k → AllByRecursion IsHeldExcept es →
-    AllByRecursion (IsFixedExcept (taken k)) es → AreExclusions k es (exclusions_items kind es)
-exclusions_back kind k [] same h fixed = tt
-exclusions_back kind k (e ∷ es) same h fixed = (exclusion_back kind k e same h.0 fixed.0, exclusions_back kind k es same h.1 fixed.1)
+exclusions_back : (kind : StemKind) (es : List Except) → AllByRecursion IsHeldExcept es →
+    AllByRecursion (IsFixedExcept (taken kind)) es → AreExclusions kind es (exclusions_items kind es)
+exclusions_back kind [] h fixed = tt
+exclusions_back kind (e ∷ es) h fixed = (exclusion_back kind e h.0 fixed.0, exclusions_back kind es h.1 fixed.1)
 
-has_exclusions : (kind : StemKind) (k : _) (es : List Except) → stem_type kind ≡ Read.stem_type k → AllByRecursion IsHeldExcept es →
-    AllByRecursion (IsFixedExcept (taken k)) es → HasExclusions k es (list_if_any (exclusions_items kind es))
-has_exclusions kind k [] same h fixed = refl
-has_exclusions kind k (e ∷ es) same h fixed = exclusions_back kind k (e ∷ es) same h fixed
+has_exclusions : (kind : StemKind) (es : List Except) → AllByRecursion IsHeldExcept es →
+    AllByRecursion (IsFixedExcept (taken kind)) es → HasExclusions kind es (list_if_any (exclusions_items kind es))
+has_exclusions kind [] h fixed = refl
+has_exclusions kind (e ∷ es) h fixed = exclusions_back kind (e ∷ es) h fixed
 
-range_stem_back : (k : _) (stem : Option (List ℕ)) → IsTextIfAny stem → IsFixedIfAny (taken k) stem → IsRangeStem k stem (Some (range_stem_data stem))
-range_stem_back k None h fixed =
+range_stem_back : (kind : StemKind) (stem : Option (List ℕ)) → IsTextIfAny stem → IsFixedIfAny (taken kind) stem → IsRangeStem kind stem (Some (range_stem_data stem))
+range_stem_back kind None h fixed =
     let fs = wildcard_fields in
     record {
       only = only_listed (codes "type" ∷ []) fs refl;
       type = ap word (field_is (codes "type") fs refl);
     }
-range_stem_back k (Some t) h fixed = fixed_back (taken k) t h fixed
+range_stem_back kind (Some t) h fixed = fixed_back (taken kind) t h fixed
 
-range_back : (kind : StemKind) (k : _) (stem : Option (List ℕ)) (es : List Except) → stem_type kind ≡ Read.stem_type k → range_type kind ≡ Read.range_type k
-    → IsHeldRange stem es → IsFixedIfAny (taken k) stem → AllByRecursion (IsFixedExcept (taken k)) es → IsLimited stem es → IsRange k stem es (range_data kind stem es)
-range_back kind k stem es same_stem same_range h fixed all limited =
+range_back : (kind : StemKind) (stem : Option (List ℕ)) (es : List Except)
+    → IsHeldRange stem es → IsFixedIfAny (taken kind) stem → AllByRecursion (IsFixedExcept (taken kind)) es → IsLimited stem es → IsRange kind stem es (range_data kind stem es)
+range_back kind stem es h fixed all limited =
     let fs = range_fields kind stem es in
     let has_type : get (codes "type") (range_data kind stem es) ≡ Some (string (range_type kind)) = field_is (codes "type") fs refl in
     let has_stem : get (codes "stem") (range_data kind stem es) ≡ Some (range_stem_data stem) = field_is (codes "stem") fs refl in
@@ -188,10 +188,10 @@ range_back kind k stem es same_stem same_range h fixed all limited =
     record {
       object = record {
         only = only_listed (codes "exclusions" ∷ codes "stem" ∷ codes "type" ∷ []) fs refl;
-        type = ap word has_type ∙ ap (λ (x : List ℕ). Some x) same_range;
+        type = ap word has_type;
       };
-      has_stem = subst (IsRangeStem k stem) (sym has_stem) (range_stem_back k stem h.0 fixed);
-      exclusions = subst (HasExclusions k es) (sym has_list) (has_exclusions kind k es same_stem h.1 all);
+      has_stem = subst (IsRangeStem kind stem) (sym has_stem) (range_stem_back kind stem h.0 fixed);
+      exclusions = subst (HasExclusions kind es) (sym has_list) (has_exclusions kind es h.1 all);
       limited = limited;
     }
 
@@ -216,13 +216,13 @@ tags_fixed (Stem t ∷ es) low = (lowered_same t low.0, tags_fixed es low.1)
 
 value_back : (v : Value) → IsHeldValue v → IsExpressibleValue v → SpellsValue v (value_data v)
 value_back (Values.Term t) h is = term_back t h is
-value_back (Values.IriStem stem) h is = stem_back Kinds.Iri _ stem refl h refl
-value_back (Values.LitStem stem) h is = stem_back Kinds.Literal _ stem refl h refl
+value_back (Values.IriStem stem) h is = stem_back Kinds.Iri stem h refl
+value_back (Values.LitStem stem) h is = stem_back Kinds.Literal stem h refl
 value_back (Values.Lang tag) h is = language_back tag h is
-value_back (Values.LangStem stem) h is = stem_back Kinds.Language _ stem refl h (lowered_same stem is)
-value_back (Values.IriRange stem es) h is = range_back Kinds.Iri _ stem es refl refl h (stem_fixed stem) (all_fixed es) is
-value_back (Values.LitRange stem es) h is = range_back Kinds.Literal _ stem es refl refl h (stem_fixed stem) (all_fixed es) is
-value_back (Values.LangRange stem es) h is = range_back Kinds.Language _ stem es refl refl h (tag_fixed stem is.0) (tags_fixed es is.1.0) is.1.1
+value_back (Values.LangStem stem) h is = stem_back Kinds.Language stem h (lowered_same stem is)
+value_back (Values.IriRange stem es) h is = range_back Kinds.Iri stem es h (stem_fixed stem) (all_fixed es) is
+value_back (Values.LitRange stem es) h is = range_back Kinds.Literal stem es h (stem_fixed stem) (all_fixed es) is
+value_back (Values.LangRange stem es) h is = range_back Kinds.Language stem es h (tag_fixed stem is.0) (tags_fixed es is.1.0) is.1.1
 
 values_back : (vs : List Value) → AreHeldValues vs → AllByRecursion IsExpressibleValue vs → SpellsValues vs (values_items vs)
 values_back [] h is = tt

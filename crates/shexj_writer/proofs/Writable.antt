@@ -41,9 +41,10 @@ use Rattle.shexj_writer.specs.Laws.{WrittenAreRead}
 use Rattle.shexj_writer.specs.Numbers.{are_zeros, is_in_range, is_whole, whole_number, whole_value}
 use Rattle.shexj_writer.specs.Objects.{list_if_any}
 use Rattle.shexj_writer.specs.Texts.{bound_data, flag_data, label_data, text_data, texts_items}
-use Rattle.shexj_writer.specs.Values.{datatype_data, exclusion_data, exclusions_items, language_fields, literal_fields, range_data, range_fields, range_stem_data, range_type, stem_data, stem_fields, stem_type, term_data, value_data, value_set_data, values_items, wildcard_fields}
-use Rattle.shexj_writer.specs.declared.values.StemKind.{StemKind}
-use Rattle.shexj_writer.specs.declared.values.StemKind.TheVariants as Kinds
+use Rattle.shexj_reader.specs.Values.{range_type, stem_type}
+use Rattle.shexj_writer.specs.Values.{datatype_data, exclusion_data, exclusions_items, language_fields, literal_fields, range_data, range_fields, range_stem_data, stem_data, stem_fields, term_data, value_data, value_set_data, values_items, wildcard_fields}
+use Rattle.shexj_reader.specs.declared.stems.StemKind.{StemKind}
+use Rattle.shexj_reader.specs.declared.stems.StemKind.TheVariants as Kinds
 use Rattle.shexj_writer.proofs.CompactBack.{AreWritable, IsWritable, IsWritableIfAny, compact_back, compact_utf8, object_writable}
 use Rattle.shexj_writer.proofs.Fields.{both}
 use Rattle.shexj_writer.proofs.ReadBack.{text_back}

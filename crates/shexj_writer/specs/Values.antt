@@ -10,22 +10,11 @@ use Rattle.value_sets.specs.declared.value.Except.{Except}
 use Rattle.value_sets.specs.declared.value.Except.TheVariants.{Exact, Stem}
 use Rattle.value_sets.specs.declared.value.Value.{Value}
 use Rattle.value_sets.specs.declared.value.Value.TheVariants as Values
-use Rattle.shexj_writer.specs.declared.values.StemKind.{StemKind}
-use Rattle.shexj_writer.specs.declared.values.StemKind.TheVariants as Kinds
+use Rattle.shexj_reader.specs.declared.stems.StemKind.{StemKind}
+use Rattle.shexj_reader.specs.declared.stems.StemKind.TheVariants as Kinds
+use Rattle.shexj_reader.specs.Values.{range_type, stem_type}
 use Rattle.shexj_writer.specs.Objects.{Field, list_if_any, object_of}
 use Rattle.shexj_writer.specs.Texts.{text_data}
-
--- the types of stems
-abbrev pub stem_type : StemKind → List ℕ
-stem_type Kinds.Iri = codes "IriStem"
-stem_type Kinds.Literal = codes "LiteralStem"
-stem_type Kinds.Language = codes "LanguageStem"
-
--- the types of ranges
-abbrev pub range_type : StemKind → List ℕ
-range_type Kinds.Iri = codes "IriStemRange"
-range_type Kinds.Literal = codes "LiteralStemRange"
-range_type Kinds.Language = codes "LanguageStemRange"
 
 -- the datatype of a literal, where it has no tag and another datatype than xsd:string
 abbrev pub datatype_data : Option (List ℕ) → List ℕ → Option Data

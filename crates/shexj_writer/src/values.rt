@@ -8,7 +8,7 @@ ghost use Rattle.serde_json.specs.Data.{array};
 ghost use Rattle.serde_json.specs.View.{items_view, view};
 ghost use Rattle.shexj_writer.specs.Held.{AreHeldValues, IsHeldExcept, IsHeldLiteral, IsHeldRange, IsHeldTerm, IsHeldValue, IsText, IsTextIfAny};
 ghost use Rattle.shexj_writer.specs.Texts.{text_data};
-ghost use Rattle.shexj_writer.specs.Values.{datatype_data, exclusion_data, exclusions_items, language_data, literal_data, range_data, range_stem_data, range_type, stem_data, stem_type, term_data, value_data, value_set_data, values_items};
+ghost use Rattle.shexj_writer.specs.Values.{datatype_data, exclusion_data, exclusions_items, language_data, literal_data, range_data, range_stem_data, stem_data, term_data, value_data, value_set_data, values_items};
 
 use crate::objects::Object;
 use crate::texts::text_value;
@@ -16,41 +16,9 @@ use rdf_terms::terms::{Literal, Term};
 use rdf_terms::text::Text;
 use rdf_terms::vocabulary::XSD_STRING;
 use serde_json::Value;
+use shexj_reader::stems::{StemKind, range_type, stem_type};
 use std::alloc::{AllocError, Global};
 use value_sets::{Except, Value as SetValue};
-
-/// What a stem or a range is of.
-#[derive(Clone, Copy, Debug)]
-pub(crate) enum StemKind {
-    /// IRIs.
-    Iri,
-    /// Literals, by their lexical forms.
-    Literal,
-    /// Literals, by their language tags.
-    Language,
-}
-
-/// The type of the stems of a kind.
-fn stem_type(kind: StemKind) -> &'static str
-    ensures { result.now ≡ stem_type kind }
-{
-    match kind {
-        StemKind::Iri => "IriStem",
-        StemKind::Literal => "LiteralStem",
-        StemKind::Language => "LanguageStem",
-    }
-}
-
-/// The type of the ranges of a kind.
-fn range_type(kind: StemKind) -> &'static str
-    ensures { result.now ≡ range_type kind }
-{
-    match kind {
-        StemKind::Iri => "IriStemRange",
-        StemKind::Literal => "LiteralStemRange",
-        StemKind::Language => "LanguageStemRange",
-    }
-}
 
 /// The datatype of a literal, where it has no tag and another datatype than xsd:string.
 fn written_datatype(literal: &Literal) -> Option<&Text>
