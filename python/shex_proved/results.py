@@ -4,10 +4,12 @@ from __future__ import annotations
 
 import json
 import re
-from dataclasses import dataclass, replace
-from typing import Iterator, Optional, Sequence, Union
+from dataclasses import dataclass, field, replace
+from typing import Any, Iterator, Optional, Sequence
 
 _ANSWER = re.compile(r'(.*)@(!?)(START|<[^<>"{}|^`\\]*>|_:[^@!]+)', re.DOTALL)
+# Why a node does not conform, as text and as data.
+_Reasons = tuple[Optional[str], Optional[dict[str, Any]]]
 _WIDE = re.compile(r"wide (.*) #(\d+) width (\d+) budget (\d+)")
 
 
@@ -17,20 +19,26 @@ class Answer:
 
     `node` and `shape` are written as N-Triples writes terms: `<http://e/ann>`, `_:b`,
     `"1"^^<http://www.w3.org/2001/XMLSchema#integer>`. The shape that the schema starts
-    with is `START`. `reason` says why the node does not conform, in the lines of
-    `shextool explain`, where reasons were asked for.
+    with is `START`. Where reasons were asked for and the node was to conform and does not,
+    `reason` says why, in the lines of `shextool explain`, and `app_info` says the same as
+    data, with the keys that docs/USAGE.md lists. Elsewhere both are None.
     """
 
     node: str
     shape: str
     conformant: bool
     reason: Optional[str] = None
+    app_info: Optional[dict[str, Any]] = field(default=None, hash=False, repr=False)
 
-    def to_json(self) -> dict[str, str]:
-        """The answer as an item of a result shape map in JSON, with IRIs without brackets."""
+    def to_json(self) -> dict[str, Any]:
+        """The answer as an item of a result shape map in JSON; the IRIs of the node and the shape stand without brackets."""
         status = "conformant" if self.conformant else "nonconformant"
-        found = {"node": _bare(self.node), "shape": _bare(self.shape), "status": status}
-        return {**found, "reason": self.reason} if self.reason is not None else found
+        item: dict[str, Any] = {"node": _bare(self.node), "shape": _bare(self.shape), "status": status}
+        if self.reason is not None:
+            item["reason"] = self.reason
+        if self.app_info is not None:
+            item["appInfo"] = self.app_info
+        return item
 
 
 @dataclass(frozen=True)
@@ -80,7 +88,7 @@ class Result:
     def __len__(self) -> int:
         return len(self.answers)
 
-    def to_json(self) -> list[dict[str, str]]:
+    def to_json(self) -> list[dict[str, Any]]:
         """The answers as a result shape map in JSON."""
         return [answer.to_json() for answer in self.answers]
 
@@ -96,7 +104,7 @@ def _answer(line: str) -> Answer:
     return Answer(found[1], found[3], not found[2])
 
 
-def _wide(line: str) -> Union[WidePair, None]:
+def _wide(line: str) -> Optional[WidePair]:
     found = _WIDE.fullmatch(line)
     return WidePair(found[1], int(found[2]), int(found[3]), int(found[4])) if found else None
 
@@ -109,15 +117,18 @@ def result_of(status: int, output: bytes, errors: bytes, proof: Optional[bytes])
     return Result(tuple(map(_answer, lines)), status == 0, tuple(wide), text, proof)
 
 
-def reasons_of(explained: bytes) -> list[Optional[str]]:
-    """The reasons of associations with an answer, in the map's order, of what `shextool explain --json` prints."""
-    found = json.loads(explained)
-    return [item.get("reason") for item in found if item["status"] in ("conformant", "nonconformant")]
+def reasons_of(explained: bytes) -> list[_Reasons]:
+    """The reasons, as text and as data, of associations with an answer, in order.
+
+    They are read from what `shextool explain --json` prints.
+    """
+    answered = (item for item in json.loads(explained) if item["status"] != "unknown")
+    return [(item.get("reason"), item.get("appInfo")) for item in answered]
 
 
-def with_reasons(result: Result, reasons: Sequence[Optional[str]]) -> Result:
-    """A result with a reason at each answer that has one."""
+def with_reasons(result: Result, reasons: Sequence[_Reasons]) -> Result:
+    """The result with the reasons at its answers."""
     if len(reasons) != len(result.answers):
         raise ValueError("the reasons are those of another map")
-    answers = (replace(answer, reason=reason) for answer, reason in zip(result.answers, reasons))
+    answers = (replace(answer, reason=text, app_info=data) for answer, (text, data) in zip(result.answers, reasons))
     return replace(result, answers=tuple(answers))

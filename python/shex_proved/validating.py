@@ -175,8 +175,9 @@ def validate(
 
     `imports` has the documents by the IRIs under which a schema imports them. With `proof`
     the result has a proof of the answers, which `check` accepts. With `reasons` each answer
-    that a node does not conform says why. `budget` is the greatest width that is looked into. The formats are `shexc` and `shexj`, `turtle` and `nt`,
-    where a path's ending does not say which. Relative references are resolved against the
+    says why where a node was to conform and does not. `budget` is the greatest width that
+    is looked into. The formats are `shexc` and `shexj`, `turtle` and `nt`, where a path's
+    ending does not say which. Relative references are resolved against the
     bases.
     """
     made = _over_data("validate", schema, data, (schema_format, data_format), (schema_base, data_base))

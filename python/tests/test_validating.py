@@ -137,6 +137,9 @@ def test_reasons() -> None:
     assert [answer.conformant for answer in result] == [True, False]
     assert result.answers[0].reason is None and "http://e.example/knows" in (result.answers[1].reason or "")
     assert "reason" in result.to_json()[1] and "reason" not in result.to_json()[0]
+    told = result.answers[1].app_info or {}
+    assert result.answers[0].app_info is None and told == result.to_json()[1]["appInfo"]
+    assert len({*result.answers}) == 2 and told["see"] == 1 and "unmatched" in [reason["kind"] for reason in told["blocks"][0]["reasons"]]
 
 
 def test_reasons_where_a_pair_is_wide() -> None:

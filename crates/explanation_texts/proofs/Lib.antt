@@ -1,3 +1,4 @@
 pub mod Plain
+pub mod TreesPlain
 pub mod Spelled
 pub mod Stepped

@@ -1,6 +1,5 @@
 -- An explanation as JSON (ShapeMap Structure and Language, section 4, the JSON form of a result shape map).
 use Rattle.std.specs.Prelude.{ℕ, suc, List, [], ◌∷◌, ◌++◌, ◌+◌, ◌==◌, Option, Some, None, codes, if◌then◌else◌, length, slice_get}
-use Rattle.std.specs.Str.Lossy.{utf8_lossy}
 use Rattle.rdf_terms.specs.Order.{text_at}
 use Rattle.schema_tree.specs.declared.verdicts.Verdict.{Verdict}
 use Rattle.schema_tree.specs.declared.verdicts.Verdict.TheVariants.{Yes, No, Unknown}
@@ -10,18 +9,17 @@ use Rattle.serde_json.specs.View.{items_of, members_view}
 use Rattle.shape_map.specs.declared.resolve.Association.{Association}
 use Rattle.explanations.specs.declared.explanation.Told.{Told}
 use Rattle.explanation_texts.specs.declared.setting.Setting.{Setting}
-use Rattle.explanation_texts.specs.declared.data.Object.{Object}
+use Rattle.explanations.specs.declared.explanation.Block.{Block}
+use Rattle.explanations.specs.declared.explanation.Why.{Why}
+use Rattle.explanation_texts.specs.declared.object.Object.{Object}
 use Rattle.explanation_texts.specs.Answers.{below_text}
+use Rattle.explanation_texts.specs.Trees.{text_data, tree_data}
 
 -- the status of a node with an expression
 abbrev pub status_word : Verdict → List ℕ
 status_word Yes = codes "conformant"
 status_word No = codes "nonconformant"
 status_word Unknown = codes "unknown"
-
--- bytes as a string of JSON
-abbrev pub text_data : List ℕ → Data
-text_data bytes = string (utf8_lossy bytes)
 
 -- the members of an object that is put together
 abbrev pub members_of : Object → Members
@@ -31,11 +29,16 @@ members_of o = members_view o.map.entries
 abbrev pub put_reason : List ℕ → Members → Members
 put_reason reason members = if length reason == 0 then members else put (codes "reason") (text_data reason) members
 
+-- why an association is not as asked, as data, if that is told, n blocks standing before
+abbrev pub put_tree : Setting → ℕ → Association → Option Why → List Block → Members → Members
+put_tree s n a None blocks members = members
+put_tree s n a (Some why) blocks members = put (codes "appInfo") (tree_data s (n + 1) a.node a.expr why blocks) members
+
 -- an association with its outcome, n blocks standing before
 abbrev pub answer_data : Setting → ℕ → Association → Told → Data
 answer_data s n a t =
-    object (put_reason (below_text s n a t.why t.blocks) (put (codes "status") (string (status_word t.verdict))
-    (put (codes "shape") (string (target_text a.target)) (put (codes "node") (text_data (text_at s.terms.now a.node)) no_members))))
+    object (put_tree s n a t.why t.blocks (put_reason (below_text s n a t.why t.blocks) (put (codes "status") (string (status_word t.verdict))
+    (put (codes "shape") (string (target_text a.target)) (put (codes "node") (text_data (text_at s.terms.now a.node)) no_members)))))
 
 -- the association, if it is there, with its outcome, n blocks standing before
 abbrev pub told_data : Setting → ℕ → Option Association → Told → List Data

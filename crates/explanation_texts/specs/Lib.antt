@@ -5,4 +5,5 @@ pub mod Naming
 pub mod Folding
 pub mod Reasons
 pub mod Answers
+pub mod Trees
 pub mod Data

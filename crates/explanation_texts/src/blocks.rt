@@ -33,7 +33,7 @@ fn count_of(reasons: &[&ToldReason]) -> usize
 
 impl Setting<'_> {
     /// The triple constraints of a Shape.
-    fn occs(&self, shape: ShapeId) -> &[Occurrence]
+    pub(crate) fn occs(&self, shape: ShapeId) -> &[Occurrence]
         ensures { result.now ≡ occs_of (shape_at self.now.schema.now shape) }
     {
         match self.schema.shapes.as_slice().get(shape.0 as usize) {

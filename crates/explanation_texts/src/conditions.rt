@@ -258,14 +258,18 @@ impl Setting<'_> {
     ghost use Rattle.explanation_texts.specs.Names.{expr_name, shape_name};
 
     /// Appends the name of an expression.
-    fn push_expr_name(&self, expr: ExprId, out: &mut Vec<u8>) -> Result<(), AllocError>
+    pub(crate) fn push_expr_name(&self, expr: ExprId, out: &mut Vec<u8>) -> Result<(), AllocError>
         ensures { OnOk result (out.new.items ≡ out.old.items ++ expr_name self.now.names.now expr) }
     {
         push_name(self.names.exprs.as_slice().get(expr.0 as usize), out)
     }
 
     /// Appends the name of a Shape.
-    fn push_shape_name(&self, shape: ShapeId, out: &mut Vec<u8>) -> Result<(), AllocError>
+    pub(crate) fn push_shape_name(
+        &self,
+        shape: ShapeId,
+        out: &mut Vec<u8>,
+    ) -> Result<(), AllocError>
         ensures { OnOk result (out.new.items ≡ out.old.items ++ shape_name self.now.names.now shape) }
     {
         push_name(self.names.shapes.as_slice().get(shape.0 as usize), out)

@@ -2,22 +2,19 @@
 
 ghost use Rattle.std.specs.Prelude.{◌≡◌, ◌≤◌, ◌++◌, IfOk, OnOk, Some, codes, false, map, string_bytes};
 ghost use Rattle.std.specs.Option.{option_copied};
-ghost use Rattle.rdf_terms.specs.Order.{text_at};
-ghost use Rattle.schema_tree.specs.Targets.{target_text};
-ghost use Rattle.serde_json.specs.Data.{depth, no_members, object, put, string};
+ghost use Rattle.serde_json.specs.Data.{depth, no_members, object};
 ghost use Rattle.serde_json.specs.Read.{max_depth, read};
-ghost use Rattle.serde_json.specs.View.{members_view, view};
+ghost use Rattle.serde_json.specs.View.{view};
 ghost use Rattle.serde_json.specs.Written.{compact_text, has_float};
 ghost use Rattle.explanation_texts.specs.Answers.{below_text};
-ghost use Rattle.explanation_texts.specs.Data.{answer_data, answers_data, explanation_data, members_of, put_reason, status_word, text_data, told_data};
+ghost use Rattle.explanation_texts.specs.Data.{answer_data, answers_data, explanation_data, members_of, put_tree, status_word, told_data};
 
+use crate::object::Object;
 use crate::setting::Setting;
-use crate::words::{push_term, raised};
+use crate::words::raised;
 use explanations::explanation::{Explanation, Told};
-use rdf_terms::terms::TermId;
-use schema_tree::schema::Target;
 use schema_tree::verdicts::Verdict;
-use serde_json::{Map, Value};
+use serde_json::Value;
 use shape_map::Association;
 use std::alloc::{AllocError, Global};
 
@@ -32,100 +29,7 @@ fn status_word(verdict: Verdict) -> &'static str
     }
 }
 
-/// Bytes as a string.
-fn text_value(alloc: Global, bytes: &[u8]) -> Result<Value, AllocError>
-    ensures { IfOk result (λ v. view v ≡ text_data bytes.now) }
-{
-    let text = String::from_utf8_lossy(alloc, bytes)?;
-    Ok(Value::from(text))
-}
-
-/// The text of a target as a string.
-fn target_value(alloc: Global, target: &Target) -> Result<Value, AllocError>
-    ensures { IfOk result (λ v. view v ≡ string (target_text target.now)) }
-{
-    let text = target.text(alloc)?;
-    Ok(Value::from(text))
-}
-
-/// An object that is put together.
-#[derive(Drop)]
-struct Object {
-    alloc: Global,
-    map: Map<String, Value>,
-}
-
-impl Object {
-    /// The object without members.
-    fn new(alloc: Global) -> Object
-        ensures { members_of result ≡ no_members }
-    {
-        Object {
-            alloc,
-            map: Map::new(alloc),
-        }
-    }
-
-    /// Puts a value at a key.
-    fn put(&mut self, key: &str, value: Value) -> Result<(), AllocError>
-        ensures { OnOk result (members_of self.new ≡ put key.now (view value) (members_of self.old)) }
-    {
-        serde_json::put(&mut self.map, self.alloc, key, value)
-    }
-
-    /// Puts a word at a key.
-    fn put_word(&mut self, key: &str, word: &str) -> Result<(), AllocError>
-        ensures { OnOk result (members_of self.new ≡ put key.now (string word.now) (members_of self.old)) }
-    {
-        let value = Value::try_from_str(self.alloc, word)?;
-        self.put(key, value)
-    }
-
-    /// Puts the text of a target at a key.
-    fn put_target(&mut self, key: &str, target: &Target) -> Result<(), AllocError>
-        ensures { OnOk result (members_of self.new ≡ put key.now (string (target_text target.now)) (members_of self.old)) }
-    {
-        let value = target_value(self.alloc, target)?;
-        self.put(key, value)
-    }
-
-    /// Puts bytes at a key, as a string.
-    fn put_text(&mut self, key: &str, bytes: &[u8]) -> Result<(), AllocError>
-        ensures { OnOk result (members_of self.new ≡ put key.now (text_data bytes.now) (members_of self.old)) }
-    {
-        let value = text_value(self.alloc, bytes)?;
-        self.put(key, value)
-    }
-
-    /// Puts a reason, if there is a text of it.
-    fn put_reason(&mut self, reason: &[u8]) -> Result<(), AllocError>
-        ensures { OnOk result (members_of self.new ≡ put_reason reason.now (members_of self.old)) }
-    {
-        if reason.is_empty() {
-            Ok(())
-        } else {
-            self.put_text("reason", reason)
-        }
-    }
-
-    /// The object as a value.
-    fn into_value(self) -> Value
-        ensures { view result ≡ object (members_of self) }
-    {
-        Value::from(self.map)
-    }
-}
-
 impl Setting<'_> {
-    /// The text of a term.
-    fn term_text(&self, term: TermId) -> Result<Vec<u8>, AllocError>
-        ensures { IfOk result (λ v. v.items ≡ text_at self.now.terms.now term) }
-    {
-        let mut text = Vec::new(self.alloc);
-        push_term(self.alloc, self.terms, term, &mut text)?;
-        Ok(text)
-    }
-
     /// Why an association is not as asked, so many blocks standing before.
     fn below(
         &self,
@@ -140,6 +44,26 @@ impl Setting<'_> {
         Ok(text)
     }
 
+    /// Puts why an association is not as asked, as data, if that is told, so many blocks standing before.
+    fn put_tree(
+        &self,
+        before: usize,
+        association: &Association,
+        told: &Told,
+        members: &mut Object,
+    ) -> Result<(), AllocError>
+        ensures { OnOk result (members_of members.new ≡
+            put_tree self.now before association.now told.now.why told.now.blocks (members_of members.old)) }
+    {
+        let Some(why) = told.why else {
+            return Ok(());
+        };
+        let blocks = told.blocks.as_slice();
+        let number = raised(before, 1)?;
+        let tree = self.tree_value(number, (association.node, association.expr, why), blocks)?;
+        members.put("appInfo", tree)
+    }
+
     /// Puts the members of an association, so many blocks standing before.
     fn put_answer(
         &self,
@@ -151,12 +75,12 @@ impl Setting<'_> {
         requires { members_of members.old ≡ no_members }
         ensures { OnOk result (object (members_of members.new) ≡ answer_data self.now before association.now told.now) }
     {
-        let node = self.term_text(association.node)?;
-        members.put_text("node", node.as_slice())?;
+        self.put_term("node", association.node, members)?;
         members.put_target("shape", &association.target)?;
         members.put_word("status", status_word(told.verdict))?;
         let reason = self.below(before, association, told)?;
-        members.put_reason(reason.as_slice())
+        members.put_reason(reason.as_slice())?;
+        self.put_tree(before, association, told, members)
     }
 
     /// An association with its outcome, so many blocks standing before.
@@ -234,7 +158,8 @@ fn text_of(alloc: Global, value: &Value) -> Result<String, AllocError>
 }
 
 /// Appends an explanation as a result shape map in JSON (ShapeMap Structure and Language, section 4), compact and with a line feed: of
-/// each association the node, the shape and the status, and, where it is not as asked and it is known why, the reason.
+/// each association the node, the shape and the status, and, where it is not as asked and it is known why, the reason as text and, as
+/// `appInfo`, as data.
 pub fn write_explanation_data(
     setting: &Setting,
     asked: &[Association],

@@ -61,7 +61,7 @@ fn push_constraint_at(place: Place, numbers: &mut Vec<u16>) -> Result<(), AllocE
 }
 
 /// The triple constraints among places.
-fn constraints_at(alloc: Global, places: &[Place]) -> Result<Vec<u16>, AllocError>
+pub(crate) fn constraints_at(alloc: Global, places: &[Place]) -> Result<Vec<u16>, AllocError>
     ensures { IfOk result (λ v. v.items ≡ flat_map constraint_at places.now) }
 {
     let mut numbers = Vec::new(alloc);
@@ -79,7 +79,7 @@ fn is_rest(place: Place) -> bool
 }
 
 /// Whether one of the places is the remainder.
-fn may_be_left(places: &[Place]) -> bool
+pub(crate) fn may_be_left(places: &[Place]) -> bool
     ensures { result ≡ list_any is_rest places.now }
 {
     places.iter().any(|place| is_rest(*place))

@@ -3,7 +3,7 @@ use Rattle.std.specs.Prelude.{ℕ}
 use Rattle.serde_json.specs.Data.{depth}
 use Rattle.serde_json.specs.Read.{max_depth}
 use Rattle.serde_json.specs.Written.{has_float}
-use Rattle.explanation_texts.proofs.Plain.{explanation_flat, explanation_plain}
+use Rattle.explanation_texts.proofs.TreesPlain.{explanation_flat, explanation_plain}
 use Rattle.explanation_texts.proofs.data.write_explanation_data.Goals as goal
 
 pub text_of-requires-clause-plain : goal.text_of-requires-clause-plain
