@@ -139,7 +139,13 @@ def test_reasons() -> None:
     assert "reason" in result.to_json()[1] and "reason" not in result.to_json()[0]
     told = result.answers[1].app_info or {}
     assert result.answers[0].app_info is None and told == result.to_json()[1]["appInfo"]
-    assert len({*result.answers}) == 2 and told["see"] == 1 and "unmatched" in [reason["kind"] for reason in told["blocks"][0]["reasons"]]
+    assert told["see"] == 1 and [reason["kind"] for reason in told["blocks"][0]["reasons"]] == ["tooFew"]
+    assert len({*result.answers}) == 2
+
+
+def test_no_reasons_where_a_shape_is_not_wanted() -> None:
+    result = shex_proved.validate(SCHEMA, DATA, f"<{BOB}>@!<{FRIEND}>", reasons=True)
+    assert [(answer.conformant, answer.reason, answer.app_info) for answer in result] == [(False, None, None)]
 
 
 def test_reasons_where_a_pair_is_wide() -> None:
